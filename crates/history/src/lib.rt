@@ -1,0 +1,1 @@
+// Theorems about the layout's definitions: demands 2 and 3 of document 01. No code.

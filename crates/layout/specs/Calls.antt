@@ -1,0 +1,225 @@
+-- The five calls, for any state and any lent bytes. Document 01, "Calls".
+use mathlib.Core.Bool.{Bool, true, false, not, _||_, cond}
+use mathlib.Core.Option.{Option, none, some}
+use mathlib.Core.List.{List, [], _∷_, _++_}
+use Prim.Native.Nat.{ℕ, _+_, _*_, _/_, _%_}
+use lib.ListN.{length, replicate}
+use lib.Dec.{ltb, leb, eqb}
+use Rattle.memory.specs.Lists.{write}
+use Rattle.memory.specs.Words.{word, bytes4}
+use Rattle.memory.specs.Ranges.{any, memb, allOf}
+use Rattle.layout.specs.Geometry.{State, Geometry, geometry, geometryOf, allowed, recordCapacity, deletionCapacity, dataSize, spareSize, ramSize, blocks, indexBlock, entriesPerPage, kaRam, skaRam, workRam}
+use Rattle.layout.specs.Flash.{Flash, Op, applyAll, erases, allFresh}
+use Rattle.layout.specs.Hash.{Family, positions, positionCount}
+use Rattle.layout.specs.Index.{Index, filterBit, withFilter, flushAndBuild, inSka}
+use Rattle.layout.specs.Items.{Area, RA, KA, DA, recordBytes, entryBytes, deletionBytes, Place, itemPlace, bytesAt, itemWord, put, fills, itemOps, itemRam, zeroPage}
+use Rattle.layout.specs.Search.{Stop, found, corrupt, Found, tryEntry, searchFrom}
+
+-- ---- what is handed in and what comes back
+
+-- the state, the flash, and the lent RAM ("desk")
+pub record Volume : Type 0 where
+  pub state : State
+  pub flash : Flash
+  pub ram : List ℕ
+
+-- a call and its arguments other than state and lent bytes; format is apart
+pub data Call : Type 0 where
+  insert : ℕ → ℕ → ℕ → ℕ → Call
+  update : ℕ → ℕ → ℕ → ℕ → Call
+  delete : ℕ → Call
+  lookup : ℕ → Call
+
+pub data Outcome : Type 0 where
+  accepted : Outcome
+  -- the record's place and its 16 bytes
+  hit : Place → List ℕ → Outcome
+  miss : Outcome
+  -- the number of document 01's table
+  refused : ℕ → Outcome
+
+-- all that a call answers and leaves; `ops` are its chip operations
+pub record Result : Type 0 where
+  pub outcome : Outcome
+  pub count : ℕ
+  pub volume : Volume
+  pub ops : List Op
+
+-- "A refusal changes nothing": "The state comes back as handed in", and its count is 0
+abbrev pub refuse : Volume → ℕ → Result
+refuse v i = record { outcome = refused i; count = 0; volume = v; ops = [] }
+
+-- ---- refusals 1 and 2
+
+-- "S, R or D not allowed; n or d above capacity; d above n"
+unfoldable pub badState : State → Bool
+badState s =
+    not (allowed (s .sectorSize) (s .raBlocks) (s .daBlocks))
+    || (ltb (recordCapacity (geometryOf s)) (s .records) || (ltb (deletionCapacity (geometryOf s)) (s .deletions) || ltb (s .records) (s .deletions)))
+
+-- "cells under 64SB, marks under 64B or desk under 20S bytes"
+unfoldable pub tooShort : Geometry → Flash → List ℕ → Bool
+tooShort g c ram = ltb (length (c .main)) (dataSize g) || (ltb (length (c .spare)) (spareSize g) || ltb (length ram) (ramSize g))
+
+-- 1, then 2, then the call's own
+unfoldable pub judged : Volume → Result → Result
+judged v r = cond (badState (v .state)) (refuse v 1) (cond (tooShort (geometryOf (v .state)) (v .flash) (v .ram)) (refuse v 2) r)
+
+-- ---- format
+
+-- "erases the volume, zeroes the desk and gives n = d = 0"; "erases blocks 0 to B - 1, rising"
+unfoldable pub formatted : Volume → ℕ → ℕ → ℕ → Result
+formatted v S R D =
+    let g : Geometry = geometry S R D in
+    let ops : List Op = erases 0 (blocks g) in
+    record {
+      outcome = accepted;
+      count = 0;
+      volume = record {
+        state = record { sectorSize = S; raBlocks = R; daBlocks = D; records = 0; deletions = 0 };
+        flash = applyAll (g .u) ops (v .flash);
+        ram = write (v .ram) 0 (replicate (ramSize g) 0);
+      };
+      ops = ops;
+    }
+
+-- it does not judge the old state
+unfoldable pub format : Volume → ℕ → ℕ → ℕ → Result
+format v S R D = cond (allowed S R D) (cond (tooShort (geometry S R D) (v .flash) (v .ram)) (refuse v 2) (formatted v S R D)) (refuse v 1)
+
+-- the index over KA
+abbrev pub keyIndex : Geometry → Index
+keyIndex g = record { first = indexBlock g; ska = skaRam (g .u) }
+
+-- full pages of KA, each with a filter
+abbrev pub keyFilters : Geometry → ℕ → ℕ
+keyFilters g n = n / entriesPerPage (g .u)
+
+module _ (h : Family) where
+  -- the positions of a key: those of its four bytes
+  abbrev pub keyPositions : Geometry → ℕ → List ℕ
+  keyPositions g key = positions h positionCount (g .u) (bytes4 key)
+
+  -- ---- the search on a volume
+
+  -- record numbers in DA
+  unfoldable pub isDeleted : Geometry → Volume → ℕ → Bool
+  isDeleted g v j = any (λ i. eqb (itemWord (g .u) (DA g) (v .state .deletions) (v .flash .main) (v .ram) i 0) j) (v .state .deletions)
+
+  -- entry j of KA
+  unfoldable pub tryAt : Geometry → Volume → ℕ → ℕ → Option Stop
+  tryAt g v key j =
+      tryEntry (v .state .records) (isDeleted g v) key
+      (itemWord (g .u) (KA g) (v .state .records) (v .flash .main) (v .ram) j 0)
+      (itemWord (g .u) (KA g) (v .state .records) (v .flash .main) (v .ram) j 1)
+
+  -- has the filter of full page f all bits of these positions, "read from the bytes lent"
+  unfoldable pub maybeIn : Geometry → Volume → List ℕ → ℕ → Bool
+  maybeIn g v ps f = allOf (filterBit (g .u) (keyIndex g) (v .flash .main) (v .ram) (keyFilters g (v .state .records)) f) ps
+
+  unfoldable pub search : Geometry → Volume → ℕ → Found
+  search g v key = searchFrom (maybeIn g v (keyPositions g key)) (tryAt g v key) (entriesPerPage (g .u)) (v .state .records)
+
+  -- ---- what an accepted change does: operations so far, and the RAM
+
+  pub record Draft : Type 0 where
+    pub ops : List Op
+    pub ram : List ℕ
+
+  -- "A deletion appends the 4-byte record number to DA"
+  unfoldable pub deletion : Geometry → ℕ → ℕ → List ℕ → Draft
+  deletion g d j ram = record { ops = itemOps (g .u) (DA g) d (deletionBytes j) ram; ram = itemRam (g .u) (DA g) d (deletionBytes j) ram }
+
+  -- "A full KA page gives one filter of m bits with the positions of all its keys set"; the keys in the page's bytes
+  unfoldable pub pageFilter : Geometry → List ℕ → ℕ → Bool
+  pageFilter g ram x = any (λ i. memb x (keyPositions g (word ram (kaRam (g .u) + i * 8)))) (entriesPerPage (g .u))
+
+  -- the full KA page's filter goes to the SKA page, "Eight filters fill the SKA page", and a full one to L1
+  unfoldable pub summary : Geometry → Flash → ℕ → (ℕ → Bool) → Draft → Draft
+  summary g flash F new t =
+      let ram : List ℕ = withFilter (g .u) (keyIndex g) (inSka F) new (t .ram) in
+      cond (eqb (inSka F + 1) 8)
+      (record { ops = flushAndBuild (g .u) (keyIndex g) flash (t .ops) ram F; ram = zeroPage (g .u) (skaRam (g .u)) ram })
+      (record { ops = t .ops; ram = ram })
+
+  -- record n and its entry: "RA page, KA page, SKA sectors, set pages, .. last the erases"
+  unfoldable pub insertion : Geometry → Flash → ℕ → ℕ → List ℕ → Draft → Draft
+  insertion g flash n key bytes t =
+      let ops₁ : List Op = t .ops ++ itemOps (g .u) (RA g) n bytes (t .ram) in
+      let ram₁ : List ℕ = itemRam (g .u) (RA g) n bytes (t .ram) in
+      let keys : List ℕ = put (KA g) n (entryBytes key n) ram₁ in
+      let ops₂ : List Op = ops₁ ++ itemOps (g .u) (KA g) n (entryBytes key n) ram₁ in
+      let ram₂ : List ℕ = itemRam (g .u) (KA g) n (entryBytes key n) ram₁ in
+      cond (fills (KA g) n)
+      (summary g flash (keyFilters g n) (pageFilter g keys) (record { ops = ops₂; ram = ram₂ }))
+      (record { ops = ops₂; ram = ram₂ })
+
+  -- 7 if a sector to be programmed is not fresh; else the operations are done, the work page is zeroed and the counts rise
+  unfoldable pub commit : Geometry → Volume → ℕ → ℕ → Draft → Result
+  commit g v n d t =
+      cond (allFresh (v .flash .spare) (t .ops))
+      (record {
+        outcome = accepted;
+        count = 0;
+        volume = record {
+          state = record { sectorSize = v .state .sectorSize; raBlocks = v .state .raBlocks; daBlocks = v .state .daBlocks; records = n; deletions = d };
+          flash = applyAll (g .u) (t .ops) (v .flash);
+          ram = zeroPage (g .u) (workRam (g .u)) (t .ram);
+        };
+        ops = t .ops;
+      })
+      (refuse v 7)
+
+  -- ---- the calls after 1 and 2, by what the search met: "Checked in the order 1, 2, 8, 3, 4, 5, 6, 7"
+
+  -- 5: "insert or update, n at capacity"; 6: "update or delete, d at capacity"
+  abbrev pub noRoom : Geometry → Volume → Bool
+  noRoom g v = leb (recordCapacity g) (v .state .records)
+
+  abbrev pub noDeletion : Geometry → Volume → Bool
+  noDeletion g v = leb (deletionCapacity g) (v .state .deletions)
+
+  unfoldable pub insertAfter : Geometry → Volume → ℕ → List ℕ → Option Stop → Result
+  insertAfter g v key bytes (some corrupt) = refuse v 8
+  insertAfter g v key bytes (some (found j)) = refuse v 3
+  insertAfter g v key bytes none =
+      cond (noRoom g v) (refuse v 5)
+      (commit g v (v .state .records + 1) (v .state .deletions)
+      (insertion g (v .flash) (v .state .records) key bytes (record { ops = []; ram = v .ram })))
+
+  -- "An update is a deletion followed by an insertion, in one call"
+  unfoldable pub updateAfter : Geometry → Volume → ℕ → List ℕ → Option Stop → Result
+  updateAfter g v key bytes (some corrupt) = refuse v 8
+  updateAfter g v key bytes none = refuse v 4
+  updateAfter g v key bytes (some (found j)) =
+      cond (noRoom g v) (refuse v 5)
+      (cond (noDeletion g v) (refuse v 6)
+      (commit g v (v .state .records + 1) (v .state .deletions + 1)
+      (insertion g (v .flash) (v .state .records) key bytes (deletion g (v .state .deletions) j (v .ram)))))
+
+  unfoldable pub deleteAfter : Geometry → Volume → Option Stop → Result
+  deleteAfter g v (some corrupt) = refuse v 8
+  deleteAfter g v none = refuse v 4
+  deleteAfter g v (some (found j)) =
+      cond (noDeletion g v) (refuse v 6)
+      (commit g v (v .state .records) (v .state .deletions + 1) (deletion g (v .state .deletions) j (v .ram)))
+
+  -- "hit, count and the 16 record bytes .. on the chip or in the desk, wherever that record is"
+  abbrev pub recordPlace : Geometry → Volume → ℕ → Place
+  recordPlace g v j = itemPlace (g .u) (RA g) (v .state .records) j
+
+  unfoldable pub lookupAfter : Geometry → Volume → ℕ → Option Stop → Result
+  lookupAfter g v opened (some corrupt) = refuse v 8
+  lookupAfter g v opened none = record { outcome = miss; count = opened; volume = v; ops = [] }
+  lookupAfter g v opened (some (found j)) =
+      record { outcome = hit (recordPlace g v j) (bytesAt (v .flash .main) (v .ram) (recordPlace g v j) 16); count = opened; volume = v; ops = [] }
+
+  abbrev pub answer : Geometry → Volume → Call → Result
+  answer g v (insert key moves goal free) = insertAfter g v key (recordBytes key moves goal free) (search g v key .stop)
+  answer g v (update key moves goal free) = updateAfter g v key (recordBytes key moves goal free) (search g v key .stop)
+  answer g v (delete key) = deleteAfter g v (search g v key .stop)
+  answer g v (lookup key) = let f : Found = search g v key in lookupAfter g v (f .opened) (f .stop)
+
+  -- a call on a volume
+  unfoldable pub call : Volume → Call → Result
+  call v c = judged v (answer (geometryOf (v .state)) v c)

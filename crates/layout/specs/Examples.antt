@@ -1,0 +1,136 @@
+-- Document 01, "Examples": its starred lines, one table and one theorem.
+use mathlib.Core.Path.{_≡_, refl}
+use mathlib.Core.Bool.{Bool, cond}
+use mathlib.Core.List.{List, [], _∷_}
+use Prim.Native.Nat.{ℕ, _+_, _-_, _*_, _/_, _%_}
+use lib.ListN.{length, getD}
+use Rattle.memory.specs.Power.{log2up}
+use Rattle.layout.specs.Geometry.{Geometry, geometry, blocks, indexBlock, recordCapacity, sectorSizes, sector, page, recordsPerPage, entriesPerPage, filterBits}
+use Rattle.layout.specs.Flash.{Op, program, erase}
+use Rattle.layout.specs.Hash.{fnvFrom, fnv1a}
+use Rattle.layout.specs.Index.{Index, BitPlace, inSka, inL1, setPages, setWidth, setPlace, l1Place, flushOps, flushAndBuild}
+use Rattle.layout.specs.Items.{RA, Place, itemPlace}
+use Rattle.layout.specs.Calls.{keyIndex, keyFilters}
+
+-- a row: what the definitions give, and what the document says
+pub record Row : Type 0 where
+  pub is : ℕ
+  pub says : ℕ
+
+abbrev row : ℕ → ℕ → Row
+row a b = record { is = a; says = b }
+
+abbrev pub computed : List Row → List ℕ
+computed [] = []
+computed (r ∷ rs) = r .is ∷ computed rs
+
+abbrev pub expected : List Row → List ℕ
+expected [] = []
+expected (r ∷ rs) = r .says ∷ expected rs
+
+abbrev num : Bool → ℕ
+num t = cond t 1 0
+
+abbrev B : ℕ → ℕ → ℕ → ℕ
+B S R D = blocks (geometry S R D)
+
+-- the sectors that operations program, and the blocks that they erase, in order
+abbrev pub sectorsOf : List Op → List ℕ
+sectorsOf [] = []
+sectorsOf (program s bytes ∷ os) = s ∷ sectorsOf os
+sectorsOf (erase b ∷ os) = sectorsOf os
+
+abbrev pub blocksOf : List Op → List ℕ
+blocksOf [] = []
+blocksOf (program s bytes ∷ os) = blocksOf os
+blocksOf (erase b ∷ os) = b ∷ blocksOf os
+
+-- an index that starts at block 0
+abbrev index : Index
+index = record { first = 0; ska = 0 }
+
+-- set 3 is made of two rounds; position 13 of filter 200 at S = 16
+abbrev partition : BitPlace
+partition = setPlace 1 index 0 (setWidth 1 2) 200 13
+
+-- the third sector of flush 6 at S = 16: as programmed, and as read for filter 48 of the round, bit 2S
+abbrev flushed : ℕ
+flushed = getD (sectorsOf (flushOps 1 index 6 [])) 2 0
+
+abbrev flushRead : ℕ
+flushRead = l1Place 1 index 48 (2 * sector 1) .row / sector 1
+
+-- record j of n at S = 16
+abbrev recordAt : ℕ → ℕ → Place
+recordAt n j = itemPlace 1 (RA (geometry 16 1 1)) n j
+
+-- S = 16, R = 16, n = 1023: its filters, and what the filter of the next insert does
+abbrev g16 : Geometry
+g16 = geometry 16 16 1
+
+abbrev filters : ℕ
+filters = keyFilters g16 1023
+
+abbrev built : List Op
+built = flushAndBuild 1 (keyIndex g16) (record { main = []; spare = [] }) [] [] filters
+
+abbrev pub examples : List Row
+examples =
+    -- FNV-1a of nothing, and of the letter a
+    row (fnv1a []) 0x811C9DC5
+    ∷ row (fnv1a (97 ∷ [])) 0xE40C292C
+    -- S = 16, D = 1: B, and the capacity at R = 1
+    ∷ row (B 16 1 1) 12
+    ∷ row (recordCapacity (geometry 16 1 1)) 64
+    ∷ row (B 16 32 1) 58
+    ∷ row (B 16 63 1) 105
+    ∷ row (B 16 64 1) 110
+    -- S = 512, R = 2048, D = 1
+    ∷ row (B 512 2048 1) 3458
+    -- P for i = 2 to 6; set i has i - 1 rounds
+    ∷ row (setPages 1 (2 - 1)) 16
+    ∷ row (setPages 1 (3 - 1)) 32
+    ∷ row (setPages 1 (4 - 1)) 64
+    ∷ row (setPages 1 (5 - 1)) 64
+    ∷ row (setPages 1 (6 - 1)) 128
+    -- S = 16, set 3, position 13, filter 200: page 6, byte 50, bit 1
+    ∷ row (partition .row / page 1) 6
+    ∷ row (partition .at / 8) 50
+    ∷ row (partition .at % 8) 1
+    -- flush 6, i = 2: L1 page 9, sector 2
+    ∷ row (flushed / 4) 9
+    ∷ row (flushed % 4) 2
+    ∷ row (flushRead / 4) 9
+    ∷ row (flushRead % 4) 2
+    -- S = 16, n = 5: record 3 at cell 48, record 4 at desk byte 0
+    ∷ row (num (recordAt 5 3 .inRam)) 0
+    ∷ row (recordAt 5 3 .at) 48
+    ∷ row (num (recordAt 5 4 .inRam)) 1
+    ∷ row (recordAt 5 4 .at) 0
+    -- S = 16, R = 16, n = 1023: 15 flushes, 7 filters and 7 entries on the desk
+    ∷ row (inL1 filters) 15
+    ∷ row (inSka filters) 7
+    ∷ row (1023 % entriesPerPage 1) 7
+    -- one more insert builds set 2: the flush's four sectors, then 16 pages of side A; and erases L1
+    ∷ row (length (sectorsOf built)) (4 + 16 * 4)
+    ∷ row (getD (sectorsOf built) 4 0) ((indexBlock g16 + 1) * 64)
+    ∷ row (length (blocksOf built)) 1
+    ∷ row (getD (blocksOf built) 0 0) (indexBlock g16)
+    ∷ []
+
+pub examples-hold : computed examples ≡ expected examples
+unfolding fnvFrom log2up
+examples-hold = refl
+
+-- ---- the table of sector sizes: "records a page (S/4)", "entries a page (S/2)", "filter bits m (4S)"
+
+abbrev units : List ℕ → List ℕ
+units [] = []
+units (S ∷ ss) = sector (S / 16) ∷ recordsPerPage (S / 16) ∷ entriesPerPage (S / 16) ∷ filterBits (S / 16) ∷ units ss
+
+abbrev table : List ℕ → List ℕ
+table [] = []
+table (S ∷ ss) = S ∷ S / 4 ∷ S / 2 ∷ (4 * S) ∷ table ss
+
+pub rows : units sectorSizes ≡ table sectorSizes
+rows = refl

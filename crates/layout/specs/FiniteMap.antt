@@ -1,0 +1,79 @@
+-- Document 01, "Demand 3's map": fed the name of each call and its arguments, and nothing else.
+use mathlib.Core.Bool.{cond}
+use mathlib.Core.Option.{Option, none, some}
+use mathlib.Core.List.{List, [], _∷_}
+use Prim.Native.Nat.{ℕ, _+_}
+use lib.Dec.{leb, eqb}
+use Rattle.layout.specs.Geometry.{Geometry, recordCapacity, deletionCapacity}
+use Rattle.layout.specs.Items.{recordBytes}
+use Rattle.layout.specs.Calls.{Call, insert, update, delete, lookup}
+
+-- a record by its level key: "16 bytes made of key, moves, goal and free word"
+pub record Level : Type 0 where
+  pub key : ℕ
+  pub bytes : List ℕ
+
+-- "records by level key, none at first; counts n and d"
+pub record Map : Type 0 where
+  pub levels : List Level
+  pub n : ℕ
+  pub d : ℕ
+
+abbrev pub emptyMap : Map
+emptyMap = record { levels = []; n = 0; d = 0 }
+
+unfoldable pub find : List Level → ℕ → Option Level
+find [] k = none
+find (l ∷ ls) k = cond (eqb (l .key) k) (some l) (find ls k)
+
+unfoldable pub without : ℕ → List Level → List Level
+without k [] = []
+without k (l ∷ ls) = cond (eqb (l .key) k) (without k ls) (l ∷ without k ls)
+
+-- what is compared at each call
+pub data Reply : Type 0 where
+  accepts : Reply
+  hits : List ℕ → Reply
+  misses : Reply
+  refuses : ℕ → Reply
+
+pub record Step : Type 0 where
+  pub says : Reply
+  pub next : Map
+
+abbrev pub step : Reply → Map → Step
+step r m = record { says = r; next = m }
+
+module _ (capacity deletionCapacity : ℕ) where
+  -- "Insert: key present, 3; else n at record capacity, 5; else the key gets the record .., and n rises by one"
+  abbrev pub insertMap : Map → Level → Option Level → Step
+  insertMap m l (some o) = step (refuses 3) m
+  insertMap m l none = cond (leb capacity (m .n)) (step (refuses 5) m) (step accepts (record { levels = l ∷ m .levels; n = m .n + 1; d = m .d }))
+
+  -- "Update: key absent, 4; else n at record capacity, 5; else d at deletion capacity, 6; else the new record replaces the key's old one, and n and d rise by one"
+  abbrev pub updateMap : Map → Level → Option Level → Step
+  updateMap m l none = step (refuses 4) m
+  updateMap m l (some o) =
+      cond (leb capacity (m .n)) (step (refuses 5) m)
+      (cond (leb deletionCapacity (m .d)) (step (refuses 6) m)
+      (step accepts (record { levels = l ∷ without (l .key) (m .levels); n = m .n + 1; d = m .d + 1 })))
+
+  -- "Delete: key absent, 4; else d at deletion capacity, 6; else the key leaves the map, and d rises by one"
+  abbrev pub deleteMap : Map → ℕ → Option Level → Step
+  deleteMap m k none = step (refuses 4) m
+  deleteMap m k (some o) = cond (leb deletionCapacity (m .d)) (step (refuses 6) m) (step accepts (record { levels = without k (m .levels); n = m .n; d = m .d + 1 }))
+
+  -- "Lookup: key present, hit with its record; else miss. Nothing changes"
+  abbrev pub lookupMap : Map → Option Level → Step
+  lookupMap m none = step misses m
+  lookupMap m (some o) = step (hits (o .bytes)) m
+
+  abbrev pub stepMap : Map → Call → Step
+  stepMap m (insert key moves goal free) = insertMap m (record { key = key; bytes = recordBytes key moves goal free }) (find (m .levels) key)
+  stepMap m (update key moves goal free) = updateMap m (record { key = key; bytes = recordBytes key moves goal free }) (find (m .levels) key)
+  stepMap m (delete key) = deleteMap m key (find (m .levels) key)
+  stepMap m (lookup key) = lookupMap m (find (m .levels) key)
+
+-- "the two capacities that the format's S, R and D give"
+abbrev pub mapOf : Geometry → Map → Call → Step
+mapOf g = stepMap (recordCapacity g) (deletionCapacity g)

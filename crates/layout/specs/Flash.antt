@@ -1,0 +1,49 @@
+-- Operations of the flash chip at sector and block grain. Document 01, "The chip and the desk".
+use mathlib.Core.Bool.{Bool, true, not, _&&_}
+use mathlib.Core.List.{List, [], _∷_, _++_}
+use Prim.Native.Nat.{ℕ, zero, suc, _+_, _*_}
+use lib.ListN.{getD, set, replicate}
+use lib.Dec.{eqb}
+use Rattle.memory.specs.Lists.{write, tab}
+use Rattle.layout.specs.Geometry.{sector, block}
+
+-- the main area ("cells") and the spare area ("marks", one byte a sector)
+pub record Flash : Type 0 where
+  pub main : List ℕ
+  pub spare : List ℕ
+
+-- program a sector with its bytes; erase a block
+pub data Op : Type 0 where
+  program : ℕ → List ℕ → Op
+  erase : ℕ → Op
+
+-- "FF hexadecimal is fresh, anything else is programmed"
+unfoldable pub fresh : ℕ → Bool
+fresh mark = eqb mark 255
+
+module _ (u : ℕ) where
+  -- "Programming a sector writes its S cells and sets its mark to 00; erasing a block sets its cells and marks to FF"
+  abbrev pub apply : Op → Flash → Flash
+  apply (program s bytes) c = record { main = write (c .main) (s * sector u) bytes; spare = set (c .spare) s 0 }
+  apply (erase b) c = record { main = write (c .main) (b * block u) (replicate (block u) 255); spare = write (c .spare) (b * 64) (replicate 64 255) }
+
+  -- a list of operations, in order
+  abbrev pub applyAll : List Op → Flash → Flash
+  applyAll [] c = c
+  applyAll (o ∷ os) c = applyAll os (apply o c)
+
+  -- k sectors, the j-th being s + j * d; byte y of the j-th is f j y
+  abbrev pub programs : ℕ → ℕ → ℕ → (ℕ → ℕ → ℕ) → List Op
+  programs d s zero f = []
+  programs d s (suc k) f = program s (tab (sector u) (f zero)) ∷ programs d (s + d) k (λ j. f (suc j))
+
+-- k blocks in a row from b on
+abbrev pub erases : ℕ → ℕ → List Op
+erases b zero = []
+erases b (suc k) = erase b ∷ erases (suc b) k
+
+-- are all sectors that a list programs fresh, by the marks before the list's first operation
+unfoldable pub allFresh : List ℕ → List Op → Bool
+allFresh spare [] = true
+allFresh spare (program s bytes ∷ os) = fresh (getD spare s 0) && allFresh spare os
+allFresh spare (erase b ∷ os) = allFresh spare os

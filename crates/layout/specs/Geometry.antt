@@ -1,0 +1,129 @@
+-- Sizes, areas and capacities. Document 01, "The chip and the desk".
+-- Every allowed sector size is a multiple of 16, so all sizes are counted in units of a sixteenth of a sector:
+-- with S = 16 u, the table's S/4, S/2 and 4S are 4 u, 8 u and 64 u (`Examples.rows` shows it for each row).
+use mathlib.Core.Bool.{Bool, _&&_}
+use mathlib.Core.List.{List, [], _∷_}
+use Prim.Native.Nat.{ℕ, _+_, _*_, _/_}
+use lib.Dec.{leb}
+use Rattle.memory.specs.Ranges.{memb}
+
+-- the state that goes in and comes back: S, R, D, n, d
+pub record State : Type 0 where
+  pub sectorSize : ℕ
+  pub raBlocks : ℕ
+  pub daBlocks : ℕ
+  pub records : ℕ
+  pub deletions : ℕ
+
+-- a volume's shape: u = S/16, R and D
+pub record Geometry : Type 0 where
+  pub u : ℕ
+  pub R : ℕ
+  pub D : ℕ
+
+abbrev pub geometry : ℕ → ℕ → ℕ → Geometry
+geometry S R D = record { u = S / 16; R = R; D = D }
+
+abbrev pub geometryOf : State → Geometry
+geometryOf s = geometry (s .sectorSize) (s .raBlocks) (s .daBlocks)
+
+-- "S takes one row of this table; R and D are 1 to 4096"
+abbrev pub sectorSizes : List ℕ
+sectorSizes = 16 ∷ 32 ∷ 64 ∷ 128 ∷ 256 ∷ 512 ∷ []
+
+abbrev pub blocksAllowed : ℕ → Bool
+blocksAllowed b = leb 1 b && leb b 4096
+
+unfoldable pub allowed : ℕ → ℕ → ℕ → Bool
+allowed S R D = memb S sectorSizes && (blocksAllowed R && blocksAllowed D)
+
+-- ---- sizes in bytes: "A page is always four sectors, a block always sixteen pages"
+
+module _ (u : ℕ) where
+  abbrev pub sector : ℕ
+  sector = 16 * u
+
+  abbrev pub page : ℕ
+  page = 64 * u
+
+  abbrev pub block : ℕ
+  block = 1024 * u
+
+  -- the table: records, entries, deletions a page, bits of a filter
+  abbrev pub recordsPerPage : ℕ
+  recordsPerPage = 4 * u
+
+  abbrev pub entriesPerPage : ℕ
+  entriesPerPage = 8 * u
+
+  abbrev pub deletionsPerPage : ℕ
+  deletionsPerPage = 16 * u
+
+  abbrev pub filterBits : ℕ
+  filterBits = 64 * u
+
+  -- blocks of a side, and of a full partition set: S/4
+  abbrev pub sideBlocks : ℕ
+  sideBlocks = 4 * u
+
+-- ---- areas in order; each starts where the one before it ends
+
+module _ (g : Geometry) where
+  abbrev pub raBlock : ℕ
+  raBlock = 0
+
+  abbrev pub kaBlock : ℕ
+  kaBlock = raBlock + g .R
+
+  abbrev pub kaBlocks : ℕ
+  kaBlocks = (g .R + 1) / 2
+
+  abbrev pub daBlock : ℕ
+  daBlock = kaBlock + kaBlocks
+
+  -- L1, both sides and the full sets are the index over KA, from its first block on
+  abbrev pub indexBlock : ℕ
+  indexBlock = daBlock + g .D
+
+  -- places for full ("sealed") sets: floor(R / (4S))
+  abbrev pub fullSets : ℕ
+  fullSets = g .R / filterBits (g .u)
+
+  -- B
+  abbrev pub blocks : ℕ
+  blocks = indexBlock + (1 + 2 * sideBlocks (g .u) + fullSets * sideBlocks (g .u))
+
+  -- "Record capacity is 4RS, deletion capacity 16DS"
+  abbrev pub recordCapacity : ℕ
+  recordCapacity = 4 * g .R * sector (g .u)
+
+  abbrev pub deletionCapacity : ℕ
+  deletionCapacity = 16 * g .D * sector (g .u)
+
+  -- bytes of data ("cells"), of spare ("marks", one a sector), of RAM ("desk")
+  abbrev pub dataSize : ℕ
+  dataSize = blocks * block (g .u)
+
+  abbrev pub spareSize : ℕ
+  spareSize = blocks * 64
+
+  abbrev pub ramSize : ℕ
+  ramSize = 5 * page (g .u)
+
+-- ---- the RAM's pages: RA, KA, DA, SKA and work, in that order
+
+module _ (u : ℕ) where
+  abbrev pub raRam : ℕ
+  raRam = 0
+
+  abbrev pub kaRam : ℕ
+  kaRam = page u
+
+  abbrev pub daRam : ℕ
+  daRam = 2 * page u
+
+  abbrev pub skaRam : ℕ
+  skaRam = 3 * page u
+
+  abbrev pub workRam : ℕ
+  workRam = 4 * page u

@@ -1,0 +1,88 @@
+-- Areas that grow at their end: records, entries and deletions. Document 01, "Records, entries, deletions".
+use mathlib.Core.Bool.{Bool, true, false, cond}
+use mathlib.Core.List.{List, [], _∷_, _++_}
+use Prim.Native.Nat.{ℕ, _+_, _*_, _/_, _%_}
+use lib.ListN.{getD, replicate}
+use lib.Dec.{ltb, eqb}
+use Rattle.memory.specs.Lists.{write, part}
+use Rattle.memory.specs.Words.{word, wordsBytes}
+use Rattle.layout.specs.Geometry.{Geometry, sector, page, block, recordsPerPage, entriesPerPage, deletionsPerPage, raBlock, kaBlock, daBlock, raRam, kaRam, daRam}
+use Rattle.layout.specs.Flash.{Flash, Op, programs}
+
+-- items of `size` bytes, `perPage` to a page, from block `first` on; the page that is not full yet is in RAM from byte `ram` on
+pub record Area : Type 0 where
+  pub size : ℕ
+  pub perPage : ℕ
+  pub first : ℕ
+  pub ram : ℕ
+
+-- "A record is 16 bytes", "a KA entry of 8 bytes", "the 4-byte record number"
+module _ (g : Geometry) where
+  abbrev pub RA : Area
+  RA = record { size = 16; perPage = recordsPerPage (g .u); first = raBlock g; ram = raRam (g .u) }
+
+  abbrev pub KA : Area
+  KA = record { size = 8; perPage = entriesPerPage (g .u); first = kaBlock g; ram = kaRam (g .u) }
+
+  abbrev pub DA : Area
+  DA = record { size = 4; perPage = deletionsPerPage (g .u); first = daBlock g; ram = daRam (g .u) }
+
+-- "level key, moves, goal, free word, 4 bytes each"; "key, then j"; the record number
+unfoldable pub recordBytes : ℕ → ℕ → ℕ → ℕ → List ℕ
+recordBytes key moves goal free = wordsBytes (key ∷ moves ∷ goal ∷ free ∷ [])
+
+unfoldable pub entryBytes : ℕ → ℕ → List ℕ
+entryBytes key j = wordsBytes (key ∷ j ∷ [])
+
+unfoldable pub deletionBytes : ℕ → List ℕ
+deletionBytes j = wordsBytes (j ∷ [])
+
+-- ---- where item j of n lies
+
+-- a byte in RAM or on flash
+pub record Place : Type 0 where
+  pub inRam : Bool
+  pub at : ℕ
+
+-- "those of a page not yet full from the start of their desk page", the others "from the start of their area"
+abbrev pub itemPlace : ℕ → Area → ℕ → ℕ → Place
+itemPlace u a n j =
+    cond (ltb j (n / a .perPage * a .perPage))
+    (record { inRam = false; at = a .first * block u + j * a .size })
+    (record { inRam = true; at = a .ram + j % a .perPage * a .size })
+
+-- bytes and words at a place
+abbrev pub source : List ℕ → List ℕ → Place → List ℕ
+source main ram p = cond (p .inRam) ram main
+
+abbrev pub bytesAt : List ℕ → List ℕ → Place → ℕ → List ℕ
+bytesAt main ram p size = part (source main ram p) (p .at) size
+
+-- word i of item j of n
+unfoldable pub itemWord : ℕ → Area → ℕ → List ℕ → List ℕ → ℕ → ℕ → ℕ
+itemWord u a n main ram j i = word (source main ram (itemPlace u a n j)) (itemPlace u a n j .at + i * 4)
+
+-- ---- one more item
+
+-- the RAM with item n in its place
+unfoldable pub put : Area → ℕ → List ℕ → List ℕ → List ℕ
+put a n item ram = write ram (a .ram + n % a .perPage * a .size) item
+
+-- does item n fill its page
+abbrev pub fills : Area → ℕ → Bool
+fills a n = eqb (n % a .perPage + 1) (a .perPage)
+
+-- "A page is programmed by the call that fills it": its four sectors, from the bytes of its RAM page
+abbrev pub pageOps : ℕ → Area → ℕ → List ℕ → List Op
+pageOps u a n ram = programs u 1 (a .first * 64 + n / a .perPage * 4) 4 (λ j y. getD ram (a .ram + (j * sector u + y)) 0)
+
+-- a RAM page from byte `at` on zeroed
+abbrev pub zeroPage : ℕ → ℕ → List ℕ → List ℕ
+zeroPage u at ram = write ram at (replicate (page u) 0)
+
+-- operations of item n, and the RAM after them: "zeroes each desk page it has programmed"
+abbrev pub itemOps : ℕ → Area → ℕ → List ℕ → List ℕ → List Op
+itemOps u a n item ram = cond (fills a n) (pageOps u a n (put a n item ram)) []
+
+abbrev pub itemRam : ℕ → Area → ℕ → List ℕ → List ℕ → List ℕ
+itemRam u a n item ram = cond (fills a n) (zeroPage u (a .ram) (put a n item ram)) (put a n item ram)

@@ -1,0 +1,9 @@
+pub mod Geometry
+pub mod Flash
+pub mod Hash
+pub mod Items
+pub mod Index
+pub mod Search
+pub mod Calls
+pub mod FiniteMap
+pub mod Examples

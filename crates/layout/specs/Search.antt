@@ -1,0 +1,53 @@
+-- The search for a key, over any gate on pages and any test of an entry. Document 01, "Calls".
+use mathlib.Core.Bool.{Bool, cond}
+use mathlib.Core.Option.{Option, none, some}
+use Prim.Native.Nat.{ℕ, zero, suc, _+_, _*_, _/_, _%_}
+use lib.Dec.{leb, eqb}
+
+-- where a search ends: at a live entry, with its record number, or at a number of n or more (refusal 8)
+pub data Stop : Type 0 where
+  found : ℕ → Stop
+  corrupt : Stop
+
+-- how it ended, if not by running out of entries, and the pages opened
+pub record Found : Type 0 where
+  pub stop : Option Stop
+  pub opened : ℕ
+
+abbrev pub reply : Option Stop → ℕ → Found
+reply s c = record { stop = s; opened = c }
+
+-- an entry of key `k′` and number `j` when `k` is looked for among n records: "An entry with the key whose record number is not in DA is live"
+abbrev pub tryEntry : ℕ → (ℕ → Bool) → ℕ → ℕ → ℕ → Option Stop
+tryEntry n deleted k k′ j =
+    cond (eqb k′ k) (cond (leb n j) (some corrupt) (cond (deleted j) none (some (found j)))) none
+
+abbrev pub orElse : Option Stop → Option Stop → Option Stop
+orElse none y = y
+orElse (some r) y = some r
+
+-- entries lo + len - 1 down to lo: "Entries of a page are tried last to first"
+unfoldable pub scan : (ℕ → Option Stop) → ℕ → ℕ → Option Stop
+scan try lo zero = none
+scan try lo (suc k) = orElse (try (lo + k)) (scan try lo k)
+
+-- a page that is opened counts, also the one where the search ends
+abbrev pub opening : Option Stop → Found → Found
+opening none rest = reply (rest .stop) (suc (rest .opened))
+opening (some r) rest = reply (some r) 1
+
+-- pages N - 1 down to 0 of q entries each, "opening a page only if its filter has all three bits"
+unfoldable pub searchPages : (ℕ → Bool) → (ℕ → Option Stop) → ℕ → ℕ → Found
+searchPages gate try q zero = reply none 0
+searchPages gate try q (suc p) =
+    let rest : Found = searchPages gate try q p in
+    cond (gate p) (opening (scan try (p * q) q) rest) rest
+
+-- what is found in RAM counts no page
+abbrev pub ramFirst : Option Stop → Found → Found
+ramFirst none rest = rest
+ramFirst (some r) rest = reply (some r) 0
+
+-- "first the desk's entries, newest first; then full pages, newest first", of n entries, q to a page
+abbrev pub searchFrom : (ℕ → Bool) → (ℕ → Option Stop) → ℕ → ℕ → Found
+searchFrom gate try q n = ramFirst (scan try (n / q * q) (n % q)) (searchPages gate try q (n / q))

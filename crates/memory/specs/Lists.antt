@@ -1,0 +1,178 @@
+-- Memory as a list of bytes: a write keeps the length, and a read after it is a test on the address. Assumes nothing.
+use mathlib.Core.Path.{_≡_, refl, sym, ap, _∙_}
+use mathlib.Core.Logic.{_⊎_, inl, inr, ⊎-elim}
+use mathlib.Core.Bool.{Bool, true, false, _&&_, cond}
+use mathlib.Core.List.{List, [], _∷_, _++_}
+use Prim.Native.Nat.{ℕ, zero, suc, _+_, _-_, _*_, _≤_, _<_, zero-le}
+use native.Mathlib.Nat.{le-of-suc-le-suc, not-suc-le-zero, suc-sub-suc, sub-zero}
+use native.Mathlib.Omega.{arith}
+use lib.ListN.{length, getD, take, drop, length-append, List·getD-append}
+use lib.Seq.{ext-getD, getD-append-add}
+use lib.Dec.{leb, ltb}
+use Rattle.memory.specs.Cases.{lt?, le?}
+
+module _ {ℓ} {A : Type ℓ} where
+  -- l with the elements from index at on replaced by those of s, as far as l goes
+  unfoldable pub write : List A → ℕ → List A → List A
+  write [] at s = []
+  write (x ∷ xs) zero [] = x ∷ xs
+  write (x ∷ xs) zero (y ∷ ys) = y ∷ write xs zero ys
+  write (x ∷ xs) (suc n) s = x ∷ write xs n s
+
+  pub length-write : (l : List A) (at : ℕ) (s : List A) → length (write l at s) ≡ length l
+  unfolding write
+  length-write [] at s = refl
+  length-write (x ∷ xs) zero [] = refl
+  length-write (x ∷ xs) zero (y ∷ ys) = ap suc (length-write xs zero ys)
+  length-write (x ∷ xs) (suc n) s = ap suc (length-write xs n s)
+
+  pub getD-write-before : (l : List A) (at : ℕ) (s : List A) (i : ℕ) (d : A) → i < at → getD (write l at s) i d ≡ getD l i d
+  unfolding write
+  getD-write-before [] at s i d h = refl
+  getD-write-before (x ∷ xs) zero s i d h = absurd (not-suc-le-zero h)
+  getD-write-before (x ∷ xs) (suc n) s zero d h = refl
+  getD-write-before (x ∷ xs) (suc n) s (suc i) d h = getD-write-before xs n s i d (le-of-suc-le-suc h)
+
+  -- the element written at address i
+  pub getD-write-in : (l : List A) (at : ℕ) (s : List A) (i : ℕ) (d : A) → at ≤ i → i < at + length s → i < length l → getD (write l at s) i d ≡ getD s (i - at) d
+  unfolding write
+  getD-write-in [] at s i d h k hl = absurd (not-suc-le-zero hl)
+  getD-write-in (x ∷ xs) zero [] i d h k hl = absurd (omega arith)
+  getD-write-in (x ∷ xs) zero (y ∷ ys) zero d h k hl = refl
+  getD-write-in (x ∷ xs) zero (y ∷ ys) (suc i) d h k hl =
+      getD-write-in xs zero ys i d zero-le (omega arith) (omega arith) ∙ rw (sub-zero, sub-zero)
+  getD-write-in (x ∷ xs) (suc n) s zero d h k hl = absurd (not-suc-le-zero h)
+  getD-write-in (x ∷ xs) (suc n) s (suc i) d h k hl =
+      getD-write-in xs n s i d (omega arith) (omega arith) (omega arith) ∙ rw suc-sub-suc
+
+  pub getD-write-after : (l : List A) (at : ℕ) (s : List A) (i : ℕ) (d : A) → at + length s ≤ i → getD (write l at s) i d ≡ getD l i d
+  unfolding write
+  getD-write-after [] at s i d h = refl
+  getD-write-after (x ∷ xs) zero [] i d h = refl
+  getD-write-after (x ∷ xs) zero (y ∷ ys) zero d h = absurd (omega arith)
+  getD-write-after (x ∷ xs) zero (y ∷ ys) (suc i) d h = getD-write-after xs zero ys i d (omega arith)
+  getD-write-after (x ∷ xs) (suc n) s zero d h = absurd (omega arith)
+  getD-write-after (x ∷ xs) (suc n) s (suc i) d h = getD-write-after xs n s i d (omega arith)
+
+  -- ---- a list by its elements: n elements, element i being f i
+
+  unfoldable pub tabFrom : ℕ → ℕ → (ℕ → A) → List A
+  tabFrom k zero f = []
+  tabFrom k (suc n) f = f k ∷ tabFrom (suc k) n f
+
+  unfoldable pub tab : ℕ → (ℕ → A) → List A
+  tab n f = tabFrom zero n f
+
+  length-tabFrom : (k n : ℕ) (f : ℕ → A) → length (tabFrom k n f) ≡ n
+  unfolding tabFrom
+  length-tabFrom k zero f = refl
+  length-tabFrom k (suc n) f = ap suc (length-tabFrom (suc k) n f)
+
+  getD-tabFrom : (k n : ℕ) (f : ℕ → A) (i : ℕ) (d : A) → i < n → getD (tabFrom k n f) i d ≡ f (k + i)
+  unfolding tabFrom
+  getD-tabFrom k zero f i d h = absurd (not-suc-le-zero h)
+  getD-tabFrom k (suc n) f zero d h = let e : k ≡ k + zero = omega arith in ap f e
+  getD-tabFrom k (suc n) f (suc i) d h =
+      let e : suc k + i ≡ k + suc i = omega arith in getD-tabFrom (suc k) n f i d (le-of-suc-le-suc h) ∙ ap f e
+
+  pub length-tab : (n : ℕ) (f : ℕ → A) → length (tab n f) ≡ n
+  unfolding tab
+  length-tab n f = length-tabFrom zero n f
+
+  pub getD-tab : (n : ℕ) (f : ℕ → A) (i : ℕ) (d : A) → i < n → getD (tab n f) i d ≡ f i
+  unfolding tab
+  getD-tab n f i d h = let e : zero + i ≡ i = omega arith in getD-tabFrom zero n f i d h ∙ ap f e
+
+pub tab-ext : {A : Type 0} (n : ℕ) (f g : ℕ → A) → ((i : ℕ) → i < n → f i ≡ g i) → tab n f ≡ tab n g
+unfolding tab tabFrom
+tab-ext zero f g h = refl
+tab-ext (suc n) f g h =
+    ext-getD (f zero) (tab (suc n) f) (tab (suc n) g) (length-tab (suc n) f ∙ sym (length-tab (suc n) g))
+    (λ i l. let b : i < suc n = rw length-tab at l in getD-tab (suc n) f i (f zero) b ∙ h i b ∙ sym (getD-tab (suc n) g i (f zero) b))
+
+-- is i among the n addresses from at on
+abbrev pub inside : ℕ → ℕ → ℕ → Bool
+inside at n i = leb at i && ltb i (at + n)
+
+pub inside? : (at n i : ℕ) → ((inside at n i ≡ true) × (at ≤ i) × (i < at + n)) ⊎ ((inside at n i ≡ false) × ((i < at) ⊎ (at + n ≤ i)))
+inside? at n i =
+    ⊎-elim
+    (λ h. ⊎-elim (λ k. inl (cc, h .1, k .1)) (λ k. inr (cc, inr (k .1))) (lt? i (at + n)))
+    (λ h. inr (cc, inl (h .1)))
+    (le? at i)
+
+-- one law for a read after a write
+pub getD-write : (l : List ℕ) (at : ℕ) (s : List ℕ) (i : ℕ) → i < length l →
+    getD (write l at s) i 0 ≡ cond (inside at (length s) i) (getD s (i - at) 0) (getD l i 0)
+getD-write l at s i h =
+    ⊎-elim
+    (λ k. getD-write-in l at s i 0 (k .1) (k .2) h ∙ rw (k .0))
+    (λ k. ⊎-elim (λ b. getD-write-before l at s i 0 b) (λ a. getD-write-after l at s i 0 a) (k .1) ∙ rw (k .0))
+    (inside? at (length s) i)
+
+-- every address stays in reach
+pub lt-write : (l : List ℕ) (at : ℕ) (s : List ℕ) (i : ℕ) → i < length l → i < length (write l at s)
+lt-write l at s i h = rw length-write h
+
+-- a part of n bytes from `at` on, and a read in it
+abbrev pub part : List ℕ → ℕ → ℕ → List ℕ
+part l at n = tab n (λ k. getD l (at + k) 0)
+
+-- reading back the place that was just written
+pub part-write : (l : List ℕ) (at : ℕ) (s : List ℕ) → at + length s ≤ length l → part (write l at s) at (length s) ≡ s
+part-write l at s h =
+    ext-getD 0 (part (write l at s) at (length s)) s (length-tab (length s) _)
+    (λ i k.
+    let b : i < length s = rw length-tab at k in
+    let sub : (at + i) - at ≡ i = omega arith in
+    getD-tab (length s) _ i 0 b ∙ getD-write-in l at s (at + i) 0 (omega arith) (omega arith) (omega arith) ∙ rw sub)
+
+-- ---- the same as a cut and a paste, for contracts of code that copies
+
+pub write-cut : {A : Type 0} (l : List A) (at : ℕ) (s : List A) → at + length s ≤ length l → write l at s ≡ take at l ++ (s ++ drop (at + length s) l)
+unfolding write
+write-cut [] at [] h = let e : at + 0 ≡ 0 = omega arith in let f : at ≡ 0 = omega arith in rw (e, f)
+write-cut [] at (y ∷ ys) h = absurd (omega arith)
+write-cut (x ∷ xs) zero [] h = refl
+write-cut (x ∷ xs) zero (y ∷ ys) h =
+    let e : 0 + suc (length ys) ≡ suc (0 + length ys) = omega arith in
+    rw (e, write-cut xs zero ys (omega arith))
+write-cut (x ∷ xs) (suc n) s h =
+    let e : suc n + length s ≡ suc (n + length s) = omega arith in
+    rw (e, write-cut xs n s (omega arith))
+
+-- ---- k pieces of L elements, the j-th from at + j * d on; element y of the j-th is f j y
+
+unfoldable pub pieces : {A : Type 0} → ℕ → ℕ → ℕ → ℕ → (ℕ → ℕ → A) → List A → List A
+pieces L d at zero f l = l
+pieces L d at (suc k) f l = pieces L d (at + d) k (λ j. f (suc j)) (write l at (tab L (f zero)))
+
+pub length-pieces : {A : Type 0} (L d at k : ℕ) (f : ℕ → ℕ → A) (l : List A) → length (pieces L d at k f l) ≡ length l
+unfolding pieces
+length-pieces L d at zero f l = refl
+length-pieces L d at (suc k) f l = length-pieces L d (at + d) k (λ j. f (suc j)) (write l at (tab L (f zero))) ∙ length-write l at (tab L (f zero))
+
+pub pieces-out : {A : Type 0} (L d at k : ℕ) (f : ℕ → ℕ → A) (l : List A) (x : ℕ) (z : A) → ((j : ℕ) → j < k → (x < at + j * d) ⊎ (at + j * d + L ≤ x))
+    → getD (pieces L d at k f l) x z ≡ getD l x z
+unfolding pieces
+pieces-out L d at zero f l x z o = refl
+pieces-out L d at (suc k) f l x z o =
+    let t = length-tab L (f zero) in
+    pieces-out L d (at + d) k (λ j. f (suc j)) (write l at (tab L (f zero))) x z (λ j h.
+    let e : at + suc j * d ≡ at + d + j * d = omega arith in rw e at (o (suc j) (omega arith)))
+    ∙ ⊎-elim (λ a. getD-write-before l at (tab L (f zero)) x z (omega arith)) (λ a. getD-write-after l at (tab L (f zero)) x z (omega arith)) (o 0 (omega arith))
+
+pub pieces-in : {A : Type 0} (L d at k : ℕ) (f : ℕ → ℕ → A) (l : List A) (j y : ℕ) (z : A) → L ≤ d → at + j * d + L ≤ length l → j < k → y < L
+    → getD (pieces L d at k f l) (at + j * d + y) z ≡ f j y
+unfolding pieces
+pieces-in L d at zero f l j y z g h a b = absurd (not-suc-le-zero a)
+pieces-in L d at (suc k) f l zero y z g h a b =
+    let t = length-tab L (f zero) in
+    let e : at + 0 * d + y ≡ at + y = omega arith in
+    let s : at + y - at ≡ y = omega arith in
+    rw e (pieces-out L d (at + d) k (λ j. f (suc j)) (write l at (tab L (f zero))) (at + y) z (λ j h′. inl (omega arith))
+    ∙ getD-write-in l at (tab L (f zero)) (at + y) z (omega arith) (omega arith) (omega arith)
+    ∙ ap (λ (n : ℕ). getD (tab L (f zero)) n z) s ∙ getD-tab L (f zero) y z b)
+pieces-in L d at (suc k) f l (suc j) y z g h a b =
+    let e : at + suc j * d + y ≡ at + d + j * d + y = omega arith in
+    rw e (pieces-in L d (at + d) k (λ j. f (suc j)) (write l at (tab L (f zero))) j y z g (rw (length-write l at (tab L (f zero))) (omega arith)) (omega arith) b)

@@ -1,0 +1,58 @@
+-- Little-endian numbers of four bytes, and items made of such words.
+use mathlib.Core.Path.{_≡_, refl, _∙_}
+use mathlib.Core.List.{List, [], _∷_, _++_}
+use Prim.Native.Nat.{ℕ, zero, suc, _+_, _*_, _/_, _%_, _^_, _≤_, _<_}
+use native.Mathlib.Omega.{arith}
+use lib.ListN.{length, getD}
+use lib.Seq.{getD-append-add}
+
+-- byte i of a number, lowest first
+unfoldable pub byteOf : ℕ → ℕ → ℕ
+byteOf k zero = k % 256
+byteOf k (suc i) = byteOf (k / 256) i
+
+-- the four bytes of a number below 2 ^ 32
+abbrev pub bytes4 : ℕ → List ℕ
+bytes4 k = (k % 256) ∷ (k / 256 % 256) ∷ (k / 256 / 256 % 256) ∷ (k / 256 / 256 / 256 % 256) ∷ []
+
+-- the number that four bytes from `at` on make
+abbrev pub word : List ℕ → ℕ → ℕ
+word l at = getD l at 0 + getD l (at + 1) 0 * 256 + getD l (at + 2) 0 * 65536 + getD l (at + 3) 0 * 16777216
+
+-- the bytes of words, one after another
+unfoldable pub wordsBytes : List ℕ → List ℕ
+wordsBytes [] = []
+wordsBytes (k ∷ ks) = bytes4 k ++ wordsBytes ks
+
+-- ---- laws
+
+pub byte-lt : (k i : ℕ) → byteOf k i < 256
+unfolding byteOf
+byte-lt k zero = omega arith
+byte-lt k (suc i) = byte-lt (k / 256) i
+
+-- four bytes that are those of a number make the number
+pub bytes-word : (k a b c d : ℕ) → k < 2 ^ 32 → a ≡ byteOf k 0 → b ≡ byteOf k 1 → c ≡ byteOf k 2 → d ≡ byteOf k 3
+    → a + b * 256 + c * 65536 + d * 16777216 ≡ k
+unfolding byteOf
+bytes-word k a b c d h ea eb ec ed = omega arith
+
+pub word-bytes4 : (k : ℕ) → k < 2 ^ 32 → word (bytes4 k) 0 ≡ k
+word-bytes4 k h = omega arith
+
+pub length-words : (ks : List ℕ) → length (wordsBytes ks) ≡ length ks * 4
+unfolding wordsBytes
+length-words [] = refl
+length-words (k ∷ ks) = omega (arith, length-words ks)
+
+pub words-byte : (ks : List ℕ) (i b : ℕ) → i < length ks → b < 4 → getD (wordsBytes ks) (i * 4 + b) 0 ≡ byteOf (getD ks i 0) b
+unfolding wordsBytes byteOf
+words-byte [] i b h k = absurd (omega arith)
+words-byte (x ∷ ks) zero zero h k = refl
+words-byte (x ∷ ks) zero (suc zero) h k = refl
+words-byte (x ∷ ks) zero (suc (suc zero)) h k = refl
+words-byte (x ∷ ks) zero (suc (suc (suc zero))) h k = refl
+words-byte (x ∷ ks) zero (suc (suc (suc (suc b)))) h k = absurd (omega arith)
+words-byte (x ∷ ks) (suc i) b h k =
+    let e : suc i * 4 + b ≡ 4 + (i * 4 + b) = omega arith in
+    rw e (getD-append-add (bytes4 x) (wordsBytes ks) (i * 4 + b) 0 ∙ words-byte ks i b (omega arith) k)
