@@ -7,3 +7,4 @@ pub mod Search
 pub mod Calls
 pub mod FiniteMap
 pub mod Examples
+pub mod Histories
