@@ -1,1 +1,2 @@
 pub mod FlashLaws
+pub mod Image

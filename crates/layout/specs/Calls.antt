@@ -11,7 +11,7 @@ use Rattle.memory.specs.Ranges.{any, memb, allOf}
 use Rattle.layout.specs.Geometry.{State, Geometry, geometry, geometryOf, allowed, recordCapacity, deletionCapacity, dataSize, spareSize, ramSize, blocks, indexBlock, entriesPerPage, kaRam, skaRam, workRam}
 use Rattle.layout.specs.Flash.{Flash, Op, applyAll, erases, allFresh}
 use Rattle.layout.specs.Hash.{Family, positions, positionCount}
-use Rattle.layout.specs.Index.{Index, filterBit, withFilter, flushAndBuild, inSka}
+use Rattle.layout.specs.Index.{Index, filterBit, withFilter, filterOps, filterRam, inSka}
 use Rattle.layout.specs.Items.{Area, RA, KA, DA, recordBytes, entryBytes, deletionBytes, Place, itemPlace, bytesAt, itemWord, put, fills, itemOps, itemRam, zeroPage}
 use Rattle.layout.specs.Search.{Stop, found, corrupt, Found, tryEntry, searchFrom}
 
@@ -95,6 +95,11 @@ keyIndex g = record { first = indexBlock g; ska = skaRam (g .u) }
 abbrev pub keyFilters : Geometry → ℕ → ℕ
 keyFilters g n = n / entriesPerPage (g .u)
 
+-- operations of a change so far, and the RAM after them
+pub record Draft : Type 0 where
+  pub ops : List Op
+  pub ram : List ℕ
+
 module _ (h : Family) where
   -- the positions of a key: those of its four bytes
   abbrev pub keyPositions : Geometry → ℕ → List ℕ
@@ -120,11 +125,7 @@ module _ (h : Family) where
   unfoldable pub search : Geometry → Volume → ℕ → Found
   search g v key = searchFrom (maybeIn g v (keyPositions g key)) (tryAt g v key) (entriesPerPage (g .u)) (v .state .records)
 
-  -- ---- what an accepted change does: operations so far, and the RAM
-
-  pub record Draft : Type 0 where
-    pub ops : List Op
-    pub ram : List ℕ
+  -- ---- what an accepted change does
 
   -- "A deletion appends the 4-byte record number to DA"
   unfoldable pub deletion : Geometry → ℕ → ℕ → List ℕ → Draft
@@ -134,24 +135,24 @@ module _ (h : Family) where
   unfoldable pub pageFilter : Geometry → List ℕ → ℕ → Bool
   pageFilter g ram x = any (λ i. memb x (keyPositions g (word ram (kaRam (g .u) + i * 8)))) (entriesPerPage (g .u))
 
-  -- the full KA page's filter goes to the SKA page, "Eight filters fill the SKA page", and a full one to L1
-  unfoldable pub summary : Geometry → Flash → ℕ → (ℕ → Bool) → Draft → Draft
-  summary g flash F new t =
-      let ram : List ℕ = withFilter (g .u) (keyIndex g) (inSka F) new (t .ram) in
-      cond (eqb (inSka F + 1) 8)
-      (record { ops = flushAndBuild (g .u) (keyIndex g) flash (t .ops) ram F; ram = zeroPage (g .u) (skaRam (g .u)) ram })
-      (record { ops = t .ops; ram = ram })
+  -- a full KA page's filter, of the RAM page `keys` as it was programmed
+  unfoldable pub summary : Geometry → Flash → ℕ → List ℕ → Draft → Draft
+  summary g flash F keys t =
+      let ram : List ℕ = withFilter (g .u) (keyIndex g) (inSka F) (pageFilter g keys) (t .ram) in
+      record {
+        ops = t .ops ++ filterOps (g .u) (keyIndex g) (applyAll (g .u) (t .ops) flash) F ram;
+        ram = filterRam (g .u) (keyIndex g) F ram;
+      }
 
   -- record n and its entry: "RA page, KA page, SKA sectors, set pages, .. last the erases"
   unfoldable pub insertion : Geometry → Flash → ℕ → ℕ → List ℕ → Draft → Draft
   insertion g flash n key bytes t =
       let ops₁ : List Op = t .ops ++ itemOps (g .u) (RA g) n bytes (t .ram) in
       let ram₁ : List ℕ = itemRam (g .u) (RA g) n bytes (t .ram) in
-      let keys : List ℕ = put (KA g) n (entryBytes key n) ram₁ in
       let ops₂ : List Op = ops₁ ++ itemOps (g .u) (KA g) n (entryBytes key n) ram₁ in
       let ram₂ : List ℕ = itemRam (g .u) (KA g) n (entryBytes key n) ram₁ in
       cond (fills (KA g) n)
-      (summary g flash (keyFilters g n) (pageFilter g keys) (record { ops = ops₂; ram = ram₂ }))
+      (summary g flash (keyFilters g n) (put (KA g) n (entryBytes key n) ram₁) (record { ops = ops₂; ram = ram₂ }))
       (record { ops = ops₂; ram = ram₂ })
 
   -- 7 if a sector to be programmed is not fresh; else the operations are done, the work page is zeroed and the counts rise

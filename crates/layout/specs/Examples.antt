@@ -8,7 +8,7 @@ use Rattle.memory.specs.Power.{log2up}
 use Rattle.layout.specs.Geometry.{Geometry, geometry, blocks, indexBlock, recordCapacity, sectorSizes, sector, page, recordsPerPage, entriesPerPage, filterBits}
 use Rattle.layout.specs.Flash.{Op, program, erase}
 use Rattle.layout.specs.Hash.{fnvFrom, fnv1a}
-use Rattle.layout.specs.Index.{Index, BitPlace, inSka, inL1, setPages, setWidth, setPlace, l1Place, flushOps, flushAndBuild}
+use Rattle.layout.specs.Index.{Index, BitPlace, inSka, inL1, setPages, setWidth, setPlace, l1Place, flushOps, flushAndBuild, filterOps}
 use Rattle.layout.specs.Items.{RA, Place, itemPlace}
 use Rattle.layout.specs.Calls.{keyIndex, keyFilters}
 
@@ -72,7 +72,7 @@ abbrev filters : ℕ
 filters = keyFilters g16 1023
 
 abbrev built : List Op
-built = flushAndBuild 1 (keyIndex g16) (record { main = []; spare = [] }) [] [] filters
+built = filterOps 1 (keyIndex g16) (record { main = []; spare = [] }) filters []
 
 abbrev pub examples : List Row
 examples =
@@ -119,7 +119,7 @@ examples =
     ∷ []
 
 pub examples-hold : computed examples ≡ expected examples
-unfolding fnvFrom log2up
+unfolding fnvFrom log2up flushAndBuild
 examples-hold = refl
 
 -- ---- the table of sector sizes: "records a page (S/4)", "entries a page (S/2)", "filter bits m (4S)"

@@ -12,7 +12,7 @@ use Rattle.memory.specs.Ranges.{any, memb, allOf}
 use Rattle.layout.specs.Geometry.{State, allowed}
 use Rattle.layout.specs.Flash.{Flash, fresh, allFresh}
 use Rattle.layout.specs.Hash.{fnvFrom, fnvFamily, positions}
-use Rattle.layout.specs.Index.{rowBit, rowByte, bitAt, filterBit, setByte}
+use Rattle.layout.specs.Index.{rowBit, rowByte, bitAt, filterBit, setByte, flushAndBuild}
 use Rattle.layout.specs.Items.{recordBytes, entryBytes, deletionBytes, itemWord, put}
 use Rattle.layout.specs.Search.{scan, searchPages}
 use Rattle.layout.specs.Calls.{Volume, Call, insert, update, delete, lookup, Outcome, accepted, hit, miss, refused, Result, badState, tooShort, judged, formatted, format, isDeleted, tryAt, maybeIn, search, deletion, pageFilter, summary, insertion, commit, insertAfter, updateAfter, deleteAfter, lookupAfter, call}
@@ -59,16 +59,16 @@ pub paper :
     run (format (lent 255 12288 768 320) 16 1 1 .volume)
     (insert 7 40 0 0 ∷ insert 7 41 0 0 ∷ lookup 7 ∷ update 7 42 0 0 ∷ lookup 7 ∷ delete 7 ∷ lookup 7 ∷ delete 7 ∷ [])
     ≡ ok 1 0 ∷ no 3 ∷ here 40 0 ∷ ok 2 1 ∷ here 42 0 ∷ ok 2 2 ∷ none 0 ∷ no 4 ∷ []
-unfolding write tab tabFrom pieces bit pack log2up wordsBytes any memb allOf allowed fresh allFresh fnvFrom positions rowBit rowByte bitAt filterBit setByte recordBytes entryBytes deletionBytes itemWord put scan searchPages badState tooShort judged formatted format isDeleted tryAt maybeIn search deletion pageFilter summary insertion commit insertAfter updateAfter deleteAfter lookupAfter call
+unfolding write tab tabFrom pieces bit pack log2up wordsBytes any memb allOf allowed fresh allFresh fnvFrom positions rowBit rowByte bitAt filterBit setByte flushAndBuild recordBytes entryBytes deletionBytes itemWord put scan searchPages badState tooShort judged formatted format isDeleted tryAt maybeIn search deletion pageFilter summary insertion commit insertAfter updateAfter deleteAfter lookupAfter call
 paper = refl
 
 pub trace : run (format (lent 255 13319 832 331) 16 2 1 .volume) season ≡ no 4 ∷ ok 1 0 ∷ ok 2 0 ∷ no 4 ∷ ok 3 0 ∷ no 4 ∷ ok 4 0 ∷ no 4 ∷ ok 5 0 ∷ ok 6 0 ∷ no 4 ∷ no 4 ∷ []
-unfolding write tab tabFrom pieces bit pack log2up wordsBytes any memb allOf allowed fresh allFresh fnvFrom positions rowBit rowByte bitAt filterBit setByte recordBytes entryBytes deletionBytes itemWord put scan searchPages badState tooShort judged formatted format isDeleted tryAt maybeIn search deletion pageFilter summary insertion commit insertAfter updateAfter deleteAfter lookupAfter call
+unfolding write tab tabFrom pieces bit pack log2up wordsBytes any memb allOf allowed fresh allFresh fnvFrom positions rowBit rowByte bitAt filterBit setByte flushAndBuild recordBytes entryBytes deletionBytes itemWord put scan searchPages badState tooShort judged formatted format isDeleted tryAt maybeIn search deletion pageFilter summary insertion commit insertAfter updateAfter deleteAfter lookupAfter call
 trace = refl
 
 abbrev last : Volume
 last = end (format (lent 255 13319 832 331) 16 2 1 .volume) season
 
 pub trace-ram : digest 0xcbf29ce484222325 (last .ram) ≡ 0x24024ad97ecc2dcc
-unfolding write tab tabFrom pieces bit pack log2up wordsBytes any memb allOf allowed fresh allFresh fnvFrom positions rowBit rowByte bitAt filterBit setByte recordBytes entryBytes deletionBytes itemWord put scan searchPages badState tooShort judged formatted format isDeleted tryAt maybeIn search deletion pageFilter summary insertion commit insertAfter updateAfter deleteAfter lookupAfter call
+unfolding write tab tabFrom pieces bit pack log2up wordsBytes any memb allOf allowed fresh allFresh fnvFrom positions rowBit rowByte bitAt filterBit setByte flushAndBuild recordBytes entryBytes deletionBytes itemWord put scan searchPages badState tooShort judged formatted format isDeleted tryAt maybeIn search deletion pageFilter summary insertion commit insertAfter updateAfter deleteAfter lookupAfter call
 trace-ram = refl

@@ -3,13 +3,14 @@
 use mathlib.Core.Bool.{Bool, true, false, _&&_, cond}
 use mathlib.Core.List.{List, [], _++_}
 use Prim.Native.Nat.{ℕ, zero, suc, _+_, _-_, _*_, _/_, _%_, _^_}
-use lib.ListN.{getD, replicate}
+use lib.ListN.{getD}
 use lib.Dec.{ltb, eqb}
-use Rattle.memory.specs.Lists.{write, pieces}
+use Rattle.memory.specs.Lists.{pieces}
 use Rattle.memory.specs.Bits.{bit, pack}
 use Rattle.memory.specs.Power.{log2up}
 use Rattle.layout.specs.Geometry.{sector, page, block, filterBits, sideBlocks}
 use Rattle.layout.specs.Flash.{Flash, Op, applyAll, programs, erases}
+use Rattle.layout.specs.Items.{zeroPage}
 
 pub record Index : Type 0 where
   pub first : ℕ
@@ -132,8 +133,15 @@ module _ (u : ℕ) where
         programs u 1 (setBlock z c * 64) (setPages (c + 1) * 4) (setByte main z c)
         ++ (erases (ix .first) 1 ++ erases (sideBlock c) (setBlocks c))
 
-    -- flush t of a round, and after flush 15 the next set; `before` are the operations of this call so far
-    abbrev pub flushAndBuild : Flash → List Op → List ℕ → ℕ → List Op
-    flushAndBuild flash before ram F =
-        let flushed : List Op = before ++ flushOps (inL1 F) ram in
-        cond (eqb (inL1 F + 1) 16) (flushed ++ buildOps (applyAll u flushed flash .main) (inFull F) (inSet F)) flushed
+    -- flush t of a round, and after flush 15 the next set
+    unfoldable pub flushAndBuild : Flash → ℕ → List ℕ → List Op
+    flushAndBuild flash F ram =
+        let flushed : List Op = flushOps (inL1 F) ram in
+        flushed ++ cond (eqb (inL1 F + 1) 16) (buildOps (applyAll u flushed flash .main) (inFull F) (inSet F)) []
+
+    -- operations of filter F, which the RAM holds already, and the RAM after them: "Eight filters fill the SKA page"
+    abbrev pub filterOps : Flash → ℕ → List ℕ → List Op
+    filterOps flash F ram = cond (eqb (inSka F + 1) 8) (flushAndBuild flash F ram) []
+
+    abbrev pub filterRam : ℕ → List ℕ → List ℕ
+    filterRam F ram = cond (eqb (inSka F + 1) 8) (zeroPage u (ix .ska) ram) ram

@@ -1,0 +1,114 @@
+-- The image of a history: every byte of main area, spare area and RAM by its address, with no operation replayed. Demand 2.
+use mathlib.Core.Bool.{Bool, cond}
+use mathlib.Core.Path.{_≡_}
+use mathlib.Core.List.{List}
+use Prim.Native.Nat.{ℕ, _+_, _*_, _/_, _%_, _<_}
+use lib.ListN.{getD}
+use lib.Dec.{ltb}
+use Rattle.memory.specs.Ranges.{any, memb}
+use Rattle.layout.specs.Geometry.{Geometry, sector, page, block, sideBlocks, entriesPerPage}
+use Rattle.layout.specs.Hash.{Family}
+use Rattle.layout.specs.Items.{Area, recordBytes, entryBytes, deletionBytes}
+use Rattle.layout.specs.Index.{Index, rowByte, inSka, inL1, inSet, inFull, setWidth, setBlocks, fullFilters, sideBlock, fullBlock}
+use Rattle.layout.specs.Calls.{keyPositions}
+
+-- ---- the history of accepted calls
+
+pub record Record : Type 0 where
+  pub key : ℕ
+  pub moves : ℕ
+  pub goal : ℕ
+  pub free : ℕ
+
+-- the records accepted and the record numbers deleted, each oldest first
+pub record History : Type 0 where
+  pub records : List Record
+  pub deleted : List ℕ
+
+abbrev pub recordAt : History → ℕ → Record
+recordAt H j = getD (H .records) j (record { key = 0; moves = 0; goal = 0; free = 0 })
+
+abbrev pub bytesOf : Record → List ℕ
+bytesOf r = recordBytes (r .key) (r .moves) (r .goal) (r .free)
+
+-- ---- RA, KA and DA: byte b of item j
+
+abbrev pub raItem : History → ℕ → ℕ → ℕ
+raItem H j b = getD (bytesOf (recordAt H j)) b 0
+
+abbrev pub kaItem : History → ℕ → ℕ → ℕ
+kaItem H j b = getD (entryBytes (recordAt H j .key) j) b 0
+
+abbrev pub daItem : History → ℕ → ℕ → ℕ
+daItem H j b = getD (deletionBytes (getD (H .deleted) j 0)) b 0
+
+-- byte i of an area of n items on flash: full pages, then erased; item j has byte b at f j b
+abbrev pub areaByte : Area → (ℕ → ℕ → ℕ) → ℕ → ℕ → ℕ
+areaByte a f n i = cond (ltb i (n / a .perPage * (a .perPage * a .size))) (f (i / a .size) (i % a .size)) 255
+
+-- byte i of its RAM page: the items after the full pages, then zeros
+abbrev pub areaRamByte : Area → (ℕ → ℕ → ℕ) → ℕ → ℕ → ℕ
+areaRamByte a f n i =
+    cond (ltb i (n % a .perPage * a .size))
+    (f ((n / a .perPage * (a .perPage * a .size) + i) / a .size) ((n / a .perPage * (a .perPage * a .size) + i) % a .size)) 0
+
+-- mark x of the area: the sectors of full pages are programmed
+abbrev pub areaMark : Area → ℕ → ℕ → ℕ
+areaMark a n x = cond (ltb x (n / a .perPage * 4)) 0 255
+
+-- ---- an index: F f x is bit x of filter f
+
+module _ (u : ℕ) where
+  -- byte i of the SKA page with s filters after `flushes` flushes: a row of S bits a filter in each sector
+  abbrev pub skaByte : (ℕ → ℕ → Bool) → ℕ → ℕ → ℕ → ℕ
+  skaByte F flushes s i = rowByte (λ g. F (8 * flushes + g)) s (sector u) (i / sector u * sector u) (i % sector u)
+
+  -- byte i of L1 with t flushes, the round's first filter being `base`: sector x is piece x / 16 of flush x mod 16
+  abbrev pub l1Byte : (ℕ → ℕ → Bool) → ℕ → ℕ → ℕ → ℕ
+  l1Byte F base t i =
+      cond (ltb (i / sector u % 16) t)
+      (rowByte (λ g. F (base + 8 * (i / sector u % 16) + g)) 8 (sector u) (i / sector u / 16 * sector u) (i % sector u)) 255
+
+  -- byte i of a set of N filters from `base` on, w bits of each to a page
+  abbrev pub partitionByte : (ℕ → ℕ → Bool) → ℕ → ℕ → ℕ → ℕ → ℕ
+  partitionByte F base N w i = rowByte (λ g. F (base + g)) N w (i / page u * w) (i % page u)
+
+  -- byte i of the side that holds the set of c rounds; past its pages it is erased
+  abbrev pub sideByte : (ℕ → ℕ → Bool) → ℕ → ℕ → ℕ → ℕ
+  sideByte F base c i = cond (ltb i (setBlocks u c * block u)) (partitionByte F base (128 * c) (setWidth u c) i) 255
+
+  -- byte i of place k for full sets, of which z are taken
+  abbrev pub fullByte : (ℕ → ℕ → Bool) → ℕ → ℕ → ℕ → ℕ
+  fullByte F z k i = cond (ltb k z) (partitionByte F (k * fullFilters u) (fullFilters u) 1 i) 255
+
+  module _ (ix : Index) (Z : ℕ) where
+    -- z full sets of Z places, c rounds in the current set, t flushes in L1
+    pub record IndexMain (F : ℕ → ℕ → Bool) (z c t : ℕ) (main : List ℕ) : Type 0 where
+      pub l1 : (i : ℕ) → i < block u → getD main (ix .first * block u + i) 0 ≡ l1Byte F (z * fullFilters u + 128 * c) t i
+      pub here : (i : ℕ) → i < sideBlocks u * block u → getD main (sideBlock u ix c * block u + i) 0 ≡ sideByte F (z * fullFilters u) c i
+      pub there : (i : ℕ) → i < sideBlocks u * block u → getD main (sideBlock u ix (c + 1) * block u + i) 0 ≡ 255
+      pub full : (k i : ℕ) → k < Z → i < sideBlocks u * block u → getD main (fullBlock u ix k * block u + i) 0 ≡ fullByte F z k i
+
+    pub record IndexSpare (z c t : ℕ) (spare : List ℕ) : Type 0 where
+      pub l1 : (x : ℕ) → x < 64 → getD spare (ix .first * 64 + x) 0 ≡ cond (ltb (x % 16) t) 0 255
+      pub here : (x : ℕ) → x < sideBlocks u * 64 → getD spare (sideBlock u ix c * 64 + x) 0 ≡ cond (ltb x (setBlocks u c * 64)) 0 255
+      pub there : (x : ℕ) → x < sideBlocks u * 64 → getD spare (sideBlock u ix (c + 1) * 64 + x) 0 ≡ 255
+      pub full : (k x : ℕ) → k < Z → x < sideBlocks u * 64 → getD spare (fullBlock u ix k * 64 + x) 0 ≡ cond (ltb k z) 0 255
+
+    -- an index of N filters in main area, spare area and RAM
+    pub record IndexIs (F : ℕ → ℕ → Bool) (N : ℕ) (main spare ram : List ℕ) : Type 0 where
+      pub on-main : IndexMain F (inFull u N) (inSet u N) (inL1 N) main
+      pub on-spare : IndexSpare (inFull u N) (inSet u N) (inL1 N) spare
+      pub on-ram : (i : ℕ) → i < page u → getD ram (ix .ska + i) 0 ≡ skaByte F (N / 8) (inSka N) i
+
+-- ---- an area in main area, spare area and RAM; it has `blocks` blocks
+
+pub record AreaIs (u : ℕ) (a : Area) (blocks : ℕ) (f : ℕ → ℕ → ℕ) (n : ℕ) (main spare ram : List ℕ) : Type 0 where
+  pub on-main : (i : ℕ) → i < blocks * block u → getD main (a .first * block u + i) 0 ≡ areaByte a f n i
+  pub on-spare : (x : ℕ) → x < blocks * 64 → getD spare (a .first * 64 + x) 0 ≡ areaMark a n x
+  pub on-ram : (i : ℕ) → i < page u → getD ram (a .ram + i) 0 ≡ areaRamByte a f n i
+
+module _ (h : Family) (g : Geometry) where
+  -- bit x of the filter of KA page f: some key of the page has x among its positions
+  unfoldable pub keyFilter : History → ℕ → ℕ → Bool
+  keyFilter H f x = any (λ i. memb x (keyPositions h g (recordAt H (f * entriesPerPage (g .u) + i) .key))) (entriesPerPage (g .u))
