@@ -1,0 +1,101 @@
+// FNV-1a at 32 bits, the hash family of a key and a key's positions in a filter. Document 01,
+// "Filters".
+ghost use mathlib.Core.Path.{_≡_};
+ghost use Prim.Native.Nat.{_+_, _*_, _%_, _^_, _<_, _≤_};
+ghost use lib.Bits.{bitXor};
+ghost use lib.ListN.{getD};
+ghost use Rattle.memory.specs.Words.{bytes4};
+ghost use Rattle.layout.specs.Hash.{fnv1a, fnvFamily, positions, positionCount};
+
+// What FNV-1a starts from.
+const START: u32 = 2166136261;
+
+// acc plus x shifted left by k, modulo 2^32.
+fn add_shifted(acc: u32, x: u32, k: u32) -> u32
+    requires { ⌜ k < 32 ⌝ }
+    ensures { λ r. ⌜ r ≡ (acc + x * 2 ^ k) % 2 ^ 32 ⌝ }
+{
+    std::num::wrapping_add_u32(acc, x << k)
+}
+
+// x times the prime 2^24 + 2^8 + 2^7 + 2^4 + 2 + 1, modulo 2^32, by wrapping adds and shifts.
+pub fn times_prime(x: u32) -> u32
+    ensures { λ r. ⌜ r ≡ x * 16777619 % 2 ^ 32 ⌝ }
+{
+    let a = add_shifted(x, x, 1);
+    let b = add_shifted(a, x, 4);
+    let c = add_shifted(b, x, 7);
+    let d = add_shifted(c, x, 8);
+    add_shifted(d, x, 24)
+}
+
+// One step of FNV-1a: exclusive-or with a byte, then times the prime.
+pub fn absorb(h: u32, byte: u8) -> u32
+    ensures { λ r. ⌜ r ≡ bitXor h byte * 16777619 % 2 ^ 32 ⌝ }
+{
+    times_prime(h ^ byte as u32)
+}
+
+// FNV-1a of a slice.
+pub fn fnv1a(bytes: &[u8]) -> u32
+    ensures { λ r. ⌜ r ≡ fnv1a (now (bytes .entry)) ⌝ }
+{
+    let mut h = START;
+    let mut i = 0;
+    while i < bytes.len() {
+        h = absorb(h, bytes[i]);
+        i += 1;
+    }
+    h
+}
+
+// A step of FNV-1a with the lowest byte of a number.
+fn absorb_low(h: u32, x: u32) -> u32
+    ensures { λ r. ⌜ r ≡ bitXor h (x % 256) * 16777619 % 2 ^ 32 ⌝ }
+{
+    absorb(h, (x % 256) as u8)
+}
+
+// Hash j of a key: FNV-1a over five bytes, j and then the key's four, lowest first.
+pub fn hash(j: u8, key: u32) -> u32
+    ensures { λ r. ⌜ r ≡ fnvFamily j (bytes4 key) ⌝ }
+{
+    let key1 = key / 256;
+    let key2 = key1 / 256;
+    let key3 = key2 / 256;
+    let a = absorb(START, j);
+    let b = absorb_low(a, key);
+    let c = absorb_low(b, key1);
+    let d = absorb_low(c, key2);
+    absorb_low(d, key3)
+}
+
+// The first bit of the fourth of a filter that a hash picks; a fourth has `size` bits.
+fn fourth(size: u32, h: u32) -> u32
+    requires { ⌜ size ≤ 512 ⌝ }
+    ensures { λ r. ⌜ (r ≡ h % 4 * size) × (r ≤ 3 * size) ⌝ }
+{
+    h % 4 * size
+}
+
+// The bit that a hash picks in the fourth that starts at `base`.
+fn within(base: u32, size: u32, h: u32) -> u32
+    requires { ⌜ (0 < size) × (size ≤ 512) × (base ≤ 3 * size) ⌝ }
+    ensures { λ r. ⌜ (r ≡ base + h % size) × (r < 4 * size) ⌝ }
+{
+    base + h % size
+}
+
+// The three positions of a key in a filter of 4S bits, S = 16 unit: (h0 mod 4) S + (hj mod S).
+pub fn positions(unit: u32, key: u32) -> [u32; 3]
+    requires { ⌜ (0 < unit) × (unit ≤ 32) ⌝ }
+    ensures { λ r. ⌜ r ≡ positions fnvFamily positionCount unit (bytes4 key) ⌝ }
+    ensures { λ r. ⌜ (getD r 0 0 < 64 * unit) × (getD r 1 0 < 64 * unit) × (getD r 2 0 < 64 * unit) ⌝ }
+{
+    let size = 16 * unit;
+    let base = fourth(size, hash(0, key));
+    let a = within(base, size, hash(1, key));
+    let b = within(base, size, hash(2, key));
+    let c = within(base, size, hash(3, key));
+    [a, b, c]
+}
