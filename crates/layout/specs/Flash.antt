@@ -12,6 +12,9 @@ pub record Flash : Type 0 where
   pub main : List ℕ
   pub spare : List ℕ
 
+abbrev pub flashOf : List ℕ → List ℕ → Flash
+flashOf main spare = record { main = main; spare = spare }
+
 -- program a sector with its bytes; erase a block
 pub data Op : Type 0 where
   program : ℕ → List ℕ → Op

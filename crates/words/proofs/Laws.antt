@@ -1,0 +1,44 @@
+-- Stores of straight-line code, turns of copying loops and parts that come back, each as a write. Assumes nothing.
+use mathlib.Core.Path.{_≡_, refl, ap}
+use mathlib.Core.List.{List, [], _∷_, _++_, append-assoc}
+use Prim.Native.Nat.{ℕ, zero, suc, _+_, _-_, _<_, _≤_}
+use native.Mathlib.Nat.{not-suc-le-zero, le-of-suc-le-suc}
+use native.Mathlib.Numerals.{add-one}
+use native.Mathlib.Omega.{arith}
+use lib.ListN.{length, set, take, drop, getD, length-take, length-drop}
+use lib.Seq.{sets, sets-eq, drop-drop}
+use Rattle.memory.specs.Lists.{write, write-cut}
+
+-- stores of the elements of vs, one after another from `at` on, are a write of vs
+pub sets-write : (l : List ℕ) (at : ℕ) (vs : List ℕ) → at + length vs ≤ length l → sets l at vs ≡ write l at vs
+sets-write l at vs h = rw (sets-eq vs l at h, write-cut l at vs h) (append-assoc (take at l) vs (drop (at + length vs) l))
+
+-- four stores
+pub put-four : (l : List ℕ) (at a b c d : ℕ) → at + 4 ≤ length l
+    → set (set (set (set l at a) (at + 1) b) (at + 2) c) (at + 3) d ≡ write l at (a ∷ b ∷ c ∷ d ∷ [])
+put-four l at a b c d h =
+    let e1 : at + 1 ≡ suc at = omega arith in
+    let e2 : at + 2 ≡ suc (suc at) = omega arith in
+    let e3 : at + 3 ≡ suc (suc (suc at)) = omega arith in
+    rw (e1, e2, e3) (sets-write l at (a ∷ b ∷ c ∷ d ∷ []) h)
+
+-- a turn of a loop that copies s over d from the front
+copy-suc : (n : ℕ) (s d : List ℕ) → n < length s → n < length d → set (take n s ++ drop n d) n (getD s n 0) ≡ take (suc n) s ++ drop (suc n) d
+copy-suc n [] d h k = absurd (not-suc-le-zero h)
+copy-suc n (x ∷ s) [] h k = absurd (not-suc-le-zero k)
+copy-suc zero (x ∷ s) (y ∷ d) h k = refl
+copy-suc (suc n) (x ∷ s) (y ∷ d) h k = ap (λ (t : List ℕ). x ∷ t) (copy-suc n s d (le-of-suc-le-suc h) (le-of-suc-le-suc k))
+
+pub copy-more : (n : ℕ) (s d : List ℕ) → n < length s → n < length d → set (take n s ++ drop n d) n (getD s n 0) ≡ take (n + 1) s ++ drop (n + 1) d
+copy-more n s d h k = rw add-one (copy-suc n s d h k)
+
+-- the part of n bytes from `at` on has n bytes
+pub part-length : (at n : ℕ) (xs : List ℕ) → at + n ≤ length xs → length (take (at + n - at) (drop at xs)) ≡ n
+part-length at n xs h = simp (length-take, length-drop) (omega arith)
+
+-- the part of n bytes from `at` on, lent and come back as ys, is a write of ys
+pub part-back : (at n : ℕ) (xs ys : List ℕ) → length ys ≡ n → at + n ≤ length xs
+    → take at xs ++ (ys ++ drop (at + n - at) (drop at xs)) ≡ write xs at ys
+part-back at n xs ys l h =
+    let e : at + n - at ≡ length ys = omega arith in
+    rw (e, drop-drop, write-cut xs at ys (omega arith))
