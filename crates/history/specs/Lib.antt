@@ -1,2 +1,13 @@
 pub mod FlashLaws
 pub mod Image
+pub mod IndexLaws
+pub mod AreaNumbers
+pub mod AreaLaws
+pub mod Live
+pub mod SearchLaws
+pub mod MapLaws
+pub mod ItemLaws
+pub mod Parts
+pub mod Changes
+pub mod Volumes
+pub mod Steps
