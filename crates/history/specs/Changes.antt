@@ -59,7 +59,7 @@ module _ (h : Family) (g : Geometry) (e : ℕ) (pow : g .u ≡ 2 ^ e) where
       ra = P .ra;
       ka = P .ka;
       da = area-ext (g .u) pu (DA g) (g .D) (omega arith) (omega (arith, pu)) (omega arith) (daItem H) (daItem (withDeletion H j)) (length (H .deleted)) (C .main) (C .spare) ram
-        (λ i b l m. ap (λ (x : ℕ). getD (deletionBytes x) b 0) (sym (List·getD-append (H .deleted) (j ∷ []) 0 i l))) (P .da);
+          (λ i b l m. ap (λ (x : ℕ). getD (deletionBytes x) b 0) (sym (List·getD-append (H .deleted) (j ∷ []) 0 i l))) (P .da);
       filters = rw (filter-deletion H j) (P .filters);
       main-fits = P .main-fits;
       spare-fits = P .spare-fits;
@@ -123,9 +123,9 @@ module _ (h : Family) (g : Geometry) (e : ℕ) (pow : g .u ≡ 2 ^ e) where
     longer-record : Parts h g e pow (withRecord H r) n n d N C (t .ram)
     longer-record = record {
       ra = area-ext (g .u) pu (RA g) (g .R) (omega arith) (omega (arith, pu)) (omega arith) (raItem H) (raItem (withRecord H r)) n (C .main) (C .spare) (t .ram)
-        (λ j b l m. ap (λ (o : Record). getD (bytesOf o) b 0) (old j l)) (P .ra);
+          (λ j b l m. ap (λ (o : Record). getD (bytesOf o) b 0) (old j l)) (P .ra);
       ka = area-ext (g .u) pu (KA g) (kaBlocks g) (omega arith) (omega (arith, pu)) (omega arith) (kaItem H) (kaItem (withRecord H r)) n (C .main) (C .spare) (t .ram)
-        (λ j b l m. ap (λ (o : Record). getD (entryBytes (o .key) j) b 0) (old j l)) (P .ka);
+          (λ j b l m. ap (λ (o : Record). getD (entryBytes (o .key) j) b 0) (old j l)) (P .ka);
       da = P .da;
       filters = index-ext (g .u) e pow (keyIndex g) (fullSets g) (keyFilter h g H) (keyFilter h g (withRecord H r)) N (C .main) (C .spare) (t .ram) filter-old sets-fit (P .filters);
       main-fits = P .main-fits;
@@ -185,8 +185,8 @@ module _ (h : Family) (g : Geometry) (e : ℕ) (pow : g .u ≡ 2 ^ e) where
     words′ : (j : ℕ) → j < length (H .records) + 1 → recordAt (withRecord H r) j .key < 2 ^ 32
     words′ j l =
         either (lt? j (length (H .records)))
-          (λ a. rw (← (old j (a .1))) (words j (a .1)))
-          (λ a. let q : j ≡ length (H .records) = omega arith in rw (q, ← last) key-word)
+        (λ a. rw (← (old j (a .1))) (words j (a .1)))
+        (λ a. let q : j ≡ length (H .records) = omega arith in rw (q, ← last) key-word)
 
     module _ (full : length (H .records) % (8 * g .u) + 1 ≡ 8 * g .u) where
       key-at : (i : ℕ) → i < 8 * g .u → word keys (kaRam (g .u) + i * 8) ≡ recordAt (withRecord H r) (length (H .records) / (8 * g .u) * (8 * g .u) + i) .key
@@ -195,11 +195,11 @@ module _ (h : Family) (g : Geometry) (e : ℕ) (pow : g .u ≡ 2 ^ e) where
           let at : kaRam (g .u) + i * 8 + 0 * 4 ≡ kaRam (g .u) + i * 8 = omega arith in
           let k = recordAt (withRecord H r) (length (H .records) / (8 * g .u) * (8 * g .u) + i) .key in
           rw at at
-            (put-word (g .u) pu (KA g) (kaBlocks g) (omega arith) (omega (arith, pu)) (omega arith) (kaItem H′) (kaItem H′) n entry C₁ ram₁ (parts₁ .ka) (λ j b a c. refl)
-              (length-entry (r .key) n) entry-new (parts.ka-room h g e pow H′ (n + 1) n d N C₁ ram₁ parts₁ entry (length-entry (r .key) n) entry-new room)
-              (omega (arith, parts₁ .main-fits)) (omega (arith, parts₁ .spare-fits)) (omega (arith, parts₁ .ram-fits))
-              i 0 k (omega arith) (omega arith) (words′ (length (H .records) / (8 * g .u) * (8 * g .u) + i) (omega arith))
-              (λ b m. entry-key k (length (H .records) / (8 * g .u) * (8 * g .u) + i) b m))
+          (put-word (g .u) pu (KA g) (kaBlocks g) (omega arith) (omega (arith, pu)) (omega arith) (kaItem H′) (kaItem H′) n entry C₁ ram₁ (parts₁ .ka) (λ j b a c. refl)
+          (length-entry (r .key) n) entry-new (parts.ka-room h g e pow H′ (n + 1) n d N C₁ ram₁ parts₁ entry (length-entry (r .key) n) entry-new room)
+          (omega (arith, parts₁ .main-fits)) (omega (arith, parts₁ .spare-fits)) (omega (arith, parts₁ .ram-fits))
+          i 0 k (omega arith) (omega arith) (words′ (length (H .records) / (8 * g .u) * (8 * g .u) + i) (omega arith))
+          (λ b m. entry-key k (length (H .records) / (8 * g .u) * (8 * g .u) + i) b m))
 
       same : (x : ℕ) → x < filterBits (g .u) → pageFilter h g keys x ≡ keyFilter h g (withRecord H r) (length (H .records) / (8 * g .u)) x
       unfolding pageFilter keyFilter
@@ -231,26 +231,26 @@ module _ (h : Family) (g : Geometry) (e : ℕ) (pow : g .u ≡ 2 ^ e) where
     allowed₂ : AllAllowed (g .u) ops₂ flash
     allowed₂ =
         allowed-append (g .u) (t .ops ++ raOps) kaOps flash (allowed-append (g .u) (t .ops) raOps flash before (did₁ .allowed))
-          (rw (apply-append (g .u) (t .ops) raOps flash) (did₂ .allowed))
+        (rw (apply-append (g .u) (t .ops) raOps flash) (did₂ .allowed))
 
     beyond₂ : Beyond g C C₂ (t .ram) ram₂
     beyond₂ =
         beyond-then g C C₁ C₂ (t .ram) ram₁ ram₂
-          (frame-beyond g (RA g .first) (RA g .first + g .R) (RA g .ram) C C₁ (t .ram) ram₁ (did₁ .frame) (omega arith) (omega arith))
-          (frame-beyond g (KA g .first) (KA g .first + kaBlocks g) (KA g .ram) C₁ C₂ ram₁ ram₂ (did₂ .frame) (omega arith) (omega arith))
+        (frame-beyond g (RA g .first) (RA g .first + g .R) (RA g .ram) C C₁ (t .ram) ram₁ (did₁ .frame) (omega arith) (omega arith))
+        (frame-beyond g (KA g .first) (KA g .first + kaBlocks g) (KA g .ram) C₁ C₂ ram₁ ram₂ (did₂ .frame) (omega arith) (omega arith))
 
     module _ (spare : List ℕ) (agree : (x : ℕ) → (x < DA g .first * 64) ⊎ ((DA g .first + g .D) * 64 ≤ x) → getD spare x 0 ≡ getD (C .spare) x 0)
         (fresh₀ : allFresh spare (t .ops) ≡ true) where
       fresh₂ : allFresh spare ops₂ ≡ true
       fresh₂ =
           fresh-append spare (t .ops ++ raOps) kaOps
-            (fresh-append spare (t .ops) raOps fresh₀ (did₁ .fresh spare (λ x l m. agree x (inl (omega arith)))))
-            (did₂ .fresh spare (λ x l m. agree x (inl (omega arith)) ∙ sym (did₁ .frame .spare x (inr (omega arith)))))
+          (fresh-append spare (t .ops) raOps fresh₀ (did₁ .fresh spare (λ x l m. agree x (inl (omega arith)))))
+          (did₂ .fresh spare (λ x l m. agree x (inl (omega arith)) ∙ sym (did₁ .frame .spare x (inr (omega arith)))))
 
       fresh₃ : (full : length (H .records) % (8 * g .u) + 1 ≡ 8 * g .u) → allFresh spare (ops₂ ++ filterOps (g .u) (keyIndex g) C₂ N (filterIn full)) ≡ true
       fresh₃ full =
           fresh-append spare ops₂ (filterOps (g .u) (keyIndex g) C₂ N (filterIn full)) fresh₂
-            (did₃ full .fresh spare (λ x l m. agree x (inr (omega arith)) ∙ sym (did₂ .frame .spare x (inr (omega arith)) ∙ did₁ .frame .spare x (inr (omega arith)))))
+          (did₃ full .fresh spare (λ x l m. agree x (inr (omega arith)) ∙ sym (did₂ .frame .spare x (inr (omega arith)) ∙ did₁ .frame .spare x (inr (omega arith)))))
 
     -- no page of entries is full
     drafted-part : length (H .records) % (8 * g .u) + 1 ≢ 8 * g .u → insertion h g flash n (r .key) (bytesOf r) t ≡ record { ops = ops₂; ram = ram₂ }
@@ -260,14 +260,14 @@ module _ (h : Family) (g : Geometry) (e : ℕ) (pow : g .u ≡ 2 ^ e) where
     changed-part : length (H .records) % (8 * g .u) + 1 ≢ 8 * g .u → Changed H′ (n + 1) d flash t (insertion h g flash n (r .key) (bytesOf r) t)
     changed-part part =
         let same-filters : (length (H .records) + 1) / (8 * g .u) ≡ length (H .records) / (8 * g .u)
-                = either (carry (length (H .records)) (8 * g .u) (omega (arith, pu))) (λ c. absurd (part (c .0))) (λ c. c .1) in
+        = either (carry (length (H .records)) (8 * g .u) (omega (arith, pu))) (λ c. absurd (part (c .0))) (λ c. c .1) in
         rw (drafted-part part)
-          (record {
-            grown = rw (done₂, same-filters) parts₂;
-            allowed = allowed₂;
-            beyond = rw done₂ beyond₂;
-            fresh = fresh₂;
-          })
+        (record {
+          grown = rw (done₂, same-filters) parts₂;
+          allowed = allowed₂;
+          beyond = rw done₂ beyond₂;
+          fresh = fresh₂;
+        })
 
     -- one is, and gives its filter
     module _ (full : length (H .records) % (8 * g .u) + 1 ≡ 8 * g .u) where
@@ -292,14 +292,14 @@ module _ (h : Family) (g : Geometry) (e : ℕ) (pow : g .u ≡ 2 ^ e) where
       changed-full : Changed H′ (n + 1) d flash t (insertion h g flash n (r .key) (bytesOf r) t)
       changed-full =
           rw drafted-full
-            (record {
-              grown = rw (done₃, next full) (parts₃ full);
-              allowed = allowed-append (g .u) ops₂ ixOps flash allowed₂ (rw done₂ (did₃ full .allowed));
-              beyond = rw done₃
+          (record {
+            grown = rw (done₃, next full) (parts₃ full);
+            allowed = allowed-append (g .u) ops₂ ixOps flash allowed₂ (rw done₂ (did₃ full .allowed));
+            beyond = rw done₃
                 (beyond-then g C C₂ C₃ (t .ram) ram₂ ram₃ beyond₂
-                  (frame-beyond g (indexBlock g) (fullBlock (g .u) (keyIndex g) (fullSets g)) (keyIndex g .ska) C₂ C₃ ram₂ ram₃ (did₃ full .frame) (omega arith) (omega arith)));
-              fresh = λ spare agree fresh₀. fresh₃ spare agree fresh₀ full;
-            })
+                (frame-beyond g (indexBlock g) (fullBlock (g .u) (keyIndex g) (fullSets g)) (keyIndex g .ska) C₂ C₃ ram₂ ram₃ (did₃ full .frame) (omega arith) (omega arith)));
+            fresh = λ spare agree fresh₀. fresh₃ spare agree fresh₀ full;
+          })
 
     pub insertion-changes : Changed H′ (n + 1) d flash t (insertion h g flash n (r .key) (bytesOf r) t)
     insertion-changes = either (eq? (length (H .records) % (8 * g .u) + 1) (8 * g .u)) (λ c. changed-full (c .1)) (λ c. changed-part (c .1))

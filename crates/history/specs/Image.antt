@@ -140,11 +140,11 @@ module _ (h : Family) (g : Geometry) (H : History) where
   indexByte i =
       cond (ltb i (block (g .u))) (l1Byte (g .u) F (z * fullFilters (g .u) + 128 * c) (inL1 N) i)
       (cond (ltb i ((1 + sideBlocks (g .u)) * block (g .u)))
-        (cond (eqb (c % 2) 1) (sideByte (g .u) F (z * fullFilters (g .u)) c (i - block (g .u))) 255)
+      (cond (eqb (c % 2) 1) (sideByte (g .u) F (z * fullFilters (g .u)) c (i - block (g .u))) 255)
       (cond (ltb i ((1 + 2 * sideBlocks (g .u)) * block (g .u)))
-        (cond (eqb (c % 2) 1) 255 (sideByte (g .u) F (z * fullFilters (g .u)) c (i - (1 + sideBlocks (g .u)) * block (g .u))))
+      (cond (eqb (c % 2) 1) 255 (sideByte (g .u) F (z * fullFilters (g .u)) c (i - (1 + sideBlocks (g .u)) * block (g .u))))
       (fullByte (g .u) F z ((i - (1 + 2 * sideBlocks (g .u)) * block (g .u)) / (sideBlocks (g .u) * block (g .u)))
-        ((i - (1 + 2 * sideBlocks (g .u)) * block (g .u)) % (sideBlocks (g .u) * block (g .u))))))
+      ((i - (1 + 2 * sideBlocks (g .u)) * block (g .u)) % (sideBlocks (g .u) * block (g .u))))))
 
   -- mark x of the index's sectors
   abbrev pub indexMark : ℕ → ℕ

@@ -1,5 +1,9 @@
 pub mod FlashLaws
 pub mod Image
+pub mod RowLaws
+pub mod IndexRead
+pub mod IndexFlush
+pub mod IndexBuild
 pub mod IndexLaws
 pub mod AreaNumbers
 pub mod AreaLaws

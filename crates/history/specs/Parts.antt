@@ -38,7 +38,7 @@ places-suffice u R n pu h =
     let z = div-mul-le-self (n / (8 * u) / 8 / 16) (4 * u) in
     let pos : 0 < 64 * u = omega arith in
     let all : n / (8 * u) / 8 / 16 / (4 * u) * (64 * u) * (64 * u) ≤ R * (64 * u)
-            = omega (arith, mul-le-mul-right (16 * 8 * (8 * u)) z, mul-le-mul-right (8 * (8 * u)) c, mul-le-mul-right (8 * u) t, f) in
+    = omega (arith, mul-le-mul-right (16 * 8 * (8 * u)) z, mul-le-mul-right (8 * (8 * u)) c, mul-le-mul-right (8 * u) t, f) in
     le-div-iff-mul-le pos .1 (le-of-mul-le-mul-right all pos)
 
 -- a list of operations is fresh where both its parts are
@@ -100,18 +100,18 @@ module _ (u lo hi p : ℕ) (C C′ : Flash) (r r′ : List ℕ) (W : Frame u lo 
       → AreaIs u a blocks f n (C .main) (C .spare) r → AreaIs u a blocks f n (C′ .main) (C′ .spare) r′
   frame-area a blocks f n pu whole pq ps o q A =
       area.area-kept u pu a blocks whole pq ps f n (C .main) (C .spare) r (C′ .main) (C′ .spare) r′ A
-        (λ x l m. W .main x (main-apart (a .first) (a .first + blocks) x o l m))
-        (λ x l m. W .spare x (spare-apart (a .first) (a .first + blocks) x o l m))
-        (λ x l m. W .ram x (ram-apart (a .ram) x q l m))
+      (λ x l m. W .main x (main-apart (a .first) (a .first + blocks) x o l m))
+      (λ x l m. W .spare x (spare-apart (a .first) (a .first + blocks) x o l m))
+      (λ x l m. W .ram x (ram-apart (a .ram) x q l m))
 
   pub frame-index : (e : ℕ) (pow : u ≡ 2 ^ e) (ix : Index) (Z : ℕ) (F : ℕ → ℕ → Bool) (N : ℕ)
       → (fullBlock u ix Z ≤ lo) ⊎ (hi ≤ ix .first) → (ix .ska + page u ≤ p) ⊎ (p + page u ≤ ix .ska)
       → IndexIs u ix Z F N (C .main) (C .spare) r → IndexIs u ix Z F N (C′ .main) (C′ .spare) r′
   frame-index e pow ix Z F N o q I =
       index.index-kept u e pow ix Z F N (C .main) (C .spare) r (C′ .main) (C′ .spare) r′ I
-        (λ x l m. W .main x (main-apart (ix .first) (fullBlock u ix Z) x o l m))
-        (λ x l m. W .spare x (spare-apart (ix .first) (fullBlock u ix Z) x o l m))
-        (λ x l m. W .ram x (ram-apart (ix .ska) x q l m))
+      (λ x l m. W .main x (main-apart (ix .first) (fullBlock u ix Z) x o l m))
+      (λ x l m. W .spare x (spare-apart (ix .first) (fullBlock u ix Z) x o l m))
+      (λ x l m. W .ram x (ram-apart (ix .ska) x q l m))
 
 pub frame-beyond : (g : Geometry) (lo hi p : ℕ) (C C′ : Flash) (r r′ : List ℕ) → Frame (g .u) lo hi p C C′ r r′
     → hi ≤ blocks g → p + page (g .u) ≤ ramSize g → Beyond g C C′ r r′
@@ -200,12 +200,12 @@ module _ (h : Family) (g : Geometry) (e : ℕ) (pow : g .u ≡ 2 ^ e) where
       pub ra-did : Did (g .u) (RA g .first) (RA g .first + g .R) (RA g .ram) C ram (itemRam (g .u) (RA g) nr item ram) (itemOps (g .u) (RA g) nr item ram)
       ra-did =
           area-did (g .u) pu (RA g) (g .R) (omega arith) (omega (arith, pu)) (omega arith) (raItem H) nr item C ram (P .ra) size-is new ra-room
-            (omega (arith, P .main-fits)) (omega (arith, P .spare-fits)) (omega (arith, P .ram-fits))
+          (omega (arith, P .main-fits)) (omega (arith, P .spare-fits)) (omega (arith, P .ram-fits))
 
       pub ra-parts : Parts H (nr + 1) nk d N (applyAll (g .u) (itemOps (g .u) (RA g) nr item ram) C) (itemRam (g .u) (RA g) nr item ram)
       ra-parts = record {
         ra = area-more (g .u) pu (RA g) (g .R) (omega arith) (omega (arith, pu)) (omega arith) (raItem H) nr item C ram (P .ra) size-is new ra-room
-          (omega (arith, P .main-fits)) (omega (arith, P .spare-fits)) (omega (arith, P .ram-fits));
+            (omega (arith, P .main-fits)) (omega (arith, P .spare-fits)) (omega (arith, P .ram-fits));
         ka = keep-ka _ _ _ _ _ ra-did (inr (omega arith)) (inr (omega arith));
         da = keep-da _ _ _ _ _ ra-did (inr (omega arith)) (inr (omega arith));
         filters = keep-filters _ _ _ _ _ ra-did (omega arith) (omega arith);
@@ -225,13 +225,13 @@ module _ (h : Family) (g : Geometry) (e : ℕ) (pow : g .u ≡ 2 ^ e) where
       pub ka-did : Did (g .u) (KA g .first) (KA g .first + kaBlocks g) (KA g .ram) C ram (itemRam (g .u) (KA g) nk item ram) (itemOps (g .u) (KA g) nk item ram)
       ka-did =
           area-did (g .u) pu (KA g) (kaBlocks g) (omega arith) (omega (arith, pu)) (omega arith) (kaItem H) nk item C ram (P .ka) size-is new ka-room
-            (omega (arith, P .main-fits)) (omega (arith, P .spare-fits)) (omega (arith, P .ram-fits))
+          (omega (arith, P .main-fits)) (omega (arith, P .spare-fits)) (omega (arith, P .ram-fits))
 
       pub ka-parts : Parts H nr (nk + 1) d N (applyAll (g .u) (itemOps (g .u) (KA g) nk item ram) C) (itemRam (g .u) (KA g) nk item ram)
       ka-parts = record {
         ra = keep-ra _ _ _ _ _ ka-did (inl (omega arith)) (inl (omega arith));
         ka = area-more (g .u) pu (KA g) (kaBlocks g) (omega arith) (omega (arith, pu)) (omega arith) (kaItem H) nk item C ram (P .ka) size-is new ka-room
-          (omega (arith, P .main-fits)) (omega (arith, P .spare-fits)) (omega (arith, P .ram-fits));
+            (omega (arith, P .main-fits)) (omega (arith, P .spare-fits)) (omega (arith, P .ram-fits));
         da = keep-da _ _ _ _ _ ka-did (inr (omega arith)) (inr (omega arith));
         filters = keep-filters _ _ _ _ _ ka-did (omega arith) (omega arith);
         main-fits = fits _ _ _ _ _ ka-did .0;
@@ -247,14 +247,14 @@ module _ (h : Family) (g : Geometry) (e : ℕ) (pow : g .u ≡ 2 ^ e) where
       pub da-did : Did (g .u) (DA g .first) (DA g .first + g .D) (DA g .ram) C ram (itemRam (g .u) (DA g) d item ram) (itemOps (g .u) (DA g) d item ram)
       da-did =
           area-did (g .u) pu (DA g) (g .D) (omega arith) (omega (arith, pu)) (omega arith) (daItem H) d item C ram (P .da) size-is new da-room
-            (omega (arith, P .main-fits)) (omega (arith, P .spare-fits)) (omega (arith, P .ram-fits))
+          (omega (arith, P .main-fits)) (omega (arith, P .spare-fits)) (omega (arith, P .ram-fits))
 
       pub da-parts : Parts H nr nk (d + 1) N (applyAll (g .u) (itemOps (g .u) (DA g) d item ram) C) (itemRam (g .u) (DA g) d item ram)
       da-parts = record {
         ra = keep-ra _ _ _ _ _ da-did (inl (omega arith)) (inl (omega arith));
         ka = keep-ka _ _ _ _ _ da-did (inl (omega arith)) (inl (omega arith));
         da = area-more (g .u) pu (DA g) (g .D) (omega arith) (omega (arith, pu)) (omega arith) (daItem H) d item C ram (P .da) size-is new da-room
-          (omega (arith, P .main-fits)) (omega (arith, P .spare-fits)) (omega (arith, P .ram-fits));
+            (omega (arith, P .main-fits)) (omega (arith, P .spare-fits)) (omega (arith, P .ram-fits));
         filters = keep-filters _ _ _ _ _ da-did (omega arith) (omega arith);
         main-fits = fits _ _ _ _ _ da-did .0;
         spare-fits = fits _ _ _ _ _ da-did .1;

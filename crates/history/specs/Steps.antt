@@ -155,26 +155,26 @@ module _ (h : Family) (S R D : ℕ) (ok : Sound S R D) (can : allowed S R D ≡ 
     unfolding commit
     commit-done H′ n′ d′ T n-is d-is P allow past fresh n-cap d-cap d-le keys gone =
         rw fresh
-          (record {
-            says = refl;
-            possible = tt;
-            handed-on = tt;
-            volume-is = rw (n-is, d-is);
-            holds = record {
-              parts = rw (n-is, d-is) at (zeroed H′ n′ n′ d′ (keyFilters g n′) (applyAll (S / 16) (T .ops) C) (T .ram) P);
-              work = work-zero H′ n′ n′ d′ (keyFilters g n′) (applyAll (S / 16) (T .ops) C) (T .ram) P;
-              n-cap = rw (← n-is) n-cap;
-              d-cap = rw (← d-is) d-cap;
-              d-le = rw (← n-is, ← d-is) d-le;
-              keys = rw n-is at keys;
-              gone = rw (n-is, d-is) at gone;
-            };
-            flash-is = refl;
-            ops-allowed = allow;
-            beyond = beyond-then g C (applyAll (S / 16) (T .ops) C) (applyAll (S / 16) (T .ops) C) ram (T .ram) (zeroPage (S / 16) (workRam (S / 16)) (T .ram)) past
+        (record {
+          says = refl;
+          possible = tt;
+          handed-on = tt;
+          volume-is = rw (n-is, d-is);
+          holds = record {
+            parts = rw (n-is, d-is) at (zeroed H′ n′ n′ d′ (keyFilters g n′) (applyAll (S / 16) (T .ops) C) (T .ram) P);
+            work = work-zero H′ n′ n′ d′ (keyFilters g n′) (applyAll (S / 16) (T .ops) C) (T .ram) P;
+            n-cap = rw (← n-is) n-cap;
+            d-cap = rw (← d-is) d-cap;
+            d-le = rw (← n-is, ← d-is) d-le;
+            keys = rw n-is at keys;
+            gone = rw (n-is, d-is) at gone;
+          };
+          flash-is = refl;
+          ops-allowed = allow;
+          beyond = beyond-then g C (applyAll (S / 16) (T .ops) C) (applyAll (S / 16) (T .ops) C) ram (T .ram) (zeroPage (S / 16) (workRam (S / 16)) (T .ram)) past
               (work-beyond H′ n′ n′ d′ (keyFilters g n′) (applyAll (S / 16) (T .ops) C) (T .ram) P);
-            count-le = omega arith;
-          })
+          count-le = omega arith;
+        })
 
     -- ---- the histories that a change makes
 
@@ -187,18 +187,18 @@ module _ (h : Family) (S R D : ℕ) (ok : Sound S R D) (can : allowed S R D ≡ 
     keys-record : (r : Record) → r .key < 2 ^ 32 → (j : ℕ) → j < length (H .records) + 1 → recordAt (withRecord H r) j .key < 2 ^ 32
     keys-record r w j l =
         either (lt? j (length (H .records)))
-          (λ a. rw (List·getD-append (H .records) (r ∷ []) (record { key = 0; moves = 0; goal = 0; free = 0 }) j (a .1)) (I .keys j (a .1)))
-          (λ a.
-            let q : j ≡ length (H .records) = omega arith in
-            rw (q, getD-append-seam (H .records) r [] (record { key = 0; moves = 0; goal = 0; free = 0 })) w)
+        (λ a. rw (List·getD-append (H .records) (r ∷ []) (record { key = 0; moves = 0; goal = 0; free = 0 }) j (a .1)) (I .keys j (a .1)))
+        (λ a.
+        let q : j ≡ length (H .records) = omega arith in
+        rw (q, getD-append-seam (H .records) r [] (record { key = 0; moves = 0; goal = 0; free = 0 })) w)
 
     gone-deletion : (j : ℕ) → j < length (H .records) → (i : ℕ) → i < length (H .deleted) + 1 → getD (withDeletion H j .deleted) i 0 < length (H .records)
     gone-deletion j m i l =
         either (lt? i (length (H .deleted)))
-          (λ a. rw (List·getD-append (H .deleted) (j ∷ []) 0 i (a .1)) (I .gone i (a .1)))
-          (λ a.
-            let q : i ≡ length (H .deleted) = omega arith in
-            rw (q, getD-append-seam (H .deleted) j [] 0) m)
+        (λ a. rw (List·getD-append (H .deleted) (j ∷ []) 0 i (a .1)) (I .gone i (a .1)))
+        (λ a.
+        let q : i ≡ length (H .deleted) = omega arith in
+        rw (q, getD-append-seam (H .deleted) j [] 0) m)
 
     -- ---- insert
 
@@ -208,10 +208,10 @@ module _ (h : Family) (S R D : ℕ) (ok : Sound S R D) (can : allowed S R D ≡ 
       insert-accepted c =
           let room : length (H .records) < recordCapacity g = leb-false (recordCapacity g) (length (H .records)) c in
           let X : Changed h g (ok .e) (volumes.pow h S R D ok) (withRecord H r) (n + 1) d C (record { ops = []; ram = ram }) (insertion h g C n (r .key) (bytesOf r) (record { ops = []; ram = ram }))
-                = insertion-changes h g (ok .e) (volumes.pow h S R D ok) H r d C (record { ops = []; ram = ram }) (I .parts) room word (I .keys) tt in
+          = insertion-changes h g (ok .e) (volumes.pow h S R D ok) H r d C (record { ops = []; ram = ram }) (I .parts) room word (I .keys) tt in
           commit-done (withRecord H r) (n + 1) d (insertion h g C n (r .key) (bytesOf r) (record { ops = []; ram = ram })) (length-record r) refl
-            (X .grown) (X .allowed) (X .beyond) (X .fresh (C .spare) (λ x o. refl) (no-ops (C .spare)))
-            (omega arith) (I .d-cap) (omega (arith, I .d-le)) (keys-record r word) (λ i l. omega (arith, I .gone i l))
+          (X .grown) (X .allowed) (X .beyond) (X .fresh (C .spare) (λ x o. refl) (no-ops (C .spare)))
+          (omega arith) (I .d-cap) (omega (arith, I .d-le)) (keys-record r word) (λ i l. omega (arith, I .gone i l))
 
       insert-done : (o : Option ℕ) → findLive H (r .key) ≡ o
           → Done H C ram (insertAfter h g v (r .key) (bytesOf r) (Option·map found o)) (insertHistory (recordCapacity g) (deletionCapacity g) H r o)
@@ -219,8 +219,8 @@ module _ (h : Family) (S R D : ℕ) (ok : Sound S R D) (can : allowed S R D ≡ 
       insert-done (some j) q = refuse-done 3 (omega arith, omega arith, omega arith, omega arith)
       insert-done none q =
           either (bool? (leb (recordCapacity g) (length (H .records))))
-            (λ c. rw c (refuse-done 5 (omega arith, omega arith, omega arith, omega arith)))
-            (λ c. rw c (insert-accepted c))
+          (λ c. rw c (refuse-done 5 (omega arith, omega arith, omega arith, omega arith)))
+          (λ c. rw c (insert-accepted c))
 
     -- ---- update and delete, of the live record j
 
@@ -246,18 +246,18 @@ module _ (h : Family) (S R D : ℕ) (ok : Sound S R D) (can : allowed S R D ≡ 
       delete-accepted : length (H .deleted) < length (H .records) → Done H C ram (commit h g v n (d + 1) (deletion h g d j ram)) (historyStep accepts (withDeletion H j))
       delete-accepted less =
           commit-done (withDeletion H j) n (d + 1) t refl (length-deletion j) less-one (did .allowed) past fresh₀
-            (I .n-cap) (omega (arith, room-d)) (omega arith) (I .keys) (gone-deletion j below)
+          (I .n-cap) (omega (arith, room-d)) (omega arith) (I .keys) (gone-deletion j below)
 
       update-accepted : (r : Record) → r .key < 2 ^ 32 → leb (recordCapacity g) (length (H .records)) ≡ false
           → Done H C ram (commit h g v (n + 1) (d + 1) (insertion h g C n (r .key) (bytesOf r) (deletion h g d j ram))) (historyStep accepts (withRecord (withDeletion H j) r))
       update-accepted r word c5 =
           let room : length (H .records) < recordCapacity g = leb-false (recordCapacity g) (length (H .records)) c5 in
           let X : Changed h g (ok .e) (volumes.pow h S R D ok) (withRecord (withDeletion H j) r) (n + 1) (d + 1) C t (insertion h g C n (r .key) (bytesOf r) t)
-                = insertion-changes h g (ok .e) (volumes.pow h S R D ok) (withDeletion H j) r (d + 1) C t less-one room word (I .keys) (did .allowed) in
+          = insertion-changes h g (ok .e) (volumes.pow h S R D ok) (withDeletion H j) r (d + 1) C t less-one room word (I .keys) (did .allowed) in
           commit-done (withRecord (withDeletion H j) r) (n + 1) (d + 1) (insertion h g C n (r .key) (bytesOf r) t) (length-record r) (length-deletion j)
-            (X .grown) (X .allowed) (beyond-then g C (applyAll (S / 16) (t .ops) C) _ ram (t .ram) _ past (X .beyond))
-            (X .fresh (C .spare) (λ x o. sym (did .frame .spare x o)) fresh₀)
-            (omega arith) (omega (arith, room-d)) (omega (arith, I .d-le)) (keys-record r word) (λ i l. omega (arith, gone-deletion j below i l))
+          (X .grown) (X .allowed) (beyond-then g C (applyAll (S / 16) (t .ops) C) _ ram (t .ram) _ past (X .beyond))
+          (X .fresh (C .spare) (λ x o. sym (did .frame .spare x o)) fresh₀)
+          (omega arith) (omega (arith, room-d)) (omega (arith, I .d-le)) (keys-record r word) (λ i l. omega (arith, gone-deletion j below i l))
 
     update-done : (r : Record) → r .key < 2 ^ 32 → (o : Option ℕ) → findLive H (r .key) ≡ o
         → Done H C ram (updateAfter h g v (r .key) (bytesOf r) (Option·map found o)) (updateHistory (recordCapacity g) (deletionCapacity g) H r o)
@@ -265,10 +265,10 @@ module _ (h : Family) (S R D : ℕ) (ok : Sound S R D) (can : allowed S R D ≡ 
     update-done r word none q = refuse-done 4 (omega arith, omega arith, omega arith, omega arith)
     update-done r word (some j) q =
         either (bool? (leb (recordCapacity g) (length (H .records))))
-          (λ c. rw c (refuse-done 5 (omega arith, omega arith, omega arith, omega arith)))
-          (λ c. either (bool? (leb (deletionCapacity g) (length (H .deleted))))
-            (λ c6. rw (c, c6) (refuse-done 6 (omega arith, omega arith, omega arith, omega arith)))
-            (λ c6. rw (c, c6) (update-accepted j (found-below H (r .key) j q .0) c6 r word c)))
+        (λ c. rw c (refuse-done 5 (omega arith, omega arith, omega arith, omega arith)))
+        (λ c. either (bool? (leb (deletionCapacity g) (length (H .deleted))))
+        (λ c6. rw (c, c6) (refuse-done 6 (omega arith, omega arith, omega arith, omega arith)))
+        (λ c6. rw (c, c6) (update-accepted j (found-below H (r .key) j q .0) c6 r word c)))
 
     delete-done : (k : ℕ) → ((j : ℕ) → findLive H k ≡ some j → length (H .deleted) < length (H .records)) → (o : Option ℕ) → findLive H k ≡ o
         → Done H C ram (deleteAfter h g v (Option·map found o)) (deleteHistory (recordCapacity g) (deletionCapacity g) H o)
@@ -276,8 +276,8 @@ module _ (h : Family) (S R D : ℕ) (ok : Sound S R D) (can : allowed S R D ≡ 
     delete-done k less none q = refuse-done 4 (omega arith, omega arith, omega arith, omega arith)
     delete-done k less (some j) q =
         either (bool? (leb (deletionCapacity g) (length (H .deleted))))
-          (λ c6. rw c6 (refuse-done 6 (omega arith, omega arith, omega arith, omega arith)))
-          (λ c6. rw c6 (delete-accepted j (found-below H k j q .0) c6 (less j q)))
+        (λ c6. rw c6 (refuse-done 6 (omega arith, omega arith, omega arith, omega arith)))
+        (λ c6. rw c6 (delete-accepted j (found-below H k j q .0) c6 (less j q)))
 
     -- ---- lookup
 

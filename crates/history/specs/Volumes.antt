@@ -140,17 +140,17 @@ module _ (h : Family) (S R D : ℕ) (ok : Sound S R D) where
     key-at : (j : ℕ) → j < length (H .records) → itemWord (S / 16) (KA g) n (C .main) ram j 0 ≡ recordAt H j .key
     key-at j l =
         read-word (S / 16) pu (KA g) (kaBlocks g) (omega arith) (omega (arith, pu)) (omega arith) (kaItem H) n (C .main) (C .spare) ram (I .parts .ka) ka-room
-          j 0 (recordAt H j .key) l (omega arith) (I .keys j l) (λ b m. entry-key (recordAt H j .key) j b m)
+        j 0 (recordAt H j .key) l (omega arith) (I .keys j l) (λ b m. entry-key (recordAt H j .key) j b m)
 
     number-at : (j : ℕ) → j < length (H .records) → itemWord (S / 16) (KA g) n (C .main) ram j 1 ≡ j
     number-at j l =
         read-word (S / 16) pu (KA g) (kaBlocks g) (omega arith) (omega (arith, pu)) (omega arith) (kaItem H) n (C .main) (C .spare) ram (I .parts .ka) ka-room
-          j 1 j l (omega arith) (omega (arith, n-word)) (λ b m. entry-number (recordAt H j .key) j b m)
+        j 1 j l (omega arith) (omega (arith, n-word)) (λ b m. entry-number (recordAt H j .key) j b m)
 
     deletion-at : (i : ℕ) → i < length (H .deleted) → itemWord (S / 16) (DA g) d (C .main) ram i 0 ≡ getD (H .deleted) i 0
     deletion-at i l =
         read-word (S / 16) pu (DA g) D (omega arith) (omega (arith, pu)) (omega arith) (daItem H) d (C .main) (C .spare) ram (I .parts .da) (omega (arith, I .d-cap))
-          i 0 (getD (H .deleted) i 0) l (omega arith) (omega (arith, I .gone i l, n-word)) (λ b m. deletion-number (getD (H .deleted) i 0) b m)
+        i 0 (getD (H .deleted) i 0) l (omega arith) (omega (arith, I .gone i l, n-word)) (λ b m. deletion-number (getD (H .deleted) i 0) b m)
 
     deleted-is : (j : ℕ) → isDeleted h g v j ≡ memb j (H .deleted)
     unfolding isDeleted
@@ -162,34 +162,34 @@ module _ (h : Family) (S R D : ℕ) (ok : Sound S R D) where
     unfolding tryAt liveAt
     try-is k j l =
         rw (key-at j l, number-at j l, lt-leb (length (H .records)) j l, deleted-is j)
-          (either (bool? (eqb (recordAt H j .key) k))
-            (λ a. either (bool? (memb j (H .deleted))) (λ b. rw (a, b)) (λ b. rw (a, b)))
-            (λ a. rw a))
+        (either (bool? (eqb (recordAt H j .key) k))
+        (λ a. either (bool? (memb j (H .deleted))) (λ b. rw (a, b)) (λ b. rw (a, b)))
+        (λ a. rw a))
 
     -- every filter on the volume reads as the history says
     filter-is : (f x : ℕ) → f < length (H .records) / (8 * (S / 16)) → x < filterBits (S / 16)
         → filterBit (S / 16) (keyIndex g) (C .main) ram (keyFilters g n) f x ≡ keyFilter h g H f x
     filter-is f x l m =
         read-filter (S / 16) (ok .e) pow (keyIndex g) (fullSets g) (keyFilter h g H) (keyFilters g n) (C .main) (C .spare) ram (I .parts .filters)
-          (places-suffice (S / 16) R (length (H .records)) pu (I .n-cap)) f x l m
+        (places-suffice (S / 16) R (length (H .records)) pu (I .n-cap)) f x l m
 
     position-lt : (k x : ℕ) → memb x (keyPositions h g k) ≡ true → x < filterBits (S / 16)
     unfolding positions
     position-lt k x q =
         memb-tab-all (λ y. y < 64 * (S / 16)) 3 (λ j. h 0 (bytes4 k) % 4 * (16 * (S / 16)) + h (j + 1) (bytes4 k) % (16 * (S / 16)))
-          (λ j l.
-            let a : h 0 (bytes4 k) % 4 * (16 * (S / 16)) + h (j + 1) (bytes4 k) % (16 * (S / 16)) < 4 * (16 * (S / 16))
-                  = digits-lt (mod-lt (h 0 (bytes4 k)) {m = 4} (omega arith)) (mod-lt (h (j + 1) (bytes4 k)) (omega (arith, pu))) in
-            omega arith)
-          x q
+        (λ j l.
+        let a : h 0 (bytes4 k) % 4 * (16 * (S / 16)) + h (j + 1) (bytes4 k) % (16 * (S / 16)) < 4 * (16 * (S / 16))
+        = digits-lt (mod-lt (h 0 (bytes4 k)) {m = 4} (omega arith)) (mod-lt (h (j + 1) (bytes4 k)) (omega (arith, pu))) in
+        omega arith)
+        x q
 
     -- a page that holds a live record of the key has all its bits: no false negatives
     passes : (k f i : ℕ) → f < length (H .records) / (8 * (S / 16)) → i < 8 * (S / 16) → recordAt H (f * (8 * (S / 16)) + i) .key ≡ k → maybeIn h g v (keyPositions h g k) f ≡ true
     unfolding maybeIn keyFilter
     passes k f i l m q =
         allOf-true _ (keyPositions h g k) (λ x a.
-          filter-is f x l (position-lt k x a)
-          ∙ any-at (λ i. memb x (keyPositions h g (recordAt H (f * (8 * (S / 16)) + i) .key))) (8 * (S / 16)) i m (rw q a))
+        filter-is f x l (position-lt k x a)
+        ∙ any-at (λ i. memb x (keyPositions h g (recordAt H (f * (8 * (S / 16)) + i) .key))) (8 * (S / 16)) i m (rw q a))
 
     skipped : (k f i : ℕ) → f < length (H .records) / (8 * (S / 16)) → i < 8 * (S / 16) → maybeIn h g v (keyPositions h g k) f ≡ false
         → tryAt h g v k (f * (8 * (S / 16)) + i) ≡ none
@@ -198,8 +198,8 @@ module _ (h : Family) (S R D : ℕ) (ok : Sound S R D) where
         let j : f * (8 * (S / 16)) + i < length (H .records) = omega (arith, mul-le-mul-right (8 * (S / 16)) l) in
         try-is k (f * (8 * (S / 16)) + i) j
         ∙ either (bool? (liveAt H k (f * (8 * (S / 16)) + i)))
-          (λ t. let z : false ≡ true = sym c ∙ passes k f i l m (live-key H k (f * (8 * (S / 16)) + i) t) in cc)
-          (λ t. rw t)
+        (λ t. let z : false ≡ true = sym c ∙ passes k f i l m (live-key H k (f * (8 * (S / 16)) + i) t) in cc)
+        (λ t. rw t)
 
     -- the search ends at the newest live record of the key, or finds none
     pub search-is : (k : ℕ) → search h g v k .stop ≡ Option·map found (findLive H k)
