@@ -2,15 +2,15 @@
 use mathlib.Core.Bool.{Bool, cond}
 use mathlib.Core.Path.{_≡_}
 use mathlib.Core.List.{List}
-use Prim.Native.Nat.{ℕ, _+_, _*_, _/_, _%_, _<_}
-use lib.ListN.{getD}
-use lib.Dec.{ltb}
+use Prim.Native.Nat.{ℕ, _+_, _-_, _*_, _/_, _%_, _<_}
+use lib.ListN.{length, getD}
+use lib.Dec.{ltb, eqb}
 use Rattle.memory.specs.Ranges.{any, memb}
-use Rattle.layout.specs.Geometry.{Geometry, sector, page, block, sideBlocks, entriesPerPage}
+use Rattle.layout.specs.Geometry.{Geometry, sector, page, block, sideBlocks, entriesPerPage, kaBlock, daBlock, indexBlock, kaRam, daRam, skaRam, workRam}
 use Rattle.layout.specs.Hash.{Family}
-use Rattle.layout.specs.Items.{Area, recordBytes, entryBytes, deletionBytes}
+use Rattle.layout.specs.Items.{Area, RA, KA, DA, recordBytes, entryBytes, deletionBytes}
 use Rattle.layout.specs.Index.{Index, rowByte, inSka, inL1, inSet, inFull, setWidth, setBlocks, fullFilters, sideBlock, fullBlock}
-use Rattle.layout.specs.Calls.{keyPositions}
+use Rattle.layout.specs.Calls.{keyPositions, keyFilters}
 
 -- ---- the history of accepted calls
 
@@ -112,3 +112,68 @@ module _ (h : Family) (g : Geometry) where
   -- bit x of the filter of KA page f: some key of the page has x among its positions
   unfoldable pub keyFilter : History → ℕ → ℕ → Bool
   keyFilter H f x = any (λ i. memb x (keyPositions h g (recordAt H (f * entriesPerPage (g .u) + i) .key))) (entriesPerPage (g .u))
+
+-- ---- every byte by its address
+
+module _ (h : Family) (g : Geometry) (H : History) where
+  -- its records, deletions and filters, and the filters' full sets, rounds and flushes
+  abbrev n : ℕ
+  n = length (H .records)
+
+  abbrev d : ℕ
+  d = length (H .deleted)
+
+  abbrev N : ℕ
+  N = keyFilters g n
+
+  abbrev z : ℕ
+  z = inFull (g .u) N
+
+  abbrev c : ℕ
+  c = inSet (g .u) N
+
+  abbrev F : ℕ → ℕ → Bool
+  F = keyFilter h g H
+
+  -- byte i of the index's blocks: L1, side A, side B, the places for full sets; set number c + 1 is on side A if that is even
+  abbrev pub indexByte : ℕ → ℕ
+  indexByte i =
+      cond (ltb i (block (g .u))) (l1Byte (g .u) F (z * fullFilters (g .u) + 128 * c) (inL1 N) i)
+      (cond (ltb i ((1 + sideBlocks (g .u)) * block (g .u)))
+      (cond (eqb (c % 2) 1) (sideByte (g .u) F (z * fullFilters (g .u)) c (i - block (g .u))) 255)
+      (cond (ltb i ((1 + 2 * sideBlocks (g .u)) * block (g .u)))
+      (cond (eqb (c % 2) 1) 255 (sideByte (g .u) F (z * fullFilters (g .u)) c (i - (1 + sideBlocks (g .u)) * block (g .u))))
+      (fullByte (g .u) F z ((i - (1 + 2 * sideBlocks (g .u)) * block (g .u)) / (sideBlocks (g .u) * block (g .u)))
+      ((i - (1 + 2 * sideBlocks (g .u)) * block (g .u)) % (sideBlocks (g .u) * block (g .u))))))
+
+  -- mark x of the index's sectors
+  abbrev pub indexMark : ℕ → ℕ
+  indexMark x =
+      cond (ltb x 64) (cond (ltb (x % 16) (inL1 N)) 0 255)
+      (cond (ltb x ((1 + sideBlocks (g .u)) * 64)) (cond (eqb (c % 2) 1) (cond (ltb (x - 64) (setBlocks (g .u) c * 64)) 0 255) 255)
+      (cond (ltb x ((1 + 2 * sideBlocks (g .u)) * 64)) (cond (eqb (c % 2) 1) 255 (cond (ltb (x - (1 + sideBlocks (g .u)) * 64) (setBlocks (g .u) c * 64)) 0 255))
+      (cond (ltb ((x - (1 + 2 * sideBlocks (g .u)) * 64) / (sideBlocks (g .u) * 64)) z) 0 255)))
+
+  -- byte a of the main area, below `dataSize g`
+  unfoldable pub mainImage : ℕ → ℕ
+  mainImage a =
+      cond (ltb a (kaBlock g * block (g .u))) (areaByte (RA g) (raItem H) n a)
+      (cond (ltb a (daBlock g * block (g .u))) (areaByte (KA g) (kaItem H) n (a - kaBlock g * block (g .u)))
+      (cond (ltb a (indexBlock g * block (g .u))) (areaByte (DA g) (daItem H) d (a - daBlock g * block (g .u)))
+      (indexByte (a - indexBlock g * block (g .u)))))
+
+  -- mark x of the spare area, below `spareSize g`
+  unfoldable pub spareImage : ℕ → ℕ
+  spareImage x =
+      cond (ltb x (kaBlock g * 64)) (areaMark (RA g) n x)
+      (cond (ltb x (daBlock g * 64)) (areaMark (KA g) n (x - kaBlock g * 64))
+      (cond (ltb x (indexBlock g * 64)) (areaMark (DA g) d (x - daBlock g * 64))
+      (indexMark (x - indexBlock g * 64))))
+
+  -- byte a of the RAM, below `ramSize g`: the pages RA, KA, DA, SKA and work
+  unfoldable pub ramImage : ℕ → ℕ
+  ramImage a =
+      cond (ltb a (kaRam (g .u))) (areaRamByte (RA g) (raItem H) n a)
+      (cond (ltb a (daRam (g .u))) (areaRamByte (KA g) (kaItem H) n (a - kaRam (g .u)))
+      (cond (ltb a (skaRam (g .u))) (areaRamByte (DA g) (daItem H) d (a - daRam (g .u)))
+      (cond (ltb a (workRam (g .u))) (skaByte (g .u) F (N / 8) (inSka N) (a - skaRam (g .u))) 0)))

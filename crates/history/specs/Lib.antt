@@ -1,2 +1,17 @@
 pub mod FlashLaws
 pub mod Image
+pub mod RowLaws
+pub mod IndexRead
+pub mod IndexFlush
+pub mod IndexBuild
+pub mod IndexLaws
+pub mod AreaNumbers
+pub mod AreaLaws
+pub mod Live
+pub mod SearchLaws
+pub mod MapLaws
+pub mod ItemLaws
+pub mod Parts
+pub mod Changes
+pub mod Volumes
+pub mod Steps

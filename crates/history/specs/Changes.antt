@@ -1,0 +1,305 @@
+-- What an accepted deletion and an accepted insertion leave: the parts of the longer history.
+use mathlib.Core.Path.{_≡_, refl, sym, ap, _∙_}
+use mathlib.Core.Logic.{_≢_, _⊎_, inl, inr}
+use mathlib.Core.Bool.{Bool, true, false, cond}
+use mathlib.Core.List.{List, [], _∷_, _++_}
+use Prim.Native.Nat.{ℕ, _+_, _*_, _/_, _%_, _^_, _≤_, _<_}
+use native.Mathlib.Nat.{mul-le-mul-right}
+use native.Mathlib.Omega.{arith}
+use lib.ListN.{length, getD, List·getD-append}
+use lib.Seq.{getD-append-seam}
+use lib.Dec.{eqb}
+use borrow.Author.Tests.{eq-eqb, ne-eqb}
+use Rattle.memory.specs.Cases.{either, lt?, eq?}
+use Rattle.memory.specs.Numbers.{carry, euclid}
+use Rattle.memory.specs.Ranges.{any, any-ext, memb}
+use Rattle.memory.specs.Words.{word}
+use Rattle.layout.specs.Geometry.{Geometry, page, block, filterBits, entriesPerPage, blocks, kaBlocks, indexBlock, fullSets, recordCapacity, deletionCapacity, kaRam, ramSize}
+use Rattle.layout.specs.Flash.{Flash, Op, applyAll, allFresh}
+use Rattle.layout.specs.Hash.{Family}
+use Rattle.layout.specs.Items.{RA, KA, DA, entryBytes, deletionBytes, itemOps, itemRam, put, fills}
+use Rattle.layout.specs.Index.{inSka, inFull, fullBlock, withFilter, filterOps, filterRam}
+use Rattle.layout.specs.Calls.{Draft, keyIndex, keyFilters, keyPositions, pageFilter, deletion, summary, insertion}
+use Rattle.history.specs.FlashLaws.{AllAllowed, apply-append, allowed-append}
+use Rattle.history.specs.Image.{Record, History, recordAt, bytesOf, raItem, kaItem, daItem, keyFilter}
+use Rattle.history.specs.Live.{withRecord, withDeletion}
+use Rattle.history.specs.AreaLaws.{area-ext, put-word}
+use Rattle.history.specs.IndexLaws.{index-ext}
+use Rattle.history.specs.ItemLaws.{length-record, length-entry, length-deletion, entry-key}
+use Rattle.history.specs.Parts as parts
+use Rattle.history.specs.Parts.{Parts, Did, Beyond, beyond-then, frame-beyond, fresh-append, places-suffice}
+
+cond-yes : {A : Type 0} (b : Bool) (x y : A) → b ≡ true → cond b x y ≡ x
+cond-yes true x y q = refl
+cond-yes false x y q = cc
+
+cond-no : {A : Type 0} (b : Bool) (x y : A) → b ≡ false → cond b x y ≡ y
+cond-no true x y q = cc
+cond-no false x y q = refl
+
+module _ (h : Family) (g : Geometry) (e : ℕ) (pow : g .u ≡ 2 ^ e) where
+  abbrev u : ℕ
+  u = g .u
+
+  pu : 0 < g .u
+  pu = parts.pu h g e pow
+
+  -- ---- a deletion
+
+  -- filters tell of records alone
+  filter-deletion : (H : History) (j : ℕ) → keyFilter h g (withDeletion H j) ≡ keyFilter h g H
+  unfolding keyFilter
+  filter-deletion H j = refl
+
+  module _ (H : History) (nr nk N j : ℕ) (C : Flash) (ram : List ℕ) (P : Parts h g e pow H nr nk (length (H .deleted)) N C ram)
+      (room : length (H .deleted) < deletionCapacity g) where
+    -- the same parts as those of the longer history
+    longer : Parts h g e pow (withDeletion H j) nr nk (length (H .deleted)) N C ram
+    longer = record {
+      ra = P .ra;
+      ka = P .ka;
+      da = area-ext (g .u) pu (DA g) (g .D) (omega arith) (omega (arith, pu)) (omega arith) (daItem H) (daItem (withDeletion H j)) (length (H .deleted)) (C .main) (C .spare) ram
+          (λ i b l m. ap (λ (x : ℕ). getD (deletionBytes x) b 0) (sym (List·getD-append (H .deleted) (j ∷ []) 0 i l))) (P .da);
+      filters = rw (filter-deletion H j) (P .filters);
+      main-fits = P .main-fits;
+      spare-fits = P .spare-fits;
+      ram-fits = P .ram-fits;
+    }
+
+    new : (b : ℕ) → b < 4 → getD (deletionBytes j) b 0 ≡ daItem (withDeletion H j) (length (H .deleted)) b
+    new b l = ap (λ (x : ℕ). getD (deletionBytes x) b 0) (sym (getD-append-seam (H .deleted) j [] 0))
+
+    pub deletion-did : Did (g .u) (DA g .first) (DA g .first + g .D) (DA g .ram) C ram (deletion h g (length (H .deleted)) j ram .ram) (deletion h g (length (H .deleted)) j ram .ops)
+    unfolding deletion
+    deletion-did = parts.da-did h g e pow (withDeletion H j) nr nk (length (H .deleted)) N C ram longer (deletionBytes j) (length-deletion j) new room
+
+    pub deletion-parts : Parts h g e pow (withDeletion H j) nr nk (length (H .deleted) + 1) N
+        (applyAll (g .u) (deletion h g (length (H .deleted)) j ram .ops) C) (deletion h g (length (H .deleted)) j ram .ram)
+    unfolding deletion
+    deletion-parts = parts.da-parts h g e pow (withDeletion H j) nr nk (length (H .deleted)) N C ram longer (deletionBytes j) (length-deletion j) new room
+
+  -- ---- an insertion
+
+  -- what a change leaves behind: from draft t to draft T on `flash`, n records, d deletions
+  pub record Changed (H : History) (n d : ℕ) (flash : Flash) (t T : Draft) : Type 0 where
+    pub grown : Parts h g e pow H n n d (keyFilters g n) (applyAll (g .u) (T .ops) flash) (T .ram)
+    pub allowed : AllAllowed (g .u) (T .ops) flash
+    pub beyond : Beyond g (applyAll (g .u) (t .ops) flash) (applyAll (g .u) (T .ops) flash) (t .ram) (T .ram)
+    -- by marks that agree outside DA with those that t leaves
+    pub fresh : (spare : List ℕ) → ((x : ℕ) → (x < DA g .first * 64) ⊎ ((DA g .first + g .D) * 64 ≤ x) → getD spare x 0 ≡ getD (applyAll (g .u) (t .ops) flash .spare) x 0)
+        → allFresh spare (t .ops) ≡ true → allFresh spare (T .ops) ≡ true
+
+  module _ (H : History) (r : Record) (d : ℕ) (flash : Flash) (t : Draft)
+      (P : Parts h g e pow H (length (H .records)) (length (H .records)) d (keyFilters g (length (H .records))) (applyAll (g .u) (t .ops) flash) (t .ram))
+      (room : length (H .records) < recordCapacity g) (key-word : r .key < 2 ^ 32) (words : (j : ℕ) → j < length (H .records) → recordAt H j .key < 2 ^ 32)
+      (before : AllAllowed (g .u) (t .ops) flash) where
+    abbrev n : ℕ
+    n = length (H .records)
+
+    abbrev H′ : History
+    H′ = withRecord H r
+
+    abbrev N : ℕ
+    N = keyFilters g (length (H .records))
+
+    abbrev C : Flash
+    C = applyAll (g .u) (t .ops) flash
+
+    old : (j : ℕ) → j < length (H .records) → recordAt H j ≡ recordAt (withRecord H r) j
+    old j l = sym (List·getD-append (H .records) (r ∷ []) (record { key = 0; moves = 0; goal = 0; free = 0 }) j l)
+
+    last : r ≡ recordAt (withRecord H r) (length (H .records))
+    last = sym (getD-append-seam (H .records) r [] (record { key = 0; moves = 0; goal = 0; free = 0 }))
+
+    filter-old : (f x : ℕ) → f < length (H .records) / (8 * g .u) → x < filterBits (g .u) → keyFilter h g H f x ≡ keyFilter h g (withRecord H r) f x
+    unfolding keyFilter
+    filter-old f x l m =
+        let E = euclid (length (H .records)) (8 * g .u) (omega (arith, pu)) in
+        any-ext _ _ (8 * g .u) (λ i k. ap (λ (o : Record). memb x (keyPositions h g (o .key))) (old (f * (8 * g .u) + i) (omega (arith, mul-le-mul-right (8 * g .u) l))))
+
+    sets-fit : inFull (g .u) (length (H .records) / (8 * g .u)) ≤ fullSets g
+    sets-fit = places-suffice (g .u) (g .R) (length (H .records)) pu (omega arith)
+
+    longer-record : Parts h g e pow (withRecord H r) n n d N C (t .ram)
+    longer-record = record {
+      ra = area-ext (g .u) pu (RA g) (g .R) (omega arith) (omega (arith, pu)) (omega arith) (raItem H) (raItem (withRecord H r)) n (C .main) (C .spare) (t .ram)
+          (λ j b l m. ap (λ (o : Record). getD (bytesOf o) b 0) (old j l)) (P .ra);
+      ka = area-ext (g .u) pu (KA g) (kaBlocks g) (omega arith) (omega (arith, pu)) (omega arith) (kaItem H) (kaItem (withRecord H r)) n (C .main) (C .spare) (t .ram)
+          (λ j b l m. ap (λ (o : Record). getD (entryBytes (o .key) j) b 0) (old j l)) (P .ka);
+      da = P .da;
+      filters = index-ext (g .u) e pow (keyIndex g) (fullSets g) (keyFilter h g H) (keyFilter h g (withRecord H r)) N (C .main) (C .spare) (t .ram) filter-old sets-fit (P .filters);
+      main-fits = P .main-fits;
+      spare-fits = P .spare-fits;
+      ram-fits = P .ram-fits;
+    }
+
+    -- ---- the record into RA, its entry into KA
+
+    abbrev bytes : List ℕ
+    bytes = bytesOf r
+
+    abbrev entry : List ℕ
+    entry = entryBytes (r .key) (length (H .records))
+
+    abbrev raOps : List Op
+    raOps = itemOps (g .u) (RA g) (length (H .records)) (bytesOf r) (t .ram)
+
+    abbrev ram₁ : List ℕ
+    ram₁ = itemRam (g .u) (RA g) (length (H .records)) (bytesOf r) (t .ram)
+
+    abbrev C₁ : Flash
+    C₁ = applyAll (g .u) raOps C
+
+    abbrev kaOps : List Op
+    kaOps = itemOps (g .u) (KA g) (length (H .records)) entry ram₁
+
+    abbrev ram₂ : List ℕ
+    ram₂ = itemRam (g .u) (KA g) (length (H .records)) entry ram₁
+
+    abbrev C₂ : Flash
+    C₂ = applyAll (g .u) kaOps C₁
+
+    record-new : (b : ℕ) → b < 16 → getD (bytesOf r) b 0 ≡ raItem (withRecord H r) (length (H .records)) b
+    record-new b l = ap (λ (o : Record). getD (bytesOf o) b 0) last
+
+    entry-new : (b : ℕ) → b < 8 → getD (entryBytes (r .key) (length (H .records))) b 0 ≡ kaItem (withRecord H r) (length (H .records)) b
+    entry-new b l = ap (λ (o : Record). getD (entryBytes (o .key) (length (H .records))) b 0) last
+
+    did₁ : Did (g .u) (RA g .first) (RA g .first + g .R) (RA g .ram) C (t .ram) ram₁ raOps
+    did₁ = parts.ra-did h g e pow H′ n n d N C (t .ram) longer-record (bytesOf r) (length-record (r .key) (r .moves) (r .goal) (r .free)) record-new room
+
+    parts₁ : Parts h g e pow H′ (n + 1) n d N C₁ ram₁
+    parts₁ = parts.ra-parts h g e pow H′ n n d N C (t .ram) longer-record (bytesOf r) (length-record (r .key) (r .moves) (r .goal) (r .free)) record-new room
+
+    did₂ : Did (g .u) (KA g .first) (KA g .first + kaBlocks g) (KA g .ram) C₁ ram₁ ram₂ kaOps
+    did₂ = parts.ka-did h g e pow H′ (n + 1) n d N C₁ ram₁ parts₁ entry (length-entry (r .key) n) entry-new room
+
+    parts₂ : Parts h g e pow H′ (n + 1) (n + 1) d N C₂ ram₂
+    parts₂ = parts.ka-parts h g e pow H′ (n + 1) n d N C₁ ram₁ parts₁ entry (length-entry (r .key) n) entry-new room
+
+    -- ---- the filter of a page that is full now
+
+    abbrev keys : List ℕ
+    keys = put (KA g) (length (H .records)) entry ram₁
+
+    words′ : (j : ℕ) → j < length (H .records) + 1 → recordAt (withRecord H r) j .key < 2 ^ 32
+    words′ j l =
+        either (lt? j (length (H .records)))
+        (λ a. rw (← (old j (a .1))) (words j (a .1)))
+        (λ a. let q : j ≡ length (H .records) = omega arith in rw (q, ← last) key-word)
+
+    module _ (full : length (H .records) % (8 * g .u) + 1 ≡ 8 * g .u) where
+      key-at : (i : ℕ) → i < 8 * g .u → word keys (kaRam (g .u) + i * 8) ≡ recordAt (withRecord H r) (length (H .records) / (8 * g .u) * (8 * g .u) + i) .key
+      key-at i l =
+          let E = euclid (length (H .records)) (8 * g .u) (omega (arith, pu)) in
+          let at : kaRam (g .u) + i * 8 + 0 * 4 ≡ kaRam (g .u) + i * 8 = omega arith in
+          let k = recordAt (withRecord H r) (length (H .records) / (8 * g .u) * (8 * g .u) + i) .key in
+          rw at at
+          (put-word (g .u) pu (KA g) (kaBlocks g) (omega arith) (omega (arith, pu)) (omega arith) (kaItem H′) (kaItem H′) n entry C₁ ram₁ (parts₁ .ka) (λ j b a c. refl)
+          (length-entry (r .key) n) entry-new (parts.ka-room h g e pow H′ (n + 1) n d N C₁ ram₁ parts₁ entry (length-entry (r .key) n) entry-new room)
+          (omega (arith, parts₁ .main-fits)) (omega (arith, parts₁ .spare-fits)) (omega (arith, parts₁ .ram-fits))
+          i 0 k (omega arith) (omega arith) (words′ (length (H .records) / (8 * g .u) * (8 * g .u) + i) (omega arith))
+          (λ b m. entry-key k (length (H .records) / (8 * g .u) * (8 * g .u) + i) b m))
+
+      same : (x : ℕ) → x < filterBits (g .u) → pageFilter h g keys x ≡ keyFilter h g (withRecord H r) (length (H .records) / (8 * g .u)) x
+      unfolding pageFilter keyFilter
+      same x l = any-ext _ _ (8 * g .u) (λ i m. ap (λ (k : ℕ). memb x (keyPositions h g k)) (key-at i m))
+
+      next : (length (H .records) + 1) / (8 * g .u) ≡ length (H .records) / (8 * g .u) + 1
+      next = either (carry (length (H .records)) (8 * g .u) (omega (arith, pu))) (λ c. c .1) (λ c. absurd (c .0 full))
+
+      sets-fit′ : inFull (g .u) (length (H .records) / (8 * g .u) + 1) ≤ fullSets g
+      sets-fit′ = rw (← next) (places-suffice (g .u) (g .R) (length (H .records) + 1) pu (omega arith))
+
+      abbrev filterIn : List ℕ
+      filterIn = withFilter (g .u) (keyIndex g) (inSka N) (pageFilter h g keys) ram₂
+
+      did₃ : Did (g .u) (indexBlock g) (fullBlock (g .u) (keyIndex g) (fullSets g)) (keyIndex g .ska) C₂ ram₂ (filterRam (g .u) (keyIndex g) N filterIn) (filterOps (g .u) (keyIndex g) C₂ N filterIn)
+      did₃ = parts.index-did h g e pow H′ (n + 1) (n + 1) d N C₂ ram₂ parts₂ (pageFilter h g keys) same sets-fit′
+
+      parts₃ : Parts h g e pow H′ (n + 1) (n + 1) d (N + 1) (applyAll (g .u) (filterOps (g .u) (keyIndex g) C₂ N filterIn) C₂) (filterRam (g .u) (keyIndex g) N filterIn)
+      parts₃ = parts.index-parts h g e pow H′ (n + 1) (n + 1) d N C₂ ram₂ parts₂ (pageFilter h g keys) same sets-fit′
+
+    -- ---- all of it
+
+    abbrev ops₂ : List Op
+    ops₂ = t .ops ++ raOps ++ kaOps
+
+    done₂ : applyAll (g .u) ops₂ flash ≡ C₂
+    done₂ = apply-append (g .u) (t .ops ++ raOps) kaOps flash ∙ ap (applyAll (g .u) kaOps) (apply-append (g .u) (t .ops) raOps flash)
+
+    allowed₂ : AllAllowed (g .u) ops₂ flash
+    allowed₂ =
+        allowed-append (g .u) (t .ops ++ raOps) kaOps flash (allowed-append (g .u) (t .ops) raOps flash before (did₁ .allowed))
+        (rw (apply-append (g .u) (t .ops) raOps flash) (did₂ .allowed))
+
+    beyond₂ : Beyond g C C₂ (t .ram) ram₂
+    beyond₂ =
+        beyond-then g C C₁ C₂ (t .ram) ram₁ ram₂
+        (frame-beyond g (RA g .first) (RA g .first + g .R) (RA g .ram) C C₁ (t .ram) ram₁ (did₁ .frame) (omega arith) (omega arith))
+        (frame-beyond g (KA g .first) (KA g .first + kaBlocks g) (KA g .ram) C₁ C₂ ram₁ ram₂ (did₂ .frame) (omega arith) (omega arith))
+
+    module _ (spare : List ℕ) (agree : (x : ℕ) → (x < DA g .first * 64) ⊎ ((DA g .first + g .D) * 64 ≤ x) → getD spare x 0 ≡ getD (C .spare) x 0)
+        (fresh₀ : allFresh spare (t .ops) ≡ true) where
+      fresh₂ : allFresh spare ops₂ ≡ true
+      fresh₂ =
+          fresh-append spare (t .ops ++ raOps) kaOps
+          (fresh-append spare (t .ops) raOps fresh₀ (did₁ .fresh spare (λ x l m. agree x (inl (omega arith)))))
+          (did₂ .fresh spare (λ x l m. agree x (inl (omega arith)) ∙ sym (did₁ .frame .spare x (inr (omega arith)))))
+
+      fresh₃ : (full : length (H .records) % (8 * g .u) + 1 ≡ 8 * g .u) → allFresh spare (ops₂ ++ filterOps (g .u) (keyIndex g) C₂ N (filterIn full)) ≡ true
+      fresh₃ full =
+          fresh-append spare ops₂ (filterOps (g .u) (keyIndex g) C₂ N (filterIn full)) fresh₂
+          (did₃ full .fresh spare (λ x l m. agree x (inr (omega arith)) ∙ sym (did₂ .frame .spare x (inr (omega arith)) ∙ did₁ .frame .spare x (inr (omega arith)))))
+
+    -- no page of entries is full
+    drafted-part : length (H .records) % (8 * g .u) + 1 ≢ 8 * g .u → insertion h g flash n (r .key) (bytesOf r) t ≡ record { ops = ops₂; ram = ram₂ }
+    unfolding insertion
+    drafted-part part = cond-no (fills (KA g) n) _ _ (ne-eqb (length (H .records) % (8 * g .u) + 1) (8 * g .u) part)
+
+    changed-part : length (H .records) % (8 * g .u) + 1 ≢ 8 * g .u → Changed H′ (n + 1) d flash t (insertion h g flash n (r .key) (bytesOf r) t)
+    changed-part part =
+        let same-filters : (length (H .records) + 1) / (8 * g .u) ≡ length (H .records) / (8 * g .u)
+        = either (carry (length (H .records)) (8 * g .u) (omega (arith, pu))) (λ c. absurd (part (c .0))) (λ c. c .1) in
+        rw (drafted-part part)
+        (record {
+          grown = rw (done₂, same-filters) parts₂;
+          allowed = allowed₂;
+          beyond = rw done₂ beyond₂;
+          fresh = fresh₂;
+        })
+
+    -- one is, and gives its filter
+    module _ (full : length (H .records) % (8 * g .u) + 1 ≡ 8 * g .u) where
+      abbrev ixOps : List Op
+      ixOps = filterOps (g .u) (keyIndex g) C₂ N (filterIn full)
+
+      abbrev ram₃ : List ℕ
+      ram₃ = filterRam (g .u) (keyIndex g) N (filterIn full)
+
+      abbrev C₃ : Flash
+      C₃ = applyAll (g .u) ixOps C₂
+
+      drafted-full : insertion h g flash n (r .key) (bytesOf r) t ≡ record { ops = ops₂ ++ ixOps; ram = ram₃ }
+      unfolding insertion summary
+      drafted-full =
+          cond-yes (fills (KA g) n) _ _ (eq-eqb (length (H .records) % (8 * g .u) + 1) (8 * g .u) full)
+          ∙ ap (λ (c : Flash). record { ops = ops₂ ++ filterOps (g .u) (keyIndex g) c N (filterIn full); ram = filterRam (g .u) (keyIndex g) N (filterIn full) }) done₂
+
+      done₃ : applyAll (g .u) (ops₂ ++ ixOps) flash ≡ C₃
+      done₃ = apply-append (g .u) ops₂ ixOps flash ∙ ap (applyAll (g .u) ixOps) done₂
+
+      changed-full : Changed H′ (n + 1) d flash t (insertion h g flash n (r .key) (bytesOf r) t)
+      changed-full =
+          rw drafted-full
+          (record {
+            grown = rw (done₃, next full) (parts₃ full);
+            allowed = allowed-append (g .u) ops₂ ixOps flash allowed₂ (rw done₂ (did₃ full .allowed));
+            beyond = rw done₃
+                (beyond-then g C C₂ C₃ (t .ram) ram₂ ram₃ beyond₂
+                (frame-beyond g (indexBlock g) (fullBlock (g .u) (keyIndex g) (fullSets g)) (keyIndex g .ska) C₂ C₃ ram₂ ram₃ (did₃ full .frame) (omega arith) (omega arith)));
+            fresh = λ spare agree fresh₀. fresh₃ spare agree fresh₀ full;
+          })
+
+    pub insertion-changes : Changed H′ (n + 1) d flash t (insertion h g flash n (r .key) (bytesOf r) t)
+    insertion-changes = either (eq? (length (H .records) % (8 * g .u) + 1) (8 * g .u)) (λ c. changed-full (c .1)) (λ c. changed-part (c .1))

@@ -1,0 +1,111 @@
+-- Laws of rows of filter bits, and the widths of partition sets.
+use mathlib.Core.Path.{_≡_, refl, ap₂, _∙_}
+use mathlib.Core.Logic.{_≢_}
+use mathlib.Core.Bool.{Bool, false, _&&_}
+use Prim.Native.Nat.{ℕ, zero, suc, _+_, _-_, _*_, _/_, _%_, _^_, _≤_, _<_, zero-le}
+use native.Mathlib.Nat.{mul-le-mul-right, mod-lt, not-suc-le-zero}
+use native.Mathlib.Omega.{arith}
+use lib.Arith.{digits-div, digits-mod}
+use lib.Pow.{pow-pos}
+use lib.Dec.{ltb}
+use borrow.Author.Tests.{lt-ltb, le-ltb}
+use Rattle.memory.specs.Bits.{bit, pack, bit-pack, num}
+use Rattle.memory.specs.Cases.{lt?, either}
+use Rattle.memory.specs.Numbers.{euclid, div-of, mod-of}
+use Rattle.memory.specs.Power.{log2up, log2up-enough, width}
+use Rattle.layout.specs.Index.{rowBit, rowByte, setPages, setWidth, setBlocks}
+
+-- equal bits make equal numbers
+pub pack-ext : (k : ℕ) (f g : ℕ → Bool) → ((i : ℕ) → i < k → f i ≡ g i) → pack k f ≡ pack k g
+unfolding pack
+pack-ext zero f g h = refl
+pack-ext (suc k) f g h = ap₂ (λ (x : ℕ) (y : Bool). x * 2 + num y) (pack-ext k (λ i. f (suc i)) (λ i. g (suc i)) (λ i l. h (suc i) (omega arith))) (h zero (omega arith))
+
+-- bit r of the w bits of filter g, read from the row's bytes
+pub read-row : (G : ℕ → ℕ → Bool) (N w lo g r : ℕ) → g < N → r < w → bit (rowByte G N w lo ((g * w + r) / 8)) ((g * w + r) % 8) ≡ G g (lo + r)
+unfolding rowByte rowBit
+read-row G N w lo g r hg hr =
+    let q : (g * w + r) / 8 * 8 + (g * w + r) % 8 ≡ g * w + r = omega arith in
+    let d : (g * w + r) / w ≡ g = digits-div g hr in
+    let m : (g * w + r) % w ≡ r = digits-mod g hr in
+    bit-pack 8 _ ((g * w + r) % 8) (omega arith) ∙ rw (q, d, m, lt-ltb g N hg)
+
+-- only the bits that are there decide
+pub row-ext : (G H : ℕ → ℕ → Bool) (N w lo y : ℕ) → 0 < w → ((g r : ℕ) → g < N → r < w → G g (lo + r) ≡ H g (lo + r)) → rowByte G N w lo y ≡ rowByte H N w lo y
+unfolding rowByte rowBit
+row-ext G H N w lo y pw same = pack-ext 8 _ _ (λ b l. one (y * 8 + b))
+  where
+    one : (q : ℕ) → (ltb (q / w) N && G (q / w) (lo + q % w)) ≡ (ltb (q / w) N && H (q / w) (lo + q % w))
+    one q = either (lt? (q / w) N) (λ a. rw (a .0) (same (q / w) (q % w) (a .1) (mod-lt q pw))) (λ a. rw (a .0))
+
+-- a row of no filters is zero
+pub row-none : (G : ℕ → ℕ → Bool) (w lo y : ℕ) → rowByte G 0 w lo y ≡ 0
+unfolding rowByte rowBit pack
+row-none G w lo y = pack-ext 8 (λ b. rowBit G 0 w lo (y * 8 + b)) (λ b. false) (λ b l. rw (le-ltb ((y * 8 + b) / w) 0 zero-le))
+
+-- ---- a row of a sector: 2 * u bytes to a filter
+
+module _ (u : ℕ) (pu : 0 < u) where
+  slot-div : (y b : ℕ) → b < 8 → (y * 8 + b) / (16 * u) ≡ y / (2 * u)
+  slot-div y b h =
+      let E = euclid y (2 * u) (omega arith) in
+      div-of (y * 8 + b) (16 * u) (y / (2 * u)) (y % (2 * u) * 8 + b) (omega arith) (omega arith)
+
+  slot-mod : (y b : ℕ) → b < 8 → (y * 8 + b) % (16 * u) ≡ y % (2 * u) * 8 + b
+  slot-mod y b h =
+      let E = euclid y (2 * u) (omega arith) in
+      mod-of (y * 8 + b) (16 * u) (y / (2 * u)) (y % (2 * u) * 8 + b) (omega arith) (omega arith)
+
+  -- a byte of the newest filter
+  pub row-new : (G : ℕ → ℕ → Bool) (s lo y : ℕ) → y / (2 * u) ≡ s → rowByte G (s + 1) (16 * u) lo y ≡ pack 8 (λ b. G s (lo + (y % (2 * u) * 8 + b)))
+  unfolding rowByte rowBit
+  row-new G s lo y e = pack-ext 8 _ _ (λ b l. rw (slot-div y b l, slot-mod y b l, e, lt-ltb s (s + 1) (omega arith)))
+
+  -- a byte of another one
+  pub row-old : (G : ℕ → ℕ → Bool) (s lo y : ℕ) → y / (2 * u) ≢ s → rowByte G (s + 1) (16 * u) lo y ≡ rowByte G s (16 * u) lo y
+  unfolding rowByte rowBit
+  row-old G s lo y ne = pack-ext 8 _ _ (λ b l. rw (slot-div y b l) (one ((y * 8 + b) % (16 * u))))
+    where
+      one : (r : ℕ) → (ltb (y / (2 * u)) (s + 1) && G (y / (2 * u)) (lo + r)) ≡ (ltb (y / (2 * u)) s && G (y / (2 * u)) (lo + r))
+      one r =
+          either (lt? (y / (2 * u)) s)
+          (λ a. rw (a .0, lt-ltb (y / (2 * u)) (s + 1) (omega arith)))
+          (λ a. rw (a .0, le-ltb (y / (2 * u)) (s + 1) (omega arith)))
+
+-- ---- pages, blocks and width of the set of c rounds
+
+module _ (u e : ℕ) (pow : u ≡ 2 ^ e) where
+  pub unit-pos : 0 < u
+  unit-pos = rw pow (pow-pos e)
+
+  -- the pages' bits are the filter's
+  width-is : (c : ℕ) → c ≤ 4 * u → setWidth u c ≡ 2 ^ (e + 2 - log2up c)
+  width-is c h =
+      let w = width e c (omega arith) in
+      div-of (64 * u) (16 * 2 ^ log2up c) (2 ^ (e + 2 - log2up c)) 0 (omega arith) (omega (arith, pow-pos (log2up c)))
+
+  pub set-whole : (c : ℕ) → c ≤ 4 * u → setPages u c * setWidth u c ≡ 64 * u
+  set-whole c h = rw (width-is c h) (omega (arith, width e c (omega arith)))
+
+  pub width-pos : (c : ℕ) → c ≤ 4 * u → 0 < setWidth u c
+  width-pos c h = rw (width-is c h) (pow-pos (e + 2 - log2up c))
+
+  -- a set fits a side
+  pub blocks-fit : (c : ℕ) → c ≤ 4 * u → 2 ^ log2up c ≤ 4 * u
+  blocks-fit c h = omega (arith, width e c (omega arith), mul-le-mul-right (2 ^ log2up c) (pow-pos (e + 2 - log2up c)))
+
+  -- a full set has as many blocks as a side, and a bit of a filter to a page
+  pub full-blocks : 2 ^ log2up (4 * u) ≡ 4 * u
+  full-blocks = omega (arith, blocks-fit (4 * u) (omega arith), log2up-enough (4 * u))
+
+  pub full-width : setWidth u (4 * u) ≡ 1
+  full-width = div-of (64 * u) (16 * 2 ^ log2up (4 * u)) 1 0 (omega (arith, full-blocks)) (omega (arith, pow-pos (log2up (4 * u))))
+
+-- blocks of a set, by its rounds
+pub blocks-some : (u c : ℕ) → 0 < c → setBlocks u c ≡ 2 ^ log2up c
+blocks-some u zero h = absurd (not-suc-le-zero h)
+blocks-some u (suc c) h = refl
+
+pub blocks-le : (u c m : ℕ) → 2 ^ log2up c ≤ m → setBlocks u c ≤ m
+blocks-le u zero m h = zero-le
+blocks-le u (suc c) m h = h

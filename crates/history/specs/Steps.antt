@@ -1,0 +1,330 @@
+-- One call on a volume that holds the image of a history: it answers as the history does, and leaves the image of the next history.
+use mathlib.Core.Path.{_≡_, refl, sym, ap, _∙_}
+use mathlib.Core.Logic.{_≢_, _⊎_, inl, inr}
+use mathlib.Core.Bool.{Bool, true, false, cond}
+use mathlib.Core.Option.{Option, none, some, Option·map}
+use mathlib.Core.List.{List, [], _∷_, _++_}
+use Prim.Native.Nat.{ℕ, _+_, _-_, _*_, _/_, _≤_, _<_, _^_}
+use native.Mathlib.Omega.{arith}
+use lib.ListN.{length, getD, replicate, length-append, length-replicate, getD-replicate, List·getD-append}
+use lib.Seq.{getD-append-seam}
+use lib.Dec.{leb}
+use borrow.Author.Tests.{leb-false}
+use Rattle.memory.specs.Cases.{either, bool?, lt?}
+use Rattle.memory.specs.Lists.{write, length-write, getD-write-before, getD-write-in, getD-write-after}
+use Rattle.layout.specs.Geometry.{Geometry, geometry, allowed, page, entriesPerPage, kaBlocks, fullSets, recordCapacity, deletionCapacity, ramSize, workRam}
+use Rattle.layout.specs.Flash.{Flash, Op, applyAll, allFresh}
+use Rattle.layout.specs.Hash.{Family}
+use Rattle.layout.specs.Items.{RA, KA, DA, zeroPage}
+use Rattle.layout.specs.Search.{Stop, found, Found}
+use Rattle.layout.specs.Calls.{Volume, Call, insert, update, delete, lookup, Outcome, accepted, hit, miss, refused, Result, refuse, judged, Draft, keyIndex, keyFilters, deletion, insertion, commit, search, insertAfter, updateAfter, deleteAfter, lookupAfter, answer, call}
+use Rattle.layout.specs.FiniteMap.{Reply, accepts, hits, misses, refuses}
+use Rattle.history.specs.FlashLaws.{AllAllowed}
+use Rattle.history.specs.Image.{Record, History, recordAt, bytesOf, raItem, kaItem, daItem, keyFilter}
+use Rattle.history.specs.Live.{findLive, withRecord, withDeletion, HistoryStep, historyStep, insertHistory, updateHistory, deleteHistory, lookupHistory, stepHistory, found-below}
+use Rattle.history.specs.Parts.{Parts, Did, Frame, Beyond, beyond-same, beyond-then, frame-beyond, frame-area, frame-index}
+use Rattle.history.specs.Changes.{Changed, deletion-did, deletion-parts, insertion-changes}
+use Rattle.history.specs.Volumes as volumes
+use Rattle.history.specs.Volumes.{Sound, Holds, volumeOf}
+
+no-ops : (spare : List ℕ) → allFresh spare [] ≡ true
+unfolding allFresh
+no-ops spare = refl
+
+-- the key of a call is a 32-bit number
+abbrev pub KeyWord : Call → Type 0
+KeyWord (insert key moves goal free) = key < 2 ^ 32
+KeyWord (update key moves goal free) = key < 2 ^ 32
+KeyWord (delete key) = key < 2 ^ 32
+KeyWord (lookup key) = key < 2 ^ 32
+
+-- what is compared of an outcome
+abbrev pub shown : Outcome → Reply
+shown accepted = accepts
+shown (hit place bytes) = hits bytes
+shown miss = misses
+shown (refused i) = refuses i
+
+-- none of refusals 1, 2, 7 and 8
+abbrev pub Possible : Outcome → Type 0
+Possible accepted = Unit {0}
+Possible (hit place bytes) = Unit {0}
+Possible miss = Unit {0}
+Possible (refused i) = (i ≢ 1) × (i ≢ 2) × (i ≢ 7) × (i ≢ 8)
+
+-- an outcome other than accepted hands on the volume as it was
+abbrev pub HandedOn : Outcome → Volume → Volume → Type 0
+HandedOn accepted v v′ = Unit {0}
+HandedOn (hit place bytes) v v′ = v′ ≡ v
+HandedOn miss v v′ = v′ ≡ v
+HandedOn (refused i) v v′ = v′ ≡ v
+
+module _ (h : Family) (S R D : ℕ) (ok : Sound S R D) (can : allowed S R D ≡ true) where
+  abbrev g : Geometry
+  g = geometry S R D
+
+  abbrev u : ℕ
+  u = S / 16
+
+  pub record Done (H : History) (C : Flash) (ram : List ℕ) (r : Result) (s : HistoryStep) : Type 0 where
+    pub says : shown (r .outcome) ≡ s .says
+    pub possible : Possible (r .outcome)
+    pub handed-on : HandedOn (r .outcome) (volumeOf h S R D ok H C ram) (r .volume)
+    pub volume-is : r .volume ≡ volumeOf h S R D ok (s .next) (r .volume .flash) (r .volume .ram)
+    pub holds : Holds h S R D ok (s .next) (r .volume .flash) (r .volume .ram)
+    pub flash-is : applyAll (S / 16) (r .ops) C ≡ r .volume .flash
+    pub ops-allowed : AllAllowed (S / 16) (r .ops) C
+    pub beyond : Beyond g C (r .volume .flash) ram (r .volume .ram)
+    pub count-le : r .count ≤ length (H .records) / entriesPerPage (S / 16)
+
+  pub pu : 0 < S / 16
+  pu = volumes.pu h S R D ok
+
+  -- ---- the work page zeroed
+
+  module _ (H : History) (nr nk d N : ℕ) (C : Flash) (ram : List ℕ) (P : Parts h g (ok .e) (volumes.pow h S R D ok) H nr nk d N C ram) where
+    abbrev ram′ : List ℕ
+    ram′ = zeroPage (S / 16) (workRam (S / 16)) ram
+
+    zeros : length (replicate {A = ℕ} (page (S / 16)) 0) ≡ page (S / 16)
+    zeros = length-replicate {A = ℕ} (page (S / 16)) 0
+
+    work-frame : Frame (S / 16) 0 0 (workRam (S / 16)) C C ram ram′
+    work-frame = record {
+      main = λ x o. refl;
+      spare = λ x o. refl;
+      ram = λ x o. either o (λ a. getD-write-before ram (workRam (S / 16)) _ x 0 a) (λ a. getD-write-after ram (workRam (S / 16)) _ x 0 (omega (arith, zeros)));
+      main-length = refl;
+      spare-length = refl;
+      ram-length = length-write ram (workRam (S / 16)) _;
+    }
+
+    pub zeroed : Parts h g (ok .e) (volumes.pow h S R D ok) H nr nk d N C ram′
+    zeroed = record {
+      ra = frame-area (S / 16) 0 0 (workRam (S / 16)) C C ram ram′ work-frame (RA g) R (raItem H) nr pu (omega arith) (omega (arith, pu)) (omega arith) (inr (omega arith)) (inl (omega arith)) (P .ra);
+      ka = frame-area (S / 16) 0 0 (workRam (S / 16)) C C ram ram′ work-frame (KA g) (kaBlocks g) (kaItem H) nk pu (omega arith) (omega (arith, pu)) (omega arith) (inr (omega arith)) (inl (omega arith)) (P .ka);
+      da = frame-area (S / 16) 0 0 (workRam (S / 16)) C C ram ram′ work-frame (DA g) D (daItem H) d pu (omega arith) (omega (arith, pu)) (omega arith) (inr (omega arith)) (inl (omega arith)) (P .da);
+      filters = frame-index (S / 16) 0 0 (workRam (S / 16)) C C ram ram′ work-frame (ok .e) (volumes.pow h S R D ok) (keyIndex g) (fullSets g) (keyFilter h g H) N (inr (omega arith)) (inl (omega arith)) (P .filters);
+      main-fits = P .main-fits;
+      spare-fits = P .spare-fits;
+      ram-fits = rw (work-frame .ram-length) (P .ram-fits);
+    }
+
+    pub work-zero : (i : ℕ) → i < page (S / 16) → getD ram′ (workRam (S / 16) + i) 0 ≡ 0
+    work-zero i l =
+        let s : workRam (S / 16) + i - workRam (S / 16) ≡ i = omega arith in
+        getD-write-in ram (workRam (S / 16)) (replicate (page (S / 16)) 0) (workRam (S / 16) + i) 0 (omega arith) (omega (arith, zeros)) (omega (arith, P .ram-fits))
+        ∙ rw s (getD-replicate (page (S / 16)) i 0 0 l)
+
+    pub work-beyond : Beyond g C C ram ram′
+    work-beyond = frame-beyond g 0 0 (workRam (S / 16)) C C ram ram′ work-frame (omega arith) (omega arith)
+
+  module _ (H : History) (C : Flash) (ram : List ℕ) (I : Holds h S R D ok H C ram) where
+    abbrev v : Volume
+    v = volumeOf h S R D ok H C ram
+
+    abbrev n : ℕ
+    n = length (H .records)
+
+    abbrev d : ℕ
+    d = length (H .deleted)
+
+    -- ---- refusals, and answers that change nothing
+
+    refuse-done : (i : ℕ) → (i ≢ 1) × (i ≢ 2) × (i ≢ 7) × (i ≢ 8) → Done H C ram (refuse v i) (historyStep (refuses i) H)
+    refuse-done i p = record {
+      says = refl;
+      possible = p;
+      handed-on = refl;
+      volume-is = refl;
+      holds = I;
+      flash-is = refl;
+      ops-allowed = tt;
+      beyond = beyond-same g C ram;
+      count-le = omega arith;
+    }
+
+    -- ---- an accepted change
+
+    commit-done : (H′ : History) (n′ d′ : ℕ) (T : Draft) → n′ ≡ length (H′ .records) → d′ ≡ length (H′ .deleted)
+        → Parts h g (ok .e) (volumes.pow h S R D ok) H′ n′ n′ d′ (keyFilters g n′) (applyAll (S / 16) (T .ops) C) (T .ram)
+        → AllAllowed (S / 16) (T .ops) C → Beyond g C (applyAll (S / 16) (T .ops) C) ram (T .ram) → allFresh (C .spare) (T .ops) ≡ true
+        → n′ ≤ recordCapacity g → d′ ≤ deletionCapacity g → d′ ≤ n′
+        → ((j : ℕ) → j < n′ → recordAt H′ j .key < 2 ^ 32) → ((i : ℕ) → i < d′ → getD (H′ .deleted) i 0 < n′)
+        → Done H C ram (commit h g v n′ d′ T) (historyStep accepts H′)
+    unfolding commit
+    commit-done H′ n′ d′ T n-is d-is P allow past fresh n-cap d-cap d-le keys gone =
+        rw fresh
+        (record {
+          says = refl;
+          possible = tt;
+          handed-on = tt;
+          volume-is = rw (n-is, d-is);
+          holds = record {
+            parts = rw (n-is, d-is) at (zeroed H′ n′ n′ d′ (keyFilters g n′) (applyAll (S / 16) (T .ops) C) (T .ram) P);
+            work = work-zero H′ n′ n′ d′ (keyFilters g n′) (applyAll (S / 16) (T .ops) C) (T .ram) P;
+            n-cap = rw (← n-is) n-cap;
+            d-cap = rw (← d-is) d-cap;
+            d-le = rw (← n-is, ← d-is) d-le;
+            keys = rw n-is at keys;
+            gone = rw (n-is, d-is) at gone;
+          };
+          flash-is = refl;
+          ops-allowed = allow;
+          beyond = beyond-then g C (applyAll (S / 16) (T .ops) C) (applyAll (S / 16) (T .ops) C) ram (T .ram) (zeroPage (S / 16) (workRam (S / 16)) (T .ram)) past
+              (work-beyond H′ n′ n′ d′ (keyFilters g n′) (applyAll (S / 16) (T .ops) C) (T .ram) P);
+          count-le = omega arith;
+        })
+
+    -- ---- the histories that a change makes
+
+    length-record : (r : Record) → length (H .records) + 1 ≡ length (withRecord H r .records)
+    length-record r = sym (length-append (H .records) (r ∷ []))
+
+    length-deletion : (j : ℕ) → length (H .deleted) + 1 ≡ length (withDeletion H j .deleted)
+    length-deletion j = sym (length-append (H .deleted) (j ∷ []))
+
+    keys-record : (r : Record) → r .key < 2 ^ 32 → (j : ℕ) → j < length (H .records) + 1 → recordAt (withRecord H r) j .key < 2 ^ 32
+    keys-record r w j l =
+        either (lt? j (length (H .records)))
+        (λ a. rw (List·getD-append (H .records) (r ∷ []) (record { key = 0; moves = 0; goal = 0; free = 0 }) j (a .1)) (I .keys j (a .1)))
+        (λ a.
+        let q : j ≡ length (H .records) = omega arith in
+        rw (q, getD-append-seam (H .records) r [] (record { key = 0; moves = 0; goal = 0; free = 0 })) w)
+
+    gone-deletion : (j : ℕ) → j < length (H .records) → (i : ℕ) → i < length (H .deleted) + 1 → getD (withDeletion H j .deleted) i 0 < length (H .records)
+    gone-deletion j m i l =
+        either (lt? i (length (H .deleted)))
+        (λ a. rw (List·getD-append (H .deleted) (j ∷ []) 0 i (a .1)) (I .gone i (a .1)))
+        (λ a.
+        let q : i ≡ length (H .deleted) = omega arith in
+        rw (q, getD-append-seam (H .deleted) j [] 0) m)
+
+    -- ---- insert
+
+    module _ (r : Record) (word : r .key < 2 ^ 32) where
+      insert-accepted : leb (recordCapacity g) (length (H .records)) ≡ false
+          → Done H C ram (commit h g v (n + 1) d (insertion h g C n (r .key) (bytesOf r) (record { ops = []; ram = ram }))) (historyStep accepts (withRecord H r))
+      insert-accepted c =
+          let room : length (H .records) < recordCapacity g = leb-false (recordCapacity g) (length (H .records)) c in
+          let X : Changed h g (ok .e) (volumes.pow h S R D ok) (withRecord H r) (n + 1) d C (record { ops = []; ram = ram }) (insertion h g C n (r .key) (bytesOf r) (record { ops = []; ram = ram }))
+          = insertion-changes h g (ok .e) (volumes.pow h S R D ok) H r d C (record { ops = []; ram = ram }) (I .parts) room word (I .keys) tt in
+          commit-done (withRecord H r) (n + 1) d (insertion h g C n (r .key) (bytesOf r) (record { ops = []; ram = ram })) (length-record r) refl
+          (X .grown) (X .allowed) (X .beyond) (X .fresh (C .spare) (λ x o. refl) (no-ops (C .spare)))
+          (omega arith) (I .d-cap) (omega (arith, I .d-le)) (keys-record r word) (λ i l. omega (arith, I .gone i l))
+
+      insert-done : (o : Option ℕ) → findLive H (r .key) ≡ o
+          → Done H C ram (insertAfter h g v (r .key) (bytesOf r) (Option·map found o)) (insertHistory (recordCapacity g) (deletionCapacity g) H r o)
+      unfolding insertAfter
+      insert-done (some j) q = refuse-done 3 (omega arith, omega arith, omega arith, omega arith)
+      insert-done none q =
+          either (bool? (leb (recordCapacity g) (length (H .records))))
+          (λ c. rw c (refuse-done 5 (omega arith, omega arith, omega arith, omega arith)))
+          (λ c. rw c (insert-accepted c))
+
+    -- ---- update and delete, of the live record j
+
+    module _ (j : ℕ) (below : j < length (H .records)) (c6 : leb (deletionCapacity g) (length (H .deleted)) ≡ false) where
+      room-d : length (H .deleted) < deletionCapacity g
+      room-d = leb-false (deletionCapacity g) (length (H .deleted)) c6
+
+      abbrev t : Draft
+      t = deletion h g d j ram
+
+      did : Did (S / 16) (DA g .first) (DA g .first + D) (DA g .ram) C ram (t .ram) (t .ops)
+      did = deletion-did h g (ok .e) (volumes.pow h S R D ok) H n n (keyFilters g n) j C ram (I .parts) room-d
+
+      less-one : Parts h g (ok .e) (volumes.pow h S R D ok) (withDeletion H j) n n (d + 1) (keyFilters g n) (applyAll (S / 16) (t .ops) C) (t .ram)
+      less-one = deletion-parts h g (ok .e) (volumes.pow h S R D ok) H n n (keyFilters g n) j C ram (I .parts) room-d
+
+      past : Beyond g C (applyAll (S / 16) (t .ops) C) ram (t .ram)
+      past = frame-beyond g (DA g .first) (DA g .first + D) (DA g .ram) C (applyAll (S / 16) (t .ops) C) ram (t .ram) (did .frame) (omega arith) (omega arith)
+
+      fresh₀ : allFresh (C .spare) (t .ops) ≡ true
+      fresh₀ = did .fresh (C .spare) (λ x l m. refl)
+
+      delete-accepted : length (H .deleted) < length (H .records) → Done H C ram (commit h g v n (d + 1) (deletion h g d j ram)) (historyStep accepts (withDeletion H j))
+      delete-accepted less =
+          commit-done (withDeletion H j) n (d + 1) t refl (length-deletion j) less-one (did .allowed) past fresh₀
+          (I .n-cap) (omega (arith, room-d)) (omega arith) (I .keys) (gone-deletion j below)
+
+      update-accepted : (r : Record) → r .key < 2 ^ 32 → leb (recordCapacity g) (length (H .records)) ≡ false
+          → Done H C ram (commit h g v (n + 1) (d + 1) (insertion h g C n (r .key) (bytesOf r) (deletion h g d j ram))) (historyStep accepts (withRecord (withDeletion H j) r))
+      update-accepted r word c5 =
+          let room : length (H .records) < recordCapacity g = leb-false (recordCapacity g) (length (H .records)) c5 in
+          let X : Changed h g (ok .e) (volumes.pow h S R D ok) (withRecord (withDeletion H j) r) (n + 1) (d + 1) C t (insertion h g C n (r .key) (bytesOf r) t)
+          = insertion-changes h g (ok .e) (volumes.pow h S R D ok) (withDeletion H j) r (d + 1) C t less-one room word (I .keys) (did .allowed) in
+          commit-done (withRecord (withDeletion H j) r) (n + 1) (d + 1) (insertion h g C n (r .key) (bytesOf r) t) (length-record r) (length-deletion j)
+          (X .grown) (X .allowed) (beyond-then g C (applyAll (S / 16) (t .ops) C) _ ram (t .ram) _ past (X .beyond))
+          (X .fresh (C .spare) (λ x o. sym (did .frame .spare x o)) fresh₀)
+          (omega arith) (omega (arith, room-d)) (omega (arith, I .d-le)) (keys-record r word) (λ i l. omega (arith, gone-deletion j below i l))
+
+    update-done : (r : Record) → r .key < 2 ^ 32 → (o : Option ℕ) → findLive H (r .key) ≡ o
+        → Done H C ram (updateAfter h g v (r .key) (bytesOf r) (Option·map found o)) (updateHistory (recordCapacity g) (deletionCapacity g) H r o)
+    unfolding updateAfter
+    update-done r word none q = refuse-done 4 (omega arith, omega arith, omega arith, omega arith)
+    update-done r word (some j) q =
+        either (bool? (leb (recordCapacity g) (length (H .records))))
+        (λ c. rw c (refuse-done 5 (omega arith, omega arith, omega arith, omega arith)))
+        (λ c. either (bool? (leb (deletionCapacity g) (length (H .deleted))))
+        (λ c6. rw (c, c6) (refuse-done 6 (omega arith, omega arith, omega arith, omega arith)))
+        (λ c6. rw (c, c6) (update-accepted j (found-below H (r .key) j q .0) c6 r word c)))
+
+    delete-done : (k : ℕ) → ((j : ℕ) → findLive H k ≡ some j → length (H .deleted) < length (H .records)) → (o : Option ℕ) → findLive H k ≡ o
+        → Done H C ram (deleteAfter h g v (Option·map found o)) (deleteHistory (recordCapacity g) (deletionCapacity g) H o)
+    unfolding deleteAfter
+    delete-done k less none q = refuse-done 4 (omega arith, omega arith, omega arith, omega arith)
+    delete-done k less (some j) q =
+        either (bool? (leb (deletionCapacity g) (length (H .deleted))))
+        (λ c6. rw c6 (refuse-done 6 (omega arith, omega arith, omega arith, omega arith)))
+        (λ c6. rw c6 (delete-accepted j (found-below H k j q .0) c6 (less j q)))
+
+    -- ---- lookup
+
+    lookup-done : (k opened : ℕ) → opened ≤ length (H .records) / entriesPerPage (S / 16) → (o : Option ℕ) → findLive H k ≡ o
+        → Done H C ram (lookupAfter h g v opened (Option·map found o)) (lookupHistory (recordCapacity g) (deletionCapacity g) H o)
+    unfolding lookupAfter
+    lookup-done k opened le none q = record {
+      says = refl;
+      possible = tt;
+      handed-on = refl;
+      volume-is = refl;
+      holds = I;
+      flash-is = refl;
+      ops-allowed = tt;
+      beyond = beyond-same g C ram;
+      count-le = le;
+    }
+    lookup-done k opened le (some j) q = record {
+      says = ap hits (volumes.record-is h S R D ok H C ram I j (found-below H k j q .0));
+      possible = tt;
+      handed-on = refl;
+      volume-is = refl;
+      holds = I;
+      flash-is = refl;
+      ops-allowed = tt;
+      beyond = beyond-same g C ram;
+      count-le = le;
+    }
+
+    -- ---- every call
+
+    -- its arguments are 32-bit numbers
+    judged-is : (r : Result) → judged v r ≡ r
+    unfolding judged
+    judged-is r = rw (volumes.state-good h S R D ok H C ram I can, volumes.long-enough h S R D ok H C ram I)
+
+    answer-done : (c : Call) → KeyWord c → ((k j : ℕ) → findLive H k ≡ some j → length (H .deleted) < length (H .records))
+        → Done H C ram (answer h g v c) (stepHistory (recordCapacity g) (deletionCapacity g) H c)
+    answer-done (insert key moves goal free) w less =
+        rw (volumes.search-is h S R D ok H C ram I key) (insert-done (record { key = key; moves = moves; goal = goal; free = free }) w (findLive H key) refl)
+    answer-done (update key moves goal free) w less =
+        rw (volumes.search-is h S R D ok H C ram I key) (update-done (record { key = key; moves = moves; goal = goal; free = free }) w (findLive H key) refl)
+    answer-done (delete key) w less = rw (volumes.search-is h S R D ok H C ram I key) (delete-done key (less key) (findLive H key) refl)
+    answer-done (lookup key) w less =
+        rw (volumes.search-is h S R D ok H C ram I key) (lookup-done key _ (volumes.count-is h S R D ok H C ram I key) (findLive H key) refl)
+
+    pub call-done : (c : Call) → KeyWord c → ((k j : ℕ) → findLive H k ≡ some j → length (H .deleted) < length (H .records))
+        → Done H C ram (call h v c) (stepHistory (recordCapacity g) (deletionCapacity g) H c)
+    unfolding call
+    call-done c w less = rw (judged-is (answer h g v c)) (answer-done c w less)

@@ -1,0 +1,229 @@
+-- A volume that holds the image of a history: its search finds the history's live records.
+use mathlib.Core.Path.{_≡_, refl, sym, ap, _∙_}
+use mathlib.Core.Bool.{Bool, true, false, not, _&&_, _||_, cond}
+use mathlib.Core.Option.{Option, none, some, Option·map}
+use mathlib.Core.List.{List, [], _∷_}
+use Prim.Native.Nat.{ℕ, _+_, _*_, _/_, _%_, _^_, _≤_, _<_}
+use native.Mathlib.Nat.{mul-le-mul-right, mul-div-cancel, mul-comm, mod-lt}
+use native.Mathlib.Omega.{arith}
+use lib.ListN.{length, getD}
+use lib.Arith.{digits-lt}
+use lib.Pow.{pow-pos, pow-mono}
+use lib.Dec.{leb, ltb, eqb}
+use borrow.Author.Tests.{lt-leb, le-ltb, leb-true}
+use Rattle.memory.specs.Cases.{either, bool?}
+use Rattle.memory.specs.Numbers.{euclid}
+use Rattle.memory.specs.Lists.{tab, tabFrom}
+use Rattle.memory.specs.Ranges.{any, any-ext, any-at, memb, allOf, last}
+use Rattle.memory.specs.Words.{bytes4}
+use Rattle.layout.specs.Geometry.{State, Geometry, geometry, sectorSizes, allowed, page, block, filterBits, entriesPerPage, kaBlocks, fullSets, recordCapacity, deletionCapacity, workRam}
+use Rattle.layout.specs.Flash.{Flash}
+use Rattle.layout.specs.Hash.{Family, positions, positionCount}
+use Rattle.layout.specs.Items.{RA, KA, DA, itemWord, itemPlace, bytesAt}
+use Rattle.layout.specs.Index.{inFull, filterBit}
+use Rattle.layout.specs.Search.{Stop, found, searchFrom}
+use Rattle.layout.specs.Calls.{Volume, keyIndex, keyFilters, keyPositions, badState, tooShort, isDeleted, tryAt, maybeIn, search}
+use Rattle.history.specs.Image.{Record, History, recordAt, bytesOf, raItem, kaItem, daItem, keyFilter}
+use Rattle.history.specs.Live.{liveAt, findLive, live-key}
+use Rattle.history.specs.SearchLaws.{search-all, search-opened, scan-live, any-memb, allOf-true, memb-tab, memb-tab-all}
+use Rattle.history.specs.AreaLaws.{read-word, read-bytes}
+use Rattle.history.specs.IndexLaws.{read-filter}
+use Rattle.history.specs.ItemLaws.{entry-key, entry-number, deletion-number, tab-record}
+use Rattle.history.specs.Parts.{Parts, places-suffice}
+
+-- ---- an allowed S, R and D
+
+pub record Sound (S R D : ℕ) : Type 0 where
+  pub e : ℕ
+  pub e-lt : e < 6
+  pub size : S ≡ 16 * 2 ^ e
+  pub R-pos : 1 ≤ R
+  pub R-le : R ≤ 4096
+  pub D-pos : 1 ≤ D
+  pub D-le : D ≤ 4096
+
+-- the table's sizes are 16 times the first six powers of two
+sizes : sectorSizes ≡ tab 6 (λ e. 16 * 2 ^ e)
+unfolding tab tabFrom
+sizes = refl
+
+and-left : (a b : Bool) → (a && b) ≡ true → a ≡ true
+and-left true b q = refl
+and-left false b q = q
+
+and-right : (a b : Bool) → (a && b) ≡ true → b ≡ true
+and-right true b q = q
+and-right false b q = cc
+
+abbrev SizeIs : ℕ → Type 0
+SizeIs S = (e : ℕ) × (e < 6) × (S ≡ 16 * 2 ^ e)
+
+pub sound : (S R D : ℕ) → allowed S R D ≡ true → Sound S R D
+unfolding allowed
+sound S R D q =
+    let m = and-left (memb S sectorSizes) _ q in
+    let s : SizeIs S = memb-tab-all SizeIs 6 (λ e. 16 * 2 ^ e) (λ e l. (e, l, refl)) S (rw sizes at m) in
+    let r = and-right (memb S sectorSizes) _ q in
+    let rR = and-left ((leb 1 R) && (leb R 4096)) _ r in
+    let rD = and-right ((leb 1 R) && (leb R 4096)) _ r in
+    record {
+      e = s .0;
+      e-lt = s .1;
+      size = s .2;
+      R-pos = leb-true 1 R (and-left (leb 1 R) _ rR);
+      R-le = leb-true R 4096 (and-right (leb 1 R) _ rR);
+      D-pos = leb-true 1 D (and-left (leb 1 D) _ rD);
+      D-le = leb-true D 4096 (and-right (leb 1 D) _ rD);
+    }
+
+module _ (h : Family) (S R D : ℕ) (ok : Sound S R D) where
+  abbrev pub g : Geometry
+  g = geometry S R D
+
+  pub pow : S / 16 ≡ 2 ^ ok .e
+  pow = omega (arith, ok .size)
+
+  pub pu : 0 < S / 16
+  pu = rw pow (pow-pos (ok .e))
+
+  pub u-le : S / 16 ≤ 32
+  u-le =
+      let l : ok .e ≤ 5 = omega (arith, ok .e-lt) in
+      let p : 2 ^ ok .e ≤ 2 ^ 5 = pow-mono l in
+      omega (arith, pow)
+
+  -- ---- the image of a history, as an invariant
+
+  pub record Holds (H : History) (C : Flash) (ram : List ℕ) : Type 0 where
+    pub parts : Parts h g (ok .e) pow H (length (H .records)) (length (H .records)) (length (H .deleted)) (keyFilters g (length (H .records))) C ram
+    pub work : (i : ℕ) → i < page (S / 16) → getD ram (workRam (S / 16) + i) 0 ≡ 0
+    pub n-cap : length (H .records) ≤ recordCapacity g
+    pub d-cap : length (H .deleted) ≤ deletionCapacity g
+    pub d-le : length (H .deleted) ≤ length (H .records)
+    -- keys are 32-bit numbers, and a deletion names a record
+    pub keys : (j : ℕ) → j < length (H .records) → recordAt H j .key < 2 ^ 32
+    pub gone : (i : ℕ) → i < length (H .deleted) → getD (H .deleted) i 0 < length (H .records)
+
+  -- the volume with the history's counts
+  abbrev pub volumeOf : History → Flash → List ℕ → Volume
+  volumeOf H C ram =
+      record {
+        state = record { sectorSize = S; raBlocks = R; daBlocks = D; records = length (H .records); deletions = length (H .deleted) };
+        flash = C;
+        ram = ram;
+      }
+
+  module _ (H : History) (C : Flash) (ram : List ℕ) (I : Holds H C ram) where
+    abbrev n : ℕ
+    n = length (H .records)
+
+    abbrev d : ℕ
+    d = length (H .deleted)
+
+    abbrev v : Volume
+    v = volumeOf H C ram
+
+    abbrev u : ℕ
+    u = S / 16
+
+    -- record numbers are 32-bit numbers
+    n-word : length (H .records) < 2 ^ 32
+    n-word =
+        let a : R * (S / 16) ≤ 4096 * (S / 16) = mul-le-mul-right (S / 16) (ok .R-le) in
+        omega (arith, I .n-cap, u-le)
+
+    ka-room : length (H .records) * 8 ≤ kaBlocks g * block (S / 16)
+    ka-room =
+        let half : R ≤ (R + 1) / 2 * 2 = omega arith in
+        omega (arith, I .n-cap, mul-le-mul-right (S / 16) half)
+
+    key-at : (j : ℕ) → j < length (H .records) → itemWord (S / 16) (KA g) n (C .main) ram j 0 ≡ recordAt H j .key
+    key-at j l =
+        read-word (S / 16) pu (KA g) (kaBlocks g) (omega arith) (omega (arith, pu)) (omega arith) (kaItem H) n (C .main) (C .spare) ram (I .parts .ka) ka-room
+        j 0 (recordAt H j .key) l (omega arith) (I .keys j l) (λ b m. entry-key (recordAt H j .key) j b m)
+
+    number-at : (j : ℕ) → j < length (H .records) → itemWord (S / 16) (KA g) n (C .main) ram j 1 ≡ j
+    number-at j l =
+        read-word (S / 16) pu (KA g) (kaBlocks g) (omega arith) (omega (arith, pu)) (omega arith) (kaItem H) n (C .main) (C .spare) ram (I .parts .ka) ka-room
+        j 1 j l (omega arith) (omega (arith, n-word)) (λ b m. entry-number (recordAt H j .key) j b m)
+
+    deletion-at : (i : ℕ) → i < length (H .deleted) → itemWord (S / 16) (DA g) d (C .main) ram i 0 ≡ getD (H .deleted) i 0
+    deletion-at i l =
+        read-word (S / 16) pu (DA g) D (omega arith) (omega (arith, pu)) (omega arith) (daItem H) d (C .main) (C .spare) ram (I .parts .da) (omega (arith, I .d-cap))
+        i 0 (getD (H .deleted) i 0) l (omega arith) (omega (arith, I .gone i l, n-word)) (λ b m. deletion-number (getD (H .deleted) i 0) b m)
+
+    deleted-is : (j : ℕ) → isDeleted h g v j ≡ memb j (H .deleted)
+    unfolding isDeleted
+    deleted-is j =
+        any-ext _ (λ i. eqb (getD (H .deleted) i 0) j) (length (H .deleted)) (λ i l. ap (λ (x : ℕ). eqb x j) (deletion-at i l))
+        ∙ any-memb j (H .deleted)
+
+    try-is : (k j : ℕ) → j < length (H .records) → tryAt h g v k j ≡ cond (liveAt H k j) (some (found j)) none
+    unfolding tryAt liveAt
+    try-is k j l =
+        rw (key-at j l, number-at j l, lt-leb (length (H .records)) j l, deleted-is j)
+        (either (bool? (eqb (recordAt H j .key) k))
+        (λ a. either (bool? (memb j (H .deleted))) (λ b. rw (a, b)) (λ b. rw (a, b)))
+        (λ a. rw a))
+
+    -- every filter on the volume reads as the history says
+    filter-is : (f x : ℕ) → f < length (H .records) / (8 * (S / 16)) → x < filterBits (S / 16)
+        → filterBit (S / 16) (keyIndex g) (C .main) ram (keyFilters g n) f x ≡ keyFilter h g H f x
+    filter-is f x l m =
+        read-filter (S / 16) (ok .e) pow (keyIndex g) (fullSets g) (keyFilter h g H) (keyFilters g n) (C .main) (C .spare) ram (I .parts .filters)
+        (places-suffice (S / 16) R (length (H .records)) pu (I .n-cap)) f x l m
+
+    position-lt : (k x : ℕ) → memb x (keyPositions h g k) ≡ true → x < filterBits (S / 16)
+    unfolding positions
+    position-lt k x q =
+        memb-tab-all (λ y. y < 64 * (S / 16)) 3 (λ j. h 0 (bytes4 k) % 4 * (16 * (S / 16)) + h (j + 1) (bytes4 k) % (16 * (S / 16)))
+        (λ j l.
+        let a : h 0 (bytes4 k) % 4 * (16 * (S / 16)) + h (j + 1) (bytes4 k) % (16 * (S / 16)) < 4 * (16 * (S / 16))
+        = digits-lt (mod-lt (h 0 (bytes4 k)) {m = 4} (omega arith)) (mod-lt (h (j + 1) (bytes4 k)) (omega (arith, pu))) in
+        omega arith)
+        x q
+
+    -- a page that holds a live record of the key has all its bits: no false negatives
+    passes : (k f i : ℕ) → f < length (H .records) / (8 * (S / 16)) → i < 8 * (S / 16) → recordAt H (f * (8 * (S / 16)) + i) .key ≡ k → maybeIn h g v (keyPositions h g k) f ≡ true
+    unfolding maybeIn keyFilter
+    passes k f i l m q =
+        allOf-true _ (keyPositions h g k) (λ x a.
+        filter-is f x l (position-lt k x a)
+        ∙ any-at (λ i. memb x (keyPositions h g (recordAt H (f * (8 * (S / 16)) + i) .key))) (8 * (S / 16)) i m (rw q a))
+
+    skipped : (k f i : ℕ) → f < length (H .records) / (8 * (S / 16)) → i < 8 * (S / 16) → maybeIn h g v (keyPositions h g k) f ≡ false
+        → tryAt h g v k (f * (8 * (S / 16)) + i) ≡ none
+    skipped k f i l m c =
+        let E = euclid (length (H .records)) (8 * (S / 16)) (omega (arith, pu)) in
+        let j : f * (8 * (S / 16)) + i < length (H .records) = omega (arith, mul-le-mul-right (8 * (S / 16)) l) in
+        try-is k (f * (8 * (S / 16)) + i) j
+        ∙ either (bool? (liveAt H k (f * (8 * (S / 16)) + i)))
+        (λ t. let z : false ≡ true = sym c ∙ passes k f i l m (live-key H k (f * (8 * (S / 16)) + i) t) in cc)
+        (λ t. rw t)
+
+    -- the search ends at the newest live record of the key, or finds none
+    pub search-is : (k : ℕ) → search h g v k .stop ≡ Option·map found (findLive H k)
+    unfolding search
+    search-is k =
+        search-all (maybeIn h g v (keyPositions h g k)) (tryAt h g v k) (8 * (S / 16)) (length (H .records)) (omega (arith, pu)) (λ f i a b c. skipped k f i a b c)
+        ∙ scan-live (tryAt h g v k) (liveAt H k) (length (H .records)) (λ j l. try-is k j l)
+
+    pub count-is : (k : ℕ) → search h g v k .opened ≤ length (H .records) / entriesPerPage (S / 16)
+    unfolding search
+    count-is k = search-opened (maybeIn h g v (keyPositions h g k)) (tryAt h g v k) (8 * (S / 16)) (length (H .records))
+
+    -- the bytes of a record where it lies
+    pub record-is : (j : ℕ) → j < length (H .records) → bytesAt (C .main) ram (itemPlace (S / 16) (RA g) n j) 16 ≡ bytesOf (recordAt H j)
+    record-is j l =
+        read-bytes (S / 16) pu (RA g) R (omega arith) (omega (arith, pu)) (omega arith) (raItem H) n (C .main) (C .spare) ram (I .parts .ra) (omega (arith, I .n-cap)) j l
+        ∙ tab-record (recordAt H j .key) (recordAt H j .moves) (recordAt H j .goal) (recordAt H j .free)
+
+    -- refusals 1 and 2 do not apply
+    pub state-good : allowed S R D ≡ true → badState (v .state) ≡ false
+    unfolding badState
+    state-good a = rw (a, le-ltb (recordCapacity g) n (I .n-cap), le-ltb (deletionCapacity g) d (I .d-cap), le-ltb n d (I .d-le))
+
+    pub long-enough : tooShort g C ram ≡ false
+    unfolding tooShort
+    long-enough =
+        rw (le-ltb (length (C .main)) _ (I .parts .main-fits), le-ltb (length (C .spare)) _ (I .parts .spare-fits), le-ltb (length ram) _ (I .parts .ram-fits))
