@@ -14,7 +14,7 @@ use Rattle.memory.specs.Cases.{either, lt?, eq?}
 use Rattle.memory.specs.Numbers.{carry, euclid}
 use Rattle.memory.specs.Ranges.{any, any-ext, memb}
 use Rattle.memory.specs.Words.{word}
-use Rattle.layout.specs.Geometry.{Geometry, page, block, filterBits, entriesPerPage, blocks, kaBlocks, indexBlock, fullSets, recordCapacity, deletionCapacity, kaRam, ramSize}
+use Rattle.layout.specs.Geometry.{Geometry, page, block, filterBits, entriesPerPage, blocks, kaBlocks, indexBlock, fullSets, recordCapacity, deletionCapacity, spareSize, kaRam, ramSize}
 use Rattle.layout.specs.Flash.{Flash, Op, applyAll, allFresh}
 use Rattle.layout.specs.Hash.{Family}
 use Rattle.layout.specs.Items.{RA, KA, DA, entryBytes, deletionBytes, itemOps, itemRam, put, fills}
@@ -86,7 +86,7 @@ module _ (h : Family) (g : Geometry) (e : ℕ) (pow : g .u ≡ 2 ^ e) where
     pub allowed : AllAllowed (g .u) (T .ops) flash
     pub beyond : Beyond g (applyAll (g .u) (t .ops) flash) (applyAll (g .u) (T .ops) flash) (t .ram) (T .ram)
     -- by marks that agree outside DA with those that t leaves
-    pub fresh : (spare : List ℕ) → ((x : ℕ) → (x < DA g .first * 64) ⊎ ((DA g .first + g .D) * 64 ≤ x) → getD spare x 0 ≡ getD (applyAll (g .u) (t .ops) flash .spare) x 0)
+    pub fresh : (spare : List ℕ) → ((x : ℕ) → x < spareSize g → (x < DA g .first * 64) ⊎ ((DA g .first + g .D) * 64 ≤ x) → getD spare x 0 ≡ getD (applyAll (g .u) (t .ops) flash .spare) x 0)
         → allFresh spare (t .ops) ≡ true → allFresh spare (T .ops) ≡ true
 
   module _ (H : History) (r : Record) (d : ℕ) (flash : Flash) (t : Draft)
@@ -239,18 +239,18 @@ module _ (h : Family) (g : Geometry) (e : ℕ) (pow : g .u ≡ 2 ^ e) where
         (frame-beyond g (RA g .first) (RA g .first + g .R) (RA g .ram) C C₁ (t .ram) ram₁ (did₁ .frame) (omega arith) (omega arith))
         (frame-beyond g (KA g .first) (KA g .first + kaBlocks g) (KA g .ram) C₁ C₂ ram₁ ram₂ (did₂ .frame) (omega arith) (omega arith))
 
-    module _ (spare : List ℕ) (agree : (x : ℕ) → (x < DA g .first * 64) ⊎ ((DA g .first + g .D) * 64 ≤ x) → getD spare x 0 ≡ getD (C .spare) x 0)
+    module _ (spare : List ℕ) (agree : (x : ℕ) → x < spareSize g → (x < DA g .first * 64) ⊎ ((DA g .first + g .D) * 64 ≤ x) → getD spare x 0 ≡ getD (C .spare) x 0)
         (fresh₀ : allFresh spare (t .ops) ≡ true) where
       fresh₂ : allFresh spare ops₂ ≡ true
       fresh₂ =
           fresh-append spare (t .ops ++ raOps) kaOps
-          (fresh-append spare (t .ops) raOps fresh₀ (did₁ .fresh spare (λ x l m. agree x (inl (omega arith)))))
-          (did₂ .fresh spare (λ x l m. agree x (inl (omega arith)) ∙ sym (did₁ .frame .spare x (inr (omega arith)))))
+          (fresh-append spare (t .ops) raOps fresh₀ (did₁ .fresh spare (λ x l m. agree x (omega arith) (inl (omega arith)))))
+          (did₂ .fresh spare (λ x l m. agree x (omega arith) (inl (omega arith)) ∙ sym (did₁ .frame .spare x (inr (omega arith)))))
 
       fresh₃ : (full : length (H .records) % (8 * g .u) + 1 ≡ 8 * g .u) → allFresh spare (ops₂ ++ filterOps (g .u) (keyIndex g) C₂ N (filterIn full)) ≡ true
       fresh₃ full =
           fresh-append spare ops₂ (filterOps (g .u) (keyIndex g) C₂ N (filterIn full)) fresh₂
-          (did₃ full .fresh spare (λ x l m. agree x (inr (omega arith)) ∙ sym (did₂ .frame .spare x (inr (omega arith)) ∙ did₁ .frame .spare x (inr (omega arith)))))
+          (did₃ full .fresh spare (λ x l m. agree x (omega arith) (inr (omega arith)) ∙ sym (did₂ .frame .spare x (inr (omega arith)) ∙ did₁ .frame .spare x (inr (omega arith)))))
 
     -- no page of entries is full
     drafted-part : length (H .records) % (8 * g .u) + 1 ≢ 8 * g .u → insertion h g flash n (r .key) (bytesOf r) t ≡ record { ops = ops₂; ram = ram₂ }

@@ -189,6 +189,11 @@ module _ (u : ℕ) where
       ∙ getD-replicate 64 (x - b * 64) 255 0 (omega arith))
       (λ a. erases-spare-in (suc b) k (apply u (erase b) c) x (rw (length-write (c .spare) (b * 64) (replicate 64 255)) (omega arith)) (a .1) (omega arith))
 
+  pub erases-main-length : (b k : ℕ) (c : Flash) → length (applyAll u (erases b k) c .main) ≡ length (c .main)
+  erases-main-length b zero c = refl
+  erases-main-length b (suc k) c =
+      erases-main-length (suc b) k (apply u (erase b) c) ∙ length-write (c .main) (b * (1024 * u)) (replicate (1024 * u) 255)
+
   pub erases-spare-length : (b k : ℕ) (c : Flash) → length (applyAll u (erases b k) c .spare) ≡ length (c .spare)
   erases-spare-length b zero c = refl
   erases-spare-length b (suc k) c = erases-spare-length (suc b) k (apply u (erase b) c) ∙ length-write (c .spare) (b * 64) (replicate 64 255)

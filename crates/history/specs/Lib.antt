@@ -12,6 +12,12 @@ pub mod SearchLaws
 pub mod MapLaws
 pub mod ItemLaws
 pub mod Parts
+pub mod ByAddress
 pub mod Changes
+pub mod Season
+pub mod Discipline
 pub mod Volumes
 pub mod Steps
+pub mod SeasonLaws
+pub mod DemandLaws
+pub mod Demands

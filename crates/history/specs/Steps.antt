@@ -6,13 +6,13 @@ use mathlib.Core.Option.{Option, none, some, Option·map}
 use mathlib.Core.List.{List, [], _∷_, _++_}
 use Prim.Native.Nat.{ℕ, _+_, _-_, _*_, _/_, _≤_, _<_, _^_}
 use native.Mathlib.Omega.{arith}
-use lib.ListN.{length, getD, replicate, length-append, length-replicate, getD-replicate, List·getD-append}
+use lib.ListN.{length, getD, take, replicate, length-append, length-replicate, getD-replicate, List·getD-append}
 use lib.Seq.{getD-append-seam}
 use lib.Dec.{leb}
 use borrow.Author.Tests.{leb-false}
 use Rattle.memory.specs.Cases.{either, bool?, lt?}
 use Rattle.memory.specs.Lists.{write, length-write, getD-write-before, getD-write-in, getD-write-after}
-use Rattle.layout.specs.Geometry.{Geometry, geometry, allowed, page, entriesPerPage, kaBlocks, fullSets, recordCapacity, deletionCapacity, ramSize, workRam}
+use Rattle.layout.specs.Geometry.{Geometry, geometry, allowed, page, entriesPerPage, kaBlocks, fullSets, recordCapacity, deletionCapacity, spareSize, ramSize, workRam}
 use Rattle.layout.specs.Flash.{Flash, Op, applyAll, allFresh}
 use Rattle.layout.specs.Hash.{Family}
 use Rattle.layout.specs.Items.{RA, KA, DA, zeroPage}
@@ -24,40 +24,14 @@ use Rattle.history.specs.Image.{Record, History, recordAt, bytesOf, raIt
 use Rattle.history.specs.Live.{findLive, withRecord, withDeletion, HistoryStep, historyStep, insertHistory, updateHistory, deleteHistory, lookupHistory, stepHistory, found-below}
 use Rattle.history.specs.Parts.{Parts, Did, Frame, Beyond, beyond-same, beyond-then, frame-beyond, frame-area, frame-index}
 use Rattle.history.specs.Changes.{Changed, deletion-did, deletion-parts, insertion-changes}
+use Rattle.history.specs.Season.{KeyWord, shown, Possible, HandedOn}
+use Rattle.history.specs.Discipline.{Below, fresh-below, below-take}
 use Rattle.history.specs.Volumes as volumes
 use Rattle.history.specs.Volumes.{Sound, Holds, volumeOf}
 
 no-ops : (spare : List ℕ) → allFresh spare [] ≡ true
 unfolding allFresh
 no-ops spare = refl
-
--- the key of a call is a 32-bit number
-abbrev pub KeyWord : Call → Type 0
-KeyWord (insert key moves goal free) = key < 2 ^ 32
-KeyWord (update key moves goal free) = key < 2 ^ 32
-KeyWord (delete key) = key < 2 ^ 32
-KeyWord (lookup key) = key < 2 ^ 32
-
--- what is compared of an outcome
-abbrev pub shown : Outcome → Reply
-shown accepted = accepts
-shown (hit place bytes) = hits bytes
-shown miss = misses
-shown (refused i) = refuses i
-
--- none of refusals 1, 2, 7 and 8
-abbrev pub Possible : Outcome → Type 0
-Possible accepted = Unit {0}
-Possible (hit place bytes) = Unit {0}
-Possible miss = Unit {0}
-Possible (refused i) = (i ≢ 1) × (i ≢ 2) × (i ≢ 7) × (i ≢ 8)
-
--- an outcome other than accepted hands on the volume as it was
-abbrev pub HandedOn : Outcome → Volume → Volume → Type 0
-HandedOn accepted v v′ = Unit {0}
-HandedOn (hit place bytes) v v′ = v′ ≡ v
-HandedOn miss v v′ = v′ ≡ v
-HandedOn (refused i) v v′ = v′ ≡ v
 
 module _ (h : Family) (S R D : ℕ) (ok : Sound S R D) (can : allowed S R D ≡ true) where
   abbrev g : Geometry
@@ -74,6 +48,7 @@ module _ (h : Family) (S R D : ℕ) (ok : Sound S R D) (can : allowed S R D ≡ 
     pub holds : Holds h S R D ok (s .next) (r .volume .flash) (r .volume .ram)
     pub flash-is : applyAll (S / 16) (r .ops) C ≡ r .volume .flash
     pub ops-allowed : AllAllowed (S / 16) (r .ops) C
+    pub inside : Below (spareSize g) (r .ops)
     pub beyond : Beyond g C (r .volume .flash) ram (r .volume .ram)
     pub count-le : r .count ≤ length (H .records) / entriesPerPage (S / 16)
 
@@ -140,6 +115,7 @@ module _ (h : Family) (S R D : ℕ) (ok : Sound S R D) (can : allowed S R D ≡ 
       holds = I;
       flash-is = refl;
       ops-allowed = tt;
+      inside = tt;
       beyond = beyond-same g C ram;
       count-le = omega arith;
     }
@@ -148,12 +124,12 @@ module _ (h : Family) (S R D : ℕ) (ok : Sound S R D) (can : allowed S R D ≡ 
 
     commit-done : (H′ : History) (n′ d′ : ℕ) (T : Draft) → n′ ≡ length (H′ .records) → d′ ≡ length (H′ .deleted)
         → Parts h g (ok .e) (volumes.pow h S R D ok) H′ n′ n′ d′ (keyFilters g n′) (applyAll (S / 16) (T .ops) C) (T .ram)
-        → AllAllowed (S / 16) (T .ops) C → Beyond g C (applyAll (S / 16) (T .ops) C) ram (T .ram) → allFresh (C .spare) (T .ops) ≡ true
+        → AllAllowed (S / 16) (T .ops) C → Beyond g C (applyAll (S / 16) (T .ops) C) ram (T .ram) → allFresh (C .spare) (T .ops) ≡ true → Below (spareSize g) (T .ops)
         → n′ ≤ recordCapacity g → d′ ≤ deletionCapacity g → d′ ≤ n′
         → ((j : ℕ) → j < n′ → recordAt H′ j .key < 2 ^ 32) → ((i : ℕ) → i < d′ → getD (H′ .deleted) i 0 < n′)
         → Done H C ram (commit h g v n′ d′ T) (historyStep accepts H′)
     unfolding commit
-    commit-done H′ n′ d′ T n-is d-is P allow past fresh n-cap d-cap d-le keys gone =
+    commit-done H′ n′ d′ T n-is d-is P allow past fresh low n-cap d-cap d-le keys gone =
         rw fresh
         (record {
           says = refl;
@@ -171,6 +147,7 @@ module _ (h : Family) (S R D : ℕ) (ok : Sound S R D) (can : allowed S R D ≡ 
           };
           flash-is = refl;
           ops-allowed = allow;
+          inside = low;
           beyond = beyond-then g C (applyAll (S / 16) (T .ops) C) (applyAll (S / 16) (T .ops) C) ram (T .ram) (zeroPage (S / 16) (workRam (S / 16)) (T .ram)) past
               (work-beyond H′ n′ n′ d′ (keyFilters g n′) (applyAll (S / 16) (T .ops) C) (T .ram) P);
           count-le = omega arith;
@@ -210,7 +187,8 @@ module _ (h : Family) (S R D : ℕ) (ok : Sound S R D) (can : allowed S R D ≡ 
           let X : Changed h g (ok .e) (volumes.pow h S R D ok) (withRecord H r) (n + 1) d C (record { ops = []; ram = ram }) (insertion h g C n (r .key) (bytesOf r) (record { ops = []; ram = ram }))
           = insertion-changes h g (ok .e) (volumes.pow h S R D ok) H r d C (record { ops = []; ram = ram }) (I .parts) room word (I .keys) tt in
           commit-done (withRecord H r) (n + 1) d (insertion h g C n (r .key) (bytesOf r) (record { ops = []; ram = ram })) (length-record r) refl
-          (X .grown) (X .allowed) (X .beyond) (X .fresh (C .spare) (λ x o. refl) (no-ops (C .spare)))
+          (X .grown) (X .allowed) (X .beyond) (X .fresh (C .spare) (λ x l o. refl) (no-ops (C .spare)))
+          (fresh-below (spareSize g) (C .spare) _ (X .fresh (take (spareSize g) (C .spare)) (λ x l o. below-take (spareSize g) (C .spare) x l) (no-ops (take (spareSize g) (C .spare)))))
           (omega arith) (I .d-cap) (omega (arith, I .d-le)) (keys-record r word) (λ i l. omega (arith, I .gone i l))
 
       insert-done : (o : Option ℕ) → findLive H (r .key) ≡ o
@@ -243,9 +221,12 @@ module _ (h : Family) (S R D : ℕ) (ok : Sound S R D) (can : allowed S R D ≡ 
       fresh₀ : allFresh (C .spare) (t .ops) ≡ true
       fresh₀ = did .fresh (C .spare) (λ x l m. refl)
 
+      inside₀ : allFresh (take (spareSize g) (C .spare)) (t .ops) ≡ true
+      inside₀ = did .fresh (take (spareSize g) (C .spare)) (λ x l m. below-take (spareSize g) (C .spare) x (omega arith))
+
       delete-accepted : length (H .deleted) < length (H .records) → Done H C ram (commit h g v n (d + 1) (deletion h g d j ram)) (historyStep accepts (withDeletion H j))
       delete-accepted less =
-          commit-done (withDeletion H j) n (d + 1) t refl (length-deletion j) less-one (did .allowed) past fresh₀
+          commit-done (withDeletion H j) n (d + 1) t refl (length-deletion j) less-one (did .allowed) past fresh₀ (fresh-below (spareSize g) (C .spare) (t .ops) inside₀)
           (I .n-cap) (omega (arith, room-d)) (omega arith) (I .keys) (gone-deletion j below)
 
       update-accepted : (r : Record) → r .key < 2 ^ 32 → leb (recordCapacity g) (length (H .records)) ≡ false
@@ -256,7 +237,8 @@ module _ (h : Family) (S R D : ℕ) (ok : Sound S R D) (can : allowed S R D ≡ 
           = insertion-changes h g (ok .e) (volumes.pow h S R D ok) (withDeletion H j) r (d + 1) C t less-one room word (I .keys) (did .allowed) in
           commit-done (withRecord (withDeletion H j) r) (n + 1) (d + 1) (insertion h g C n (r .key) (bytesOf r) t) (length-record r) (length-deletion j)
           (X .grown) (X .allowed) (beyond-then g C (applyAll (S / 16) (t .ops) C) _ ram (t .ram) _ past (X .beyond))
-          (X .fresh (C .spare) (λ x o. sym (did .frame .spare x o)) fresh₀)
+          (X .fresh (C .spare) (λ x l o. sym (did .frame .spare x o)) fresh₀)
+          (fresh-below (spareSize g) (C .spare) _ (X .fresh (take (spareSize g) (C .spare)) (λ x l o. below-take (spareSize g) (C .spare) x l ∙ sym (did .frame .spare x o)) inside₀))
           (omega arith) (omega (arith, room-d)) (omega (arith, I .d-le)) (keys-record r word) (λ i l. omega (arith, gone-deletion j below i l))
 
     update-done : (r : Record) → r .key < 2 ^ 32 → (o : Option ℕ) → findLive H (r .key) ≡ o
@@ -292,6 +274,7 @@ module _ (h : Family) (S R D : ℕ) (ok : Sound S R D) (can : allowed S R D ≡ 
       holds = I;
       flash-is = refl;
       ops-allowed = tt;
+      inside = tt;
       beyond = beyond-same g C ram;
       count-le = le;
     }
@@ -303,6 +286,7 @@ module _ (h : Family) (S R D : ℕ) (ok : Sound S R D) (can : allowed S R D ≡ 
       holds = I;
       flash-is = refl;
       ops-allowed = tt;
+      inside = tt;
       beyond = beyond-same g C ram;
       count-le = le;
     }

@@ -1,0 +1,125 @@
+-- The clauses of demands 2 and 3, from the run over the calls.
+use mathlib.Core.Path.{_≡_, refl, sym, ap, _∙_}
+use mathlib.Core.Bool.{Bool, true, false, cond}
+use mathlib.Core.Option.{Option, none, some}
+use mathlib.Core.List.{List, [], _∷_, _++_}
+use Prim.Native.Nat.{ℕ, _+_, _*_, _/_, _≤_, _<_, _^_}
+use native.Mathlib.Omega.{arith}
+use lib.ListN.{length, getD}
+use Rattle.layout.specs.Geometry.{Geometry, geometry, allowed, blocks, recordCapacity, deletionCapacity, spareSize}
+use Rattle.layout.specs.Flash.{Flash, Op, applyAll, erases}
+use Rattle.layout.specs.Hash.{Family}
+use Rattle.layout.specs.Calls.{Volume, Call, lookup, Outcome, accepted, tooShort, format, formatted, call}
+use Rattle.layout.specs.FiniteMap.{Map, emptyMap, Reply}
+use Rattle.history.specs.FlashLaws.{AllAllowed, apply-append, erases-spare-length}
+use Rattle.history.specs.Image.{History, recordAt, bytesOf}
+use Rattle.history.specs.Live.{emptyHistory, live-start, findLive, lookupHistory, stepHistory}
+use Rattle.history.specs.Parts.{Beyond, beyond-then}
+use Rattle.history.specs.ByAddress.{main-by-address, spare-by-address, ram-by-address}
+use Rattle.history.specs.Season.{KeyWords, after, opsOf, Disciplined, stateOf, EachAgrees, historyOf, ImageOf, shown, liveReply}
+use Rattle.history.specs.Discipline.{disciplined, erases-disciplined, erased, erased-in}
+use Rattle.history.specs.Volumes as volumes
+use Rattle.history.specs.Volumes.{Sound, sound, Holds, volumeOf}
+use Rattle.history.specs.Steps.{Done, call-done}
+use Rattle.history.specs.SeasonLaws.{Ran, run, less, format-is, start-holds, start-beyond, start-spare}
+
+module _ (h : Family) (v : Volume) (S R D : ℕ) (calls : List Call) (can : allowed S R D ≡ true)
+    (long : tooShort (geometry S R D) (v .flash) (v .ram) ≡ false) (words : KeyWords calls) where
+  abbrev g : Geometry
+  g = geometry S R D
+
+  ok : Sound S R D
+  ok = sound S R D can
+
+  -- the volume after the format
+  abbrev w : Volume
+  w = formatted v S R D .volume
+
+  is-formatted : format v S R D ≡ formatted v S R D
+  is-formatted = format-is h S R D ok can v long
+
+  ran : Ran h S R D ok can (formatted v S R D .volume) emptyHistory emptyMap calls
+  unfolding formatted
+  ran = run h S R D ok can emptyHistory _ _ emptyMap calls words (start-holds h S R D ok can v long) live-start
+
+  pub format-accepted : format v S R D .outcome ≡ accepted
+  unfolding formatted
+  format-accepted = rw is-formatted
+
+  pub format-state : format v S R D .volume .state ≡ stateOf S R D 0 0
+  unfolding formatted
+  format-state = rw is-formatted
+
+  pub each-agrees : EachAgrees h S R D (format v S R D .volume) emptyMap calls
+  each-agrees = rw is-formatted (ran .agrees)
+
+  after-format : applyAll (S / 16) (formatted v S R D .ops) (v .flash) ≡ formatted v S R D .volume .flash
+  unfolding formatted
+  after-format = refl
+
+  pub flash-is : applyAll (S / 16) (format v S R D .ops ++ opsOf h (format v S R D .volume) calls) (v .flash) ≡ after h (format v S R D .volume) calls .flash
+  flash-is =
+      rw is-formatted
+      (apply-append (S / 16) (formatted v S R D .ops) (opsOf h (formatted v S R D .volume) calls) (v .flash) ∙ rw after-format (ran .flash-is))
+
+  says : (P : ℕ → Bool) (x : ℕ) → x < spareSize g → getD (formatted v S R D .volume .flash .spare) x 0 ≡ cond (erased 0 (blocks g) P x) 0 255
+  unfolding formatted
+  says P x l = start-spare h S R D ok can v long .1 x l ∙ rw (erased-in 0 (blocks g) P x (omega arith) (omega arith))
+
+  fits : spareSize g ≤ length (formatted v S R D .volume .flash .spare)
+  unfolding formatted
+  fits = start-spare h S R D ok can v long .0
+
+  format-disciplined : (os : List Op) (P : ℕ → Bool) → Disciplined os (erased 0 (blocks g) P) → Disciplined (formatted v S R D .ops ++ os) P
+  unfolding formatted
+  format-disciplined os P q = erases-disciplined 0 (blocks g) os P q
+
+  pub all-disciplined : (P : ℕ → Bool) → Disciplined (format v S R D .ops ++ opsOf h (format v S R D .volume) calls) P
+  all-disciplined P =
+      rw is-formatted
+      (format-disciplined (opsOf h (formatted v S R D .volume) calls) P
+      (disciplined (S / 16) (spareSize g) (opsOf h (formatted v S R D .volume) calls) (formatted v S R D .volume .flash) (erased 0 (blocks g) P) fits (says P) (ran .ops-allowed) (ran .inside)))
+
+  -- ---- demand 2
+
+  abbrev H : History
+  H = historyOf h (formatted v S R D .volume) emptyHistory calls
+
+  abbrev end : Volume
+  end = after h (formatted v S R D .volume) calls
+
+  first-beyond : Beyond g (v .flash) (formatted v S R D .volume .flash) (v .ram) (formatted v S R D .volume .ram)
+  unfolding formatted
+  first-beyond = start-beyond h S R D ok can v long
+
+  past : Beyond g (v .flash) (end .flash) (v .ram) (end .ram)
+  past = beyond-then g (v .flash) (w .flash) (end .flash) (v .ram) (w .ram) (end .ram) first-beyond (ran .beyond)
+
+  reply-is : (o : Option ℕ) → lookupHistory (recordCapacity g) (deletionCapacity g) H o .says ≡ liveReply H o
+  reply-is none = refl
+  reply-is (some j) = refl
+
+  found : (key : ℕ) → key < 2 ^ 32 → shown (call h (volumeOf h S R D ok H (end .flash) (end .ram)) (lookup key) .outcome) ≡ liveReply H (findLive H key)
+  found key l = call-done h S R D ok can H (end .flash) (end .ram) (ran .holds) (lookup key) l (ran .room) .says ∙ reply-is (findLive H key)
+
+  looked-up : (e : Volume) → e ≡ volumeOf h S R D ok H (end .flash) (end .ram) → (key : ℕ) → key < 2 ^ 32 → shown (call h e (lookup key) .outcome) ≡ liveReply H (findLive H key)
+  looked-up e q key l = rw q (found key l)
+
+  image : ImageOf h g H v end
+  image = record {
+    main = main-by-address h g (ok .e) (volumes.pow h S R D ok) H (end .flash) (end .ram) (ran .holds .parts) (ran .holds .work);
+    spare = spare-by-address h g (ok .e) (volumes.pow h S R D ok) H (end .flash) (end .ram) (ran .holds .parts) (ran .holds .work);
+    ram = ram-by-address h g (ok .e) (volumes.pow h S R D ok) H (end .flash) (end .ram) (ran .holds .parts) (ran .holds .work);
+    main-past = past .main;
+    spare-past = past .spare;
+    ram-past = past .ram;
+    main-length = past .main-length;
+    spare-length = past .spare-length;
+    ram-length = past .ram-length;
+    records = ap (λ (e : Volume). e .state .records) (ran .volume-is);
+    deletions = ap (λ (e : Volume). e .state .deletions) (ran .volume-is);
+    lookups = looked-up end (ran .volume-is);
+  }
+
+  pub image-of : ImageOf h g (historyOf h (format v S R D .volume) emptyHistory calls) v (after h (format v S R D .volume) calls)
+  image-of = rw is-formatted image

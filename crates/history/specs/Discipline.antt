@@ -1,0 +1,117 @@
+-- From marks to the operations' own bookkeeping: what is allowed by the marks is disciplined by the operations.
+use mathlib.Core.Path.{_≡_, refl, sym, _∙_}
+use mathlib.Core.Bool.{Bool, true, false, _&&_, cond}
+use mathlib.Core.List.{List, [], _∷_, _++_}
+use Prim.Native.Nat.{ℕ, zero, suc, _+_, _-_, _*_, _/_, _≤_, _<_}
+use native.Mathlib.Omega.{arith}
+use lib.ListN.{length, getD, take, set, replicate, length-set, length-take, length-replicate, getD-replicate}
+use lib.Seq.{getD-take, getD-set-same, getD-set-other}
+use lib.Dec.{eqb}
+use borrow.Author.Tests.{eqb-true, ne-eqb}
+use Rattle.memory.specs.Cases.{either, bool?, eq?, lt?}
+use Rattle.memory.specs.Lists.{write, length-write, getD-write-before, getD-write-in, getD-write-after}
+use Rattle.layout.specs.Flash.{Flash, Op, program, erase, apply, applyAll, fresh, allFresh, erases}
+use Rattle.history.specs.FlashLaws.{AllAllowed}
+use Rattle.history.specs.Season.{programmed, Disciplined}
+
+-- every sector programmed is below N
+abbrev pub Below : ℕ → List Op → Type 0
+Below N [] = Unit {0}
+Below N (program s bytes ∷ os) = (s < N) × Below N os
+Below N (erase b ∷ os) = Below N os
+
+getD-past : (l : List ℕ) (i : ℕ) → length l ≤ i → getD l i 0 ≡ 0
+getD-past [] i h = refl
+getD-past (x ∷ l) zero h = absurd (omega arith)
+getD-past (x ∷ l) (suc i) h = getD-past l i (omega arith)
+
+pub below-take : (N : ℕ) (l : List ℕ) (x : ℕ) → x < N → getD (take N l) x 0 ≡ getD l x 0
+below-take N l x h = getD-take N l x 0 h
+
+-- operations whose sectors are fresh by the first N marks program none past them
+pub fresh-below : (N : ℕ) (spare : List ℕ) (ops : List Op) → allFresh (take N spare) ops ≡ true → Below N ops
+unfolding allFresh fresh
+fresh-below N spare [] q = tt
+fresh-below N spare (program s bytes ∷ os) q = (
+  either (lt? s N)
+      (λ a. a .1)
+      (λ a.
+      let past : getD (take N spare) s 0 ≡ 0 = getD-past (take N spare) s (omega (arith, length-take N spare)) in
+      let e : getD (take N spare) s 0 ≡ 255 = eqb-true (getD (take N spare) s 0) 255 (left (eqb (getD (take N spare) s 0) 255) _ q) in
+      absurd (omega (arith, past, e))),
+  fresh-below N spare os (right (eqb (getD (take N spare) s 0) 255) _ q),
+)
+  where
+    left : (a b : Bool) → (a && b) ≡ true → a ≡ true
+    left true b e = refl
+    left false b e = e
+
+    right : (a b : Bool) → (a && b) ≡ true → b ≡ true
+    right true b e = e
+    right false b e = cc
+fresh-below N spare (erase b ∷ os) q = fresh-below N spare os q
+
+-- the marks of the first N sectors say what the operations say
+abbrev Says : ℕ → Flash → (ℕ → Bool) → Type 0
+Says N c P = (x : ℕ) → x < N → getD (c .spare) x 0 ≡ cond (P x) 0 255
+
+says-true : (b : Bool) (x : ℕ) → x ≡ cond b 0 255 → x ≡ 0 → b ≡ true
+says-true true x p q = refl
+says-true false x p q = absurd (omega (arith, p, q))
+
+says-false : (b : Bool) (x : ℕ) → x ≡ cond b 0 255 → x ≡ 255 → b ≡ false
+says-false true x p q = absurd (omega (arith, p, q))
+says-false false x p q = refl
+
+module _ (u N : ℕ) where
+  says-program : (s : ℕ) (bytes : List ℕ) (c : Flash) (P : ℕ → Bool) → N ≤ length (c .spare) → Says N c P → Says N (apply u (program s bytes) c) (programmed (program s bytes) P)
+  says-program s bytes c P long m x l =
+      either (eq? x s)
+      (λ a. rw (a .0) (rw (a .1) (getD-set-same (c .spare) s 0 0 (omega arith))))
+      (λ a. rw (a .0) (getD-set-other (c .spare) s x 0 0 (a .1) ∙ m x l))
+
+  says-erase : (b : ℕ) (c : Flash) (P : ℕ → Bool) → N ≤ length (c .spare) → Says N c P → Says N (apply u (erase b) c) (programmed (erase b) P)
+  says-erase b c P long m x l =
+      let z : length (replicate {A = ℕ} 64 255) ≡ 64 = length-replicate {A = ℕ} 64 255 in
+      either (eq? (x / 64) b)
+      (λ a. rw (a .0) (getD-write-in (c .spare) (b * 64) (replicate 64 255) x 0 (omega arith) (omega arith) (omega arith) ∙ getD-replicate 64 (x - b * 64) 255 0 (omega arith)))
+      (λ a. rw (a .0)
+      (either (lt? x (b * 64))
+      (λ q. getD-write-before (c .spare) (b * 64) (replicate 64 255) x 0 (q .1) ∙ m x l)
+      (λ q. getD-write-after (c .spare) (b * 64) (replicate 64 255) x 0 (omega arith) ∙ m x l)))
+
+  -- what is allowed by the marks is disciplined by the operations
+  pub disciplined : (ops : List Op) (c : Flash) (P : ℕ → Bool) → N ≤ length (c .spare) → Says N c P → AllAllowed u ops c → Below N ops → Disciplined ops P
+  disciplined [] c P long m a b = tt
+  disciplined (program s bytes ∷ os) c P long m a b = (
+    says-false (P s) (getD (c .spare) s 0) (m s (b .0)) (a .0 .0),
+    (λ x l q. says-true (P x) (getD (c .spare) x 0) (m x (omega (arith, b .0))) (a .0 .1 x l q)),
+    disciplined os (apply u (program s bytes) c) (programmed (program s bytes) P) (rw (length-set (c .spare) s 0) long) (says-program s bytes c P long m) (a .1) (b .1),
+  )
+  disciplined (erase b ∷ os) c P long m a l =
+      disciplined os (apply u (erase b) c) (programmed (erase b) P) (rw (length-write (c .spare) (b * 64) (replicate 64 255)) long) (says-erase b c P long m) (a .1) l
+
+-- erased blocks count as not programmed, whatever was before
+abbrev pub erased : ℕ → ℕ → (ℕ → Bool) → ℕ → Bool
+erased b zero P x = P x
+erased b (suc k) P x = erased (suc b) k (programmed (erase b) P) x
+
+pub erases-disciplined : (b k : ℕ) (os : List Op) (P : ℕ → Bool) → Disciplined os (erased b k P) → Disciplined (erases b k ++ os) P
+erases-disciplined b zero os P q = q
+erases-disciplined b (suc k) os P q = erases-disciplined (suc b) k os (programmed (erase b) P) q
+
+erased-out : (b k : ℕ) (P : ℕ → Bool) (x : ℕ) → x / 64 < b → erased b k P x ≡ P x
+erased-out b zero P x l = refl
+erased-out b (suc k) P x l = erased-out (suc b) k (programmed (erase b) P) x (omega arith) ∙ rw (ne-eqb (x / 64) b (λ e. omega arith))
+
+pub erased-in : (b k : ℕ) (P : ℕ → Bool) (x : ℕ) → b ≤ x / 64 → x / 64 < b + k → erased b k P x ≡ false
+erased-in b zero P x l m = absurd (omega arith)
+erased-in b (suc k) P x l m =
+    either (eq? (x / 64) b)
+    (λ a. erased-out (suc b) k (programmed (erase b) P) x (omega arith) ∙ rw (a .0))
+    (λ a. erased-in (suc b) k (programmed (erase b) P) x (omega arith) (omega arith))
+
+pub below-append : (N : ℕ) (xs ys : List Op) → Below N xs → Below N ys → Below N (xs ++ ys)
+below-append N [] ys a b = b
+below-append N (program s bytes ∷ xs) ys a b = (a .0, below-append N xs ys (a .1) b)
+below-append N (erase s ∷ xs) ys a b = below-append N xs ys a b

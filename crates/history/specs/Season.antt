@@ -1,0 +1,143 @@
+-- Lists of calls after a format: what demands 2 and 3 of document 01 speak of.
+use mathlib.Core.Path.{_≡_}
+use mathlib.Core.Logic.{_≢_}
+use mathlib.Core.Bool.{Bool, true, false, cond}
+use mathlib.Core.Option.{Option, none, some}
+use mathlib.Core.List.{List, [], _∷_, _++_}
+use Prim.Native.Nat.{ℕ, _+_, _/_, _^_, _≤_, _<_}
+use lib.ListN.{length, getD}
+use lib.Dec.{eqb}
+use Rattle.layout.specs.Geometry.{State, Geometry, geometry, dataSize, spareSize, ramSize, entriesPerPage}
+use Rattle.layout.specs.Flash.{Flash, Op, program, erase}
+use Rattle.layout.specs.Hash.{Family}
+use Rattle.layout.specs.Calls.{Volume, Call, insert, update, delete, lookup, Outcome, accepted, hit, miss, refused, Result, call}
+use Rattle.layout.specs.FiniteMap.{Map, Reply, accepts, hits, misses, refuses, Step, mapOf}
+use Rattle.history.specs.Image.{Record, History, recordAt, bytesOf, mainImage, spareImage, ramImage}
+use Rattle.history.specs.Live.{findLive, withRecord, withDeletion}
+
+-- ---- runs
+
+-- the key of a call is a 32-bit number; nothing is asked of its other arguments
+abbrev pub KeyWord : Call → Type 0
+KeyWord (insert key moves goal free) = key < 2 ^ 32
+KeyWord (update key moves goal free) = key < 2 ^ 32
+KeyWord (delete key) = key < 2 ^ 32
+KeyWord (lookup key) = key < 2 ^ 32
+
+abbrev pub KeyWords : List Call → Type 0
+KeyWords [] = Unit {0}
+KeyWords (c ∷ cs) = KeyWord c × KeyWords cs
+
+module _ (h : Family) where
+  -- the volume after the calls
+  abbrev pub after : Volume → List Call → Volume
+  after v [] = v
+  after v (c ∷ cs) = after (call h v c .volume) cs
+
+  -- the chip operations of the calls, in order
+  abbrev pub opsOf : Volume → List Call → List Op
+  opsOf v [] = []
+  opsOf v (c ∷ cs) = call h v c .ops ++ opsOf (call h v c .volume) cs
+
+-- ---- the chip's discipline, by the operations alone
+
+-- which sectors were programmed since the last erase of their block, after an operation
+abbrev pub programmed : Op → (ℕ → Bool) → ℕ → Bool
+programmed (program s bytes) P x = cond (eqb x s) true (P x)
+programmed (erase b) P x = cond (eqb (x / 64) b) false (P x)
+
+-- "Whenever one of them programs a sector, that sector has not been programmed since the last erase of its block, and every earlier sector of its page has"
+abbrev pub Disciplined : List Op → (ℕ → Bool) → Type 0
+Disciplined [] P = Unit {0}
+Disciplined (program s bytes ∷ os) P =
+    (P s ≡ false) × ((x : ℕ) → x < s → x / 4 ≡ s / 4 → P x ≡ true) × Disciplined os (programmed (program s bytes) P)
+Disciplined (erase b ∷ os) P = Disciplined os (programmed (erase b) P)
+
+-- ---- demand 3, of one call
+
+-- "Compared at each call: accepted, hit, miss or the refusal's number; a hit's 16 bytes"
+abbrev pub shown : Outcome → Reply
+shown accepted = accepts
+shown (hit place bytes) = hits bytes
+shown miss = misses
+shown (refused i) = refuses i
+
+-- none of refusals 1, 2, 7 and 8
+abbrev pub Possible : Outcome → Type 0
+Possible accepted = Unit {0}
+Possible (hit place bytes) = Unit {0}
+Possible miss = Unit {0}
+Possible (refused i) = (i ≢ 1) × (i ≢ 2) × (i ≢ 7) × (i ≢ 8)
+
+-- "A lookup or a refusal hands on state, desk, cells and marks as it got them"
+abbrev pub HandedOn : Outcome → Volume → Volume → Type 0
+HandedOn accepted v v′ = Unit {0}
+HandedOn (hit place bytes) v v′ = v′ ≡ v
+HandedOn miss v v′ = v′ ≡ v
+HandedOn (refused i) v v′ = v′ ≡ v
+
+abbrev pub stateOf : ℕ → ℕ → ℕ → ℕ → ℕ → State
+stateOf S R D n d = record { sectorSize = S; raBlocks = R; daBlocks = D; records = n; deletions = d }
+
+-- the result r of a call on the volume v, and the map's step
+pub record Agrees (S R D : ℕ) (v : Volume) (r : Result) (s : Step) : Type 0 where
+  pub says : shown (r .outcome) ≡ s .says
+  -- "the state, which is the format's S, R and D with the map's n and d"
+  pub state-is : r .volume .state ≡ stateOf S R D (s .next .n) (s .next .d)
+  -- n - d is the number of live levels
+  pub live : r .volume .state .records ≡ r .volume .state .deletions + length (s .next .levels)
+  pub possible : Possible (r .outcome)
+  pub handed-on : HandedOn (r .outcome) v (r .volume)
+  -- "It is at most floor(n / (S/2))"
+  pub count-le : r .count ≤ v .state .records / entriesPerPage (S / 16)
+
+-- of each call of a list, from the volume v and the map m on
+abbrev pub EachAgrees : Family → ℕ → ℕ → ℕ → Volume → Map → List Call → Type 0
+EachAgrees h S R D v m [] = Unit {0}
+EachAgrees h S R D v m (c ∷ cs) =
+    Agrees S R D v (call h v c) (mapOf (geometry S R D) m c) × EachAgrees h S R D (call h v c .volume) (mapOf (geometry S R D) m c .next) cs
+
+-- ---- demand 2
+
+-- what an accepted call adds to the history; an update or a delete names the live record of its key
+abbrev pub number : Option ℕ → ℕ
+number none = 0
+number (some j) = j
+
+abbrev pub grow : History → Call → History
+grow H (insert key moves goal free) = withRecord H (record { key = key; moves = moves; goal = goal; free = free })
+grow H (update key moves goal free) = withRecord (withDeletion H (number (findLive H key))) (record { key = key; moves = moves; goal = goal; free = free })
+grow H (delete key) = withDeletion H (number (findLive H key))
+grow H (lookup key) = H
+
+abbrev pub growIf : Outcome → History → Call → History
+growIf accepted H c = grow H c
+growIf (hit place bytes) H c = H
+growIf miss H c = H
+growIf (refused i) H c = H
+
+-- the history of the accepted calls, from the volume v with history H on
+abbrev pub historyOf : Family → Volume → History → List Call → History
+historyOf h v H [] = H
+historyOf h v H (c ∷ cs) = historyOf h (call h v c .volume) (growIf (call h v c .outcome) H c) cs
+
+-- the live record of a key in a history, as a lookup shows it
+abbrev pub liveReply : History → Option ℕ → Reply
+liveReply H none = misses
+liveReply H (some j) = hits (bytesOf (recordAt H j))
+
+-- the volume v has the bytes of the history's image, and past them those that were handed in
+pub record ImageOf (h : Family) (g : Geometry) (H : History) (handed v : Volume) : Type 0 where
+  pub main : (a : ℕ) → a < dataSize g → getD (v .flash .main) a 0 ≡ mainImage h g H a
+  pub spare : (x : ℕ) → x < spareSize g → getD (v .flash .spare) x 0 ≡ spareImage h g H x
+  pub ram : (a : ℕ) → a < ramSize g → getD (v .ram) a 0 ≡ ramImage h g H a
+  pub main-past : (a : ℕ) → dataSize g ≤ a → getD (v .flash .main) a 0 ≡ getD (handed .flash .main) a 0
+  pub spare-past : (x : ℕ) → spareSize g ≤ x → getD (v .flash .spare) x 0 ≡ getD (handed .flash .spare) x 0
+  pub ram-past : (a : ℕ) → ramSize g ≤ a → getD (v .ram) a 0 ≡ getD (handed .ram) a 0
+  pub main-length : length (v .flash .main) ≡ length (handed .flash .main)
+  pub spare-length : length (v .flash .spare) ≡ length (handed .flash .spare)
+  pub ram-length : length (v .ram) ≡ length (handed .ram)
+  pub records : v .state .records ≡ length (H .records)
+  pub deletions : v .state .deletions ≡ length (H .deleted)
+  -- "lookups give the live records back"
+  pub lookups : (key : ℕ) → key < 2 ^ 32 → shown (call h v (lookup key) .outcome) ≡ liveReply H (findLive H key)

@@ -1,0 +1,243 @@
+-- The induction over a list of calls, from the format on.
+use mathlib.Core.Path.{_≡_, refl, sym, ap, _∙_}
+use mathlib.Core.Logic.{inl, inr}
+use mathlib.Core.Bool.{Bool, true, false, _||_, cond}
+use mathlib.Core.Option.{Option, none, some}
+use mathlib.Core.List.{List, [], _∷_, _++_}
+use Prim.Native.Nat.{ℕ, _+_, _-_, _*_, _/_, _≤_, _<_, zero-le}
+use native.Mathlib.Nat.{not-suc-le-zero, zero-div}
+use native.Mathlib.Omega.{arith}
+use lib.ListN.{length, getD, replicate, length-replicate, getD-replicate, length-append}
+use lib.Dec.{leb, ltb}
+use borrow.Author.Tests.{ltb-false}
+use Rattle.memory.specs.Cases.{either, bool?}
+use Rattle.memory.specs.Lists.{write, length-write, getD-write-in, getD-write-after}
+use Rattle.layout.specs.Geometry.{Geometry, geometry, allowed, page, block, kaBlocks, blocks, fullSets, recordCapacity, deletionCapacity, dataSize, spareSize, ramSize}
+use Rattle.layout.specs.Flash.{Flash, Op, applyAll, erases}
+use Rattle.layout.specs.Hash.{Family}
+use Rattle.layout.specs.Items.{RA, KA, DA}
+use Rattle.layout.specs.Calls.{Volume, Call, insert, update, delete, lookup, Outcome, accepted, hit, miss, refused, Result, keyIndex, tooShort, format, formatted, call}
+use Rattle.layout.specs.FiniteMap.{Map, emptyMap, Reply, accepts, hits, misses, refuses, Step, mapOf}
+use Rattle.history.specs.FlashLaws.{AllAllowed, apply-append, allowed-append, erases-main-in, erases-main-out, erases-spare-in, erases-spare-out, erases-spare-length, erases-main-length, erases-allowed}
+use Rattle.history.specs.Image.{Record, History, recordAt, raItem, kaItem, daItem, keyFilter}
+use Rattle.history.specs.Live.{findLive, withRecord, withDeletion, emptyHistory, HistoryStep, Live, live-start, stepHistory}
+use Rattle.history.specs.MapLaws.{step-same, Live-deletion}
+use Rattle.history.specs.Parts.{Parts, Beyond, beyond-same, beyond-then}
+use Rattle.history.specs.AreaLaws.{area-start}
+use Rattle.history.specs.IndexLaws.{index-start}
+use Rattle.history.specs.Season.{KeyWords, number, after, opsOf, shown, Agrees, EachAgrees, stateOf, growIf, grow, historyOf}
+use Rattle.history.specs.Discipline.{Below, below-append}
+use Rattle.history.specs.Volumes as volumes
+use Rattle.history.specs.Volumes.{Sound, Holds, volumeOf}
+use Rattle.history.specs.Steps.{Done, call-done}
+
+-- ---- the history grows by the accepted calls
+
+abbrev growBy : Reply → History → Call → History
+growBy accepts H c = grow H c
+growBy (hits bytes) H c = H
+growBy misses H c = H
+growBy (refuses i) H c = H
+
+grow-shown : (o : Outcome) (H : History) (c : Call) → growIf o H c ≡ growBy (shown o) H c
+grow-shown accepted H c = refl
+grow-shown (hit place bytes) H c = refl
+grow-shown miss H c = refl
+grow-shown (refused i) H c = refl
+
+module _ (capacity room : ℕ) where
+  grow-step : (H : History) (c : Call) → growBy (stepHistory capacity room H c .says) H c ≡ stepHistory capacity room H c .next
+  grow-step H (insert key moves goal free) = go (findLive H key) refl
+    where
+      go : (o : Option ℕ) → findLive H key ≡ o → growBy (stepHistory capacity room H (insert key moves goal free) .says) H (insert key moves goal free) ≡ stepHistory capacity room H (insert key moves goal free) .next
+      go (some j) q = rw q
+      go none q = either (bool? (leb capacity (length (H .records)))) (λ c. rw (q, c)) (λ c. rw (q, c))
+  grow-step H (update key moves goal free) = go (findLive H key) refl
+    where
+      go : (o : Option ℕ) → findLive H key ≡ o → growBy (stepHistory capacity room H (update key moves goal free) .says) H (update key moves goal free) ≡ stepHistory capacity room H (update key moves goal free) .next
+      go none q = rw q
+      go (some j) q =
+          either (bool? (leb capacity (length (H .records))))
+          (λ c. rw (q, c))
+          (λ c. either (bool? (leb room (length (H .deleted)))) (λ b. rw (q, c, b)) (λ b.
+          rw (q, c, b) (ap (λ (o : Option ℕ). withRecord (withDeletion H (number o)) (record { key = key; moves = moves; goal = goal; free = free })) q)))
+  grow-step H (delete key) = go (findLive H key) refl
+    where
+      go : (o : Option ℕ) → findLive H key ≡ o → growBy (stepHistory capacity room H (delete key) .says) H (delete key) ≡ stepHistory capacity room H (delete key) .next
+      go none q = rw q
+      go (some j) q = either (bool? (leb room (length (H .deleted)))) (λ b. rw (q, b)) (λ b. rw (q, b) (ap (λ (o : Option ℕ). withDeletion H (number o)) q))
+  grow-step H (lookup key) = go (findLive H key) refl
+    where
+      go : (o : Option ℕ) → findLive H key ≡ o → growBy (stepHistory capacity room H (lookup key) .says) H (lookup key) ≡ stepHistory capacity room H (lookup key) .next
+      go none q = rw q
+      go (some j) q = rw q
+
+module _ (h : Family) (S R D : ℕ) (ok : Sound S R D) (can : allowed S R D ≡ true) where
+  abbrev g : Geometry
+  g = geometry S R D
+
+  pu : 0 < S / 16
+  pu = volumes.pu h S R D ok
+
+  -- ---- the format: the image of the empty history, whatever was handed in
+
+  module _ (v : Volume) (long : tooShort g (v .flash) (v .ram) ≡ false) where
+    sizes : (dataSize g ≤ length (v .flash .main)) × (spareSize g ≤ length (v .flash .spare)) × (ramSize g ≤ length (v .ram))
+    unfolding tooShort
+    sizes =
+        let a = first (ltb (length (v .flash .main)) (dataSize g)) _ long in
+        let b = second (ltb (length (v .flash .main)) (dataSize g)) _ long in
+        (ltb-false _ _ a, ltb-false _ _ (first (ltb (length (v .flash .spare)) (spareSize g)) _ b), ltb-false _ _ (second (ltb (length (v .flash .spare)) (spareSize g)) _ b))
+      where
+        first : (a b : Bool) → (a || b) ≡ false → a ≡ false
+        first true b q = q
+        first false b q = refl
+
+        second : (a b : Bool) → (a || b) ≡ false → b ≡ false
+        second true b q = cc
+        second false b q = q
+
+    pub format-is : format v S R D ≡ formatted v S R D
+    unfolding format
+    format-is = rw (can, long)
+
+    abbrev C : Flash
+    C = applyAll (S / 16) (erases 0 (blocks g)) (v .flash)
+
+    abbrev ram : List ℕ
+    ram = write (v .ram) 0 (replicate (ramSize g) 0)
+
+    main-erased : (x : ℕ) → x < dataSize g → getD (C .main) x 0 ≡ 255
+    main-erased x l = erases-main-in (S / 16) 0 (blocks g) (v .flash) x (omega (arith, sizes .0)) (omega arith) (omega arith)
+
+    spare-erased : (x : ℕ) → x < spareSize g → getD (C .spare) x 0 ≡ 255
+    spare-erased x l = erases-spare-in (S / 16) 0 (blocks g) (v .flash) x (omega (arith, sizes .1)) (omega arith) (omega arith)
+
+    pub start-spare : (spareSize g ≤ length (C .spare)) × ((x : ℕ) → x < spareSize g → getD (C .spare) x 0 ≡ 255)
+    start-spare = (rw (erases-spare-length (S / 16) 0 (blocks g) (v .flash)) (sizes .1), spare-erased)
+
+    zeros : length (replicate {A = ℕ} (ramSize g) 0) ≡ ramSize g
+    zeros = length-replicate {A = ℕ} (ramSize g) 0
+
+    ram-zero : (x : ℕ) → x < ramSize g → getD ram x 0 ≡ 0
+    ram-zero x l =
+        let s : x - 0 ≡ x = omega arith in
+        getD-write-in (v .ram) 0 (replicate (ramSize g) 0) x 0 zero-le (omega (arith, zeros)) (omega (arith, sizes .2))
+        ∙ rw s (getD-replicate (ramSize g) x 0 0 l)
+
+    -- no record gives no filter
+    no-filters : 0 / (8 * (S / 16)) ≡ 0
+    no-filters = zero-div (8 * (S / 16))
+
+    start-parts : Parts h g (ok .e) (volumes.pow h S R D ok) emptyHistory 0 0 0 0 C ram
+    start-parts = record {
+      ra = area-start (S / 16) pu (RA g) R (omega arith) (omega (arith, pu)) (omega arith) (raItem emptyHistory) (C .main) (C .spare) ram
+          (λ x l m. main-erased x (omega arith)) (λ x l m. spare-erased x (omega arith)) (λ x l m. ram-zero x (omega arith));
+      ka = area-start (S / 16) pu (KA g) (kaBlocks g) (omega arith) (omega (arith, pu)) (omega arith) (kaItem emptyHistory) (C .main) (C .spare) ram
+          (λ x l m. main-erased x (omega arith)) (λ x l m. spare-erased x (omega arith)) (λ x l m. ram-zero x (omega arith));
+      da = area-start (S / 16) pu (DA g) D (omega arith) (omega (arith, pu)) (omega arith) (daItem emptyHistory) (C .main) (C .spare) ram
+          (λ x l m. main-erased x (omega arith)) (λ x l m. spare-erased x (omega arith)) (λ x l m. ram-zero x (omega arith));
+      filters = index-start (S / 16) (ok .e) (volumes.pow h S R D ok) (keyIndex g) (fullSets g) (keyFilter h g emptyHistory) (C .main) (C .spare) ram
+          (λ x l m. main-erased x (omega arith)) (λ x l m. spare-erased x (omega arith)) (λ x l m. ram-zero x (omega arith));
+      main-fits = rw (erases-main-length (S / 16) 0 (blocks g) (v .flash)) (sizes .0);
+      spare-fits = rw (erases-spare-length (S / 16) 0 (blocks g) (v .flash)) (sizes .1);
+      ram-fits = rw (length-write (v .ram) 0 (replicate (ramSize g) 0)) (sizes .2);
+    }
+
+    pub start-holds : Holds h S R D ok emptyHistory C ram
+    start-holds = record {
+      parts = rw no-filters start-parts;
+      work = λ i l. ram-zero _ (omega arith);
+      n-cap = zero-le;
+      d-cap = zero-le;
+      d-le = zero-le;
+      keys = λ j l. absurd (not-suc-le-zero l);
+      gone = λ i l. absurd (not-suc-le-zero l);
+    }
+
+    pub start-beyond : Beyond g (v .flash) C (v .ram) ram
+    start-beyond = record {
+      main = λ x l. erases-main-out (S / 16) 0 (blocks g) (v .flash) x (inr (omega arith));
+      spare = λ x l. erases-spare-out (S / 16) 0 (blocks g) (v .flash) x (inr (omega arith));
+      ram = λ x l. getD-write-after (v .ram) 0 (replicate (ramSize g) 0) x 0 (omega (arith, zeros));
+      main-length = erases-main-length (S / 16) 0 (blocks g) (v .flash);
+      spare-length = erases-spare-length (S / 16) 0 (blocks g) (v .flash);
+      ram-length = length-write (v .ram) 0 (replicate (ramSize g) 0);
+    }
+
+  -- ---- the calls
+
+  pub record Ran (v : Volume) (H : History) (m : Map) (cs : List Call) : Type 0 where
+    pub agrees : EachAgrees h S R D v m cs
+    pub flash-is : applyAll (S / 16) (opsOf h v cs) (v .flash) ≡ after h v cs .flash
+    pub ops-allowed : AllAllowed (S / 16) (opsOf h v cs) (v .flash)
+    pub inside : Below (spareSize g) (opsOf h v cs)
+    pub volume-is : after h v cs ≡ volumeOf h S R D ok (historyOf h v H cs) (after h v cs .flash) (after h v cs .ram)
+    pub holds : Holds h S R D ok (historyOf h v H cs) (after h v cs .flash) (after h v cs .ram)
+    pub beyond : Beyond g (v .flash) (after h v cs .flash) (v .ram) (after h v cs .ram)
+    pub room : (k j : ℕ) → findLive (historyOf h v H cs) k ≡ some j → length (historyOf h v H cs .deleted) < length (historyOf h v H cs .records)
+
+  -- a live key leaves room for its deletion
+  pub less : (H : History) (m : Map) → Live H m → (k j : ℕ) → findLive H k ≡ some j → length (H .deleted) < length (H .records)
+  less H m L k j q =
+      let L′ = Live-deletion H m k j L q in
+      omega (arith, L′ .count, length-append (H .deleted) (j ∷ []))
+
+  -- one call and the map's step
+  call-agrees : (H : History) (C : Flash) (ram : List ℕ) (m : Map) (c : Call) → Live H m → Live (stepHistory (recordCapacity g) (deletionCapacity g) H c .next) (mapOf g m c .next)
+      → stepHistory (recordCapacity g) (deletionCapacity g) H c .says ≡ mapOf g m c .says
+      → Done h S R D ok can H C ram (call h (volumeOf h S R D ok H C ram) c) (stepHistory (recordCapacity g) (deletionCapacity g) H c)
+      → Agrees S R D (volumeOf h S R D ok H C ram) (call h (volumeOf h S R D ok H C ram) c) (mapOf g m c)
+  call-agrees H C ram m c L L′ same X = record {
+    says = X .says ∙ same;
+    state-is = ap (λ (w : Volume). w .state) (X .volume-is) ∙ rw (L′ .n-is, L′ .d-is);
+    live = rw (X .volume-is) (omega (arith, L′ .count));
+    possible = X .possible;
+    handed-on = X .handed-on;
+    count-le = X .count-le;
+  }
+
+  moved : (w w′ : Volume) (H H′ : History) (m : Map) (cs : List Call) → w ≡ w′ → H ≡ H′ → Ran w′ H′ m cs → Ran w H m cs
+  moved w w′ H H′ m cs p q X = rw (p, q) X
+
+  -- a call, and the calls after it
+  joined : (H : History) (C : Flash) (ram : List ℕ) (m : Map) (c : Call) (cs : List Call)
+      → Agrees S R D (volumeOf h S R D ok H C ram) (call h (volumeOf h S R D ok H C ram) c) (mapOf g m c)
+      → Done h S R D ok can H C ram (call h (volumeOf h S R D ok H C ram) c) (stepHistory (recordCapacity g) (deletionCapacity g) H c)
+      → Ran (call h (volumeOf h S R D ok H C ram) c .volume) (growIf (call h (volumeOf h S R D ok H C ram) c .outcome) H c) (mapOf g m c .next) cs
+      → Ran (volumeOf h S R D ok H C ram) H m (c ∷ cs)
+  joined H C ram m c cs A X T =
+      let v : Volume = volumeOf h S R D ok H C ram in
+      let w : Volume = call h (volumeOf h S R D ok H C ram) c .volume in
+      let one : List Op = call h (volumeOf h S R D ok H C ram) c .ops in
+      record {
+        agrees = (A, T .agrees);
+        flash-is = apply-append (S / 16) one (opsOf h w cs) C ∙ rw (X .flash-is) (T .flash-is);
+        ops-allowed = allowed-append (S / 16) one (opsOf h w cs) C (X .ops-allowed) (rw (X .flash-is) (T .ops-allowed));
+        inside = below-append (spareSize g) one (opsOf h w cs) (X .inside) (T .inside);
+        volume-is = T .volume-is;
+        holds = T .holds;
+        beyond = beyond-then g C (w .flash) (after h w cs .flash) ram (w .ram) (after h w cs .ram) (X .beyond) (T .beyond);
+        room = T .room;
+      }
+
+  pub run : (H : History) (C : Flash) (ram : List ℕ) (m : Map) (cs : List Call) → KeyWords cs → Holds h S R D ok H C ram → Live H m → Ran (volumeOf h S R D ok H C ram) H m cs
+  run H C ram m [] w I L = record {
+    agrees = tt;
+    flash-is = refl;
+    ops-allowed = tt;
+    inside = tt;
+    volume-is = refl;
+    holds = I;
+    beyond = beyond-same g C ram;
+    room = less H m L;
+  }
+  run H C ram m (c ∷ cs) w I L =
+      let X : Done h S R D ok can H C ram (call h (volumeOf h S R D ok H C ram) c) (stepHistory (recordCapacity g) (deletionCapacity g) H c)
+      = call-done h S R D ok can H C ram I c (w .0) (less H m L) in
+      let same = step-same (recordCapacity g) (deletionCapacity g) H m c L in
+      let grown : growIf (call h (volumeOf h S R D ok H C ram) c .outcome) H c ≡ stepHistory (recordCapacity g) (deletionCapacity g) H c .next
+      = grow-shown (call h (volumeOf h S R D ok H C ram) c .outcome) H c ∙ ap (λ (o : Reply). growBy o H c) (X .says) ∙ grow-step (recordCapacity g) (deletionCapacity g) H c in
+      joined H C ram m c cs (call-agrees H C ram m c L (same .1) (same .0) X) X
+      (moved (call h (volumeOf h S R D ok H C ram) c .volume) _ _ (stepHistory (recordCapacity g) (deletionCapacity g) H c .next) (mapOf g m c .next) cs (X .volume-is) grown
+      (run (stepHistory (recordCapacity g) (deletionCapacity g) H c .next) _ _ (mapOf g m c .next) cs (w .1) (X .holds) (same .1)))
