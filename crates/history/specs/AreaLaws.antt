@@ -17,7 +17,7 @@ use Rattle.layout.specs.Geometry.{sector, page, block}
 use Rattle.layout.specs.Flash.{Flash, Op, applyAll, programs, fresh, allFresh}
 use Rattle.layout.specs.Items.{Area, itemPlace, source, bytesAt, itemWord, put, fills, pageOps, itemOps, itemRam}
 use Rattle.history.specs.FlashLaws.{AllAllowed, programs-main-length, programs-spare-length, programs-spare-out, programs-spare-in, programs-allowed, range-out, row-main}
-use Rattle.history.specs.Image.{AreaIs, areaByte, areaRamByte, areaMark}
+use Rattle.history.specs.Image.{AreaIs, areaByte, areaRamByte, areaSpareByte}
 use Rattle.history.specs.AreaNumbers.{start, room-left, in-page, flat, flat-at, flat-ext, flat-new}
 
 -- sectors whose spare bytes are FF before the first operation are fresh
@@ -238,7 +238,7 @@ module _ (u : ℕ) (pu : 0 < u) (a : Area) (blocks : ℕ) (whole : a .perPage * 
         rw (s, d .0) (programs-spare-in u 1 firstSector 4 bytes C (x - n / a .perPage * 4) (omega arith) (omega arith) (omega arith)))
         (λ d. programs-spare-out u 1 firstSector 4 bytes C (a .first * 64 + x) (λ j l. omega arith) ∙ A .on-spare x h ∙ rw (c .0, d .0)))
 
-    spare-add : (x : ℕ) → x < blocks * 64 → getD (applyAll u ops C .spare) (a .first * 64 + x) 0 ≡ areaMark a (n + 1) x
+    spare-add : (x : ℕ) → x < blocks * 64 → getD (applyAll u ops C .spare) (a .first * 64 + x) 0 ≡ areaSpareByte a (n + 1) x
     spare-add x h =
         either (carry n (a .perPage) pq)
         (λ k.

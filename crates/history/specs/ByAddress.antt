@@ -16,7 +16,7 @@ use Rattle.layout.specs.Hash.{Family}
 use Rattle.layout.specs.Items.{RA, KA, DA}
 use Rattle.layout.specs.Index.{Index, inL1, inSet, inFull, setBlocks, fullFilters, sideBlock, fullBlock}
 use Rattle.layout.specs.Calls.{keyIndex, keyFilters}
-use Rattle.history.specs.Image.{History, raItem, kaItem, daItem, keyFilter, areaByte, areaMark, l1Byte, sideByte, fullByte, indexByte, indexMark, mainImage, spareImage, ramImage}
+use Rattle.history.specs.Image.{History, raItem, kaItem, daItem, keyFilter, areaByte, areaSpareByte, l1Byte, sideByte, fullByte, indexByte, indexSpareByte, mainImage, spareImage, ramImage}
 use Rattle.history.specs.Parts.{Parts, pu}
 
 -- ---- one cascade of tests for main area and spare area: a block has w bytes in the one, w marks in the other
@@ -137,7 +137,7 @@ module _ (h : Family) (g : Geometry) (e : ℕ) (pow : g .u ≡ 2 ^ e) (H : Histo
       (P .filters .on-main .l1) (P .filters .on-main .here) (P .filters .on-main .there) (P .filters .on-main .full)
 
   index-spare : (x : ℕ) → x < (1 + 2 * sideBlocks (g .u) + fullSets g * sideBlocks (g .u)) * 64
-      → getD (C .spare) (indexBlock g * 64 + x) 0 ≡ indexMark h g H x
+      → getD (C .spare) (indexBlock g * 64 + x) 0 ≡ indexSpareByte h g H x
   index-spare =
       in-index (g .u) 64 (omega (arith, pu h g e pow)) (keyIndex g) (fullSets g) c (C .spare)
       (λ x. cond (ltb (x % 16) (inL1 N)) 0 255)
@@ -154,7 +154,7 @@ module _ (h : Family) (g : Geometry) (e : ℕ) (pow : g .u ≡ 2 ^ e) (H : Histo
   pub spare-by-address : (x : ℕ) → x < spareSize g → getD (C .spare) x 0 ≡ spareImage h g H x
   unfolding spareImage
   spare-by-address =
-      in-volume g 64 (C .spare) (areaMark (RA g) n) (areaMark (KA g) n) (areaMark (DA g) d) (indexMark h g H)
+      in-volume g 64 (C .spare) (areaSpareByte (RA g) n) (areaSpareByte (KA g) n) (areaSpareByte (DA g) d) (indexSpareByte h g H)
       (P .ra .on-spare) (P .ka .on-spare) (P .da .on-spare) index-spare
 
   -- the RAM's pages: RA, KA, DA, SKA and work

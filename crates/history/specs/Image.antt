@@ -53,8 +53,8 @@ areaRamByte a f n i =
     (f ((n / a .perPage * (a .perPage * a .size) + i) / a .size) ((n / a .perPage * (a .perPage * a .size) + i) % a .size)) 0
 
 -- mark x of the area: the sectors of full pages are programmed
-abbrev pub areaMark : Area → ℕ → ℕ → ℕ
-areaMark a n x = cond (ltb x (n / a .perPage * 4)) 0 255
+abbrev pub areaSpareByte : Area → ℕ → ℕ → ℕ
+areaSpareByte a n x = cond (ltb x (n / a .perPage * 4)) 0 255
 
 -- ---- an index: F f x is bit x of filter f
 
@@ -105,7 +105,7 @@ module _ (u : ℕ) where
 
 pub record AreaIs (u : ℕ) (a : Area) (blocks : ℕ) (f : ℕ → ℕ → ℕ) (n : ℕ) (main spare ram : List ℕ) : Type 0 where
   pub on-main : (i : ℕ) → i < blocks * block u → getD main (a .first * block u + i) 0 ≡ areaByte a f n i
-  pub on-spare : (x : ℕ) → x < blocks * 64 → getD spare (a .first * 64 + x) 0 ≡ areaMark a n x
+  pub on-spare : (x : ℕ) → x < blocks * 64 → getD spare (a .first * 64 + x) 0 ≡ areaSpareByte a n x
   pub on-ram : (i : ℕ) → i < page u → getD ram (a .ram + i) 0 ≡ areaRamByte a f n i
 
 module _ (h : Family) (g : Geometry) where
@@ -147,8 +147,8 @@ module _ (h : Family) (g : Geometry) (H : History) where
       ((i - (1 + 2 * sideBlocks (g .u)) * block (g .u)) % (sideBlocks (g .u) * block (g .u))))))
 
   -- mark x of the index's sectors
-  abbrev pub indexMark : ℕ → ℕ
-  indexMark x =
+  abbrev pub indexSpareByte : ℕ → ℕ
+  indexSpareByte x =
       cond (ltb x 64) (cond (ltb (x % 16) (inL1 N)) 0 255)
       (cond (ltb x ((1 + sideBlocks (g .u)) * 64)) (cond (eqb (c % 2) 1) (cond (ltb (x - 64) (setBlocks (g .u) c * 64)) 0 255) 255)
       (cond (ltb x ((1 + 2 * sideBlocks (g .u)) * 64)) (cond (eqb (c % 2) 1) 255 (cond (ltb (x - (1 + sideBlocks (g .u)) * 64) (setBlocks (g .u) c * 64)) 0 255))
@@ -165,10 +165,10 @@ module _ (h : Family) (g : Geometry) (H : History) where
   -- mark x of the spare area, below `spareSize g`
   unfoldable pub spareImage : ℕ → ℕ
   spareImage x =
-      cond (ltb x (kaBlock g * 64)) (areaMark (RA g) n x)
-      (cond (ltb x (daBlock g * 64)) (areaMark (KA g) n (x - kaBlock g * 64))
-      (cond (ltb x (indexBlock g * 64)) (areaMark (DA g) d (x - daBlock g * 64))
-      (indexMark (x - indexBlock g * 64))))
+      cond (ltb x (kaBlock g * 64)) (areaSpareByte (RA g) n x)
+      (cond (ltb x (daBlock g * 64)) (areaSpareByte (KA g) n (x - kaBlock g * 64))
+      (cond (ltb x (indexBlock g * 64)) (areaSpareByte (DA g) d (x - daBlock g * 64))
+      (indexSpareByte (x - indexBlock g * 64))))
 
   -- byte a of the RAM, below `ramSize g`: the pages RA, KA, DA, SKA and work
   unfoldable pub ramImage : ℕ → ℕ

@@ -22,7 +22,7 @@ pub data Op : Type 0 where
 
 -- "FF hexadecimal is fresh, anything else is programmed"
 unfoldable pub fresh : ℕ → Bool
-fresh mark = eqb mark 255
+fresh byte = eqb byte 255
 
 module _ (u : ℕ) where
   -- "Programming a sector writes its S cells and sets its mark to 00; erasing a block sets its cells and marks to FF"

@@ -7,4 +7,5 @@ pub mod Search
 pub mod Calls
 pub mod FiniteMap
 pub mod Examples
+pub mod Pins
 pub mod Histories

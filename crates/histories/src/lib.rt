@@ -1,0 +1,1 @@
+// A published trace, computed by the layout's definitions. No code.

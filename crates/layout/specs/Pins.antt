@@ -1,0 +1,174 @@
+-- Further values, beside the document's starred ones, that hold the definitions in place: orders, bounds, places and the map.
+use mathlib.Core.Path.{_≡_, refl}
+use mathlib.Core.Bool.{Bool, true, false, cond}
+use mathlib.Core.Option.{Option, none, some}
+use mathlib.Core.List.{List, [], _∷_}
+use Prim.Native.Nat.{ℕ, suc, _+_, _*_, _/_, _%_}
+use lib.ListN.{length, getD, replicate}
+use lib.Dec.{eqb}
+use Rattle.memory.specs.Lists.{write, tab, tabFrom}
+use Rattle.memory.specs.Power.{log2up}
+use Rattle.memory.specs.Words.{bytes4, wordsBytes}
+use Rattle.memory.specs.Ranges.{memb}
+use Rattle.layout.specs.Geometry.{State, geometry, allowed, indexBlock, sector, page, block}
+use Rattle.layout.specs.Flash.{Flash, flashOf, Op, program, erase, fresh, apply}
+use Rattle.layout.specs.Hash.{fnvFrom, fnvFamily, positions, positionCount}
+use Rattle.layout.specs.Index.{BitPlace, filterPlace, filterOps, flushAndBuild}
+use Rattle.layout.specs.Items.{recordBytes, entryBytes, deletionBytes, itemPlace, KA}
+use Rattle.layout.specs.Search.{Stop, found, corrupt, Found, tryEntry, scan, searchPages, searchFrom}
+use Rattle.layout.specs.Calls.{Call, insert, update, delete, lookup, keyIndex, badState, tooShort}
+use Rattle.layout.specs.FiniteMap.{Map, emptyMap, Reply, accepts, hits, misses, refuses, Step, stepMap, find, without}
+use Rattle.layout.specs.Examples.{sectorsOf, blocksOf}
+
+-- ---- "set pages, each rising; last the erases, L1, then the blocks of set i-1"
+
+-- how many operations come before the first erase
+abbrev beforeErase : List Op → ℕ
+beforeErase [] = 0
+beforeErase (program s bytes ∷ os) = suc (beforeErase os)
+beforeErase (erase b ∷ os) = 0
+
+-- set 3 is built when filter 255 is there, at S = 16, R = 32: 4 sectors of the flush and 32 pages on side B, then L1 and the one block of set 2 on side A
+abbrev third : List Op
+third = filterOps 1 (keyIndex (geometry 16 32 1)) (flashOf [] []) 255 []
+
+abbrev L1 : ℕ
+L1 = indexBlock (geometry 16 32 1)
+
+pub build-order : beforeErase third ∷ length (sectorsOf third) ∷ getD (sectorsOf third) 4 0 ∷ getD (sectorsOf third) 131 0 ∷ blocksOf third
+    ≡ (4 + 32 * 4) ∷ (4 + 32 * 4) ∷ ((L1 + 5) * 64) ∷ ((L1 + 5) * 64 + 127) ∷ L1 ∷ (L1 + 1) ∷ []
+unfolding log2up flushAndBuild
+build-order = refl
+
+-- the fifth set at S = 16 is full: it goes to the first place for full sets and frees the four blocks of set 4 on side A
+abbrev fifth : List Op
+fifth = filterOps 1 (keyIndex (geometry 16 64 1)) (flashOf [] []) 511 []
+
+pub full-set : length (sectorsOf fifth) ∷ getD (sectorsOf fifth) 4 0 ∷ blocksOf fifth
+    ≡ (4 + 64 * 4) ∷ ((indexBlock (geometry 16 64 1) + 9) * 64) ∷ indexBlock (geometry 16 64 1) ∷ (indexBlock (geometry 16 64 1) + 1)
+    ∷ (indexBlock (geometry 16 64 1) + 2) ∷ (indexBlock (geometry 16 64 1) + 3) ∷ (indexBlock (geometry 16 64 1) + 4) ∷ []
+unfolding log2up flushAndBuild
+full-set = refl
+
+-- ---- where filters lie at S = 16 with 1000 filters: one full set of 512, three rounds on side A, 13 flushes in L1, none in RAM
+
+abbrev place : ℕ → ℕ → BitPlace
+place f x = filterPlace 1 (record { first = 0; ska = 192 }) 1000 f x
+
+abbrev num : Bool → ℕ
+num t = cond t 1 0
+
+abbrev row-at : BitPlace → List ℕ
+row-at p = cond (p .inRam) 1 0 ∷ p .row ∷ p .at ∷ []
+
+pub places : row-at (place 5 13) ≡ 0 ∷ (9 * block 1 + 13 * page 1) ∷ 5 ∷ []
+unfolding log2up
+places = refl
+
+pub places-set : row-at (place 522 13) ≡ 0 ∷ (1 * block 1 + 13 * page 1) ∷ 10 ∷ []
+unfolding log2up
+places-set = refl
+
+-- filter 910 is filter 14 of its round: slot 6 of flush 1, bit 40 in the third slice of 16
+pub places-l1 : row-at (place 910 40) ≡ 0 ∷ ((4 * 2 + 0) * page 1 + 1 * sector 1) ∷ (6 * 16 + 8) ∷ []
+unfolding log2up
+places-l1 = refl
+
+-- with 1003 filters the last three are in the SKA page
+pub places-ram : row-at (filterPlace 1 (record { first = 0; ska = 192 }) 1003 1001 40) ≡ 1 ∷ (192 + 2 * 16) ∷ (1 * 16 + 8) ∷ []
+unfolding log2up
+places-ram = refl
+
+-- ---- the chip: one mark a sector, FF fresh, 00 programmed
+
+pub freshness : num (fresh 255) ∷ num (fresh 254) ∷ num (fresh 0) ∷ [] ≡ 1 ∷ 0 ∷ 0 ∷ []
+unfolding fresh
+freshness = refl
+
+pub programmed : apply 1 (program 2 (replicate 16 7)) (flashOf (replicate 64 255) (replicate 4 255)) .spare ≡ 255 ∷ 255 ∷ 0 ∷ 255 ∷ []
+programmed = refl
+
+-- ---- the search
+
+-- entries 0 to 9, four to a page; of the key those numbered 1, 4 and 9, of which 4 and 9 are deleted; pages 0 and 1 have the bits
+abbrev tryToy : ℕ → ℕ → Option Stop
+tryToy n j = tryEntry n (λ i. memb i (4 ∷ 9 ∷ [])) 7 (cond (memb j (1 ∷ 4 ∷ 9 ∷ [])) 7 0) j
+
+abbrev gateToy : ℕ → Bool
+gateToy p = true
+
+-- "A newer deleted entry does not end the search"; both pages are opened, the RAM's entry is not counted
+pub search-past-deleted : searchFrom gateToy (tryToy 10) 4 10 ≡ record { stop = some (found 1); opened = 2 }
+unfolding searchPages scan memb
+search-past-deleted = refl
+
+-- a record number of n or more ends it at once
+pub search-corrupt : searchFrom gateToy (λ j. tryEntry 3 (λ i. false) 7 7 j) 4 10 ≡ record { stop = some corrupt; opened = 0 }
+unfolding searchPages scan
+search-corrupt = refl
+
+-- a page whose gate is shut is neither opened nor counted
+pub search-shut : searchFrom (λ p. false) (tryToy 8) 4 8 ≡ record { stop = none; opened = 0 }
+unfolding searchPages scan memb
+search-shut = refl
+
+-- ---- refusals 1 and 2: "Equality with a capacity is allowed", "under" is strict
+
+abbrev state : ℕ → ℕ → ℕ → ℕ → ℕ → State
+state S R D n d = record { sectorSize = S; raBlocks = R; daBlocks = D; records = n; deletions = d }
+
+abbrev bads : List State → List ℕ
+bads [] = []
+bads (s ∷ ss) = cond (badState s) 1 0 ∷ bads ss
+
+pub states : bads (state 16 1 1 64 64 ∷ state 16 1 1 65 0 ∷ state 16 5 1 320 256 ∷ state 16 5 1 320 257 ∷ state 16 1 1 3 4 ∷ state 24 1 1 0 0 ∷ state 16 0 1 0 0 ∷ state 512 4096 4096 0 0 ∷ state 512 4097 1 0 0 ∷ [])
+    ≡ 0 ∷ 1 ∷ 0 ∷ 1 ∷ 1 ∷ 1 ∷ 1 ∷ 0 ∷ 1 ∷ []
+unfolding badState allowed memb
+states = refl
+
+abbrev shorts : ℕ → ℕ → ℕ → ℕ
+shorts main spare ram = cond (tooShort (geometry 16 1 1) (flashOf (replicate main 0) (replicate spare 0)) (replicate ram 0)) 1 0
+
+pub lengths : shorts 12288 768 320 ∷ shorts 12287 768 320 ∷ shorts 12288 767 320 ∷ shorts 12288 768 319 ∷ [] ≡ 0 ∷ 1 ∷ 1 ∷ 1 ∷ []
+unfolding tooShort
+lengths = refl
+
+-- ---- the map, with room for three records and one deletion
+
+abbrev says : Map → List Call → List Reply
+says m [] = []
+says m (c ∷ cs) = stepMap 3 1 m c .says ∷ says (stepMap 3 1 m c .next) cs
+
+pub map-run :
+    says emptyMap (lookup 7 ∷ delete 7 ∷ update 7 1 0 0 ∷ insert 7 1 0 0 ∷ insert 7 2 0 0 ∷ update 7 3 0 0 ∷ lookup 7 ∷ update 7 4 0 0 ∷ insert 8 5 0 0 ∷ insert 9 6 0 0 ∷ update 7 7 0 0 ∷ delete 7 ∷ lookup 8 ∷ [])
+    ≡ misses ∷ refuses 4 ∷ refuses 4 ∷ accepts ∷ refuses 3 ∷ accepts ∷ hits (recordBytes 7 3 0 0) ∷ refuses 6 ∷ accepts ∷ refuses 5 ∷ refuses 5 ∷ refuses 6 ∷ hits (recordBytes 8 5 0 0) ∷ []
+unfolding find without
+map-run = refl
+
+-- ---- items: little-endian words in the document's order
+
+pub items : recordBytes 1 258 3 4 ≡ 1 ∷ 0 ∷ 0 ∷ 0 ∷ 2 ∷ 1 ∷ 0 ∷ 0 ∷ 3 ∷ 0 ∷ 0 ∷ 0 ∷ 4 ∷ 0 ∷ 0 ∷ 0 ∷ []
+unfolding recordBytes wordsBytes
+items = refl
+
+pub entries : entryBytes 5 6 ≡ 5 ∷ 0 ∷ 0 ∷ 0 ∷ 6 ∷ 0 ∷ 0 ∷ 0 ∷ []
+unfolding entryBytes wordsBytes
+entries = refl
+
+pub deletions : deletionBytes 772 ≡ 4 ∷ 3 ∷ 0 ∷ 0 ∷ []
+unfolding deletionBytes wordsBytes
+deletions = refl
+
+-- ---- the positions of a key at S = 16, 512 and 64
+
+pub positions-7 : positions fnvFamily positionCount 1 (bytes4 7) ≡ 11 ∷ 2 ∷ 5 ∷ []
+unfolding positions tab tabFrom fnvFrom
+positions-7 = refl
+
+pub positions-7-wide : positions fnvFamily positionCount 32 (bytes4 7) ≡ 315 ∷ 98 ∷ 261 ∷ []
+unfolding positions tab tabFrom fnvFrom
+positions-7-wide = refl
+
+pub positions-bytes : positions fnvFamily positionCount 4 (bytes4 16909060) ≡ 232 ∷ 213 ∷ 230 ∷ []
+unfolding positions tab tabFrom fnvFrom
+positions-bytes = refl
