@@ -1,9 +1,9 @@
--- Short histories, computed by the definitions: document 01's replay example, and the insert that gives the first filter.
+-- Short histories, computed by the definitions: document 01's replay example.
 use mathlib.Core.Path.{_≡_, refl}
 use mathlib.Core.List.{List, [], _∷_}
 use Prim.Native.Nat.{ℕ}
 use lib.ListN.{replicate}
-use Rattle.memory.specs.Lists.{write, tab, tabFrom, pieces, part}
+use Rattle.memory.specs.Lists.{write, tab, tabFrom, pieces}
 use Rattle.memory.specs.Bits.{bit, pack}
 use Rattle.memory.specs.Power.{log2up}
 use Rattle.memory.specs.Words.{word, wordsBytes}
@@ -48,16 +48,3 @@ pub paper :
     ≡ ok 1 0 ∷ no 3 ∷ here 40 0 ∷ ok 2 1 ∷ here 42 0 ∷ ok 2 2 ∷ none 0 ∷ no 4 ∷ []
 unfolding write tab tabFrom pieces bit pack log2up wordsBytes any memb allOf allowed fresh allFresh fnvFrom positions rowBit rowByte bitAt filterBit setByte flushAndBuild recordBytes entryBytes deletionBytes itemWord put scan searchPages badState tooShort judged formatted format isDeleted tryAt maybeIn search deletion pageFilter summary insertion commit insertAfter updateAfter deleteAfter lookupAfter call
 paper = refl
-
--- the insert that fills the first page of entries: seven entries in RAM, keys 1 to 7; the page's filter goes to slot 0 of the SKA page
-abbrev sevenEntries : Volume
-sevenEntries =
-    record {
-      state = record { sectorSize = 16; raBlocks = 1; daBlocks = 1; records = 7; deletions = 0 };
-      flash = record { main = replicate 12288 255; spare = replicate 768 255 };
-      ram = write (replicate 320 0) 64 (wordsBytes (1 ∷ 0 ∷ 2 ∷ 1 ∷ 3 ∷ 2 ∷ 4 ∷ 3 ∷ 5 ∷ 4 ∷ 6 ∷ 5 ∷ 7 ∷ 6 ∷ []));
-    }
-
-pub first-filter : part (call fnvFamily sevenEntries (insert 8 1 2 3) .volume .ram) 192 64 ≡ 102 ∷ 136 ∷ 0 ∷ 0 ∷ 0 ∷ 0 ∷ 0 ∷ 0 ∷ 0 ∷ 0 ∷ 0 ∷ 0 ∷ 0 ∷ 0 ∷ 0 ∷ 0 ∷ 153 ∷ 68 ∷ 0 ∷ 0 ∷ 0 ∷ 0 ∷ 0 ∷ 0 ∷ 0 ∷ 0 ∷ 0 ∷ 0 ∷ 0 ∷ 0 ∷ 0 ∷ 0 ∷ 153 ∷ 34 ∷ 0 ∷ 0 ∷ 0 ∷ 0 ∷ 0 ∷ 0 ∷ 0 ∷ 0 ∷ 0 ∷ 0 ∷ 0 ∷ 0 ∷ 0 ∷ 0 ∷ 82 ∷ 37 ∷ 0 ∷ 0 ∷ 0 ∷ 0 ∷ 0 ∷ 0 ∷ 0 ∷ 0 ∷ 0 ∷ 0 ∷ 0 ∷ 0 ∷ 0 ∷ 0 ∷ []
-unfolding write tab tabFrom pieces bit pack log2up wordsBytes any memb allOf allowed fresh allFresh fnvFrom positions rowBit rowByte bitAt filterBit setByte flushAndBuild recordBytes entryBytes deletionBytes itemWord put scan searchPages badState tooShort judged formatted format isDeleted tryAt maybeIn search deletion pageFilter summary insertion commit insertAfter updateAfter deleteAfter lookupAfter call
-first-filter = refl

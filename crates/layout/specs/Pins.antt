@@ -1,22 +1,23 @@
 -- Further values, beside the document's starred ones, that hold the definitions in place: orders, bounds, places and the map.
 use mathlib.Core.Path.{_≡_, refl}
-use mathlib.Core.Bool.{Bool, true, false, cond}
+use mathlib.Core.Bool.{Bool, true, false, _&&_, cond}
 use mathlib.Core.Option.{Option, none, some}
 use mathlib.Core.List.{List, [], _∷_}
 use Prim.Native.Nat.{ℕ, suc, _+_, _*_, _/_, _%_}
-use lib.ListN.{length, getD, replicate}
+use lib.ListN.{length, getD, take, replicate}
 use lib.Dec.{eqb}
-use Rattle.memory.specs.Lists.{write, tab, tabFrom}
+use Rattle.memory.specs.Lists.{write, tab, tabFrom, pieces}
+use Rattle.memory.specs.Bits.{pack}
 use Rattle.memory.specs.Power.{log2up}
 use Rattle.memory.specs.Words.{bytes4, wordsBytes}
-use Rattle.memory.specs.Ranges.{memb}
+use Rattle.memory.specs.Ranges.{any, memb}
 use Rattle.layout.specs.Geometry.{State, geometry, allowed, indexBlock, sector, page, block}
 use Rattle.layout.specs.Flash.{Flash, flashOf, Op, program, erase, fresh, apply}
 use Rattle.layout.specs.Hash.{fnvFrom, fnvFamily, positions, positionCount}
-use Rattle.layout.specs.Index.{BitPlace, filterPlace, filterOps, flushAndBuild}
+use Rattle.layout.specs.Index.{BitPlace, rowBit, rowByte, withFilter, filterPlace, filterOps, flushAndBuild}
 use Rattle.layout.specs.Items.{recordBytes, entryBytes, deletionBytes, itemPlace, KA}
 use Rattle.layout.specs.Search.{Stop, found, corrupt, Found, tryEntry, scan, searchPages, searchFrom}
-use Rattle.layout.specs.Calls.{Call, insert, update, delete, lookup, keyIndex, badState, tooShort}
+use Rattle.layout.specs.Calls.{Call, insert, update, delete, lookup, keyIndex, badState, tooShort, pageFilter}
 use Rattle.layout.specs.FiniteMap.{Map, emptyMap, Reply, accepts, hits, misses, refuses, Step, stepMap, find, without}
 use Rattle.layout.specs.Examples.{sectorsOf, blocksOf}
 
@@ -172,3 +173,25 @@ positions-7-wide = refl
 pub positions-bytes : positions fnvFamily positionCount 4 (bytes4 16909060) ≡ 232 ∷ 213 ∷ 230 ∷ []
 unfolding positions tab tabFrom fnvFrom
 positions-bytes = refl
+
+-- ---- a filter: some bits of that of a page with the keys 1 to 8, and its bytes in slot 2 of the SKA page
+
+abbrev keyPage : List ℕ
+keyPage = write (replicate 320 0) 64 (wordsBytes (1 ∷ 0 ∷ 2 ∷ 1 ∷ 3 ∷ 2 ∷ 4 ∷ 3 ∷ 5 ∷ 4 ∷ 6 ∷ 5 ∷ 7 ∷ 6 ∷ 8 ∷ 7 ∷ []))
+
+abbrev pageBit : ℕ → ℕ
+pageBit x = num (pageFilter fnvFamily (geometry 16 1 1) keyPage x)
+
+pub filter-bits : pageBit 0 ∷ pageBit 1 ∷ pageBit 2 ∷ pageBit 11 ∷ pageBit 16 ∷ pageBit 63 ∷ [] ≡ 0 ∷ 1 ∷ 1 ∷ 1 ∷ 1 ∷ 0 ∷ []
+unfolding write wordsBytes pageFilter any memb positions tab tabFrom fnvFrom
+filter-bits = refl
+
+pub filter-bytes : take 32 (withFilter 1 (record { first = 0; ska = 0 }) 2 (λ x. memb x (0 ∷ 9 ∷ 18 ∷ 31 ∷ [])) (replicate 64 7))
+    ≡ 7 ∷ 7 ∷ 7 ∷ 7 ∷ 1 ∷ 2 ∷ 7 ∷ 7 ∷ 7 ∷ 7 ∷ 7 ∷ 7 ∷ 7 ∷ 7 ∷ 7 ∷ 7 ∷ 7 ∷ 7 ∷ 7 ∷ 7 ∷ 4 ∷ 128 ∷ 7 ∷ 7 ∷ 7 ∷ 7 ∷ 7 ∷ 7 ∷ 7 ∷ 7 ∷ 7 ∷ 7 ∷ []
+unfolding pieces write tab tabFrom pack memb
+filter-bytes = refl
+
+-- two filters of four bits to a row of two bytes: bit 3 of the second is bit 7, past the filters there are zeros
+pub row-bytes : rowByte (λ g x. eqb g 1 && eqb x 3) 2 4 0 0 ∷ rowByte (λ g x. true) 3 4 0 1 ∷ [] ≡ 128 ∷ 15 ∷ []
+unfolding rowByte rowBit pack
+row-bytes = refl

@@ -1,0 +1,106 @@
+-- Which sector sizes, and counts of blocks, are allowed: by the table, and that what is allowed is sound.
+use Prim.Native.Nat.{ℕ, zero, suc, _+_, _*_, _/_, _^_, _<_, _≤_}
+use mathlib.Core.Path.{_≡_, refl}
+use mathlib.Core.Bool.{Bool, true, false, _&&_}
+use mathlib.Core.List.{List, [], _∷_}
+use native.Mathlib.Numerals.{add-one}
+use native.Mathlib.Omega.{arith}
+use borrow.Author.Tests.{leb-true, eqb-true, eq-eqb, ne-eqb}
+use lib.Dec.{leb, eqb}
+use lib.ListN.{length, drop, getD, drop-of-length-le}
+use lib.Pow.{pow-pos}
+use lib.Seq.{drop-cons}
+use Rattle.memory.specs.Cases.{bool?, either}
+use Rattle.memory.specs.Power.{log2up}
+use Rattle.memory.specs.Ranges.{memb}
+use Rattle.layout.specs.Geometry as layout
+use Rattle.geometry.specs.declared.Row.{Row}
+use Rattle.geometry.specs.declared.Shaped.the-variants.{Bad}
+use Rattle.geometry.specs.Rows.{row, rows, rowOf, rule, and-left, and-right}
+use Rattle.geometry.specs.Shape.{Sound, geometryFor, answer, shapedOf, GoodSound}
+
+-- ---- looking a sector size up
+
+abbrev pub sectorsOf : List Row → List ℕ
+sectorsOf [] = []
+sectorsOf (r ∷ rs) = r .sector ∷ sectorsOf rs
+
+-- is S the sector size of row i or of a later one
+abbrev pub fromRow : ℕ → ℕ → Bool
+fromRow S i = memb S (sectorsOf (drop i rows))
+
+-- the rows are those that the layout allows
+pub from-first : (S : ℕ) → fromRow S 0 ≡ memb S layout.sectorSizes
+from-first S = refl
+
+pub from-hit : (S i : ℕ) → i < 6 → rowOf i .sector ≡ S → fromRow S i ≡ true
+unfolding memb
+from-hit S i h e = rw (drop-cons rows i (row 0 0 0 0) h, eq-eqb (rowOf i .sector) S e)
+
+pub from-next : (S i : ℕ) → i < 6 → (rowOf i .sector ≡ S → ⊥) → fromRow S i ≡ fromRow S (i + 1)
+unfolding memb
+from-next S i h ne = rw (add-one, drop-cons rows i (row 0 0 0 0) h, ne-eqb (rowOf i .sector) S ne)
+
+pub from-end : (S i : ℕ) → 6 ≤ i → fromRow S i ≡ false
+unfolding memb
+from-end S i h = rw (drop-of-length-le rows {i = i} h)
+
+-- what is answered to a sector size that is in the table, and to one that is not
+pub answer-hit : (S R D : ℕ) → fromRow S 0 ≡ true → shapedOf S R D ≡ answer (layout.blocksAllowed R && layout.blocksAllowed D) S R D
+unfolding layout.allowed
+answer-hit S R D e = rw e
+
+pub answer-miss : (S R D : ℕ) → fromRow S 0 ≡ false → shapedOf S R D ≡ Bad
+unfolding layout.allowed
+answer-miss S R D e = rw e
+
+-- ---- what is allowed is sound
+
+-- a sector size in the table is that of a row
+in-row : (S : ℕ) (d : Row) (xs : List Row) → memb S (sectorsOf xs) ≡ true → (k : ℕ) × (k < length xs) × (getD xs k d .sector ≡ S)
+unfolding memb
+in-row S d [] e = absurd (let z : _≡_ {A = ℕ} 0 1 = cc in omega arith)
+in-row S d (x ∷ xs) e =
+    either (bool? (eqb (x .sector) S))
+    (λ h. (zero, omega arith, eqb-true (x .sector) S h))
+    (λ h. let p = in-row S d xs (rw h at e) in (suc (p .0), omega arith, p .2))
+
+-- so it has the table's rule: 16 times a power of two, 512 at most
+pub sector-rule : (S : ℕ) → fromRow S 0 ≡ true → (S ≡ 16 * 2 ^ log2up (S / 16)) × (S ≤ 512)
+sector-rule S m =
+    let k = in-row S (row 0 0 0 0) rows m in
+    let r = rule (k .0) (k .1) in
+    (rw (k .2) at (r .power), rw (k .2) at (r .most))
+
+module _ (S R D : ℕ) (e : layout.allowed S R D ≡ true) where
+  parts : (fromRow S 0 ≡ true) × (layout.blocksAllowed R ≡ true) × (layout.blocksAllowed D ≡ true)
+  unfolding layout.allowed
+  parts =
+      let b = and-right (fromRow S 0) (layout.blocksAllowed R && layout.blocksAllowed D) e in (
+        and-left (fromRow S 0) (layout.blocksAllowed R && layout.blocksAllowed D) e,
+        and-left (layout.blocksAllowed R) (layout.blocksAllowed D) b,
+        and-right (layout.blocksAllowed R) (layout.blocksAllowed D) b,
+      )
+
+  pub allowed-sound : Sound (geometryFor S R D)
+  allowed-sound =
+      let r = sector-rule S (parts .0) in
+      let p : 0 < 2 ^ log2up (S / 16) = pow-pos (log2up (S / 16)) in
+      let q : S / 16 ≡ 2 ^ log2up (S / 16) = omega arith in
+      record {
+        some = omega arith;
+        most = omega arith;
+        power = (log2up (S / 16), q);
+        ra-some = leb-true _ _ (and-left (leb 1 R) (leb R 4096) (parts .1));
+        ra-most = leb-true _ _ (and-right (leb 1 R) (leb R 4096) (parts .1));
+        da-some = leb-true _ _ (and-left (leb 1 D) (leb D 4096) (parts .2));
+        da-most = leb-true _ _ (and-right (leb 1 D) (leb D 4096) (parts .2));
+      }
+
+-- a geometry that is answered is sound
+pub shaped-sound : (S R D : ℕ) → GoodSound (shapedOf S R D)
+shaped-sound S R D = go (layout.allowed S R D) refl
+  where
+    go : (t : Bool) → layout.allowed S R D ≡ t → GoodSound (answer t S R D)
+    go true e = allowed-sound S R D e
+    go false e = tt

@@ -1,0 +1,4 @@
+pub mod Rows
+pub mod Shape
+pub mod Bounds
+pub mod Allowed

@@ -1,0 +1,8 @@
+//! Differential test: two stores get the same calls on the same bytes; after each call the answers,
+//! the states and all bytes must be equal.
+
+#![forbid(unsafe_code)]
+
+pub mod pair;
+pub mod random;
+pub mod scenarios;

@@ -1,0 +1,393 @@
+//! Two stores side by side: each call is made on both, and everything is compared.
+
+use std::fmt;
+use store::{Change, Geometry, LookupResult, State, Store};
+
+#[derive(Clone, Copy, Debug, PartialEq, Eq)]
+pub enum Call {
+    Format {
+        sector_size: u32,
+        ra_blocks: u32,
+        da_blocks: u32,
+    },
+    Insert {
+        key: u32,
+        moves: u32,
+        goal: u32,
+        word: u32,
+    },
+    Update {
+        key: u32,
+        moves: u32,
+        goal: u32,
+        word: u32,
+    },
+    Delete {
+        key: u32,
+    },
+    Lookup {
+        key: u32,
+    },
+}
+
+#[derive(Clone, Copy, Debug, PartialEq, Eq)]
+pub enum Answer {
+    Change(Change),
+    Lookup(LookupResult),
+}
+
+impl Answer {
+    pub fn accepted(self) -> bool {
+        self.refusal() == 0
+    }
+
+    pub fn refusal(self) -> u32 {
+        match self {
+            Answer::Change(change) => change.refusal,
+            Answer::Lookup(result) => result.refusal,
+        }
+    }
+}
+
+/// What differs, after which call.
+#[derive(Clone, Debug)]
+pub struct Difference {
+    /// Number of the call in its scenario, from 1.
+    pub number: u64,
+    pub call: Call,
+    pub state: State,
+    /// Lengths of data, spare and ram.
+    pub lengths: [usize; 3],
+    pub what: String,
+}
+
+impl fmt::Display for Difference {
+    fn fmt(&self, f: &mut fmt::Formatter) -> fmt::Result {
+        let [data, spare, ram] = self.lengths;
+        writeln!(f, "call {}: {:?}", self.number, self.call)?;
+        writeln!(f, "  on {:?}", self.state)?;
+        writeln!(f, "  lent {data} data, {spare} spare, {ram} ram bytes")?;
+        write!(f, "  {}", self.what)
+    }
+}
+
+/// How many calls got which answer.
+#[derive(Clone, Debug, Default)]
+pub struct Counts {
+    pub calls: u64,
+    pub accepted: u64,
+    pub hits: u64,
+    pub misses: u64,
+    /// By refusal number, from 1 at index 1.
+    pub refusals: [u64; 9],
+    pub sets: u64,
+    pub full_sets: u64,
+}
+
+impl Counts {
+    pub fn add(&mut self, other: &Counts) {
+        self.calls += other.calls;
+        self.accepted += other.accepted;
+        self.hits += other.hits;
+        self.misses += other.misses;
+        for (sum, count) in self.refusals.iter_mut().zip(other.refusals) {
+            *sum += count;
+        }
+        self.sets += other.sets;
+        self.full_sets += other.full_sets;
+    }
+
+    fn count(&mut self, before: State, answer: Answer) {
+        self.calls += 1;
+        match answer {
+            Answer::Lookup(result) if result.refusal == 0 && result.found == 1 => self.hits += 1,
+            Answer::Lookup(result) if result.refusal == 0 => self.misses += 1,
+            Answer::Change(change) if change.refusal == 0 => {
+                self.accepted += 1;
+                // A set is built when 128 full pages more are there, the last one of S/4 is full.
+                let round = 64 * u64::from(before.sector_size);
+                let records = u64::from(change.state.records);
+                if change.state.records > before.records && records % round == 0 {
+                    self.sets += 1;
+                    if (records / round) % u64::from(before.sector_size / 4) == 0 {
+                        self.full_sets += 1;
+                    }
+                }
+            }
+            _ => self.refusals[answer.refusal().min(8) as usize] += 1,
+        }
+    }
+}
+
+impl fmt::Display for Counts {
+    fn fmt(&self, f: &mut fmt::Formatter) -> fmt::Result {
+        write!(
+            f,
+            "{} calls: {} accepted, {} hits, {} misses",
+            self.calls, self.accepted, self.hits, self.misses
+        )?;
+        for number in 1..=8 {
+            write!(f, ", {} refused by {number}", self.refusals[number])?;
+        }
+        write!(f, "; {} sets built, {} of them full", self.sets, self.full_sets)
+    }
+}
+
+/// Bytes beside the lent slice; they must never change.
+const GUARD_BYTES: usize = 64;
+const GUARD: u8 = 0xA5;
+
+/// A lent slice with guard bytes before and behind it, at an odd address or an even one.
+#[derive(Clone)]
+struct Buffer {
+    bytes: Vec<u8>,
+    start: usize,
+    len: usize,
+}
+
+impl Buffer {
+    fn new(len: usize, shift: usize) -> Buffer {
+        let start = GUARD_BYTES + shift;
+        let mut bytes = vec![GUARD; start + len + GUARD_BYTES];
+        bytes[start..start + len].fill(0);
+        Buffer { bytes, start, len }
+    }
+
+    fn slice(&self) -> &[u8] {
+        &self.bytes[self.start..self.start + self.len]
+    }
+
+    fn slice_mut(&mut self) -> &mut [u8] {
+        &mut self.bytes[self.start..self.start + self.len]
+    }
+
+    fn guards_intact(&self) -> bool {
+        let (before, rest) = self.bytes.split_at(self.start);
+        before.iter().chain(&rest[self.len..]).all(|&byte| byte == GUARD)
+    }
+}
+
+/// The three lent slices of one side.
+#[derive(Clone)]
+pub struct Volume {
+    data: Buffer,
+    spare: Buffer,
+    ram: Buffer,
+}
+
+impl Volume {
+    fn new(lengths: [usize; 3], shift: usize) -> Volume {
+        Volume {
+            data: Buffer::new(lengths[0], shift),
+            spare: Buffer::new(lengths[1], shift),
+            ram: Buffer::new(lengths[2], shift),
+        }
+    }
+
+    fn call(&mut self, store: &dyn Store, state: State, call: Call) -> Answer {
+        let data = self.data.slice_mut();
+        let spare = self.spare.slice_mut();
+        let ram = self.ram.slice_mut();
+        match call {
+            Call::Format {
+                sector_size,
+                ra_blocks,
+                da_blocks,
+            } => Answer::Change(store.format(state, sector_size, ra_blocks, da_blocks, data, spare, ram)),
+            Call::Insert {
+                key,
+                moves,
+                goal,
+                word,
+            } => Answer::Change(store.insert(state, key, moves, goal, word, data, spare, ram)),
+            Call::Update {
+                key,
+                moves,
+                goal,
+                word,
+            } => Answer::Change(store.update(state, key, moves, goal, word, data, spare, ram)),
+            Call::Delete { key } => Answer::Change(store.delete(state, key, data, spare, ram)),
+            Call::Lookup { key } => Answer::Lookup(store.lookup(state, key, data, spare, ram)),
+        }
+    }
+}
+
+/// The first byte that differs, if any.
+fn byte_difference(expected: &Volume, got: &Volume) -> Option<String> {
+    for (name, expected, got) in [
+        ("data", &expected.data, &got.data),
+        ("spare", &expected.spare, &got.spare),
+        ("ram", &expected.ram, &got.ram),
+    ] {
+        let (a, b) = (expected.slice(), got.slice());
+        if a != b {
+            let offset = a.iter().zip(b).position(|(x, y)| x != y).unwrap_or(0);
+            return Some(format!(
+                "{name} byte {offset}: expected {:02x}, got {:02x}",
+                a[offset], b[offset]
+            ));
+        }
+        if !expected.guards_intact() || !got.guards_intact() {
+            return Some(format!("a byte outside the lent {name} bytes changed"));
+        }
+    }
+    None
+}
+
+/// A reference store and the store under test, each with its own copy of the bytes.
+pub struct Pair<'a> {
+    reference: &'a dyn Store,
+    subject: &'a dyn Store,
+    expected: Volume,
+    got: Volume,
+    pub state: State,
+    pub counts: Counts,
+}
+
+impl<'a> Pair<'a> {
+    /// No bytes lent, the state all zero.
+    pub fn new(reference: &'a dyn Store, subject: &'a dyn Store) -> Pair<'a> {
+        let nothing = Volume::new([0; 3], 0);
+        Pair {
+            reference,
+            subject,
+            expected: nothing.clone(),
+            got: nothing,
+            state: State::default(),
+            counts: Counts::default(),
+        }
+    }
+
+    /// Lends new slices of these lengths (data, spare, ram), `shift` bytes off an aligned address.
+    pub fn lend(&mut self, lengths: [usize; 3], shift: usize) {
+        self.expected = Volume::new(lengths, shift);
+        self.got = Volume::new(lengths, shift);
+    }
+
+    /// Lends slices for a volume of this geometry, each by `extra` bytes longer.
+    pub fn lend_for(&mut self, geometry: Geometry, extra: usize, shift: usize) {
+        let lengths = [
+            geometry.data_bytes() + extra,
+            geometry.spare_bytes() + extra,
+            geometry.ram_bytes() + extra,
+        ];
+        self.lend(lengths, shift);
+    }
+
+    pub fn lengths(&self) -> [usize; 3] {
+        [
+            self.expected.data.len,
+            self.expected.spare.len,
+            self.expected.ram.len,
+        ]
+    }
+
+    /// Writes many bytes of data, spare and ram, the same on both sides.
+    pub fn fill(&mut self, write: impl FnOnce(&mut [u8], &mut [u8], &mut [u8])) {
+        write(
+            self.expected.data.slice_mut(),
+            self.expected.spare.slice_mut(),
+            self.expected.ram.slice_mut(),
+        );
+        for (to, from) in [
+            (&mut self.got.data, &self.expected.data),
+            (&mut self.got.spare, &self.expected.spare),
+            (&mut self.got.ram, &self.expected.ram),
+        ] {
+            to.slice_mut().copy_from_slice(from.slice());
+        }
+    }
+
+    /// Writes the same few bytes on both sides; those past the end are left out.
+    pub fn write_data(&mut self, offset: usize, bytes: &[u8]) {
+        write_at(self.expected.data.slice_mut(), offset, bytes);
+        write_at(self.got.data.slice_mut(), offset, bytes);
+    }
+
+    pub fn write_spare(&mut self, offset: usize, bytes: &[u8]) {
+        write_at(self.expected.spare.slice_mut(), offset, bytes);
+        write_at(self.got.spare.slice_mut(), offset, bytes);
+    }
+
+    pub fn write_ram(&mut self, offset: usize, bytes: &[u8]) {
+        write_at(self.expected.ram.slice_mut(), offset, bytes);
+        write_at(self.got.ram.slice_mut(), offset, bytes);
+    }
+
+    /// The four-byte number at an offset, if it lies within the lent bytes.
+    pub fn data_number(&self, offset: usize) -> Option<u32> {
+        number_at(self.expected.data.slice(), offset)
+    }
+
+    pub fn ram_number(&self, offset: usize) -> Option<u32> {
+        number_at(self.expected.ram.slice(), offset)
+    }
+
+    /// The call on both sides; then answer (result and state), all bytes and the guards are compared.
+    pub fn call(&mut self, call: Call) -> Result<Answer, Difference> {
+        let state = self.state;
+        let expected = self.expected.call(self.reference, state, call);
+        let got = self.got.call(self.subject, state, call);
+        self.counts.count(state, expected);
+        let what = if expected == got {
+            byte_difference(&self.expected, &self.got)
+        } else {
+            Some(format!("expected {expected:?}\n  got      {got:?}"))
+        };
+        if let Some(what) = what {
+            return Err(Difference {
+                number: self.counts.calls,
+                call,
+                state,
+                lengths: self.lengths(),
+                what,
+            });
+        }
+        if let Answer::Change(change) = got {
+            self.state = change.state;
+        }
+        Ok(got)
+    }
+}
+
+fn number_at(slice: &[u8], offset: usize) -> Option<u32> {
+    let bytes = slice.get(offset..)?.first_chunk::<4>()?;
+    Some(u32::from_le_bytes(*bytes))
+}
+
+fn write_at(slice: &mut [u8], offset: usize, bytes: &[u8]) {
+    for (place, &byte) in slice.iter_mut().skip(offset).zip(bytes) {
+        *place = byte;
+    }
+}
+
+#[cfg(test)]
+mod tests {
+    use super::*;
+
+    #[test]
+    fn every_byte_is_compared() {
+        let volume = Volume::new([5, 4, 3], 1);
+        assert_eq!(byte_difference(&volume, &volume), None);
+        for side in 0..3 {
+            let len = [5, 4, 3][side];
+            for offset in 0..len {
+                let mut other = volume.clone();
+                let buffer = [&mut other.data, &mut other.spare, &mut other.ram];
+                buffer[side].bytes[GUARD_BYTES + 1 + offset] ^= 1;
+                assert!(byte_difference(&volume, &other).is_some());
+            }
+            for outside in [
+                0,
+                GUARD_BYTES,
+                GUARD_BYTES + 1 + len,
+                GUARD_BYTES + len + GUARD_BYTES,
+            ] {
+                let mut other = volume.clone();
+                let buffer = [&mut other.data, &mut other.spare, &mut other.ram];
+                buffer[side].bytes[outside] ^= 1;
+                assert!(byte_difference(&volume, &other).is_some());
+            }
+        }
+    }
+}

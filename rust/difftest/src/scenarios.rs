@@ -1,0 +1,747 @@
+//! Scenarios: lists of calls made from a seed.
+
+use crate::pair::{Answer, Call, Counts, Difference, Pair};
+use crate::random::Random;
+use store::{Geometry, State, Store, SECTOR_SIZES};
+
+type Run = dyn Fn(&mut Test) -> Result<(), Difference>;
+
+/// A name and the calls that it makes.
+pub struct Scenario {
+    pub name: String,
+    /// Only with `--long`.
+    pub long: bool,
+    run: Box<Run>,
+}
+
+impl Scenario {
+    fn new(
+        name: String,
+        long: bool,
+        run: impl Fn(&mut Test) -> Result<(), Difference> + 'static,
+    ) -> Scenario {
+        Scenario {
+            name,
+            long,
+            run: Box::new(run),
+        }
+    }
+
+    /// The same seed makes the same calls.
+    pub fn run(&self, reference: &dyn Store, subject: &dyn Store, seed: u64) -> Result<Counts, Difference> {
+        let mut test = Test {
+            pair: Pair::new(reference, subject),
+            random: Random::new(seed),
+        };
+        (self.run)(&mut test)?;
+        Ok(test.pair.counts)
+    }
+}
+
+/// A scenario under way.
+struct Test<'a> {
+    pair: Pair<'a>,
+    random: Random,
+}
+
+/// All scenarios, the short ones first.
+pub fn all() -> Vec<Scenario> {
+    let mut list = Vec::new();
+    let mut add = |scenario: Scenario| list.push(scenario);
+
+    add(Scenario::new("wild-states".into(), false, wild_states));
+    for s in SECTOR_SIZES {
+        add(Scenario::new(format!("lengths-{s}"), false, move |test| {
+            lengths(test, s)
+        }));
+    }
+    // Histories to capacity, nothing altered.
+    for (s, r, d, long) in [
+        (16, 1, 1, false),
+        (16, 6, 1, false),
+        (16, 12, 1, false),
+        (32, 1, 1, false),
+        (32, 5, 2, false),
+        (32, 10, 1, false),
+        (64, 1, 1, false),
+        (64, 3, 1, false),
+        (128, 1, 1, false),
+        (128, 2, 1, false),
+        (256, 1, 1, false),
+        (512, 1, 1, false),
+        (256, 3, 1, true),
+        (512, 3, 1, true),
+    ] {
+        add(Scenario::new(format!("history-{s}-{r}-{d}"), long, move |test| {
+            history(test, s, r, d)
+        }));
+    }
+    // The same with sets.
+    for (s, r, d, long) in [
+        (16, 20, 1, false),
+        (16, 45, 3, false),
+        (32, 40, 2, false),
+        (64, 17, 1, false),
+        (64, 50, 3, true),
+        (128, 17, 1, true),
+        (256, 17, 1, true),
+        (512, 17, 1, true),
+    ] {
+        add(Scenario::new(format!("sets-{s}-{r}-{d}"), long, move |test| {
+            history(test, s, r, d)
+        }));
+    }
+    // And with full sets.
+    for (s, r, d, long) in [
+        (16, 70, 4, false),
+        (16, 150, 10, false),
+        (32, 132, 5, false),
+        (64, 260, 8, true),
+    ] {
+        add(Scenario::new(
+            format!("full-sets-{s}-{r}-{d}"),
+            long,
+            move |test| history(test, s, r, d),
+        ));
+    }
+    // Histories with bytes and states altered between the calls.
+    for (s, r, d, calls) in [
+        (16, 3, 1, 4000),
+        (16, 70, 2, 8000),
+        (32, 2, 1, 4000),
+        (32, 40, 2, 8000),
+        (64, 2, 1, 4000),
+        (128, 1, 1, 3000),
+        (256, 1, 1, 2000),
+        (512, 1, 1, 1000),
+    ] {
+        add(Scenario::new(format!("damaged-{s}-{r}"), false, move |test| {
+            damaged(test, s, r, d, calls)
+        }));
+    }
+    // Random bytes and a state shortly before a page, a flush, a set or a full set is due.
+    for (s, r, d, times, long) in [
+        (16, 140, 2, 150, false),
+        (32, 260, 2, 60, false),
+        (64, 260, 1, 40, false),
+        (128, 64, 1, 30, false),
+        (128, 520, 1, 15, false),
+        (256, 64, 1, 15, false),
+        (256, 1024, 1, 5, false),
+        (512, 80, 1, 8, false),
+        (512, 2048, 1, 1, false),
+        (512, 2048, 3, 20, true),
+        (512, 4096, 2, 8, true),
+    ] {
+        add(Scenario::new(
+            format!("boundaries-{s}-{r}-{d}"),
+            long,
+            move |test| boundaries(test, s, r, d, times),
+        ));
+    }
+    list
+}
+
+fn geometry(s: u32, r: u32, d: u32) -> Geometry {
+    Geometry::new(s, r, d).expect("the scenarios' sizes are allowed")
+}
+
+/// Keys that a hasty reader of bytes gets wrong.
+const SPECIAL_KEYS: [u32; 8] = [0, 1, 255, 256, 65536, 0x7FFF_FFFF, 0x8000_0000, 0xFFFF_FFFF];
+
+/// Keys for the calls: any below a bound, and those inserted so far.
+struct Keys {
+    bound: u32,
+    inserted: Vec<u32>,
+}
+
+impl Keys {
+    fn below(bound: u32) -> Keys {
+        Keys {
+            bound,
+            inserted: Vec::new(),
+        }
+    }
+
+    fn any(&self, random: &mut Random) -> u32 {
+        if random.chance(1, 40) {
+            random.pick(&SPECIAL_KEYS)
+        } else {
+            random.below_u32(self.bound)
+        }
+    }
+
+    /// Mostly one that was inserted.
+    fn likely(&self, random: &mut Random) -> u32 {
+        if self.inserted.is_empty() || random.chance(1, 5) {
+            self.any(random)
+        } else {
+            random.pick(&self.inserted)
+        }
+    }
+
+    fn note(&mut self, call: Call, answer: Answer) {
+        if let (Call::Insert { key, .. }, true) = (call, answer.accepted()) {
+            self.inserted.push(key);
+        }
+    }
+}
+
+/// How many of 20 calls are inserts, updates and deletes; the rest are lookups.
+#[derive(Clone, Copy)]
+struct Mix {
+    inserts: usize,
+    updates: usize,
+    deletes: usize,
+}
+
+const MANY_INSERTS: Mix = Mix {
+    inserts: 12,
+    updates: 3,
+    deletes: 2,
+};
+const MANY_UPDATES: Mix = Mix {
+    inserts: 5,
+    updates: 11,
+    deletes: 1,
+};
+const MANY_DELETES: Mix = Mix {
+    inserts: 9,
+    updates: 1,
+    deletes: 8,
+};
+
+fn insert_of(random: &mut Random, key: u32) -> Call {
+    Call::Insert {
+        key,
+        moves: random.next_u32(),
+        goal: random.next_u32(),
+        word: random.next_u32(),
+    }
+}
+
+fn update_of(random: &mut Random, key: u32) -> Call {
+    Call::Update {
+        key,
+        moves: random.next_u32(),
+        goal: random.next_u32(),
+        word: random.next_u32(),
+    }
+}
+
+fn some_call(random: &mut Random, mix: Mix, keys: &Keys) -> Call {
+    let choice = random.below(20);
+    if choice < mix.inserts {
+        let key = if random.chance(1, 12) {
+            keys.likely(random)
+        } else {
+            keys.any(random)
+        };
+        insert_of(random, key)
+    } else {
+        let key = keys.likely(random);
+        if choice < mix.inserts + mix.updates {
+            update_of(random, key)
+        } else if choice < mix.inserts + mix.updates + mix.deletes {
+            Call::Delete { key }
+        } else {
+            Call::Lookup { key }
+        }
+    }
+}
+
+/// Any of the four calls, with this key.
+fn some_call_of(random: &mut Random, key: u32) -> Call {
+    match random.below(5) {
+        0 => insert_of(random, key),
+        1 => update_of(random, key),
+        2 => Call::Delete { key },
+        _ => Call::Lookup { key },
+    }
+}
+
+/// From a format to capacity and some calls beyond.
+fn history(test: &mut Test, s: u32, r: u32, d: u32) -> Result<(), Difference> {
+    let geometry = geometry(s, r, d);
+    let (extra, shift) = (test.random.below(12), test.random.below(16));
+    test.pair.lend_for(geometry, extra, shift);
+    let random = &mut test.random;
+    test.pair.fill(|data, spare, ram| {
+        random.fill(data);
+        random.fill(spare);
+        random.fill(ram);
+    });
+    test.pair.call(Call::Format {
+        sector_size: s,
+        ra_blocks: r,
+        da_blocks: d,
+    })?;
+    let mix = test.random.pick(&[MANY_INSERTS, MANY_UPDATES, MANY_DELETES]);
+    let capacity = geometry.record_capacity();
+    let mut keys = Keys::below(2 * capacity as u32);
+    let mut calls = 0;
+    while (test.pair.state.records as usize) < capacity && calls < 4 * capacity {
+        // Once deletions are full, inserts go on.
+        let deletions_full = test.pair.state.deletions as usize == geometry.deletion_capacity();
+        let mix = if deletions_full { MANY_INSERTS } else { mix };
+        let call = some_call(&mut test.random, mix, &keys);
+        let answer = test.pair.call(call)?;
+        keys.note(call, answer);
+        calls += 1;
+    }
+    for _ in 0..100 {
+        let call = some_call(&mut test.random, MANY_DELETES, &keys);
+        let answer = test.pair.call(call)?;
+        keys.note(call, answer);
+    }
+    Ok(())
+}
+
+/// A history with bytes and states altered between the calls.
+fn damaged(test: &mut Test, s: u32, r: u32, d: u32, calls: usize) -> Result<(), Difference> {
+    let geometry = geometry(s, r, d);
+    let mut keys = Keys::below(geometry.record_capacity().min(calls) as u32);
+    let (extra, shift) = (test.random.below(3), test.random.below(16));
+    test.pair.lend_for(geometry, extra, shift);
+    let format = Call::Format {
+        sector_size: s,
+        ra_blocks: r,
+        da_blocks: d,
+    };
+    test.pair.call(format)?;
+    // No damage at first, so that there is something to damage.
+    let quiet = calls / 4;
+    for number in 0..calls {
+        let mut damaged_key = None;
+        if number > quiet && test.random.chance(1, 6) {
+            damaged_key = damage(test, geometry);
+        }
+        if number > quiet && test.random.chance(1, 400) {
+            test.pair.call(format)?;
+        }
+        let handed_in = test.pair.state;
+        if number > quiet && test.random.chance(1, 12) {
+            test.pair.state = altered_state(&mut test.random, geometry, handed_in);
+        }
+        let call = match damaged_key {
+            Some(key) if test.random.chance(3, 4) => some_call_of(&mut test.random, key),
+            _ => some_call(&mut test.random, MANY_INSERTS, &keys),
+        };
+        let answer = test.pair.call(call)?;
+        keys.note(call, answer);
+        // An altered state is kept if it goes on, and now and then if it does not.
+        if !answer.accepted() && test.random.chance(9, 10) {
+            test.pair.state = handed_in;
+        }
+    }
+    Ok(())
+}
+
+/// Alters one byte or number where the next calls read. If it belongs to an entry, gives the entry's key.
+fn damage(test: &mut Test, geometry: Geometry) -> Option<u32> {
+    let random = &mut test.random;
+    let pair = &mut test.pair;
+    let page = geometry.page_size();
+    let records = (pair.state.records as usize).min(geometry.record_capacity());
+    let index = geometry.l1_block() * 64 * geometry.sector_size();
+
+    // A record, its entry and the entry's key.
+    let newest = random.chance(1, 2);
+    let record = match newest {
+        true => records.saturating_sub(1 + random.below(2 * geometry.entries_per_page())),
+        false => random.below(records),
+    };
+    let in_ram = record >= records - records % geometry.entries_per_page();
+    let entry = match in_ram {
+        true => page + record % geometry.entries_per_page() * 8,
+        false => geometry.page_start(geometry.ka_page(0)) + record * 8,
+    };
+    let key = if in_ram {
+        pair.ram_number(entry)
+    } else {
+        pair.data_number(entry)
+    };
+    let write_entry = |pair: &mut Pair, offset: usize, number: u32| match in_ram {
+        true => pair.write_ram(entry + offset, &number.to_le_bytes()),
+        false => pair.write_data(entry + offset, &number.to_le_bytes()),
+    };
+
+    let byte = match random.below(4) {
+        0 => 0x00,
+        1 => 0xFF,
+        _ => random.next_byte(),
+    };
+    match random.below(12) {
+        // The entry's record number: n or more, or another record.
+        0 => {
+            let number = match random.below(3) {
+                0 => random.next_u32(),
+                _ => records as u32 + random.below_u32(2),
+            };
+            write_entry(pair, 4, number);
+            return key;
+        }
+        1 => {
+            write_entry(pair, 4, random.below_u32(records as u32 + 1));
+            return key;
+        }
+        // The entry's key.
+        2 => {
+            let number = random.below_u32(records as u32 + 1);
+            write_entry(pair, 0, number);
+            return Some(number);
+        }
+        // A deletion of the record, or a deletion undone, on flash or in RAM.
+        3 | 4 => {
+            let page_starts = geometry.page_start(geometry.da_page(0));
+            let deletion = random.below(pair.state.deletions as usize + 2);
+            let number = if random.chance(2, 3) {
+                record as u32
+            } else {
+                random.next_u32()
+            };
+            if random.chance(1, 2) {
+                let place = deletion.min(geometry.deletion_capacity() - 1);
+                pair.write_data(page_starts + place * 4, &number.to_le_bytes());
+            } else {
+                let place = deletion % geometry.deletions_per_page();
+                pair.write_ram(2 * page + place * 4, &number.to_le_bytes());
+            }
+            return key;
+        }
+        // Filter bits in RAM, in L1 and in the sets.
+        5 => pair.write_ram(3 * page + random.below(page), &[byte]),
+        6 => pair.write_data(index + random.below(16 * page), &[byte]),
+        7 => {
+            let rest = geometry.data_bytes() - index;
+            pair.write_data(index + random.below(rest), &[byte]);
+        }
+        // A spare byte of the volume, or near the next record page.
+        8 => pair.write_spare(random.below(geometry.spare_bytes()), &[byte]),
+        9 => {
+            let sector = records / geometry.records_per_page() * 4 + random.below(8);
+            pair.write_spare(sector, &[byte]);
+        }
+        // Any byte.
+        _ => {
+            let [data_len, _, ram_len] = pair.lengths();
+            pair.write_data(random.below(data_len), &[byte]);
+            pair.write_ram(random.below(ram_len), &[byte]);
+        }
+    }
+    None
+}
+
+/// A state with some of its numbers altered.
+fn altered_state(random: &mut Random, geometry: Geometry, state: State) -> State {
+    let mut altered = state;
+    let capacity = geometry.record_capacity() as u32;
+    let deletion_capacity = geometry.deletion_capacity() as u32;
+    match random.below(8) {
+        0 => altered.records = random.below_u32(capacity + 2),
+        1 => altered.deletions = random.below_u32(deletion_capacity + 2),
+        2 => altered.records = altered.records.wrapping_add(1),
+        3 => altered.deletions = altered.deletions.wrapping_add(1),
+        4 => altered.records = capacity - random.below_u32(3).min(capacity),
+        5 => altered.deletions = altered.records,
+        6 => {
+            altered.records = random.below_u32(capacity + 1);
+            altered.deletions = random.below_u32(altered.records.min(deletion_capacity) + 1);
+        }
+        _ => altered = wild_state(random),
+    }
+    altered
+}
+
+const WILD_NUMBERS: [u32; 16] = [
+    0,
+    1,
+    2,
+    15,
+    16,
+    17,
+    32,
+    64,
+    512,
+    513,
+    4096,
+    4097,
+    0x0080_0000,
+    0x0100_0000,
+    0x8000_0000,
+    0xFFFF_FFFF,
+];
+
+fn wild_number(random: &mut Random) -> u32 {
+    match random.below(3) {
+        0 => random.next_u32(),
+        _ => random.pick(&WILD_NUMBERS),
+    }
+}
+
+fn wild_sector_size(random: &mut Random) -> u32 {
+    match random.below(3) {
+        0 => wild_number(random),
+        _ => random.pick(&SECTOR_SIZES),
+    }
+}
+
+fn wild_blocks(random: &mut Random) -> u32 {
+    match random.below(4) {
+        0 => wild_number(random),
+        1 => random.pick(&[4095, 4096, 4097]),
+        _ => 1 + random.below_u32(8),
+    }
+}
+
+/// Any numbers, with those at the edges of what is allowed more often.
+fn wild_state(random: &mut Random) -> State {
+    let sector_size = wild_sector_size(random);
+    let ra_blocks = wild_blocks(random);
+    let da_blocks = wild_blocks(random);
+    let (mut records, mut deletions) = (wild_number(random), wild_number(random));
+    if let Some(geometry) = Geometry::new(sector_size, ra_blocks, da_blocks) {
+        let near = |random: &mut Random, capacity: usize| match random.below(4) {
+            0 => wild_number(random),
+            1 => (capacity as u32 + 1).saturating_sub(random.below_u32(4)),
+            _ => random.below_u32(capacity as u32 + 1),
+        };
+        records = near(random, geometry.record_capacity());
+        deletions = match random.below(3) {
+            0 => records.wrapping_add(random.below_u32(3)).wrapping_sub(1),
+            1 => near(random, geometry.deletion_capacity()),
+            _ => random.below_u32(records.saturating_add(1)),
+        };
+    }
+    State {
+        sector_size,
+        ra_blocks,
+        da_blocks,
+        records,
+        deletions,
+    }
+}
+
+/// Any states and any numbers for a format, on bytes that serve small volumes.
+fn wild_states(test: &mut Test) -> Result<(), Difference> {
+    for _ in 0..60 {
+        let random = &mut test.random;
+        let lengths = match random.below(5) {
+            0 => [0, 0, 0],
+            1 => [random.below(3), random.below(3), random.below(3)],
+            2 => [random.below(70_000), random.below(6_000), random.below(2_000)],
+            _ => [65_536, 4_096, 1_280],
+        };
+        let shift = random.below(16);
+        test.pair.lend(lengths, shift);
+        test.pair.fill(|data, spare, ram| {
+            random.fill(data);
+            spare.fill(0xFF);
+            random.fill(ram);
+        });
+        for _ in 0..120 {
+            let random = &mut test.random;
+            if random.chance(3, 4) {
+                test.pair.state = wild_state(random);
+            }
+            let call = if random.chance(1, 6) {
+                Call::Format {
+                    sector_size: wild_sector_size(random),
+                    ra_blocks: wild_blocks(random),
+                    da_blocks: wild_blocks(random),
+                }
+            } else {
+                let bound = random.pick(&[20, 5000, u32::MAX]);
+                some_call(random, MANY_INSERTS, &Keys::below(bound))
+            };
+            test.pair.call(call)?;
+        }
+    }
+    Ok(())
+}
+
+/// Slices of lengths around those needed, each call on them.
+fn lengths(test: &mut Test, s: u32) -> Result<(), Difference> {
+    for _ in 0..24 {
+        let random = &mut test.random;
+        let (r, d) = match random.below(2) {
+            0 => (1, 1),
+            _ => (1 + random.below_u32(3), 1 + random.below_u32(2)),
+        };
+        let geometry = geometry(s, r, d);
+        let needed = [
+            geometry.data_bytes(),
+            geometry.spare_bytes(),
+            geometry.ram_bytes(),
+        ];
+        let lengths = needed.map(|needed| match random.below(9) {
+            0 => needed - 1,
+            1 => needed + 1,
+            2 => needed + random.below(100),
+            3 => needed - 1 - random.below(100),
+            4 if random.chance(1, 3) => random.below(needed),
+            _ => needed,
+        });
+        let shift = random.below(16);
+        test.pair.lend(lengths, shift);
+        test.pair.fill(|data, spare, ram| {
+            random.fill(data);
+            random.fill(spare);
+            random.fill(ram);
+        });
+        let start = State {
+            sector_size: s,
+            ra_blocks: r,
+            da_blocks: d,
+            records: 0,
+            deletions: 0,
+        };
+        test.pair.state = wild_state(&mut test.random);
+        test.pair.call(Call::Format {
+            sector_size: s,
+            ra_blocks: r,
+            da_blocks: d,
+        })?;
+        // On slices too short for a format the others are refused as well.
+        test.pair.state = start;
+        let mut keys = Keys::below(s);
+        for _ in 0..40 {
+            let call = some_call(&mut test.random, MANY_INSERTS, &keys);
+            let answer = test.pair.call(call)?;
+            keys.note(call, answer);
+        }
+    }
+    Ok(())
+}
+
+/// Random bytes of a likely shape, a state shortly before something is due, and a few calls.
+fn boundaries(test: &mut Test, s: u32, r: u32, d: u32, times: usize) -> Result<(), Difference> {
+    let geometry = geometry(s, r, d);
+    let (extra, shift) = (test.random.below(9), test.random.below(16));
+    test.pair.lend_for(geometry, extra, shift);
+    for _ in 0..times {
+        let keys = Keys::below(test.random.pick(&[4, 200, 5000, 1 << 20]));
+        let state = due_state(&mut test.random, geometry, s, r, d);
+        let random = &mut test.random;
+        test.pair.fill(|data, spare, ram| {
+            fill_likely(random, geometry, state, keys.bound, data, spare, ram);
+        });
+        test.pair.state = state;
+        for _ in 0..10 {
+            let random = &mut test.random;
+            // A key above the others is not there and can be inserted.
+            let call = if random.chance(1, 2) {
+                let key = 0x4000_0000 + random.below_u32(1 << 30);
+                insert_of(random, key)
+            } else {
+                let mix = random.pick(&[MANY_INSERTS, MANY_UPDATES, MANY_DELETES]);
+                some_call(random, mix, &keys)
+            };
+            test.pair.call(call)?;
+        }
+    }
+    Ok(())
+}
+
+/// n up to three below a multiple of a page, a flush, a round or a cycle; d below a page of deletions or anything.
+fn due_state(random: &mut Random, geometry: Geometry, s: u32, r: u32, d: u32) -> State {
+    let capacity = geometry.record_capacity();
+    let entries = geometry.entries_per_page();
+    let steps = [geometry.records_per_page(), entries, 8 * entries];
+    let step = match random.below(8) {
+        0..=2 => random.pick(&steps),
+        3 => geometry.filters_per_cycle() * entries,
+        _ => 128 * entries,
+    };
+    let due = step * (1 + random.below((capacity / step).max(1)));
+    let records = due.min(capacity) - 1 - random.below(3);
+    let most = geometry.deletion_capacity().min(records);
+    let deletions = match random.below(3) {
+        0 => random.below(most.min(20) + 1),
+        1 => {
+            let page = geometry.deletions_per_page();
+            (page * (1 + random.below(most / page + 1)) - 1).min(most)
+        }
+        _ => random.below(most + 1),
+    };
+    State {
+        sector_size: s,
+        ra_blocks: r,
+        da_blocks: d,
+        records: records as u32,
+        deletions: deletions as u32,
+    }
+}
+
+/// Entries with keys below `keys` and record numbers mostly below n, deletions of such numbers,
+/// filter bits of some density, spare bytes mostly fresh.
+fn fill_likely(
+    random: &mut Random,
+    geometry: Geometry,
+    state: State,
+    keys: u32,
+    data: &mut [u8],
+    spare: &mut [u8],
+    ram: &mut [u8],
+) {
+    let page = geometry.page_size();
+    random.fill(data);
+    random.fill(ram);
+    let wrong_numbers = random.chance(1, 4);
+    let ka = geometry.page_start(geometry.ka_page(0));
+    let da = geometry.page_start(geometry.da_page(0));
+    let index = geometry.l1_block() * 64 * geometry.sector_size();
+    fill_entries(random, state.records, keys, wrong_numbers, &mut data[ka..da]);
+    fill_entries(
+        random,
+        state.records,
+        keys,
+        wrong_numbers,
+        &mut ram[page..2 * page],
+    );
+    fill_numbers(random, state.records, &mut data[da..index]);
+    fill_numbers(random, state.records, &mut ram[2 * page..3 * page]);
+
+    let density = random.below(6);
+    for bits in [&mut data[index..], &mut ram[3 * page..4 * page]] {
+        match density {
+            0 => bits.fill(0x00),
+            1 => bits.fill(0xFF),
+            2 => bits.iter_mut().for_each(|byte| *byte |= byte.rotate_left(3)),
+            3 => bits.iter_mut().for_each(|byte| *byte &= byte.rotate_left(3)),
+            _ => {}
+        }
+    }
+
+    spare.fill(0xFF);
+    match random.below(12) {
+        0 => random.fill(spare),
+        1 => spare.fill(0x00),
+        2 => {
+            for _ in 0..1 + random.below(50) {
+                let sector = random.below(spare.len());
+                spare[sector] = random.next_byte();
+            }
+        }
+        _ => {}
+    }
+}
+
+fn fill_entries(random: &mut Random, records: u32, keys: u32, wrong_numbers: bool, bytes: &mut [u8]) {
+    for entry in bytes.chunks_exact_mut(8) {
+        let key = random.below_u32(keys);
+        let number = if wrong_numbers && random.chance(1, 10) {
+            random.next_u32()
+        } else {
+            random.below_u32(records)
+        };
+        entry[..4].copy_from_slice(&key.to_le_bytes());
+        entry[4..].copy_from_slice(&number.to_le_bytes());
+    }
+}
+
+fn fill_numbers(random: &mut Random, records: u32, bytes: &mut [u8]) {
+    for number in bytes.chunks_exact_mut(4) {
+        number.copy_from_slice(&random.below_u32(records).to_le_bytes());
+    }
+}

@@ -1,0 +1,194 @@
+//! The five calls and their refusals, "checked in the order 1, 2, 8, 3, 4, 5, 6, 7".
+
+use crate::change::{change, Record};
+use crate::flash::erase_block;
+use crate::geometry::Geometry;
+use crate::search::{record_place, search, SearchResult};
+use crate::{Change, LookupResult, State};
+
+const NOT_ALLOWED: u32 = 1;
+const TOO_SHORT: u32 = 2;
+const LIVE: u32 = 3;
+const NOT_LIVE: u32 = 4;
+const RECORDS_FULL: u32 = 5;
+const DELETIONS_FULL: u32 = 6;
+const NOT_FRESH: u32 = 7;
+const WRONG_RECORD_NUMBER: u32 = 8;
+
+/// "Format takes the old state, which it does not judge, and S, R, D, erases the volume,
+/// zeroes the desk and gives n = d = 0."
+pub fn format(
+    old: State,
+    sector_size: u32,
+    ra_blocks: u32,
+    da_blocks: u32,
+    data: &mut [u8],
+    spare: &mut [u8],
+    ram: &mut [u8],
+) -> Change {
+    let new = State {
+        sector_size,
+        ra_blocks,
+        da_blocks,
+        records: 0,
+        deletions: 0,
+    };
+    let geometry = match judge(new, data, spare, ram) {
+        Ok(geometry) => geometry,
+        Err(refusal) => return refused(refusal, old),
+    };
+    // "Format erases blocks 0 to B − 1, rising."
+    for block in 0..geometry.blocks() {
+        erase_block(data, spare, geometry.sector_size(), block);
+    }
+    ram[..geometry.ram_bytes()].fill(0);
+    accepted(new)
+}
+
+pub fn insert(
+    state: State,
+    key: u32,
+    moves: u32,
+    goal: u32,
+    word: u32,
+    data: &mut [u8],
+    spare: &mut [u8],
+    ram: &mut [u8],
+) -> Change {
+    let geometry = match judge(state, data, spare, ram) {
+        Ok(geometry) => geometry,
+        Err(refusal) => return refused(refusal, state),
+    };
+    match search(geometry, state, key, data, ram) {
+        SearchResult::WrongRecordNumber => return refused(WRONG_RECORD_NUMBER, state),
+        SearchResult::Live { .. } => return refused(LIVE, state),
+        SearchResult::NotLive { .. } => {}
+    }
+    if state.records as usize >= geometry.record_capacity() {
+        return refused(RECORDS_FULL, state);
+    }
+    let record = Record {
+        key,
+        moves,
+        goal,
+        word,
+    };
+    match change(geometry, state, None, Some(record), data, spare, ram) {
+        Some(next) => accepted(next),
+        None => refused(NOT_FRESH, state),
+    }
+}
+
+/// "An update is a deletion followed by an insertion, in one call, even if the values are equal."
+pub fn update(
+    state: State,
+    key: u32,
+    moves: u32,
+    goal: u32,
+    word: u32,
+    data: &mut [u8],
+    spare: &mut [u8],
+    ram: &mut [u8],
+) -> Change {
+    let geometry = match judge(state, data, spare, ram) {
+        Ok(geometry) => geometry,
+        Err(refusal) => return refused(refusal, state),
+    };
+    let old = match search(geometry, state, key, data, ram) {
+        SearchResult::WrongRecordNumber => return refused(WRONG_RECORD_NUMBER, state),
+        SearchResult::NotLive { .. } => return refused(NOT_LIVE, state),
+        SearchResult::Live { record, .. } => record,
+    };
+    if state.records as usize >= geometry.record_capacity() {
+        return refused(RECORDS_FULL, state);
+    }
+    if state.deletions as usize >= geometry.deletion_capacity() {
+        return refused(DELETIONS_FULL, state);
+    }
+    let record = Record {
+        key,
+        moves,
+        goal,
+        word,
+    };
+    match change(geometry, state, Some(old), Some(record), data, spare, ram) {
+        Some(next) => accepted(next),
+        None => refused(NOT_FRESH, state),
+    }
+}
+
+/// "A deletion appends the 4-byte record number to DA."
+pub fn delete(state: State, key: u32, data: &mut [u8], spare: &mut [u8], ram: &mut [u8]) -> Change {
+    let geometry = match judge(state, data, spare, ram) {
+        Ok(geometry) => geometry,
+        Err(refusal) => return refused(refusal, state),
+    };
+    let old = match search(geometry, state, key, data, ram) {
+        SearchResult::WrongRecordNumber => return refused(WRONG_RECORD_NUMBER, state),
+        SearchResult::NotLive { .. } => return refused(NOT_LIVE, state),
+        SearchResult::Live { record, .. } => record,
+    };
+    if state.deletions as usize >= geometry.deletion_capacity() {
+        return refused(DELETIONS_FULL, state);
+    }
+    match change(geometry, state, Some(old), None, data, spare, ram) {
+        Some(next) => accepted(next),
+        None => refused(NOT_FRESH, state),
+    }
+}
+
+/// "Lookup gives hit, count and the 16 record bytes as the caller's own, on the chip or in the desk,
+/// wherever that record is; or miss, count and an empty part; its refusals give count 0 and an empty part."
+pub fn lookup(state: State, key: u32, data: &[u8], spare: &[u8], ram: &[u8]) -> LookupResult {
+    let nothing = LookupResult::default();
+    let geometry = match judge(state, data, spare, ram) {
+        Ok(geometry) => geometry,
+        Err(refusal) => return LookupResult { refusal, ..nothing },
+    };
+    match search(geometry, state, key, data, ram) {
+        SearchResult::WrongRecordNumber => LookupResult {
+            refusal: WRONG_RECORD_NUMBER,
+            ..nothing
+        },
+        SearchResult::NotLive { count } => LookupResult { count, ..nothing },
+        SearchResult::Live { record, count } => {
+            let (in_ram, offset) = record_place(geometry, state.records as usize, record as usize);
+            LookupResult {
+                refusal: 0,
+                found: 1,
+                count,
+                in_ram: u32::from(in_ram),
+                offset: offset as u32,
+            }
+        }
+    }
+}
+
+/// Refusals 1 and 2. Nothing is multiplied before S, R and D are known to be allowed.
+fn judge(state: State, data: &[u8], spare: &[u8], ram: &[u8]) -> Result<Geometry, u32> {
+    let geometry = Geometry::of_state(state).ok_or(NOT_ALLOWED)?;
+    // "n or d above capacity; d above n".
+    if state.records as usize > geometry.record_capacity()
+        || state.deletions as usize > geometry.deletion_capacity()
+        || state.deletions > state.records
+    {
+        return Err(NOT_ALLOWED);
+    }
+    // "Cells under 64SB, marks under 64B or desk under 20S bytes"; longer slices are allowed.
+    if data.len() < geometry.data_bytes()
+        || spare.len() < geometry.spare_bytes()
+        || ram.len() < geometry.ram_bytes()
+    {
+        return Err(TOO_SHORT);
+    }
+    Ok(geometry)
+}
+
+fn accepted(state: State) -> Change {
+    Change { refusal: 0, state }
+}
+
+/// "The state comes back as handed in."
+fn refused(refusal: u32, state: State) -> Change {
+    Change { refusal, state }
+}

@@ -1,0 +1,184 @@
+//! Filters: where each lies, how its bits are read, and how they are built.
+
+use crate::flash::{program_page, read_bit, read_number, set_bit};
+use crate::geometry::{
+    Geometry, RamPage, ENTRY_BYTES, FILTERS_PER_FLUSH, FILTERS_PER_ROUND, PAGES_PER_BLOCK, SECTORS_PER_PAGE,
+};
+use crate::hash::positions;
+
+/// Set number i, from 2, built when `full_sets` full sets were there.
+#[derive(Clone, Copy, Debug, PartialEq, Eq)]
+pub struct Set {
+    pub number: usize,
+    pub full_sets: usize,
+}
+
+/// "P being 16 times the least power of two not below i − 1."
+pub fn set_page_count(number: usize) -> usize {
+    16 * (number - 1).next_power_of_two()
+}
+
+impl Set {
+    pub fn page_count(self) -> usize {
+        set_page_count(self.number)
+    }
+
+    pub fn block_count(self) -> usize {
+        self.page_count() / PAGES_PER_BLOCK
+    }
+
+    /// "With w = m/P."
+    pub fn width(self, geometry: Geometry) -> usize {
+        geometry.filter_bits() / self.page_count()
+    }
+
+    /// "Built out of L1 and set i−1": 128 filters a round.
+    pub fn filter_count(self) -> usize {
+        (self.number - 1) * FILTERS_PER_ROUND
+    }
+
+    /// "An even i goes to side A, an odd one to side B, from the side's first page.
+    /// Set S/4 + 1 is full at m pages and goes to the next sealed place instead."
+    pub fn first_block(self, geometry: Geometry) -> usize {
+        if self.number == geometry.rounds_per_cycle() + 1 {
+            geometry.full_sets_first_block() + self.full_sets * geometry.side_blocks()
+        } else if self.number.is_multiple_of(2) {
+            geometry.side_a_first_block()
+        } else {
+            geometry.side_b_first_block()
+        }
+    }
+
+    pub fn first_page(self, geometry: Geometry) -> usize {
+        self.first_block(geometry) * PAGES_PER_BLOCK
+    }
+}
+
+/// Where a filter lies.
+#[derive(Clone, Copy)]
+pub enum Place {
+    SkaPage { slot: usize },
+    LevelOne { flush: usize, slot: usize },
+    Set { set: Set, index: usize },
+}
+
+/// Where the filter of full page `filter` lies when there are `full_pages`. It follows from n alone.
+pub fn place_of_filter(geometry: Geometry, filter: usize, full_pages: usize) -> Place {
+    let cycle = geometry.filters_per_cycle();
+    let rounds = full_pages / FILTERS_PER_ROUND;
+    if filter >= full_pages - full_pages % FILTERS_PER_FLUSH {
+        // Not yet flushed.
+        Place::SkaPage {
+            slot: filter % FILTERS_PER_FLUSH,
+        }
+    } else if filter >= full_pages - full_pages % FILTERS_PER_ROUND {
+        // Flushed in the present round.
+        level_one_place(filter)
+    } else if filter >= full_pages - full_pages % cycle {
+        // In the newest set, which has all earlier filters of its cycle.
+        let set = Set {
+            number: rounds % geometry.rounds_per_cycle() + 1,
+            full_sets: full_pages / cycle,
+        };
+        Place::Set {
+            set,
+            index: filter % cycle,
+        }
+    } else {
+        // In a full set.
+        let set = Set {
+            number: geometry.rounds_per_cycle() + 1,
+            full_sets: filter / cycle,
+        };
+        Place::Set {
+            set,
+            index: filter % cycle,
+        }
+    }
+}
+
+fn level_one_place(filter: usize) -> Place {
+    Place::LevelOne {
+        flush: filter % FILTERS_PER_ROUND / FILTERS_PER_FLUSH,
+        slot: filter % FILTERS_PER_FLUSH,
+    }
+}
+
+/// The bit of a filter at a position below m, read from the lent bytes.
+pub fn filter_bit(geometry: Geometry, place: Place, position: usize, data: &[u8], ram: &[u8]) -> bool {
+    let sector_size = geometry.sector_size();
+    match place {
+        // "Sector i holds bits iS to iS+S−1 of each filter, oldest filter first."
+        Place::SkaPage { slot } => {
+            let sector = geometry.ram_start(RamPage::Ska) + position / sector_size * sector_size;
+            read_bit(&ram[sector..], slot * sector_size + position % sector_size)
+        }
+        Place::LevelOne { flush, slot } => {
+            let sector = geometry.l1_sector(flush, position / sector_size) * sector_size;
+            read_bit(&data[sector..], slot * sector_size + position % sector_size)
+        }
+        // "Page p holds bits pw to pw+w−1 of each filter; filter g of the set has its part at bits gw to gw+w−1."
+        Place::Set { set, index } => {
+            let width = set.width(geometry);
+            let page = set.first_page(geometry) + position / width;
+            read_bit(
+                &data[geometry.page_start(page)..],
+                index * width + position % width,
+            )
+        }
+    }
+}
+
+/// "A full KA page gives one filter of m bits with the positions of all its keys set."
+/// It replaces its place in the SKA page whole; `page` holds the entries.
+pub fn write_filter(geometry: Geometry, slot: usize, page: &[u8], ska_page: &mut [u8]) {
+    let sector_size = geometry.sector_size();
+    let slot_bytes = sector_size / FILTERS_PER_FLUSH;
+    for i in 0..SECTORS_PER_PAGE {
+        let start = i * sector_size + slot * slot_bytes;
+        ska_page[start..start + slot_bytes].fill(0);
+    }
+    for entry in page.chunks_exact(ENTRY_BYTES) {
+        for position in positions(sector_size, read_number(entry, 0)) {
+            let sector = position / sector_size * sector_size;
+            set_bit(
+                &mut ska_page[sector..],
+                slot * sector_size + position % sector_size,
+            );
+        }
+    }
+}
+
+/// "Set number i is built out of L1 and set i−1", from the bits as they stand.
+/// Each page is put together in the work page and programmed.
+pub fn build_set(geometry: Geometry, set: Set, data: &mut [u8], spare: &mut [u8], ram: &mut [u8]) {
+    let earlier = Set {
+        number: set.number - 1,
+        full_sets: set.full_sets,
+    };
+    let from_earlier = set.filter_count() - FILTERS_PER_ROUND;
+    let width = set.width(geometry);
+    let work = geometry.ram_start(RamPage::Work);
+    for page in 0..set.page_count() {
+        // "The rest is zero."
+        ram[work..work + geometry.page_size()].fill(0);
+        for index in 0..set.filter_count() {
+            let place = if index < from_earlier {
+                Place::Set { set: earlier, index }
+            } else {
+                level_one_place(index)
+            };
+            for bit in 0..width {
+                if filter_bit(geometry, place, page * width + bit, data, ram) {
+                    set_bit(&mut ram[work..], index * width + bit);
+                }
+            }
+        }
+        program_page(
+            data,
+            spare,
+            set.first_page(geometry) + page,
+            &ram[work..work + geometry.page_size()],
+        );
+    }
+}

@@ -1,0 +1,57 @@
+//! Plain model of the level store, written from the sentences of document 01.
+//!
+//! Five calls, on any state and any slices: `data`, `spare` and `ram` are the
+//! bytes that the document calls cells, marks and desk. Nothing is kept between
+//! calls; filter bits are read from the lent bytes, and sets are built from the
+//! bits as they stand.
+
+#![forbid(unsafe_code)]
+
+mod calls;
+mod change;
+mod filter;
+mod flash;
+mod geometry;
+mod hash;
+mod search;
+
+pub use calls::{delete, format, insert, lookup, update};
+pub use filter::{set_page_count, Set};
+pub use geometry::{Geometry, SECTOR_SIZES};
+pub use hash::{fnv1a, positions};
+
+/// The state S, R, D, n, d.
+#[repr(C)]
+#[derive(Clone, Copy, Debug, Default, PartialEq, Eq)]
+pub struct State {
+    /// S: sector size in bytes.
+    pub sector_size: u32,
+    /// R: blocks of the record area.
+    pub ra_blocks: u32,
+    /// D: blocks of the deletion area.
+    pub da_blocks: u32,
+    /// n: records accepted.
+    pub records: u32,
+    /// d: deletions accepted.
+    pub deletions: u32,
+}
+
+/// The answer of format, insert, update and delete. Refusal 0: accepted.
+#[repr(C)]
+#[derive(Clone, Copy, Debug, Default, PartialEq, Eq)]
+pub struct Change {
+    pub refusal: u32,
+    pub state: State,
+}
+
+/// The answer of lookup. Found 1: the 16 record bytes start at `offset` of ram
+/// (`in_ram` 1) or of data (`in_ram` 0). Found 0: a miss or a refusal.
+#[repr(C)]
+#[derive(Clone, Copy, Debug, Default, PartialEq, Eq)]
+pub struct LookupResult {
+    pub refusal: u32,
+    pub found: u32,
+    pub count: u32,
+    pub in_ram: u32,
+    pub offset: u32,
+}

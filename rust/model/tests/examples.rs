@@ -1,0 +1,220 @@
+//! The examples of document 01 and the published hash vectors.
+
+use model::{delete, fnv1a, format, insert, set_page_count, Geometry, State};
+
+#[test]
+fn published_hash_vectors() {
+    let path = concat!(env!("CARGO_MANIFEST_DIR"), "/../../tests/vectors/fnv1a32.txt");
+    let text = std::fs::read_to_string(path).expect("the published vectors");
+    let mut lines = 0;
+    for line in text.lines().filter(|line| !line.starts_with('#')) {
+        let (bytes, hash) = line.split_once(' ').expect("bytes, then hash");
+        let digits = if bytes == "-" { "" } else { bytes };
+        let bytes: Vec<u8> = (0..digits.len() / 2)
+            .map(|i| u8::from_str_radix(&digits[2 * i..2 * i + 2], 16).expect("a byte"))
+            .collect();
+        assert_eq!(format!("{:08x}", fnv1a(&bytes)), hash, "{line}");
+        lines += 1;
+    }
+    assert!(lines >= 28);
+}
+
+#[test]
+fn block_counts() {
+    for (s, r, d, blocks) in [
+        (16, 1, 1, 12),
+        (16, 32, 1, 58),
+        (16, 63, 1, 105),
+        (16, 64, 1, 110),
+        (512, 2048, 1, 3458),
+    ] {
+        assert_eq!(Geometry::new(s, r, d).expect("allowed").blocks(), blocks);
+    }
+    assert_eq!(Geometry::new(16, 1, 1).expect("allowed").record_capacity(), 64);
+    assert_eq!(Geometry::new(512, 4096, 4096).expect("allowed").blocks(), 10753);
+    assert_eq!(Geometry::new(24, 1, 1), None);
+    assert_eq!(Geometry::new(16, 0, 1), None);
+    assert_eq!(Geometry::new(16, 1, 4097), None);
+}
+
+#[test]
+fn pages_of_sets() {
+    let pages: Vec<usize> = (2..=6).map(set_page_count).collect();
+    assert_eq!(pages, [16, 32, 64, 64, 128]);
+}
+
+#[test]
+fn flush_sector() {
+    let geometry = Geometry::new(16, 1, 1).expect("allowed");
+    let first = geometry.l1_block() * 64;
+    assert_eq!(geometry.l1_sector(6, 2) - first, 9 * 4 + 2);
+}
+
+struct Volume {
+    state: State,
+    data: Vec<u8>,
+    spare: Vec<u8>,
+    ram: Vec<u8>,
+}
+
+impl Volume {
+    fn new(s: u32, r: u32, d: u32) -> Volume {
+        let geometry = Geometry::new(s, r, d).expect("allowed");
+        let mut volume = Volume {
+            state: State::default(),
+            data: vec![0x5A; geometry.data_bytes()],
+            spare: vec![0x5A; geometry.spare_bytes()],
+            ram: vec![0x5A; geometry.ram_bytes()],
+        };
+        let change = format(
+            volume.state,
+            s,
+            r,
+            d,
+            &mut volume.data,
+            &mut volume.spare,
+            &mut volume.ram,
+        );
+        assert_eq!(change.refusal, 0);
+        volume.state = change.state;
+        volume
+    }
+
+    fn insert(&mut self, key: u32) -> u32 {
+        let change = insert(
+            self.state,
+            key,
+            key,
+            0,
+            0,
+            &mut self.data,
+            &mut self.spare,
+            &mut self.ram,
+        );
+        self.state = change.state;
+        change.refusal
+    }
+
+    fn delete(&mut self, key: u32) -> u32 {
+        let change = delete(self.state, key, &mut self.data, &mut self.spare, &mut self.ram);
+        self.state = change.state;
+        change.refusal
+    }
+
+    fn lookup(&self, key: u32) -> model::LookupResult {
+        model::lookup(self.state, key, &self.data, &self.spare, &self.ram)
+    }
+}
+
+#[test]
+fn places_of_records() {
+    let mut volume = Volume::new(16, 1, 1);
+    for key in 0..5 {
+        assert_eq!(volume.insert(key), 0);
+    }
+    let third = volume.lookup(3);
+    assert_eq!((third.found, third.in_ram, third.offset), (1, 0, 48));
+    let fourth = volume.lookup(4);
+    assert_eq!((fourth.found, fourth.in_ram, fourth.offset), (1, 1, 0));
+}
+
+#[test]
+fn capacity() {
+    let mut volume = Volume::new(16, 1, 1);
+    for key in 0..64 {
+        assert_eq!(volume.insert(key), 0);
+    }
+    assert_eq!(volume.insert(64), 5);
+    assert_eq!(volume.insert(7), 3);
+}
+
+#[test]
+fn deletion_capacity() {
+    let mut volume = Volume::new(16, 5, 1);
+    for key in 0..257 {
+        assert_eq!(volume.insert(key), 0);
+    }
+    for key in 0..256 {
+        assert_eq!(volume.delete(key), 0);
+    }
+    assert_eq!(volume.delete(256), 6);
+    assert_eq!(volume.delete(0), 4);
+}
+
+#[test]
+fn first_set() {
+    let mut volume = Volume::new(16, 16, 1);
+    let geometry = Geometry::new(16, 16, 1).expect("allowed");
+    for key in 0..1023 {
+        assert_eq!(volume.insert(key), 0);
+    }
+    let l1 = geometry.l1_block() * 64;
+    let side_a = geometry.side_a_first_block() * 64;
+    let programmed = |range: std::ops::Range<usize>, volume: &Volume| {
+        range.filter(|&sector| volume.spare[sector] == 0).count()
+    };
+    assert_eq!(programmed(l1..l1 + 64, &volume), 15 * 4);
+    assert_eq!(programmed(side_a..side_a + 64, &volume), 0);
+    assert_eq!(volume.insert(1023), 0);
+    assert_eq!(programmed(l1..l1 + 64, &volume), 0);
+    assert_eq!(programmed(side_a..side_a + 64, &volume), 64);
+    assert!(volume.ram.iter().all(|&byte| byte == 0));
+}
+
+#[test]
+fn sector_not_fresh() {
+    let mut volume = Volume::new(16, 1, 1);
+    volume.spare[0] = 0;
+    for key in 0..3 {
+        assert_eq!(volume.insert(key), 0);
+    }
+    let before = (volume.data.clone(), volume.spare.clone(), volume.ram.clone());
+    assert_eq!(volume.insert(3), 7);
+    assert_eq!(before, (volume.data, volume.spare, volume.ram));
+}
+
+#[test]
+fn wrong_record_number() {
+    let mut volume = Volume::new(16, 1, 1);
+    assert_eq!(volume.insert(7), 0);
+    // The entry's record number is at byte 4 of the KA page.
+    volume.ram[64 + 4] = 9;
+    assert_eq!(volume.lookup(7).refusal, 8);
+    assert_eq!(volume.insert(7), 8);
+    assert_eq!(volume.delete(7), 8);
+}
+
+#[test]
+fn wild_states_are_refused() {
+    let mut bytes = [[0u8; 64]; 3];
+    let [data, spare, ram] = &mut bytes;
+    let wild = [0, 1, 16, 512, 4096, 4097, u32::MAX];
+    for sector_size in wild {
+        for ra_blocks in wild {
+            for da_blocks in wild {
+                for records in wild {
+                    for deletions in wild {
+                        let state = State {
+                            sector_size,
+                            ra_blocks,
+                            da_blocks,
+                            records,
+                            deletions,
+                        };
+                        let change = insert(state, 7, 1, 2, 3, data, spare, ram);
+                        assert!(change.refusal == 1 || change.refusal == 2);
+                        assert_eq!(change.state, state);
+                        assert_eq!(model::lookup(state, 7, data, spare, ram).refusal, change.refusal);
+                    }
+                }
+                let old = State {
+                    records: 9,
+                    ..State::default()
+                };
+                let change = format(old, sector_size, ra_blocks, da_blocks, data, spare, ram);
+                assert!(change.refusal == 1 || change.refusal == 2);
+                assert_eq!(change.state, old);
+            }
+        }
+    }
+}

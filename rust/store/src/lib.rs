@@ -1,0 +1,64 @@
+//! The five calls as a trait, so that tests and benchmarks can run any implementation.
+
+mod model_store;
+#[cfg(feature = "proved")]
+mod proved_store;
+
+pub use model::{Change, Geometry, LookupResult, State, SECTOR_SIZES};
+pub use model_store::ModelStore;
+#[cfg(feature = "proved")]
+pub use proved_store::ProvedStore;
+
+/// A level store: `data`, `spare` and `ram` are document 01's cells, marks and desk.
+pub trait Store {
+    fn name(&self) -> &'static str;
+
+    fn format(
+        &self,
+        old: State,
+        sector_size: u32,
+        ra_blocks: u32,
+        da_blocks: u32,
+        data: &mut [u8],
+        spare: &mut [u8],
+        ram: &mut [u8],
+    ) -> Change;
+
+    fn insert(
+        &self,
+        state: State,
+        key: u32,
+        moves: u32,
+        goal: u32,
+        word: u32,
+        data: &mut [u8],
+        spare: &mut [u8],
+        ram: &mut [u8],
+    ) -> Change;
+
+    fn update(
+        &self,
+        state: State,
+        key: u32,
+        moves: u32,
+        goal: u32,
+        word: u32,
+        data: &mut [u8],
+        spare: &mut [u8],
+        ram: &mut [u8],
+    ) -> Change;
+
+    fn delete(&self, state: State, key: u32, data: &mut [u8], spare: &mut [u8], ram: &mut [u8]) -> Change;
+
+    fn lookup(&self, state: State, key: u32, data: &[u8], spare: &[u8], ram: &[u8]) -> LookupResult;
+}
+
+/// The store of a name: `model`, and `proved` with the feature.
+pub fn by_name(name: &str) -> Option<Box<dyn Store>> {
+    match name {
+        "model" => Some(Box::new(ModelStore)),
+        #[cfg(feature = "proved")]
+        "proved" => Some(Box::new(ProvedStore)),
+        _ => None,
+    }
+}

@@ -1,0 +1,195 @@
+use crate::Store;
+use model::{Change, LookupResult, State};
+
+/// The C interface of the static library. The structs are `#[repr(C)]`; a slice is a pointer and a length.
+mod c {
+    use model::{Change, LookupResult, State};
+
+    extern "C" {
+        pub fn level_store_format(
+            old: State,
+            sector_size: u32,
+            ra_blocks: u32,
+            da_blocks: u32,
+            data: *mut u8,
+            data_len: usize,
+            spare: *mut u8,
+            spare_len: usize,
+            ram: *mut u8,
+            ram_len: usize,
+        ) -> Change;
+
+        pub fn level_store_insert(
+            state: State,
+            key: u32,
+            moves: u32,
+            goal: u32,
+            word: u32,
+            data: *mut u8,
+            data_len: usize,
+            spare: *mut u8,
+            spare_len: usize,
+            ram: *mut u8,
+            ram_len: usize,
+        ) -> Change;
+
+        pub fn level_store_update(
+            state: State,
+            key: u32,
+            moves: u32,
+            goal: u32,
+            word: u32,
+            data: *mut u8,
+            data_len: usize,
+            spare: *mut u8,
+            spare_len: usize,
+            ram: *mut u8,
+            ram_len: usize,
+        ) -> Change;
+
+        pub fn level_store_delete(
+            state: State,
+            key: u32,
+            data: *mut u8,
+            data_len: usize,
+            spare: *mut u8,
+            spare_len: usize,
+            ram: *mut u8,
+            ram_len: usize,
+        ) -> Change;
+
+        pub fn level_store_lookup(
+            state: State,
+            key: u32,
+            data: *const u8,
+            data_len: usize,
+            spare: *const u8,
+            spare_len: usize,
+            ram: *const u8,
+            ram_len: usize,
+        ) -> LookupResult;
+    }
+}
+
+/// The store of the static library.
+pub struct ProvedStore;
+
+// Each call lends three distinct slices with their lengths for its duration; the library takes
+// any state, any numbers and slices of any length.
+impl Store for ProvedStore {
+    fn name(&self) -> &'static str {
+        "proved"
+    }
+
+    fn format(
+        &self,
+        old: State,
+        sector_size: u32,
+        ra_blocks: u32,
+        da_blocks: u32,
+        data: &mut [u8],
+        spare: &mut [u8],
+        ram: &mut [u8],
+    ) -> Change {
+        unsafe {
+            c::level_store_format(
+                old,
+                sector_size,
+                ra_blocks,
+                da_blocks,
+                data.as_mut_ptr(),
+                data.len(),
+                spare.as_mut_ptr(),
+                spare.len(),
+                ram.as_mut_ptr(),
+                ram.len(),
+            )
+        }
+    }
+
+    fn insert(
+        &self,
+        state: State,
+        key: u32,
+        moves: u32,
+        goal: u32,
+        word: u32,
+        data: &mut [u8],
+        spare: &mut [u8],
+        ram: &mut [u8],
+    ) -> Change {
+        unsafe {
+            c::level_store_insert(
+                state,
+                key,
+                moves,
+                goal,
+                word,
+                data.as_mut_ptr(),
+                data.len(),
+                spare.as_mut_ptr(),
+                spare.len(),
+                ram.as_mut_ptr(),
+                ram.len(),
+            )
+        }
+    }
+
+    fn update(
+        &self,
+        state: State,
+        key: u32,
+        moves: u32,
+        goal: u32,
+        word: u32,
+        data: &mut [u8],
+        spare: &mut [u8],
+        ram: &mut [u8],
+    ) -> Change {
+        unsafe {
+            c::level_store_update(
+                state,
+                key,
+                moves,
+                goal,
+                word,
+                data.as_mut_ptr(),
+                data.len(),
+                spare.as_mut_ptr(),
+                spare.len(),
+                ram.as_mut_ptr(),
+                ram.len(),
+            )
+        }
+    }
+
+    fn delete(&self, state: State, key: u32, data: &mut [u8], spare: &mut [u8], ram: &mut [u8]) -> Change {
+        unsafe {
+            c::level_store_delete(
+                state,
+                key,
+                data.as_mut_ptr(),
+                data.len(),
+                spare.as_mut_ptr(),
+                spare.len(),
+                ram.as_mut_ptr(),
+                ram.len(),
+            )
+        }
+    }
+
+    fn lookup(&self, state: State, key: u32, data: &[u8], spare: &[u8], ram: &[u8]) -> LookupResult {
+        unsafe {
+            c::level_store_lookup(
+                state,
+                key,
+                data.as_ptr(),
+                data.len(),
+                spare.as_ptr(),
+                spare.len(),
+                ram.as_ptr(),
+                ram.len(),
+            )
+        }
+    }
+}

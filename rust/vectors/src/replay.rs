@@ -1,0 +1,195 @@
+//! The replay program of document 01 over a store.
+
+use store::{State, Store};
+
+/// "It lends 59,392 cells, 3,712 marks and a desk of 640 bytes."
+const DATA_BYTES: usize = 59_392;
+const SPARE_BYTES: usize = 3_712;
+const RAM_BYTES: usize = 640;
+
+/// The output for a whole input: an answer a line, each ended by a line feed.
+pub fn replay(store: &dyn Store, input: &[u8]) -> Vec<u8> {
+    let mut volume = Volume {
+        store,
+        // "Before any format the state is all zero."
+        state: State::default(),
+        data: vec![0; DATA_BYTES],
+        spare: vec![0; SPARE_BYTES],
+        ram: vec![0; RAM_BYTES],
+    };
+    let mut output = Vec::new();
+    // The last line feed may be missing; a line feed opens no line.
+    for line in input.split_inclusive(|&byte| byte == b'\n') {
+        let line = line.strip_suffix(b"\n").unwrap_or(line);
+        output.extend_from_slice(volume.answer(line).as_bytes());
+        output.push(b'\n');
+    }
+    output
+}
+
+#[derive(Clone, Copy, Debug, PartialEq, Eq)]
+enum Command {
+    Format { s: u32, r: u32, d: u32 },
+    Insert { key: u32, moves: u32 },
+    Update { key: u32, moves: u32 },
+    Delete { key: u32 },
+    Lookup { key: u32 },
+}
+
+/// "`f S R D`, `i key moves`, `u key moves`, `d key`, `l key`, in decimal below 2^32
+/// without leading zeros, single spaces."
+fn parse(line: &[u8]) -> Option<Command> {
+    let mut words = line.split(|&byte| byte == b' ');
+    let name = words.next()?;
+    let numbers = words.map(number).collect::<Option<Vec<u32>>>()?;
+    match (name, numbers.as_slice()) {
+        (b"f", &[s, r, d]) => Some(Command::Format { s, r, d }),
+        (b"i", &[key, moves]) => Some(Command::Insert { key, moves }),
+        (b"u", &[key, moves]) => Some(Command::Update { key, moves }),
+        (b"d", &[key]) => Some(Command::Delete { key }),
+        (b"l", &[key]) => Some(Command::Lookup { key }),
+        _ => None,
+    }
+}
+
+fn number(word: &[u8]) -> Option<u32> {
+    if word.is_empty() || (word.len() > 1 && word[0] == b'0') {
+        return None;
+    }
+    let mut value: u32 = 0;
+    for &byte in word {
+        if !byte.is_ascii_digit() {
+            return None;
+        }
+        value = value.checked_mul(10)?.checked_add(u32::from(byte - b'0'))?;
+    }
+    Some(value)
+}
+
+/// The state and lent bytes that pass from one line to the next.
+struct Volume<'a> {
+    store: &'a dyn Store,
+    state: State,
+    data: Vec<u8>,
+    spare: Vec<u8>,
+    ram: Vec<u8>,
+}
+
+impl Volume<'_> {
+    /// "`ok n d`, `hit moves count`, `miss count` or `no number` answers each; other lines answer `bad`."
+    fn answer(&mut self, line: &[u8]) -> String {
+        let Some(command) = parse(line) else {
+            return "bad".to_string();
+        };
+        let (store, state) = (self.store, self.state);
+        let (data, spare, ram) = (&mut self.data, &mut self.spare, &mut self.ram);
+        // "Goal and free word are 0."
+        let change = match command {
+            Command::Format { s, r, d } => store.format(state, s, r, d, data, spare, ram),
+            Command::Insert { key, moves } => store.insert(state, key, moves, 0, 0, data, spare, ram),
+            Command::Update { key, moves } => store.update(state, key, moves, 0, 0, data, spare, ram),
+            Command::Delete { key } => store.delete(state, key, data, spare, ram),
+            Command::Lookup { key } => {
+                let result = store.lookup(state, key, data, spare, ram);
+                if result.refusal != 0 {
+                    return format!("no {}", result.refusal);
+                }
+                if result.found == 0 {
+                    return format!("miss {}", result.count);
+                }
+                let slice = if result.in_ram == 1 { ram } else { data };
+                let start = result.offset as usize + 4;
+                return match slice.get(start..start + 4) {
+                    Some(&[a, b, c, d]) => {
+                        format!("hit {} {}", u32::from_le_bytes([a, b, c, d]), result.count)
+                    }
+                    _ => format!("hit outside the slice: {result:?}"),
+                };
+            }
+        };
+        self.state = change.state;
+        match change.refusal {
+            0 => format!("ok {} {}", change.state.records, change.state.deletions),
+            refusal => format!("no {refusal}"),
+        }
+    }
+}
+
+#[cfg(test)]
+mod tests {
+    use super::*;
+    use store::ModelStore;
+
+    fn run(input: &[u8]) -> String {
+        String::from_utf8(replay(&ModelStore, input)).expect("plain text")
+    }
+
+    #[test]
+    fn example_of_the_document() {
+        let input = b"f 16 1 1\ni 7 40\ni 7 41\nl 7\nu 7 42\nl 7\nd 7\nl 7\nd 7\n";
+        let output = "ok 0 0\nok 1 0\nno 3\nhit 40 0\nok 2 1\nhit 42 0\nok 2 2\nmiss 0\nno 4\n";
+        assert_eq!(run(input), output);
+        // The last line feed may be missing.
+        assert_eq!(run(&input[..input.len() - 1]), output);
+    }
+
+    #[test]
+    fn before_any_format() {
+        assert_eq!(run(b""), "");
+        assert_eq!(run(b"l 7\ni 7 1\nd 7\nf 24 1 1"), "no 1\nno 1\nno 1\nno 1\n");
+    }
+
+    #[test]
+    fn sizes_that_are_served() {
+        assert_eq!(run(b"f 16 32 1"), "ok 0 0\n");
+        assert_eq!(run(b"f 16 33 1"), "no 2\n");
+        assert_eq!(run(b"f 32 7 1"), "ok 0 0\n");
+        assert_eq!(run(b"f 32 8 1"), "no 2\n");
+        assert_eq!(run(b"f 64 1 1"), "no 2\n");
+    }
+
+    #[test]
+    fn refused_format_leaves_the_volume() {
+        assert_eq!(
+            run(b"f 16 1 1\ni 7 40\nf 16 0 1\nf 16 4096 1\nl 7"),
+            "ok 0 0\nok 1 0\nno 1\nno 2\nhit 40 0\n"
+        );
+    }
+
+    #[test]
+    fn bad_lines() {
+        for line in [
+            "",
+            "\r",
+            "l 7\r",
+            "l\t7",
+            "l  7",
+            " l 7",
+            "l 7 ",
+            "l 07",
+            "l 00",
+            "l +7",
+            "l -7",
+            "L 7",
+            "l",
+            "l 7 8",
+            "i 7",
+            "i 7 8 9",
+            "l 4294967296",
+            "l 99999999999999999999",
+            "l 7\0",
+            "x 7",
+            "f 16 1",
+            "f 16 1 1 1",
+            "l 0x7",
+            "l 7.0",
+            "ll 7",
+            "\u{e9}",
+        ] {
+            assert_eq!(parse(line.as_bytes()), None, "{line:?}");
+        }
+        assert_eq!(parse(b"l 0"), Some(Command::Lookup { key: 0 }));
+        assert_eq!(parse(b"l 4294967295"), Some(Command::Lookup { key: u32::MAX }));
+        assert_eq!(run(b"\n\n"), "bad\nbad\n");
+    }
+}

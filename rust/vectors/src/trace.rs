@@ -1,0 +1,232 @@
+//! The commands of a trace (the README of the vectors has the format).
+
+use store::{Change, LookupResult, State, Store};
+
+/// Lent slices, state and settings of a trace under way.
+pub struct Runner<'a> {
+    store: &'a dyn Store,
+    state: State,
+    data: Vec<u8>,
+    spare: Vec<u8>,
+    ram: Vec<u8>,
+    fill: u8,
+    digests: bool,
+    last_digests: [Digest; 3],
+}
+
+impl<'a> Runner<'a> {
+    /// No slices lent, the state all zero, digests on.
+    pub fn new(store: &'a dyn Store) -> Runner<'a> {
+        Runner {
+            store,
+            state: State::default(),
+            data: Vec::new(),
+            spare: Vec::new(),
+            ram: Vec::new(),
+            fill: 0,
+            digests: true,
+            last_digests: Default::default(),
+        }
+    }
+
+    /// Carries out one command. A call gives its line of output, other commands give none.
+    pub fn command(&mut self, line: &str) -> Result<Option<String>, String> {
+        let mut words = line.split(' ');
+        let name = words.next().unwrap_or("");
+        let mut numbers = Vec::new();
+        for word in words {
+            let number: u32 = word.parse().map_err(|_| format!("not a number: {word}"))?;
+            numbers.push(number);
+        }
+        let (data, spare, ram) = (&mut self.data, &mut self.spare, &mut self.ram);
+        let answer = match (name, numbers.as_slice()) {
+            ("FILL", &[byte]) => {
+                self.fill = as_byte(byte)?;
+                return Ok(None);
+            }
+            ("LEND", &[data_len, spare_len, ram_len]) => {
+                *data = vec![self.fill; data_len as usize];
+                *spare = vec![self.fill; spare_len as usize];
+                *ram = vec![self.fill; ram_len as usize];
+                return Ok(None);
+            }
+            ("PC", &[offset, value]) => return alter(data, offset, value),
+            ("PM", &[offset, value]) => return alter(spare, offset, value),
+            ("PD", &[offset, value]) => return alter(ram, offset, value),
+            ("PS", &[sector_size, ra_blocks, da_blocks, records, deletions]) => {
+                self.state = State {
+                    sector_size,
+                    ra_blocks,
+                    da_blocks,
+                    records,
+                    deletions,
+                };
+                return Ok(None);
+            }
+            ("DIG", &[on]) => {
+                self.digests = on != 0;
+                return Ok(None);
+            }
+            ("F", &[s, r, d]) => {
+                let change = self.store.format(self.state, s, r, d, data, spare, ram);
+                self.take(change)
+            }
+            ("I", &[key, moves, goal, word]) => {
+                let change = self
+                    .store
+                    .insert(self.state, key, moves, goal, word, data, spare, ram);
+                self.take(change)
+            }
+            ("U", &[key, moves, goal, word]) => {
+                let change = self
+                    .store
+                    .update(self.state, key, moves, goal, word, data, spare, ram);
+                self.take(change)
+            }
+            ("D", &[key]) => {
+                let change = self.store.delete(self.state, key, data, spare, ram);
+                self.take(change)
+            }
+            ("L", &[key]) => {
+                let result = self.store.lookup(self.state, key, data, spare, ram);
+                lookup_answer(result, data, ram)
+            }
+            _ => return Err("not a command".to_string()),
+        };
+        Ok(Some(self.output_line(&answer)))
+    }
+
+    /// The new state is handed in from here on.
+    fn take(&mut self, change: Change) -> String {
+        self.state = change.state;
+        match change.refusal {
+            0 => "ok".to_string(),
+            number => format!("no {number}"),
+        }
+    }
+
+    fn output_line(&mut self, answer: &str) -> String {
+        let State {
+            sector_size,
+            ra_blocks,
+            da_blocks,
+            records,
+            deletions,
+        } = self.state;
+        let mut line = format!("{answer} | {sector_size} {ra_blocks} {da_blocks} {records} {deletions}");
+        if self.digests {
+            let [data, spare, ram] = &mut self.last_digests;
+            let data = data.of(&self.data);
+            let spare = spare.of(&self.spare);
+            let ram = ram.of(&self.ram);
+            line += &format!(" | {data:016x} {spare:016x} {ram:016x}");
+        }
+        line
+    }
+}
+
+fn lookup_answer(result: LookupResult, data: &[u8], ram: &[u8]) -> String {
+    match result {
+        LookupResult {
+            refusal: 0,
+            found: 0,
+            count,
+            in_ram: 0,
+            offset: 0,
+        } => format!("miss {count}"),
+        LookupResult {
+            refusal: 0,
+            found: 1,
+            count,
+            in_ram: in_ram @ (0 | 1),
+            offset,
+        } => {
+            let (name, slice) = if in_ram == 1 {
+                ("desk", ram)
+            } else {
+                ("cells", data)
+            };
+            let start = offset as usize;
+            match start.checked_add(16).and_then(|end| slice.get(start..end)) {
+                Some(record) => {
+                    let hex: String = record.iter().map(|byte| format!("{byte:02x}")).collect();
+                    format!("hit {count} {name} {offset} {hex}")
+                }
+                None => format!("hit outside the slice: {result:?}"),
+            }
+        }
+        LookupResult {
+            refusal,
+            found: 0,
+            count: 0,
+            in_ram: 0,
+            offset: 0,
+        } => format!("no {refusal}"),
+        other => format!("impossible result: {other:?}"),
+    }
+}
+
+fn alter(bytes: &mut [u8], offset: u32, value: u32) -> Result<Option<String>, String> {
+    let place = bytes.get_mut(offset as usize).ok_or("outside the slice")?;
+    *place = as_byte(value)?;
+    Ok(None)
+}
+
+fn as_byte(number: u32) -> Result<u8, String> {
+    u8::try_from(number).map_err(|_| format!("not a byte: {number}"))
+}
+
+/// The bytes digested last and their digest: bytes that did not change are not digested again.
+#[derive(Default)]
+struct Digest {
+    last: Option<(Vec<u8>, u64)>,
+}
+
+impl Digest {
+    fn of(&mut self, bytes: &[u8]) -> u64 {
+        match &self.last {
+            Some((last, value)) if last == bytes => *value,
+            _ => {
+                let value = digest(bytes);
+                self.last = Some((bytes.to_vec(), value));
+                value
+            }
+        }
+    }
+}
+
+/// FNV-1a, 64 bits.
+fn digest(bytes: &[u8]) -> u64 {
+    bytes.iter().fold(0xcbf29ce484222325, |hash, &byte| {
+        (hash ^ u64::from(byte)).wrapping_mul(0x100000001b3)
+    })
+}
+
+#[cfg(test)]
+mod tests {
+    use super::*;
+    use store::ModelStore;
+
+    #[test]
+    fn a_short_trace() {
+        let mut runner = Runner::new(&ModelStore);
+        assert_eq!(runner.command("LEND 12288 768 320"), Ok(None));
+        let mut run = |line: &str| runner.command(line);
+        assert_eq!(run("DIG 0"), Ok(None));
+        assert_eq!(run("F 16 1 1"), Ok(Some("ok | 16 1 1 0 0".to_string())));
+        assert_eq!(run("I 7 40 2 3"), Ok(Some("ok | 16 1 1 1 0".to_string())));
+        let hit = "hit 0 desk 0 07000000280000000200000003000000 | 16 1 1 1 0";
+        assert_eq!(run("L 7"), Ok(Some(hit.to_string())));
+        assert_eq!(run("L 8"), Ok(Some("miss 0 | 16 1 1 1 0".to_string())));
+        assert_eq!(run("D 8"), Ok(Some("no 4 | 16 1 1 1 0".to_string())));
+        assert!(run("X 8").is_err());
+        assert!(run("PD 320 0").is_err());
+        assert!(run("PD 0 256").is_err());
+    }
+
+    #[test]
+    fn digest_of_nothing() {
+        assert_eq!(digest(&[]), 0xcbf29ce484222325);
+        assert_eq!(digest(b"a"), 0xaf63dc4c8601ec8c);
+    }
+}
