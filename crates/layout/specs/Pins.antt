@@ -182,7 +182,7 @@ keyPage = write (replicate 320 0) 64 (wordsBytes (1 ∷ 0 ∷ 2 ∷ 1 ∷ 3 ∷ 
 abbrev pageBit : ℕ → ℕ
 pageBit x = num (pageFilter fnvFamily (geometry 16 1 1) keyPage x)
 
-pub filter-bits : pageBit 0 ∷ pageBit 1 ∷ pageBit 2 ∷ pageBit 11 ∷ pageBit 16 ∷ pageBit 63 ∷ [] ≡ 0 ∷ 1 ∷ 1 ∷ 1 ∷ 1 ∷ 0 ∷ []
+pub filter-bits : pageBit 0 ∷ pageBit 1 ∷ pageBit 52 ∷ pageBit 53 ∷ [] ≡ 0 ∷ 1 ∷ 1 ∷ 0 ∷ []
 unfolding write wordsBytes pageFilter any memb positions tab tabFrom fnvFrom
 filter-bits = refl
 

@@ -1,0 +1,59 @@
+use borrow.Author.Needs.{needs}
+use borrow.Author.Tests.{lt-ltb, le-ltb}
+use native.Mathlib.Omega.{arith}
+use Prim.Native.Nat.{_<_, _≤_}
+use lib.ListN.{length}
+use Rattle.layout.specs.Geometry.{dataSize, spareSize, ramSize}
+use Rattle.layout.specs.Calls.{tooShort}
+use Rattle.geometry.specs.Shape.{shape}
+use mathlib.Core.Path.{_≡_}
+use Rattle.state.proofs.too_short.Statement.{statement}
+use Rattle.state.proofs.too_short.Tie as tie
+use Rattle.state.proofs.too_short.Reads as reads
+use Rattle.state.proofs.too_short.Lts as lts
+use Rattle.geometry.proofs.Geometry.data_size.Reads as data-size-reads
+use Rattle.geometry.proofs.Geometry.ram_size.Reads as ram-size-reads
+use Rattle.geometry.proofs.Geometry.spare_size.Reads as spare-size-reads
+
+-- src/lib.rt:57:21
+data-size-requires : tie.Need-data-size-requires
+data-size-requires c κs = search needs
+
+-- src/lib.rt:58:9
+returns : tie.Need-returns
+unfolding tooShort
+returns c =
+    let x = c .before .before .before .before .before .args in
+    let a : length (x .main .now) < dataSize (shape (x .g)) = omega arith in
+    rw (lt-ltb _ _ a)
+
+-- src/lib.rt:60:22
+spare-size-requires : tie.Need-spare-size-requires
+spare-size-requires c κs = search needs
+
+-- src/lib.rt:61:9
+returns-2 : tie.Need-returns-2
+unfolding tooShort
+returns-2 c =
+    let x = c .before .before .before .before .before .before .before .args in
+    let a : dataSize (shape (x .g)) ≤ length (x .main .now) = omega arith in
+    let b : length (x .spare .now) < spareSize (shape (x .g)) = omega arith in
+    rw (le-ltb _ _ a, lt-ltb _ _ b)
+
+-- src/lib.rt:63:17
+ram-size-requires : tie.Need-ram-size-requires
+ram-size-requires c κs = search needs
+
+-- src/lib.rt:53:1
+returns-3 : tie.Need-returns-3
+unfolding tooShort
+returns-3 c =
+    let x = c .before .before .before .before .before .before .before .before .args in
+    let a : dataSize (shape (x .g)) ≤ length (x .main .now) = omega arith in
+    let b : spareSize (shape (x .g)) ≤ length (x .spare .now) = omega arith in
+    rw (c .ram-size .ensures, le-ltb _ _ a, le-ltb _ _ b)
+
+pub too-short-spec : {M : Type 1} → statement M
+too-short-spec =
+    tie.close
+    (tie.spec data-size-requires returns spare-size-requires returns-2 ram-size-requires returns-3)

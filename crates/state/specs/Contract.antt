@@ -1,0 +1,35 @@
+-- What the calls' contracts compare: the code's state and answers as the layout's.
+use mathlib.Core.Bool.{cond}
+use mathlib.Core.List.{List}
+use Prim.Native.Nat.{ℕ}
+use lib.Dec.{eqb}
+use Rattle.layout.specs.Geometry as layout
+use Rattle.layout.specs.Flash.{flashOf}
+use Rattle.layout.specs.Calls.{Volume, Outcome, accepted, refused, Result}
+use Rattle.state.specs.declared.State.{State}
+use Rattle.state.specs.declared.Change.{Change}
+
+-- the code's state as the layout's
+abbrev pub stateOf : State → layout.State
+stateOf s = record { sectorSize = s .«sector_size»; raBlocks = s .«ra_blocks»; daBlocks = s .«da_blocks»; records = s .records; deletions = s .deletions }
+
+-- the volume that is handed in: state, main area, spare area and RAM
+abbrev pub volume : State → List ℕ → List ℕ → List ℕ → Volume
+volume s main spare ram = record { state = stateOf s; flash = flashOf main spare; ram = ram }
+
+-- all that a caller sees of a call: a layout's result but for its operations
+pub record Left : Type 0 where
+  pub outcome : Outcome
+  pub count : ℕ
+  pub left : Volume
+
+abbrev pub seen : Result → Left
+seen r = record { outcome = r .outcome; count = r .count; left = r .volume }
+
+-- a refusal's number, 0 for accepted
+abbrev pub outcomeOf : ℕ → Outcome
+outcomeOf i = cond (eqb i 0) accepted (refused i)
+
+-- what a changing call answers and leaves
+abbrev pub changed : Change → List ℕ → List ℕ → List ℕ → Left
+changed c main spare ram = record { outcome = outcomeOf (c .refusal); count = 0; left = volume (c .state) main spare ram }
