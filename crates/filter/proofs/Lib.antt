@@ -1,0 +1,5 @@
+pub mod Setting
+pub mod Walking
+pub mod Places
+pub mod Rooms
+pub mod Stages

@@ -1,0 +1,119 @@
+-- Bits that are set in an array of bytes.
+use mathlib.Core.Path.{_≡_, refl, sym, ap, _∙_}
+use mathlib.Core.Logic.{_≢_}
+use mathlib.Core.Bool.{Bool, true, false, _||_}
+use mathlib.Core.List.{List, [], _∷_}
+use Prim.Native.Nat.{ℕ, zero, suc, _+_, _*_, _/_, _%_, _^_, _<_, max}
+use native.Mathlib.Nat.{not-suc-le-zero, le-of-suc-le-suc}
+use native.Mathlib.Numerals.{add-one}
+use native.Mathlib.Omega.{arith}
+use lib.Bits.{bitOr, or-step}
+use lib.Dec.{eqb}
+use lib.ListN.{length, getD, set, replicate, getD-replicate}
+use lib.Pow.{pow-lt}
+use lib.Seq.{getD-set-same, getD-set-other}
+use borrow.Author.Tests.{eq-eqb, ne-eqb}
+use Rattle.memory.specs.Bits.{bit}
+use Rattle.memory.specs.Cases.{either, eq?}
+use Rattle.memory.specs.Ranges.{memb, any}
+use Rattle.filter.specs.Filter.{arrayBit}
+
+pub bit-zero : (i : ℕ) → bit 0 i ≡ false
+unfolding bit
+bit-zero zero = refl
+bit-zero (suc i) = bit-zero i
+
+eqb-suc : (a b : ℕ) → eqb (suc a) (suc b) ≡ eqb a b
+eqb-suc a b =
+    either (eq? a b)
+    (λ c. rw (c .0) (eq-eqb (suc a) (suc b) (omega (arith, c .1))))
+    (λ c. let n : a ≢ b = c .1 in rw (c .0) (ne-eqb (suc a) (suc b) (λ e. n (omega arith))))
+
+-- the number 2 ^ k has bit k alone
+pub bit-power : (k i : ℕ) → bit (2 ^ k) i ≡ eqb k i
+unfolding bit
+bit-power zero zero = refl
+bit-power zero (suc i) = bit-zero i ∙ sym (ne-eqb 0 (suc i) (λ e. omega arith))
+bit-power (suc k) zero = let e : 2 ^ suc k % 2 ≡ 0 = omega arith in rw e (sym (ne-eqb (suc k) 0 (λ e. omega arith)))
+bit-power (suc k) (suc i) = let e : 2 ^ suc k / 2 ≡ 2 ^ k = omega arith in rw e (bit-power k i ∙ sym (eqb-suc k i))
+
+max-or : (a b : ℕ) → a < 2 → b < 2 → eqb (max a b) 1 ≡ (eqb a 1 || eqb b 1)
+max-or zero zero h l = refl
+max-or zero (suc zero) h l = refl
+max-or zero (suc (suc b)) h l = absurd (not-suc-le-zero (le-of-suc-le-suc (le-of-suc-le-suc l)))
+max-or (suc zero) zero h l = refl
+max-or (suc zero) (suc zero) h l = refl
+max-or (suc zero) (suc (suc b)) h l = absurd (not-suc-le-zero (le-of-suc-le-suc (le-of-suc-le-suc l)))
+max-or (suc (suc a)) b h l = absurd (not-suc-le-zero (le-of-suc-le-suc (le-of-suc-le-suc h)))
+
+-- a disjunction, bit by bit
+pub bit-or : (a b i : ℕ) → bit (bitOr a b) i ≡ (bit a i || bit b i)
+unfolding bit
+bit-or a b zero =
+    let s = or-step a b in
+    let e : bitOr a b % 2 ≡ max (a % 2) (b % 2) = omega arith in
+    ap (λ (y : ℕ). eqb y 1) e ∙ max-or (a % 2) (b % 2) (omega arith) (omega arith)
+bit-or a b (suc i) =
+    let s = or-step a b in
+    let e : bitOr a b / 2 ≡ bitOr (a / 2) (b / 2) = omega arith in
+    ap (λ (y : ℕ). bit y i) e ∙ bit-or (a / 2) (b / 2) i
+
+or-swap : (a b : Bool) → (a || b) ≡ (b || a)
+or-swap true true = refl
+or-swap true false = refl
+or-swap false true = refl
+or-swap false false = refl
+
+-- the mask of a bit of a byte
+mask-is : (k : ℕ) → k < 8 → (1 * 2 ^ k) % 2 ^ 8 ≡ 2 ^ k
+mask-is k h = omega (arith, pow-lt h)
+
+-- one bit set
+pub set-one : (l : List ℕ) (p x : ℕ) → length l ≡ 256 → p < 2048
+    → arrayBit (set l (p / 8) (bitOr (getD l (p / 8) 0) ((1 * 2 ^ (p % 8)) % 2 ^ 8))) x ≡ (eqb p x || arrayBit l x)
+unfolding arrayBit
+set-one l p x len h =
+    let m : (1 * 2 ^ (p % 8)) % 2 ^ 8 ≡ 2 ^ (p % 8) = mask-is (p % 8) (omega arith) in
+    rw m (either (eq? (x / 8) (p / 8))
+    (λ c. let e : x / 8 ≡ p / 8 = c .1 in
+    rw e (ap (λ (y : ℕ). bit y (x % 8)) (getD-set-same l (p / 8) (bitOr (getD l (p / 8) 0) (2 ^ (p % 8))) 0 (omega arith))
+    ∙ bit-or (getD l (p / 8) 0) (2 ^ (p % 8)) (x % 8)
+    ∙ or-swap (bit (getD l (p / 8) 0) (x % 8)) (bit (2 ^ (p % 8)) (x % 8))
+    ∙ ap (λ (t : Bool). t || bit (getD l (p / 8) 0) (x % 8)) (bit-power (p % 8) (x % 8) ∙ same e)))
+    (λ c.
+    let n : x / 8 ≢ p / 8 = c .1 in
+    let d : eqb p x ≡ false = ne-eqb p x (λ q. n (omega arith)) in
+    rw d (ap (λ (y : ℕ). bit y (x % 8)) (getD-set-other l (p / 8) (x / 8) (bitOr (getD l (p / 8) 0) (2 ^ (p % 8))) 0 n))))
+  where
+    same : x / 8 ≡ p / 8 → eqb (p % 8) (x % 8) ≡ eqb p x
+    same e =
+        either (eq? p x)
+        (λ c. rw (c .0) (eq-eqb (p % 8) (x % 8) (omega arith)))
+        (λ c. let n : p ≢ x = c .1 in rw (c .0) (ne-eqb (p % 8) (x % 8) (λ q. n (omega arith))))
+
+-- three bits set, the last first
+pub set-three : (ps : List ℕ) (x : ℕ) (o o₁ o₂ o₃ : Bool) → length ps ≡ 3
+    → o₁ ≡ (eqb (getD ps 2 0) x || o) → o₂ ≡ (eqb (getD ps 1 0) x || o₁) → o₃ ≡ (eqb (getD ps 0 0) x || o₂)
+    → o₃ ≡ (memb x ps || o)
+unfolding memb
+set-three [] x o o₁ o₂ o₃ h e₁ e₂ e₃ = absurd (omega arith)
+set-three (a ∷ []) x o o₁ o₂ o₃ h e₁ e₂ e₃ = absurd (omega arith)
+set-three (a ∷ b ∷ []) x o o₁ o₂ o₃ h e₁ e₂ e₃ = absurd (omega arith)
+set-three (a ∷ b ∷ c ∷ []) x o o₁ o₂ o₃ h e₁ e₂ e₃ = rw (e₃, e₂, e₁) (join (eqb a x) (eqb b x) (eqb c x) o)
+  where
+    join : (a b c o : Bool) → (a || (b || (c || o))) ≡ (a || (b || (c || false)) || o)
+    join true b c o = refl
+    join false true c o = refl
+    join false false true o = refl
+    join false false false o = refl
+set-three (a ∷ b ∷ c ∷ d ∷ ps) x o o₁ o₂ o₃ h e₁ e₂ e₃ = absurd (omega arith)
+
+-- no bit is set
+pub none-set : (n x : ℕ) → x / 8 < n → arrayBit (replicate n 0) x ≡ false
+unfolding arrayBit
+none-set n x h = rw (getD-replicate {A = ℕ} n (x / 8) 0 0 h) (bit-zero (x % 8))
+
+-- one index more
+pub any-more : (f : ℕ → Bool) (n : ℕ) → (f n || any f n) ≡ any f (n + 1)
+unfolding any
+any-more f n = rw add-one

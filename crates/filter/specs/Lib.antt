@@ -1,0 +1,4 @@
+pub mod Candidate
+pub mod Filter
+pub mod Levels
+pub mod Pieces

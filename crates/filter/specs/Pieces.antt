@@ -1,0 +1,74 @@
+-- A filter in the SKA page: only its bits below 64 u count, and pieces of bytes are pieces of bits.
+use mathlib.Core.Path.{_≡_, refl, sym, ap, _∙_}
+use mathlib.Core.Bool.{Bool}
+use mathlib.Core.List.{List}
+use Prim.Native.Nat.{ℕ, zero, suc, _+_, _*_, _-_, _/_, _%_, _≤_, _<_}
+use native.Mathlib.Nat.{mul-le-mul-right}
+use native.Mathlib.Omega.{arith}
+use lib.ListN.{length, getD, take, drop, length-take, length-drop}
+use lib.Seq.{ext-getD, getD-take, getD-drop}
+use Rattle.memory.specs.Lists.{pieces, write, tab, tab-ext, length-tab, getD-tab}
+use Rattle.memory.specs.Bits.{bit, pack, pack-bit}
+use Rattle.layout.specs.Index.{Index, withFilter}
+use Rattle.filter.specs.Filter.{arrayBit}
+
+-- the i-th fourth of a filter as bytes
+abbrev pub fourthOf : ℕ → (ℕ → Bool) → ℕ → List ℕ
+fourthOf u f i = tab (2 * u) (λ y. pack 8 (λ b. f (i * (16 * u) + (y * 8 + b))))
+
+pub pack-ext : (k : ℕ) (f g : ℕ → Bool) → ((i : ℕ) → i < k → f i ≡ g i) → pack k f ≡ pack k g
+unfolding pack
+pack-ext zero f g h = refl
+pack-ext (suc k) f g h = rw (pack-ext k (λ i. f (suc i)) (λ i. g (suc i)) (λ i l. h (suc i) (omega arith)), h zero (omega arith))
+
+pub pieces-ext : {A : Type 0} (L d at k : ℕ) (f g : ℕ → ℕ → A) (l : List A) → ((j y : ℕ) → j < k → y < L → f j y ≡ g j y)
+    → pieces L d at k f l ≡ pieces L d at k g l
+unfolding pieces
+pieces-ext L d at zero f g l h = refl
+pieces-ext {A = A} L d at (suc k) f g l h =
+    ap (λ (t : List A). pieces L d (at + d) k (λ j. f (suc j)) (write l at t)) (tab-ext L (f zero) (g zero) (λ y b. h zero y (omega arith) b))
+    ∙ pieces-ext L d (at + d) k (λ j. f (suc j)) (λ j. g (suc j)) (write l at (tab L (g zero))) (λ j y a b. h (suc j) y (omega arith) b)
+
+-- bits of a filter from 64 u on do not count
+pub with-filter-ext : (u : ℕ) (ix : Index) (s : ℕ) (f g : ℕ → Bool) (ram : List ℕ) → ((x : ℕ) → x < 64 * u → f x ≡ g x)
+    → withFilter u ix s f ram ≡ withFilter u ix s g ram
+with-filter-ext u ix s f g ram h =
+    pieces-ext (2 * u) (16 * u) (ix .ska + s * (2 * u)) 4
+    (λ i y. pack 8 (λ b. f (i * (16 * u) + (y * 8 + b)))) (λ i y. pack 8 (λ b. g (i * (16 * u) + (y * 8 + b)))) ram
+    (λ i y a b. pack-ext 8 (λ b. f (i * (16 * u) + (y * 8 + b))) (λ b. g (i * (16 * u) + (y * 8 + b)))
+    (λ k l. h (i * (16 * u) + (y * 8 + k)) (omega (arith, mul-le-mul-right (16 * u) a))))
+
+-- the 2 u bytes of an array from byte i * 2 u on are the i-th fourth of its bits
+pub piece-of : (u i lo hi : ℕ) (a : List ℕ) → ((k : ℕ) → getD a k 0 < 256) → lo ≡ i * (2 * u) → hi ≡ lo + 2 * u → hi ≤ length a
+    → take (hi - lo) (drop lo a) ≡ fourthOf u (arrayBit a) i
+unfolding arrayBit
+piece-of u i lo hi a bytes el eh fits =
+    let n : hi - lo ≡ 2 * u = omega arith in
+    let len : length (take (2 * u) (drop lo a)) ≡ 2 * u = simp (length-take, length-drop) (omega arith) in
+    rw n (ext-getD 0 (take (2 * u) (drop lo a)) (tab (2 * u) (λ y. pack 8 (λ b. arrayBit a (i * (16 * u) + (y * 8 + b)))))
+    (len ∙ sym (length-tab (2 * u) _))
+    (λ y h.
+    let b : y < 2 * u = rw len at h in
+    byte y b ∙ sym (getD-tab (2 * u) (λ y. pack 8 (λ b. arrayBit a (i * (16 * u) + (y * 8 + b)))) y 0 b)))
+  where
+    bits : (y b : ℕ) → b < 8 → bit (getD a (lo + y) 0) b ≡ bit (getD a ((i * (16 * u) + (y * 8 + b)) / 8) 0) ((i * (16 * u) + (y * 8 + b)) % 8)
+    bits y b h =
+        let q : (i * (16 * u) + (y * 8 + b)) / 8 ≡ lo + y = omega arith in
+        let r : (i * (16 * u) + (y * 8 + b)) % 8 ≡ b = omega arith in
+        rw (q, r)
+
+    byte : (y : ℕ) → y < 2 * u → getD (take (2 * u) (drop lo a)) y 0 ≡ pack 8 (λ b. bit (getD a ((i * (16 * u) + (y * 8 + b)) / 8) 0) ((i * (16 * u) + (y * 8 + b)) % 8))
+    byte y h =
+        rw (getD-take, getD-drop)
+        (sym (pack-bit 8 (getD a (lo + y) 0) (bytes (lo + y)))
+        ∙ pack-ext 8 (bit (getD a (lo + y) 0)) (λ b. bit (getD a ((i * (16 * u) + (y * 8 + b)) / 8) 0) ((i * (16 * u) + (y * 8 + b)) % 8)) (λ b l. bits y b l))
+
+-- the four fourths, one in each sector
+pub four-pieces : (u : ℕ) (ix : Index) (s : ℕ) (f : ℕ → Bool) (ram r₁ r₂ r₃ r₄ : List ℕ)
+    → r₁ ≡ write ram (ix .ska + s * (2 * u)) (fourthOf u f 0)
+    → r₂ ≡ write r₁ (ix .ska + s * (2 * u) + 16 * u) (fourthOf u f 1)
+    → r₃ ≡ write r₂ (ix .ska + s * (2 * u) + 16 * u + 16 * u) (fourthOf u f 2)
+    → r₄ ≡ write r₃ (ix .ska + s * (2 * u) + 16 * u + 16 * u + 16 * u) (fourthOf u f 3)
+    → r₄ ≡ withFilter u ix s f ram
+unfolding pieces
+four-pieces u ix s f ram r₁ r₂ r₃ r₄ e₁ e₂ e₃ e₄ = rw (e₄, e₃, e₂, e₁)

@@ -1,0 +1,108 @@
+-- Scans of a slice from a byte on: a number among words of four bytes, and the newest entry of eight bytes with a key. Assumes nothing.
+use mathlib.Core.Path.{_≡_, refl, sym, _∙_}
+use mathlib.Core.Bool.{Bool, true, false, not, _||_, cond}
+use mathlib.Core.List.{List}
+use Prim.Native.Nat.{ℕ, zero, suc, _+_, _-_, _*_, _<_}
+use native.Mathlib.Numerals.{add-one}
+use native.Mathlib.Omega.{arith}
+use borrow.Author.Tests.{eq-eqb, ne-eqb}
+use lib.Dec.{eqb}
+use Rattle.memory.specs.Words.{word}
+use Rattle.memory.specs.Cases.{bool?, either}
+use Rattle.memory.specs.Ranges.{any}
+
+-- is word i from byte `at` on the number j
+unfoldable pub isWord : List ℕ → ℕ → ℕ → ℕ → Bool
+isWord s at j i = eqb (word s (at + i * 4)) j
+
+-- is it one of n words
+abbrev pub hasWord : List ℕ → ℕ → ℕ → ℕ → Bool
+hasWord s at n j = any (isWord s at j) n
+
+-- has entry i from byte `at` on the key, its first word
+unfoldable pub hasKey : List ℕ → ℕ → ℕ → ℕ → Bool
+hasKey s at key i = eqb (word s (at + i * 8)) key
+
+-- the greatest i below n that passes, plus one; 0 if none does
+unfoldable pub newest : (ℕ → Bool) → ℕ → ℕ
+newest f zero = 0
+newest f (suc n) = cond (f n) (suc n) (newest f n)
+
+-- the newest of n entries with the key, plus one
+abbrev pub lastEntry : List ℕ → ℕ → ℕ → ℕ → ℕ
+lastEntry s at n key = newest (hasKey s at key) n
+
+-- ---- some number passes: one more each time, and two ranges, one after the other
+
+pub any-end : (f : ℕ → Bool) → any f 0 ≡ false
+unfolding any
+any-end f = refl
+
+pub any-yes : (f : ℕ → Bool) (i : ℕ) → f i ≡ true → any f (i + 1) ≡ true
+unfolding any
+any-yes f i e = rw (add-one, e)
+
+pub any-no : (f : ℕ → Bool) (i : ℕ) → f i ≡ false → any f (i + 1) ≡ any f i
+unfolding any
+any-no f i e = rw (add-one, e)
+
+pub any-sum : (f : ℕ → Bool) (m k : ℕ) → any f (m + k) ≡ (any (λ i. f (m + i)) k || any f m)
+unfolding any
+any-sum f m zero =
+    let e : m + zero ≡ m = omega arith in
+    rw e
+any-sum f m (suc k) =
+    let e : m + suc k ≡ suc (m + k) = omega arith in
+    either (bool? (f (m + k))) (λ t. rw (e, t)) (λ t. rw (e, t) (any-sum f m k))
+
+-- ---- the newest that passes
+
+pub newest-end : (f : ℕ → Bool) → newest f 0 ≡ 0
+unfolding newest
+newest-end f = refl
+
+pub newest-yes : (f : ℕ → Bool) (k : ℕ) → 0 < k → f (k - 1) ≡ true → newest f k ≡ k
+unfolding newest
+newest-yes f zero p t = refl
+newest-yes f (suc k) p t =
+    let e : suc k - 1 ≡ k = omega arith in
+    let u : f k ≡ true = rw e at t in
+    rw u
+
+pub newest-no : (f : ℕ → Bool) (k : ℕ) → f (k - 1) ≡ false → newest f k ≡ newest f (k - 1)
+unfolding newest
+newest-no f zero t = refl
+newest-no f (suc k) t =
+    let e : suc k - 1 ≡ k = omega arith in
+    let u : f k ≡ false = rw e at t in
+    rw (e, u)
+
+pub newest-none : (f : ℕ → Bool) (n : ℕ) → any f n ≡ false → newest f n ≡ 0
+unfolding any newest
+newest-none f zero t = refl
+newest-none f (suc n) t =
+    either (bool? (f n))
+    (λ h. let z : true ≡ false = rw h at t in cc)
+    (λ h. let z : any f n ≡ false = rw h at t in rw h (newest-none f n z))
+
+pub not-true : (b : Bool) → not b ≡ true → b ≡ false
+not-true true e = cc
+not-true false e = refl
+
+-- ---- tests of what a read gave
+
+pub word-yes : (s : List ℕ) (at j i r : ℕ) → r ≡ word s (at + i * 4) → r ≡ j → isWord s at j i ≡ true
+unfolding isWord
+word-yes s at j i r e h = eq-eqb _ _ (sym e ∙ h)
+
+pub word-no : (s : List ℕ) (at j i r : ℕ) → r ≡ word s (at + i * 4) → (r ≡ j → ⊥) → isWord s at j i ≡ false
+unfolding isWord
+word-no s at j i r e h = ne-eqb _ _ (λ q. h (e ∙ q))
+
+pub key-yes : (s : List ℕ) (at key i r : ℕ) → r ≡ word s (at + i * 8) → r ≡ key → hasKey s at key i ≡ true
+unfolding hasKey
+key-yes s at key i r e h = eq-eqb _ _ (sym e ∙ h)
+
+pub key-no : (s : List ℕ) (at key i r : ℕ) → r ≡ word s (at + i * 8) → (r ≡ key → ⊥) → hasKey s at key i ≡ false
+unfolding hasKey
+key-no s at key i r e h = ne-eqb _ _ (λ q. h (e ∙ q))

@@ -1,0 +1,74 @@
+-- One more sector of the next set is programmed; what it is made of is as it was before the first.
+use mathlib.Core.Path.{_≡_, refl, sym, ap, _∙_}
+use mathlib.Core.Logic.{_⊎_, inl, inr}
+use mathlib.Core.List.{List}
+use Prim.Native.Nat.{ℕ, suc, _+_, _*_, _^_, _≤_, _<_}
+use native.Mathlib.Nat.{mul-le-mul-right}
+use native.Mathlib.Numerals.{add-one}
+use native.Mathlib.Omega.{arith}
+use lib.ListN.{length, getD}
+use Rattle.memory.specs.Lists.{tab, tab-ext}
+use Rattle.memory.specs.Cases.{either, eq?}
+use Rattle.layout.specs.Geometry.{sector}
+use Rattle.layout.specs.Flash.{Flash, flashOf, program, apply, applyAll, programs}
+use Rattle.layout.specs.Index.{Index, setPages, setBlock, setByte, sideBlock, fullBlock}
+use Rattle.partition.specs.Widths.{blocks-fit}
+use Rattle.partition.specs.Apart.{set-byte-same, side-range}
+use Rattle.partition.specs.Programs.{programs-more, programs-main-length, programs-spare-length, programs-outside}
+
+module _ (u e : ℕ) (pow : u ≡ 2 ^ e) (ix : Index) (z c : ℕ) (hc : c < 4 * u) (main₀ spare₀ : List ℕ) (s : ℕ) (s-is : s ≡ setBlock u ix z c * 64) where
+  abbrev f₀ : ℕ → ℕ → ℕ
+  f₀ = setByte u ix main₀ z c
+
+  -- the flash after the first j sectors
+  abbrev pub After : ℕ → Flash
+  After j = applyAll u (programs u 1 s j f₀) (flashOf main₀ spare₀)
+
+  pub main-length : (main spare : List ℕ) (j : ℕ) → flashOf main spare ≡ After j → length main ≡ length main₀
+  main-length main spare j h = ap (λ (C : Flash). length (C .main)) h ∙ programs-main-length u 1 s j f₀ (flashOf main₀ spare₀)
+
+  pub spare-length : (main spare : List ℕ) (j : ℕ) → flashOf main spare ≡ After j → length spare ≡ length spare₀
+  spare-length main spare j h = ap (λ (C : Flash). length (C .spare)) h ∙ programs-spare-length u 1 s j f₀ (flashOf main₀ spare₀)
+
+  -- the set's bytes by what the flash holds now
+  same-now : (main spare : List ℕ) (j : ℕ) → j < setPages u (c + 1) * 4 → flashOf main spare ≡ After j → tab (sector u) (setByte u ix main z c j) ≡ tab (sector u) (f₀ j)
+  same-now main spare j h eq =
+      tab-ext (sector u) (setByte u ix main z c j) (f₀ j) (λ y hy. set-byte-same u e pow ix z c hc main main₀ outside j y h hy)
+    where
+      outside : (x : ℕ) → (x < setBlock u ix z c * (1024 * u)) ⊎ (setBlock u ix z c * (1024 * u) + setPages u (c + 1) * (64 * u) ≤ x) → getD main x 0 ≡ getD main₀ x 0
+      outside x o =
+          let m = mul-le-mul-right (16 * u) h in
+          let t = ap (λ (n : ℕ). n * (16 * u)) s-is in
+          ap (λ (C : Flash). getD (C .main) x 0) eq
+          ∙ programs-outside u s j f₀ (flashOf main₀ spare₀) x (either o (λ a. inl (omega arith)) (λ a. inr (omega arith)))
+
+  pub after-more : (main spare main′ spare′ bytes : List ℕ) (j : ℕ) → j < setPages u (c + 1) * 4 → flashOf main spare ≡ After j
+      → bytes ≡ tab (sector u) (setByte u ix main z c j) → flashOf main′ spare′ ≡ apply u (program (s + j) bytes) (flashOf main spare)
+      → flashOf main′ spare′ ≡ After (j + 1)
+  after-more main spare main′ spare′ bytes j h eq b p =
+      let one : s + j ≡ s + j * 1 = omega arith in
+      let t : bytes ≡ tab (sector u) (f₀ j) = b ∙ same-now main spare j h eq in
+      p
+      ∙ ap (λ (n : ℕ). apply u (program n bytes) (flashOf main spare)) one
+      ∙ ap (λ (l : List ℕ). apply u (program (s + j * 1) l) (flashOf main spare)) t
+      ∙ ap (λ (C : Flash). apply u (program (s + j * 1) (tab (sector u) (f₀ j))) C) eq
+      ∙ sym (programs-more u 1 s j f₀ (flashOf main₀ spare₀))
+      ∙ ap After (sym (add-one j))
+
+  pub after-all : (main spare : List ℕ) (n : ℕ) → n ≡ setPages u (c + 1) * 4 → flashOf main spare ≡ After n
+      → flashOf main spare ≡ applyAll u (programs u 1 (setBlock u ix z c * 64) (setPages u (c + 1) * 4) f₀) (flashOf main₀ spare₀)
+  after-all main spare n a h = h ∙ ap After a ∙ ap (λ (m : ℕ). applyAll u (programs u 1 m (setPages u (c + 1) * 4) f₀) (flashOf main₀ spare₀)) s-is
+
+-- the next set's place lies in the index
+pub set-inside : (u e : ℕ) (pow : u ≡ 2 ^ e) (ix : Index) (z c : ℕ) → c < 4 * u → setBlock u ix z c + 4 * u ≤ fullBlock u ix z + 4 * u
+set-inside u e pow ix z c h =
+    either (eq? (c + 1) (4 * u)) (λ a. rw (a .0) (omega arith)) (λ a. rw (a .0) (omega (arith, side-range u ix (c + 1) .1)))
+
+-- sector j of it in bytes and in sectors
+pub sector-inside : (u e : ℕ) (pow : u ≡ 2 ^ e) (ix : Index) (z c s j len sectors : ℕ) → s ≡ setBlock u ix z c * 64 → c < 4 * u
+    → (fullBlock u ix z + 4 * u) * (1024 * u) ≤ len → (fullBlock u ix z + 4 * u) * 64 ≤ sectors → j < setPages u (c + 1) * 4 → ((s + j) * (16 * u) + 16 * u ≤ len) × (s + j < sectors)
+sector-inside u e pow ix z c s j len sectors s-is hc hm hs hj =
+    let i = set-inside u e pow ix z c hc in
+    let b = blocks-fit u e pow (c + 1) (omega arith) in
+    let l : s + j + 1 ≤ (fullBlock u ix z + 4 * u) * 64 = omega arith in
+    (omega (arith, mul-le-mul-right (16 * u) l), omega arith)

@@ -1,0 +1,8 @@
+pub mod Indexes
+pub mod Rows
+pub mod Widths
+pub mod Apart
+pub mod Sources
+pub mod Reach
+pub mod Programs
+pub mod Halves

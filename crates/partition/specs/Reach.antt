@@ -1,0 +1,131 @@
+-- What a page of the next set is made of lies in the main area.
+use mathlib.Core.Path.{_≡_, refl, sym, ap}
+use Prim.Native.Nat.{ℕ, _+_, _-_, _*_, _/_, _%_, _^_, _≤_, _<_}
+use native.Mathlib.Nat.{mul-le-mul-right}
+use native.Mathlib.Omega.{arith}
+use lib.Pow.{pow-mono}
+use Rattle.memory.specs.Cases.{lt?, either}
+use Rattle.memory.specs.Numbers.{div-lt}
+use Rattle.memory.specs.Power.{log2up}
+use Rattle.layout.specs.Geometry.{block}
+use Rattle.layout.specs.Index.{Index, setPages, setWidth, sideBlock, fullBlock}
+use Rattle.partition.specs.declared.Source.{Source}
+use Rattle.partition.specs.declared.Row.{Row}
+use Rattle.partition.specs.Widths.{unit-pos, width-is, width-pos, set-whole, blocks-fit, filters-fit, old-whole, sector-whole}
+use Rattle.partition.specs.Apart.{side-range}
+use Rattle.partition.specs.Sources.{oldOf, l1Of, rowOf, pages-pos, field-room}
+
+-- fields are whole multiples of w, a power of two, and so are their first bits
+pub record Aligned (s : Source) (w : ℕ) : Type 0 where
+  pub k : ℕ
+  pub small : k < 8
+  pub w-is : w ≡ 2 ^ k
+  pub steps : ℕ
+  pub step-is : s .step ≡ steps * w
+  pub lows : ℕ
+  pub low-is : s .low ≡ lows * w
+  pub room : s .low + w ≤ s .step
+
+-- the last bit of byte y is there
+pub record Reaches (len : ℕ) (s : Source) (w y : ℕ) : Type 0 where
+  pub short : y < 2048
+  pub few : (y * 8 + 7) / w * s .step + (s .low + w) ≤ 65536
+  pub inside : s .at * 8 + ((y * 8 + 7) / w * s .step + (s .low + w)) ≤ len * 8
+
+pub record RowFits (len : ℕ) (r : Row) : Type 0 where
+  pub order : r .split ≤ r .end
+  pub old-aligned : Aligned (r .old) (r .w)
+  pub l1-aligned : Aligned (r .l1) (r .w)
+  pub old-reaches : (y : ℕ) → y < r .split → Reaches len (r .old) (r .w) y
+  pub l1-reaches : (y : ℕ) → r .split ≤ y → y < r .end → Reaches len (r .l1) (r .w) (y - r .split)
+
+-- the units are small
+pub unit-small : (u e : ℕ) → u ≡ 2 ^ e → e < 6 → u ≤ 32
+unit-small u e pow h = let l : e ≤ 5 = omega arith in omega (arith, pow-mono l)
+
+-- where P pages of w bits and Q of v = m * w bits hold the same, m pages go into one
+fewer : (w v m P Q T p : ℕ) → 0 < w → m * w ≡ v → P * w ≡ T → Q * v ≡ T → p < P → p < Q * m
+fewer w v m P Q T p pw wh e f h =
+    either (lt? p (Q * m)) (λ a. a .1) (λ a. absurd (omega (arith, mul-le-mul-right w (a .1), mul-le-mul-right w h, ap (λ (n : ℕ). Q * n) wh)))
+
+module _ (u e : ℕ) (pow : u ≡ 2 ^ e) (small : e < 6) (ix : Index) (z c p len : ℕ) (hc : c < 4 * u) (hp : p < setPages u (c + 1))
+    (fits : (fullBlock u ix z + 4 * u) * block u ≤ len) where
+  abbrev w : ℕ
+  w = setWidth u (c + 1)
+
+  abbrev m : ℕ
+  m = setWidth u c / w
+
+  abbrev K : ℕ
+  K = 16 * u / w
+
+  wp : 0 < w
+  wp = width-pos u e pow (c + 1) (omega arith)
+
+  vp : 0 < setWidth u c
+  vp = width-pos u e pow c (omega arith)
+
+  sp : 0 < 16 * u
+  sp = omega (arith, unit-pos u e pow)
+
+  old-page : p / m < setPages u c
+  old-page =
+      div-lt p m (setPages u c) (pages-pos w (setWidth u c) m (old-whole u e pow c hc) wp vp)
+      (fewer w (setWidth u c) m (setPages u (c + 1)) (setPages u c) (64 * u) p wp (old-whole u e pow c hc) (set-whole u e pow (c + 1) (omega arith)) (set-whole u e pow c (omega arith)) hp)
+
+  l1-group : p / K < 4
+  l1-group =
+      div-lt p K 4 (pages-pos w (16 * u) K (sector-whole u e pow (c + 1) (omega arith)) wp sp)
+      (fewer w (16 * u) K (setPages u (c + 1)) 4 (64 * u) p wp (sector-whole u e pow (c + 1) (omega arith)) (set-whole u e pow (c + 1) (omega arith)) (omega arith) hp)
+
+  old-reach : (y : ℕ) → y < 16 * c * w → Reaches len (oldOf u ix c p) w y
+  old-reach y h =
+      let us = unit-small u e pow small in
+      let g : (y * 8 + 7) / w < 128 * c = div-lt (y * 8 + 7) w (128 * c) wp (omega arith) in
+      let n = filters-fit u e pow (c + 1) (omega arith) in
+      let o = filters-fit u e pow c (omega arith) in
+      let r = field-room w (setWidth u c) m (old-whole u e pow c hc) wp vp p in
+      let t : (y * 8 + 7) / w * setWidth u c + (p % m * w + w) ≤ 512 * u = omega (arith, mul-le-mul-right (setWidth u c) g) in
+      let b = mul-le-mul-right (1024 * u) (blocks-fit u e pow c (omega arith)) in
+      let s = mul-le-mul-right (1024 * u) (side-range u ix c .1) in
+      let a = mul-le-mul-right (64 * u) old-page in
+      record { short = omega arith; few = omega arith; inside = omega arith }
+
+  l1-reach : (y : ℕ) → 16 * c * w ≤ y → y < 16 * (c + 1) * w → Reaches len (l1Of u ix c p) w (y - 16 * c * w)
+  l1-reach y h k =
+      let us = unit-small u e pow small in
+      let g : ((y - 16 * c * w) * 8 + 7) / w < 128 = div-lt ((y - 16 * c * w) * 8 + 7) w 128 wp (omega arith) in
+      let n = filters-fit u e pow (c + 1) (omega arith) in
+      let r = field-room w (16 * u) K (sector-whole u e pow (c + 1) (omega arith)) wp sp p in
+      let t : ((y - 16 * c * w) * 8 + 7) / w * (16 * u) + (p % K * w + w) ≤ 128 * (16 * u) = omega (arith, mul-le-mul-right (16 * u) g) in
+      let a = mul-le-mul-right (256 * u) l1-group in
+      record { short = omega arith; few = omega arith; inside = omega arith }
+
+  pub row-fits : RowFits len (rowOf u ix c p)
+  row-fits =
+      let k-lt : e + 2 - log2up (c + 1) < 8 = omega arith in
+      record {
+        order = omega arith;
+        old-aligned = record {
+          k = e + 2 - log2up (c + 1);
+          small = k-lt;
+          w-is = width-is u e pow (c + 1) (omega arith);
+          steps = m;
+          step-is = sym (old-whole u e pow c hc);
+          lows = p % m;
+          low-is = refl;
+          room = field-room w (setWidth u c) m (old-whole u e pow c hc) wp vp p;
+        };
+        l1-aligned = record {
+          k = e + 2 - log2up (c + 1);
+          small = k-lt;
+          w-is = width-is u e pow (c + 1) (omega arith);
+          steps = K;
+          step-is = sym (sector-whole u e pow (c + 1) (omega arith));
+          lows = p % K;
+          low-is = refl;
+          room = field-room w (16 * u) K (sector-whole u e pow (c + 1) (omega arith)) wp sp p;
+        };
+        old-reaches = old-reach;
+        l1-reaches = l1-reach;
+      }

@@ -1,0 +1,61 @@
+-- Pages and widths of partition sets, all powers of two.
+use mathlib.Core.Path.{_≡_, sym, ap, _∙_}
+use Prim.Native.Nat.{ℕ, _+_, _-_, _*_, _/_, _%_, _^_, _≤_, _<_}
+use native.Mathlib.Nat.{mul-le-mul-right}
+use native.Mathlib.Omega.{arith}
+use lib.Pow.{pow-pos, pow-add}
+use Rattle.memory.specs.Numbers.{euclid, div-of, div-lt}
+use Rattle.memory.specs.Power.{log2up, log2up-enough, log2up-least, width}
+use Rattle.layout.specs.Index.{setPages, setWidth}
+
+-- a power of two is a multiple of a smaller one
+pub pow-whole : (a b : ℕ) → b ≤ a → 2 ^ a / 2 ^ b * 2 ^ b ≡ 2 ^ a
+pow-whole a b h =
+    let s : a - b + b ≡ a = omega arith in
+    let p : 2 ^ a ≡ 2 ^ (a - b) * 2 ^ b = ap (λ (n : ℕ). 2 ^ n) (sym s) ∙ pow-add 2 (a - b) b in
+    let d : 2 ^ a / 2 ^ b ≡ 2 ^ (a - b) = div-of (2 ^ a) (2 ^ b) (2 ^ (a - b)) 0 (omega arith) (pow-pos b) in
+    rw d (sym p)
+
+-- more rounds want no smaller power of two
+pub log2up-next : (c : ℕ) → log2up c ≤ log2up (c + 1)
+log2up-next c = log2up-least c (log2up (c + 1)) (omega (arith, log2up-enough (c + 1)))
+
+module _ (u e : ℕ) (pow : u ≡ 2 ^ e) where
+  pub unit-pos : 0 < u
+  unit-pos = rw pow (pow-pos e)
+
+  pub log-fits : (c : ℕ) → c ≤ 4 * u → log2up c ≤ e + 2
+  log-fits c h =
+      let four : 2 ^ (e + 2) ≡ 4 * 2 ^ e = pow-add 2 e 2 ∙ omega arith in
+      log2up-least c (e + 2) (omega arith)
+
+  pub width-is : (c : ℕ) → c ≤ 4 * u → setWidth u c ≡ 2 ^ (e + 2 - log2up c)
+  width-is c h =
+      let w = width e c (omega arith) in
+      div-of (64 * u) (16 * 2 ^ log2up c) (2 ^ (e + 2 - log2up c)) 0 (omega arith) (omega (arith, pow-pos (log2up c)))
+
+  -- the bits of the pages are those of a filter
+  pub set-whole : (c : ℕ) → c ≤ 4 * u → setPages u c * setWidth u c ≡ 64 * u
+  set-whole c h = rw (width-is c h) (omega (arith, width e c (omega arith)))
+
+  pub width-pos : (c : ℕ) → c ≤ 4 * u → 0 < setWidth u c
+  width-pos c h = rw (width-is c h) (pow-pos (e + 2 - log2up c))
+
+  -- a set fits a side
+  pub blocks-fit : (c : ℕ) → c ≤ 4 * u → 2 ^ log2up c ≤ 4 * u
+  blocks-fit c h = omega (arith, width e c (omega arith), mul-le-mul-right (2 ^ log2up c) (pow-pos (e + 2 - log2up c)))
+
+  -- the filters of a set fit its pages
+  pub filters-fit : (c : ℕ) → c ≤ 4 * u → 128 * c * setWidth u c ≤ 512 * u
+  filters-fit c h = omega (arith, set-whole c h, mul-le-mul-right (setWidth u c) (log2up-enough c))
+
+  -- the width of the next set divides that of the set before it, and a sector
+  pub old-whole : (c : ℕ) → c < 4 * u → setWidth u c / setWidth u (c + 1) * setWidth u (c + 1) ≡ setWidth u c
+  old-whole c h =
+      rw (width-is c (omega arith), width-is (c + 1) (omega arith))
+      (pow-whole (e + 2 - log2up c) (e + 2 - log2up (c + 1)) (omega (arith, log2up-next c)))
+
+  pub sector-whole : (c : ℕ) → c ≤ 4 * u → 16 * u / setWidth u c * setWidth u c ≡ 16 * u
+  sector-whole c h =
+      let s : 16 * u ≡ 2 ^ (e + 4) = sym (pow-add 2 e 4 ∙ omega arith) in
+      rw (width-is c h, s) (pow-whole (e + 4) (e + 2 - log2up c) (omega arith))
