@@ -11,7 +11,8 @@ use Rattle.memory.specs.Lists.{tab, tab-ext}
 use Rattle.memory.specs.Cases.{either, eq?}
 use Rattle.layout.specs.Geometry.{sector}
 use Rattle.layout.specs.Flash.{Flash, flashOf, program, apply, applyAll, programs}
-use Rattle.layout.specs.Index.{Index, setPages, setBlock, setByte, sideBlock, fullBlock}
+use Rattle.layout.specs.Index.{Index, setPages, setBlock, setByte, sideBlock}
+use Rattle.partition.specs.Indexes.{SetFits}
 use Rattle.partition.specs.Widths.{blocks-fit}
 use Rattle.partition.specs.Apart.{set-byte-same, side-range}
 use Rattle.partition.specs.Programs.{programs-more, programs-main-length, programs-spare-length, programs-outside}
@@ -60,15 +61,21 @@ module _ (u e : ℕ) (pow : u ≡ 2 ^ e) (ix : Index) (z c : ℕ) (hc : c < 4 * 
   after-all main spare n a h = h ∙ ap After a ∙ ap (λ (m : ℕ). applyAll u (programs u 1 m (setPages u (c + 1) * 4) f₀) (flashOf main₀ spare₀)) s-is
 
 -- the next set's place lies in the index
-pub set-inside : (u e : ℕ) (pow : u ≡ 2 ^ e) (ix : Index) (z c : ℕ) → c < 4 * u → setBlock u ix z c + 4 * u ≤ fullBlock u ix z + 4 * u
-set-inside u e pow ix z c h =
-    either (eq? (c + 1) (4 * u)) (λ a. rw (a .0) (omega arith)) (λ a. rw (a .0) (omega (arith, side-range u ix (c + 1) .1)))
+pub set-inside : (u e : ℕ) (pow : u ≡ 2 ^ e) (ix : Index) (z c len sectors : ℕ) → SetFits u ix z c len sectors
+    → ((setBlock u ix z c + 4 * u) * (1024 * u) ≤ len) × ((setBlock u ix z c + 4 * u) * 64 ≤ sectors)
+set-inside u e pow ix z c len sectors P =
+    either (eq? (c + 1) (4 * u))
+    (λ a. rw (a .0) (P .place (a .1)))
+    (λ a.
+    let r = side-range u ix (c + 1) .1 in
+    let m = mul-le-mul-right (1024 * u) r in
+    rw (a .0) (omega (arith, m, P .sides), omega (arith, r, P .spare-sides)))
 
 -- sector j of it in bytes and in sectors
-pub sector-inside : (u e : ℕ) (pow : u ≡ 2 ^ e) (ix : Index) (z c s j len sectors : ℕ) → s ≡ setBlock u ix z c * 64 → c < 4 * u
-    → (fullBlock u ix z + 4 * u) * (1024 * u) ≤ len → (fullBlock u ix z + 4 * u) * 64 ≤ sectors → j < setPages u (c + 1) * 4 → ((s + j) * (16 * u) + 16 * u ≤ len) × (s + j < sectors)
-sector-inside u e pow ix z c s j len sectors s-is hc hm hs hj =
-    let i = set-inside u e pow ix z c hc in
-    let b = blocks-fit u e pow (c + 1) (omega arith) in
-    let l : s + j + 1 ≤ (fullBlock u ix z + 4 * u) * 64 = omega arith in
-    (omega (arith, mul-le-mul-right (16 * u) l), omega arith)
+pub sector-inside : (u e : ℕ) (pow : u ≡ 2 ^ e) (ix : Index) (z c s j len sectors : ℕ) → s ≡ setBlock u ix z c * 64 → SetFits u ix z c len sectors
+    → j < setPages u (c + 1) * 4 → ((s + j) * (16 * u) + 16 * u ≤ len) × (s + j < sectors)
+sector-inside u e pow ix z c s j len sectors s-is P hj =
+    let i = set-inside u e pow ix z c len sectors P in
+    let b = blocks-fit u e pow (c + 1) (omega (arith, P .rounds)) in
+    let l : s + j + 1 ≤ (setBlock u ix z c + 4 * u) * 64 = omega (arith, s-is, b, hj) in
+    (omega (arith, mul-le-mul-right (16 * u) l, i .0), omega (arith, l, i .1))

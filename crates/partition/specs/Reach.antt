@@ -48,8 +48,8 @@ fewer : (w v m P Q T p : ℕ) → 0 < w → m * w ≡ v → P * w ≡ T → Q * 
 fewer w v m P Q T p pw wh e f h =
     either (lt? p (Q * m)) (λ a. a .1) (λ a. absurd (omega (arith, mul-le-mul-right w (a .1), mul-le-mul-right w h, ap (λ (n : ℕ). Q * n) wh)))
 
-module _ (u e : ℕ) (pow : u ≡ 2 ^ e) (small : e < 6) (ix : Index) (z c p len : ℕ) (hc : c < 4 * u) (hp : p < setPages u (c + 1))
-    (fits : (fullBlock u ix z + 4 * u) * block u ≤ len) where
+module _ (u e : ℕ) (pow : u ≡ 2 ^ e) (small : e < 6) (ix : Index) (c p len : ℕ) (hc : c < 4 * u) (hp : p < setPages u (c + 1))
+    (fits : fullBlock u ix 0 * block u ≤ len) where
   abbrev w : ℕ
   w = setWidth u (c + 1)
 

@@ -5,18 +5,14 @@ ghost use lib.ListN.{length};
 ghost use Rattle.memory.specs.Lists.{tab};
 ghost use Rattle.memory.specs.Power.{log2up};
 ghost use Rattle.layout.specs.Geometry.{sector, block};
-ghost use Rattle.layout.specs.Flash.{flashOf, program, apply, applyAll, programs};
+ghost use Rattle.layout.specs.Flash.{flashOf, applyAll, programs};
 ghost use Rattle.layout.specs.Index.{setPages, setWidth, sideBlock, fullBlock, setByte, setBlock};
-ghost use Rattle.partition.specs.Indexes.{indexOf, Unit?, SetFits};
+ghost use Rattle.filter.specs.Filter.{indexOf};
+ghost use Rattle.partition.specs.Indexes.{Unit?, SetFits};
 ghost use Rattle.partition.specs.Sources.{fieldByte, pageByte, sourceOf, rowOf};
 ghost use Rattle.partition.specs.Halves.{Narrow, Half};
 ghost use Rattle.partition.specs.Reach.{Aligned, Reaches, RowFits};
-
-// An index: its first block, and its SKA page in RAM.
-pub struct Index {
-    pub first: usize,
-    pub ska: usize,
-}
+use filter::Index;
 
 // Fields of bits in a row of flash: the row's first byte, bits from a field to the next, first bit
 // taken of each.
@@ -54,7 +50,7 @@ fn log2_up(n: usize) -> u32
 }
 
 // Pages of the set of c rounds.
-fn set_pages(unit: usize, c: usize) -> usize
+pub fn set_pages(unit: usize, c: usize) -> usize
     requires { ⌜ c ≤ 128 ⌝ }
     ensures { λ r. ⌜ (r ≡ setPages unit c) × (0 < r) × (r ≤ 2048) ⌝ }
 {
@@ -72,7 +68,7 @@ fn set_width(unit: usize, c: usize) -> usize
 }
 
 // First block of the set of c rounds.
-fn side_block(unit: usize, ix: Index, c: usize) -> usize
+pub fn side_block(unit: usize, ix: Index, c: usize) -> usize
     requires { ⌜ (unit ≤ 32) × (ix .first ≤ 20000) ⌝ }
     ensures { λ r. ⌜ (r ≡ sideBlock unit (indexOf ix) c) × (r ≤ 20129) ⌝ }
 {
@@ -83,7 +79,7 @@ fn side_block(unit: usize, ix: Index, c: usize) -> usize
 }
 
 // First block of the set that c rounds and L1 make, with z full sets.
-fn set_block(unit: usize, ix: Index, z: usize, c: usize) -> usize
+pub fn set_block(unit: usize, ix: Index, z: usize, c: usize) -> usize
     requires { ⌜ (unit ≤ 32) × (ix .first ≤ 20000) × (z ≤ 1024) × (c < 4 * unit) ⌝ }
     ensures { λ r. ⌜ (r ≡ setBlock unit (indexOf ix) z c) × (r ≤ 200000) ⌝ }
 {
@@ -255,22 +251,12 @@ fn page_bytes(main: &[u8], r: Row, y: usize, out: &mut [u8])
 
 // Sector j of the set that c rounds and L1 make, with z full sets.
 pub fn set_sector(main: &[u8], unit: usize, ix: Index, z: usize, c: usize, j: usize, out: &mut [u8])
-    requires { ⌜ Unit? unit × (c < 4 * unit) × (z ≤ 1024) × (j < setPages unit (c + 1) * 4) × ((fullBlock unit (indexOf ix) z + 4 * unit) * block unit ≤ length (now main)) × (ix .first ≤ 20000) × (length (now out) ≡ sector unit) ⌝ }
+    requires { ⌜ Unit? unit × (c < 4 * unit) × (z ≤ 1024) × (j < setPages unit (c + 1) * 4) × (fullBlock unit (indexOf ix) 0 * block unit ≤ length (now main)) × (ix .first ≤ 20000) × (length (now out) ≡ sector unit) ⌝ }
     ensures { λ _. ⌜ now (out .exit) ≡ tab (sector unit) (setByte unit (indexOf ix) (now (main .entry)) z c j) ⌝ }
 {
     let size = 16 * unit;
     let r = row_of(unit, ix, c, j / 4);
     page_bytes(main, r, j % 4 * size, out);
-}
-
-// A sector of flash is programmed with the bytes of src, and its spare byte says so.
-fn program_sector(main: &mut [u8], spare: &mut [u8], unit: usize, s: usize, src: &[u8])
-    requires { ⌜ (unit ≤ 32) × (length (now src) ≡ sector unit) × (s * sector unit + sector unit ≤ length (now main)) × (s < length (now spare)) ⌝ }
-    ensures { λ _. ⌜ flashOf (now (main .exit)) (now (spare .exit)) ≡ apply unit (program s (now (src .entry))) (flashOf (now (main .entry)) (now (spare .entry))) ⌝ }
-{
-    let at = s * (16 * unit);
-    words::copy_at(main, at, src);
-    spare[s] = 0;
 }
 
 // All sectors of the set that c rounds and L1 make are programmed, in order, each by way of `buf`.
@@ -293,7 +279,7 @@ fn program_sectors(
     let mut j = 0;
     while j < n {
         set_sector(main, unit, ix, z, c, j, buf);
-        program_sector(main, spare, unit, first + j, buf);
+        flash::program_sector(main, spare, unit, first + j, buf);
         j += 1;
     }
 }

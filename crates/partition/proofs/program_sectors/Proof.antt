@@ -9,13 +9,13 @@ use mathlib.Core.Path.{_≡_, refl, ap, sym, _∙_}
 use lib.ListN.{length}
 use borrow.Author.Needs.{needs}
 use Rattle.layout.specs.Index.{setByte}
-use Rattle.partition.specs.Indexes.{indexOf}
+use Rattle.filter.specs.Filter.{indexOf}
 use Rattle.partition.proofs.Steps.{After, main-length, spare-length, after-more, after-all, sector-inside}
 use Rattle.partition.proofs.program_sectors.Statement.{statement}
 use Rattle.partition.proofs.program_sectors.Tie as tie
 use Rattle.partition.proofs.program_sectors.Reads as reads
 use Rattle.partition.proofs.program_sectors.Lts as lts
-use Rattle.partition.proofs.program_sector.Reads as program-sector-reads
+use Rattle.flash.proofs.program_sector.Reads as program-sector-reads
 use Rattle.partition.proofs.set_block.Reads as set-block-reads
 use Rattle.partition.proofs.set_pages.Reads as set-pages-reads
 use Rattle.partition.proofs.set_sector.Reads as set-sector-reads
@@ -57,7 +57,7 @@ set-sector-requires c κs =
     let x = c .before .before .before .before .before .before .before .before .before in
     let l = c .before .before .before .loop in
     let P = x .pre .0 in
-    (P .unit, P .rounds, P .sets, omega (arith, c .before .before .before .before .set-pages .ensures .0), omega (arith, P .main, l .inv .1), P .first, omega (arith, l .inv .3, x .pre .1))
+    (P .unit, P .rounds, P .sets, omega (arith, c .before .before .before .before .set-pages .ensures .0), omega (arith, P .sides, l .inv .1), P .first, omega (arith, l .inv .3, x .pre .1))
 
 add-program-sector : tie.Need-add-program-sector Inv-loop μ-loop
 add-program-sector c = omega (arith, c .before .before .before .before .before .before .before .before .before .before .set-block .ensures .1, c .before .before .before .before .before .before .before .before .before .set-pages .ensures .2)
@@ -70,7 +70,7 @@ program-sector-requires c κs =
     let U = P .unit in
     let b = c .before .before .before .before .before .before .before .before .before .before .before .set-block in
     let n = c .before .before .before .before .before .before .before .before .before .before .set-pages .ensures .0 in
-    let I = sector-inside (x .args .unit) (U .e) (U .is) (indexOf (x .args .ix)) (x .args .z) (x .args .c) (b .result * 64) (l .j) (length (x .args .main .now)) (length (x .args .spare .now)) (ap (λ (k : ℕ). k * 64) (b .ensures .0)) (P .rounds) (P .main) (P .spare) (omega (arith, n)) in
+    let I = sector-inside (x .args .unit) (U .e) (U .is) (indexOf (x .args .ix)) (x .args .z) (x .args .c) (b .result * 64) (l .j) (length (x .args .main .now)) (length (x .args .spare .now)) (ap (λ (k : ℕ). k * 64) (b .ensures .0)) P (omega (arith, n)) in
     let f = setByte (x .args .unit) (indexOf (x .args .ix)) (l .main) (x .args .z) (x .args .c) (l .j) in
     (unit-le (x .args .unit) U, ap length (c .before .before .before .before .before .set-sector .ensures) ∙ length-tab (16 * x .args .unit) f, omega (arith, I .0, l .inv .1), omega (arith, I .1, l .inv .2))
 

@@ -2,7 +2,7 @@ use native.Mathlib.Omega.{arith}
 use native.Mathlib.Nat.{mul-le-mul-right}
 use Prim.Native.Nat.{ℕ, _+_, _*_, _≤_}
 use mathlib.Core.Path.{_≡_}
-use Rattle.partition.specs.Indexes.{indexOf}
+use Rattle.filter.specs.Filter.{indexOf}
 use Rattle.partition.proofs.Numbers.{unit-le, next-le, sector-le, row-made}
 use borrow.Author.Needs.{needs}
 use Rattle.partition.proofs.row_of.Statement.{statement}

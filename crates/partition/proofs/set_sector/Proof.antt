@@ -3,7 +3,7 @@ use native.Mathlib.Nat.{mul-le-mul-right}
 use Prim.Native.Nat.{ℕ, _+_, _*_, _/_, _%_, _≤_}
 use mathlib.Core.Path.{_≡_, _∙_}
 use lib.ListN.{length}
-use Rattle.partition.specs.Indexes.{indexOf}
+use Rattle.filter.specs.Filter.{indexOf}
 use Rattle.partition.specs.Reach.{row-fits}
 use Rattle.partition.specs.Widths.{unit-pos}
 use Rattle.partition.proofs.Numbers.{unit-le, pages-le}
@@ -35,7 +35,7 @@ page-bytes-requires c κs =
     let x = c .before .before .before .before in
     let U = x .pre .0 in
     let h : x .args .j % 4 ≤ 3 = omega arith in (
-      rw (c .before .row-of .ensures) (row-fits (x .args .unit) (U .e) (U .is) (U .small) (indexOf (x .args .ix)) (x .args .z) (x .args .c) (x .args .j / 4) (length (x .args .main .now)) (x .pre .1) (omega (arith, x .pre .3)) (x .pre .4)),
+      rw (c .before .row-of .ensures) (row-fits (x .args .unit) (U .e) (U .is) (U .small) (indexOf (x .args .ix)) (x .args .c) (x .args .j / 4) (length (x .args .main .now)) (x .pre .1) (omega (arith, x .pre .3)) (x .pre .4)),
       omega (arith, unit-le (x .args .unit) U, mul-le-mul-right (16 * x .args .unit) h),
       omega (arith, unit-pos (x .args .unit) (U .e) (U .is), x .pre .6),
       omega (arith, unit-le (x .args .unit) U, x .pre .6),

@@ -1,0 +1,3 @@
+pub mod PlanLaws
+pub mod CallLaws
+pub mod FitLaws

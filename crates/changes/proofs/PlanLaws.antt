@@ -1,0 +1,198 @@
+-- An insertion by itself and after a deletion; a page of entries that is read before it is programmed.
+use mathlib.Core.Path.{_≡_, refl, sym, ap, _∙_}
+use mathlib.Core.Bool.{Bool, true, false, _&&_, cond}
+use mathlib.Core.List.{List, [], _∷_, _++_}
+use Prim.Native.Nat.{ℕ, _+_, _*_, _/_, _%_, _≤_, _<_}
+use native.Mathlib.Omega.{arith}
+use lib.ListN.{length, getD}
+use lib.Seq.{ext-getD}
+use Rattle.memory.specs.Cases.{either, bool?, lt?}
+use Rattle.memory.specs.Lists.{write, length-write, getD-write-before, getD-write-in, getD-write-after}
+use Rattle.layout.specs.Geometry.{Geometry, kaRam as kaPage}
+use Rattle.layout.specs.Flash.{Flash, Op, applyAll, allFresh}
+use Rattle.layout.specs.Hash.{Family, fnvFamily, positions, positionCount}
+use Rattle.layout.specs.Items.{Area, RA, KA, DA, entryBytes, deletionBytes, put, fills, pageOps, zeroPage, itemOps, itemRam}
+use Rattle.layout.specs.Index.{Index, inSka, withFilter, filterOps, filterRam}
+use Rattle.filter.specs.Pieces.{with-filter-ext}
+use Rattle.filter.specs.Filter.{page-filter-is}
+use Rattle.memory.specs.Ranges.{any, memb}
+use Rattle.memory.specs.Words.{word, bytes4}
+use Rattle.layout.specs.Calls.{Draft, keyIndex, keyFilters, pageFilter, deletion, summary, insertion}
+use Rattle.history.specs.FlashLaws.{apply-append}
+use Rattle.flash.specs.Fresh.{fresh-append}
+use Rattle.changes.specs.Inserted.{raOps, raRam, kaOps, kaRam, filterIn, entered, indexOps, lastFlash, lastRam, insertedFlash, insertedRam, insertFresh}
+use Rattle.items.specs.Fresh.{itemFresh, item-fresh}
+use Rattle.index.specs.Fresh.{indexFresh, index-fresh}
+
+cond-yes : {A : Type 0} (b : Bool) (x y : A) → b ≡ true → cond b x y ≡ x
+cond-yes true x y q = refl
+cond-yes false x y q = cc
+
+cond-no : {A : Type 0} (b : Bool) (x y : A) → b ≡ false → cond b x y ≡ y
+cond-no true x y q = cc
+cond-no false x y q = refl
+
+-- writing the same bytes to the same place twice
+pub write-twice : (l : List ℕ) (at : ℕ) (s : List ℕ) → write (write l at s) at s ≡ write l at s
+write-twice l at s =
+    ext-getD 0 (write (write l at s) at s) (write l at s) (length-write (write l at s) at s) (λ i k.
+    at-index i (rw (length-write (write l at s) at s, length-write l at s) at k))
+  where
+    at-index : (i : ℕ) → i < length l → getD (write (write l at s) at s) i 0 ≡ getD (write l at s) i 0
+    at-index i k =
+        either (lt? i at)
+        (λ a. getD-write-before (write l at s) at s i 0 (a .1))
+        (λ a. either (lt? i (at + length s))
+        (λ b. getD-write-in (write l at s) at s i 0 (a .1) (b .1) (rw (length-write l at s) k) ∙ sym (getD-write-in l at s i 0 (a .1) (b .1) k))
+        (λ b. getD-write-after (write l at s) at s i 0 (b .1)))
+
+pub put-twice : (a : Area) (n : ℕ) (item ram : List ℕ) → put a n item (put a n item ram) ≡ put a n item ram
+unfolding put
+put-twice a n item ram = write-twice ram _ item
+
+module _ (h : Family) (g : Geometry) (flash : Flash) (n key : ℕ) (bytes : List ℕ) (t : Draft) where
+  abbrev ops₂ : List Op
+  ops₂ = t .ops ++ raOps h g n key bytes (t .ram) ++ kaOps h g n key (raRam h g n key bytes (t .ram))
+
+  abbrev C : Flash
+  C = applyAll (g .u) (t .ops) flash
+
+  abbrev C₁ : Flash
+  C₁ = applyAll (g .u) (raOps h g n key bytes (t .ram)) C
+
+  done₂ : applyAll (g .u) ops₂ flash ≡ entered h g n key (raRam h g n key bytes (t .ram)) C₁
+  done₂ =
+      apply-append (g .u) (t .ops ++ raOps h g n key bytes (t .ram)) (kaOps h g n key (raRam h g n key bytes (t .ram))) flash
+      ∙ ap (applyAll (g .u) (kaOps h g n key (raRam h g n key bytes (t .ram)))) (apply-append (g .u) (t .ops) (raOps h g n key bytes (t .ram)) flash)
+
+  part-is : fills (KA g) n ≡ false → insertion h g flash n key bytes t ≡ record { ops = ops₂; ram = kaRam h g n key (raRam h g n key bytes (t .ram)) }
+  unfolding insertion
+  part-is q = cond-no (fills (KA g) n) _ _ q
+
+  full-is : fills (KA g) n ≡ true
+      → insertion h g flash n key bytes t
+      ≡ record { ops = ops₂ ++ indexOps h g n key (raRam h g n key bytes (t .ram)) C₁; ram = filterRam (g .u) (keyIndex g) (keyFilters g n) (filterIn h g n key (raRam h g n key bytes (t .ram))) }
+  unfolding insertion summary
+  full-is q =
+      cond-yes (fills (KA g) n) _ _ q
+      ∙ ap (λ (c : Flash). record { ops = ops₂ ++ filterOps (g .u) (keyIndex g) c (keyFilters g n) (filterIn h g n key (raRam h g n key bytes (t .ram))); ram = filterRam (g .u) (keyIndex g) (keyFilters g n) (filterIn h g n key (raRam h g n key bytes (t .ram))) }) done₂
+
+  -- the flash after the operations of an insertion is that of its steps
+  pub insertion-flash : applyAll (g .u) (insertion h g flash n key bytes t .ops) flash ≡ insertedFlash h g n key bytes (t .ram) C
+  unfolding insertedFlash lastFlash
+  insertion-flash =
+      either (bool? (fills (KA g) n))
+      (λ q.
+      ap (λ (T : Draft). applyAll (g .u) (T .ops) flash) (full-is q)
+      ∙ apply-append (g .u) ops₂ (indexOps h g n key (raRam h g n key bytes (t .ram)) C₁) flash
+      ∙ ap (applyAll (g .u) (indexOps h g n key (raRam h g n key bytes (t .ram)) C₁)) done₂
+      ∙ sym (cond-yes (fills (KA g) n) _ _ q))
+      (λ q. ap (λ (T : Draft). applyAll (g .u) (T .ops) flash) (part-is q) ∙ done₂ ∙ sym (cond-no (fills (KA g) n) _ _ q))
+
+  pub insertion-ram : insertion h g flash n key bytes t .ram ≡ insertedRam h g n key bytes (t .ram)
+  unfolding insertedRam lastRam
+  insertion-ram =
+      either (bool? (fills (KA g) n))
+      (λ q. ap (λ (T : Draft). T .ram) (full-is q) ∙ sym (cond-yes (fills (KA g) n) _ _ q))
+      (λ q. ap (λ (T : Draft). T .ram) (part-is q) ∙ sym (cond-no (fills (KA g) n) _ _ q))
+
+  -- its sectors are fresh where those of each step are
+  pub insertion-fresh : (spare : List ℕ) → allFresh spare (insertion h g flash n key bytes t .ops) ≡ (allFresh spare (t .ops) && insertFresh spare g n)
+  unfolding insertFresh
+  insertion-fresh spare =
+      either (bool? (fills (KA g) n))
+      (λ q.
+      ap (λ (T : Draft). allFresh spare (T .ops)) (full-is q)
+      ∙ fresh-append ops₂ (indexOps h g n key (raRam h g n key bytes (t .ram)) C₁) spare
+      ∙ ap (λ (b : Bool). b && allFresh spare (indexOps h g n key (raRam h g n key bytes (t .ram)) C₁)) two
+      ∙ ap (λ (b : Bool). ((allFresh spare (t .ops) && itemFresh spare (RA g) n) && itemFresh spare (KA g) n) && b) (index-fresh spare (g .u) (keyIndex g) (entered h g n key (raRam h g n key bytes (t .ram)) C₁) (keyFilters g n) (filterIn h g n key (raRam h g n key bytes (t .ram))))
+      ∙ three (allFresh spare (t .ops)) (itemFresh spare (RA g) n) (itemFresh spare (KA g) n) (indexFresh spare (g .u) (keyIndex g) (keyFilters g n))
+      ∙ ap (λ (b : Bool). allFresh spare (t .ops) && (itemFresh spare (RA g) n && (itemFresh spare (KA g) n && b))) (sym (cond-yes (fills (KA g) n) _ _ q)))
+      (λ q.
+      ap (λ (T : Draft). allFresh spare (T .ops)) (part-is q) ∙ two
+      ∙ two-one (allFresh spare (t .ops)) (itemFresh spare (RA g) n) (itemFresh spare (KA g) n)
+      ∙ ap (λ (b : Bool). allFresh spare (t .ops) && (itemFresh spare (RA g) n && (itemFresh spare (KA g) n && b))) (sym (cond-no (fills (KA g) n) _ _ q)))
+    where
+      two : allFresh spare ops₂ ≡ ((allFresh spare (t .ops) && itemFresh spare (RA g) n) && itemFresh spare (KA g) n)
+      two =
+          fresh-append (t .ops ++ raOps h g n key bytes (t .ram)) (kaOps h g n key (raRam h g n key bytes (t .ram))) spare
+          ∙ ap (λ (b : Bool). b && allFresh spare (kaOps h g n key (raRam h g n key bytes (t .ram)))) (fresh-append (t .ops) (raOps h g n key bytes (t .ram)) spare)
+          ∙ rw (item-fresh (g .u) (RA g) n bytes (t .ram) spare, item-fresh (g .u) (KA g) n (entryBytes key n) (raRam h g n key bytes (t .ram)) spare)
+
+      three : (a b c d : Bool) → (((a && b) && c) && d) ≡ (a && (b && (c && d)))
+      three true true c d = refl
+      three true false c d = refl
+      three false b c d = refl
+
+      two-one : (a b c : Bool) → ((a && b) && c) ≡ (a && (b && (c && true)))
+      two-one true true true = refl
+      two-one true true false = refl
+      two-one true false c = refl
+      two-one false b c = refl
+
+-- ---- a deletion, by the area and the bytes that the code has
+
+module _ (h : Family) (g : Geometry) (d j : ℕ) (a : Area) (bytes ram : List ℕ) (p : a ≡ DA g) (q : bytes ≡ deletionBytes j) where
+  pub deletion-flash : (flash : Flash) → applyAll (g .u) (itemOps (g .u) a d bytes ram) flash ≡ applyAll (g .u) (deletion h g d j ram .ops) flash
+  unfolding deletion
+  deletion-flash flash = rw (p, q)
+
+  pub deletion-ram : itemRam (g .u) a d bytes ram ≡ deletion h g d j ram .ram
+  unfolding deletion
+  deletion-ram = rw (p, q)
+
+-- an item put into the RAM page before it is appended
+pub ops-twice : (u : ℕ) (a : Area) (n : ℕ) (item ram : List ℕ) → itemOps u a n item (put a n item ram) ≡ itemOps u a n item ram
+ops-twice u a n item ram = ap (λ (r : List ℕ). cond (fills a n) (pageOps u a n r) []) (put-twice a n item ram)
+
+pub ram-twice : (u : ℕ) (a : Area) (n : ℕ) (item ram : List ℕ) → itemRam u a n item (put a n item ram) ≡ itemRam u a n item ram
+ram-twice u a n item ram = ap (λ (r : List ℕ). cond (fills a n) (zeroPage u (a .ram) r) r) (put-twice a n item ram)
+
+-- ---- an insertion, by the areas and the bytes that the code has
+
+module _ (h : Family) (g : Geometry) (n key : ℕ) (bytes ram : List ℕ) (C : Flash) where
+  pub inserted-part : fills (KA g) n ≡ false → (a b : Area) (item entry r₁ r₂ : List ℕ) (C₁ C₂ : Flash)
+      → a ≡ RA g → b ≡ KA g → item ≡ bytes → entry ≡ entryBytes key n
+      → C₁ ≡ applyAll (g .u) (itemOps (g .u) a n item ram) C → r₁ ≡ itemRam (g .u) a n item ram
+      → C₂ ≡ applyAll (g .u) (itemOps (g .u) b n entry r₁) C₁ → r₂ ≡ itemRam (g .u) b n entry r₁
+      → (C₂ ≡ insertedFlash h g n key bytes ram C) × (r₂ ≡ insertedRam h g n key bytes ram)
+  unfolding insertedFlash insertedRam
+  inserted-part q a b item entry r₁ r₂ C₁ C₂ pa pb pi pe c₁ e₁ c₂ e₂ =
+      (rw (c₂, e₁, c₁, pa, pb, pi, pe) (sym (cond-no (fills (KA g) n) _ _ q)), rw (e₂, e₁, pa, pb, pi, pe) (sym (cond-no (fills (KA g) n) _ _ q)))
+
+  pub inserted-full : fills (KA g) n ≡ true → (a : Area) (item r₁ r₂ : List ℕ) (C₁ C₂ : Flash)
+      → a ≡ RA g → item ≡ bytes
+      → C₁ ≡ applyAll (g .u) (itemOps (g .u) a n item ram) C → r₁ ≡ itemRam (g .u) a n item ram
+      → C₂ ≡ lastFlash h g n key r₁ C₁ → r₂ ≡ lastRam h g n key r₁
+      → (C₂ ≡ insertedFlash h g n key bytes ram C) × (r₂ ≡ insertedRam h g n key bytes ram)
+  unfolding insertedFlash insertedRam
+  inserted-full q a item r₁ r₂ C₁ C₂ pa pi c₁ e₁ c₂ e₂ =
+      (rw (c₂, e₁, c₁, pa, pi) (sym (cond-yes (fills (KA g) n) _ _ q)), rw (e₂, e₁, pa, pi) (sym (cond-yes (fills (KA g) n) _ _ q)))
+
+  -- the entry that fills its page, put into the RAM page before its filter is taken
+  pub last-is : (b : Area) (entry r₁ r₂ r₃ : List ℕ) (new : ℕ → Bool) (ix : Index) (F : ℕ) (C₁ C₂ : Flash)
+      → b ≡ KA g → entry ≡ entryBytes key n → ix ≡ keyIndex g → F ≡ keyFilters g n
+      → r₁ ≡ put (KA g) n (entryBytes key n) ram
+      → ((x : ℕ) → x < 64 * g .u → new x ≡ pageFilter h g r₁ x)
+      → C₁ ≡ applyAll (g .u) (itemOps (g .u) b n entry r₁) C → r₂ ≡ itemRam (g .u) b n entry r₁
+      → C₂ ≡ applyAll (g .u) (filterOps (g .u) ix C₁ F (withFilter (g .u) ix (inSka F) new r₂)) C₁
+      → r₃ ≡ filterRam (g .u) ix F (withFilter (g .u) ix (inSka F) new r₂)
+      → (C₂ ≡ lastFlash h g n key ram C) × (r₃ ≡ lastRam h g n key ram)
+  unfolding lastFlash lastRam
+  last-is b entry r₁ r₂ r₃ new ix F C₁ C₂ pb pe px pf e₁ same c₁ e₂ c₂ e₃ =
+      let k₁ : C₁ ≡ entered h g n key ram C = rw (c₁, pb, pe, e₁) (ap (λ (o : List Op). applyAll (g .u) o C) (ops-twice (g .u) (KA g) n (entryBytes key n) ram)) in
+      let k₂ : r₂ ≡ kaRam h g n key ram = rw (e₂, pb, pe, e₁) (ram-twice (g .u) (KA g) n (entryBytes key n) ram) in
+      let f : withFilter (g .u) ix (inSka F) new r₂ ≡ filterIn h g n key ram
+      = with-filter-ext (g .u) ix (inSka F) new (pageFilter h g r₁) r₂ same ∙ rw (px, pf, e₁, k₂) in
+      (c₂ ∙ rw (f, px, pf, k₁), e₃ ∙ rw (f, px, pf))
+
+-- ---- the entry put into its RAM page, and the page's filter, by the numbers that the code has
+
+pub put-by : (g : Geometry) (n key page q : ℕ) (entry ram r : List ℕ) → page ≡ kaPage (g .u) → q ≡ 8 * g .u → entry ≡ entryBytes key n → r ≡ write ram (page + n % q * 8) entry
+    → r ≡ put (KA g) n (entryBytes key n) ram
+unfolding put
+put-by g n key page q entry ram r pp pq pe e = e ∙ rw (pp, pq, pe)
+
+pub page-by : (g : Geometry) (page : ℕ) (ram : List ℕ) (x : ℕ) → page ≡ kaPage (g .u)
+    → any (λ i. memb x (positions fnvFamily positionCount (g .u) (bytes4 (word ram (page + i * 8))))) (8 * g .u) ≡ pageFilter fnvFamily g ram x
+page-by g page ram x p = rw p (page-filter-is g ram x)

@@ -1,0 +1,34 @@
+-- A page of entries lies within numbers of the machine.
+use native.Mathlib.Omega.{arith}
+use Prim.Native.Nat.{_-_}
+use Rattle.geometry.specs.Bounds.{product-le}
+use borrow.Author.Needs.{needs}
+use Rattle.search.proofs.page_start.Statement.{statement}
+use Rattle.search.proofs.page_start.Tie as tie
+
+ka-block-requires : tie.Need-ka-block-requires
+ka-block-requires c κs = search needs
+
+block-address-requires : tie.Need-block-address-requires
+block-address-requires c κs = search needs
+
+page-address-requires : tie.Need-page-address-requires
+page-address-requires c κs = search needs
+
+add-result : tie.Need-add-result
+add-result c =
+    let B = c .before .before .before in
+    let x = B .args in
+    let s = B .pre .0 in
+    let k = product-le (x .g .ra) (x .g .unit) 4096 32 (s .ra-most) (s .most) in
+    let l = product-le (x .p) (x .g .unit) 262144 32 (B .pre .1) (s .most) in
+    rw (c .page-address .ensures, c .before .block-address .ensures, c .before .before .ka-block .ensures) (omega (arith, k, l))
+
+returns : tie.Need-returns
+returns c =
+    rw (c .page-address .ensures, c .before .block-address .ensures, c .before .before .ka-block .ensures)
+
+pub page-start-spec : {M : Type 1} → statement M
+page-start-spec =
+    tie.close
+    (tie.spec ka-block-requires block-address-requires page-address-requires add-result returns)

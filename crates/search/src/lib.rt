@@ -1,0 +1,164 @@
+// The search for a key: RAM's entries newest first, then full pages newest first, a page being opened
+// only if its filter has all three bits. Document 01, "Calls".
+ghost use mathlib.Core.Path.{_≡_};
+ghost use Prim.Native.Nat.{ℕ, _+_, _*_, _/_, _%_, _≤_, _<_};
+ghost use lib.ListN.{length};
+ghost use Rattle.memory.specs.Words.{word};
+ghost use Rattle.layout.specs.Geometry.{page, block, entriesPerPage, recordCapacity, deletionCapacity, dataSize, ramSize, kaBlock};
+ghost use Rattle.layout.specs.Hash.{fnvFamily};
+ghost use Rattle.layout.specs.Calls.{keyPositions, isDeleted, tryAt, maybeIn, search};
+ghost use Rattle.layout.specs.Search.{scan, searchPages};
+ghost use Rattle.geometry.specs.Shape.{shape, Sound};
+ghost use Rattle.filter.specs.Candidate.{candidate};
+ghost use Rattle.filter.specs.Filter.{Below};
+ghost use Rattle.search.specs.Find.{stopOf, foundOf, at, Ready};
+use filter::Index;
+use geometry::Geometry;
+
+// Where a search ends: nowhere, at a live entry, with its record number, or at a number of n or more.
+pub enum Stop {
+    Nothing,
+    Found(u32),
+    Corrupt,
+}
+
+// How it ended, and the pages opened.
+pub struct Found {
+    pub stop: Stop,
+    pub opened: u32,
+}
+
+// ---- an entry
+
+fn wide(x: u32) -> usize
+    ensures { λ r. ⌜ r ≡ x ⌝ }
+{
+    x as usize
+}
+
+// The record number of entry k of those from byte `at` on: its second word.
+fn number_at(s: &[u8], at: usize, k: usize) -> u32
+    requires { ⌜ at + k * 8 + 8 ≤ length (now s) ⌝ }
+    ensures { λ r. ⌜ r ≡ word (now (s .entry)) (at + k * 8 + 4) ⌝ }
+{
+    words::get32(s, at + k * 8 + 4)
+}
+
+// Is record j among the d deletions?
+fn deleted(g: Geometry, main: &[u8], ram: &[u8], d: usize, j: u32) -> bool
+    requires { ⌜ Ready g 0 d (now main) (now ram) ⌝ }
+    ensures { λ r. ⌜ r ≡ isDeleted fnvFamily (shape g) (at 0 d (now (main .entry)) (now (ram .entry))) j ⌝ }
+{
+    items::is_deleted(main, ram, g.unit, geometry::deletion_area(g), d, j)
+}
+
+// ---- RAM's entries
+
+// Those of the page that is not full, newest first.
+fn in_ram(g: Geometry, main: &[u8], ram: &[u8], n: usize, d: usize, key: u32) -> Stop
+    requires { ⌜ Ready g n d (now main) (now ram) ⌝ }
+    ensures { λ r. ⌜ stopOf r ≡ scan (tryAt fnvFamily (shape g) (at n d (now (main .entry)) (now (ram .entry))) key) (n / entriesPerPage (g .unit) * entriesPerPage (g .unit)) (n % entriesPerPage (g .unit)) ⌝ }
+{
+    let page = g.ka_ram();
+    let count = n % g.entries_per_page();
+    let mut e = items::find_entry(ram, page, count, key);
+    while e > 0 {
+        let k = e - 1;
+        let j = number_at(ram, page, k);
+        if wide(j) >= n {
+            return Stop::Corrupt;
+        }
+        if !deleted(g, main, ram, d, j) {
+            return Stop::Found(j);
+        }
+        e = items::find_entry(ram, page, k, key);
+    }
+    Stop::Nothing
+}
+
+// ---- full pages
+
+// The first byte of page p of the entries on flash.
+fn page_start(g: Geometry, p: usize) -> usize
+    requires { ⌜ Sound g × (p ≤ 262144) ⌝ }
+    ensures { λ r. ⌜ r ≡ kaBlock (shape g) * block (g .unit) + p * page (g .unit) ⌝ }
+{
+    geometry::block_address(g, g.ka_block()) + geometry::page_address(g, p)
+}
+
+// The newest full page below `below` whose filter has all three bits, plus one; 0 if none has.
+fn next_page(g: Geometry, main: &[u8], ram: &[u8], n: usize, below: usize, ps: [u32; 3]) -> usize
+    requires { ⌜ Ready g n 0 (now main) (now ram) ⌝ }
+    requires { ⌜ (below ≤ n / entriesPerPage (g .unit)) × Below (64 * g .unit) ps ⌝ }
+    ensures { λ r. ⌜ r ≡ candidate (maybeIn fnvFamily (shape g) (at n 0 (now (main .entry)) (now (ram .entry))) ps) below ⌝ }
+{
+    let ix = Index {
+        first: g.index_block(),
+        ska: g.ska_ram(),
+    };
+    let filters = n / g.entries_per_page();
+    filter::next_candidate(main, ram, g.unit, ix, filters, below, ps)
+}
+
+// Full pages, newest first, and the entries of each that is opened, newest first.
+fn in_pages(g: Geometry, main: &[u8], ram: &[u8], n: usize, d: usize, key: u32) -> Found
+    requires { ⌜ Ready g n d (now main) (now ram) ⌝ }
+    ensures { λ r. ⌜ foundOf r ≡ searchPages (maybeIn fnvFamily (shape g) (at n d (now (main .entry)) (now (ram .entry))) (keyPositions fnvFamily (shape g) key)) (tryAt fnvFamily (shape g) (at n d (now (main .entry)) (now (ram .entry))) key) (entriesPerPage (g .unit)) (n / entriesPerPage (g .unit)) ⌝ }
+{
+    let per_page = g.entries_per_page();
+    let ps = fnv::positions(g.unit as u32, key);
+    let mut stop = Stop::Nothing;
+    let mut opened: u32 = 0;
+    let mut c = next_page(g, main, ram, n, n / per_page, ps);
+    'pages: while c > 0 {
+        let p = c - 1;
+        opened += 1;
+        let start = page_start(g, p);
+        let mut e = items::find_entry(main, start, per_page, key);
+        'entries: while e > 0 {
+            let k = e - 1;
+            let j = number_at(main, start, k);
+            if wide(j) >= n {
+                stop = Stop::Corrupt;
+                break 'pages;
+            }
+            if !deleted(g, main, ram, d, j) {
+                stop = Stop::Found(j);
+                break 'pages;
+            }
+            e = items::find_entry(main, start, k, key);
+        }
+        c = next_page(g, main, ram, n, p, ps);
+    }
+    Found { stop, opened }
+}
+
+// ---- all of it
+
+pub fn search(g: Geometry, main: &[u8], ram: &[u8], n: usize, d: usize, key: u32) -> Found
+    requires { ⌜ Sound g ⌝ }
+    requires { ⌜ dataSize (shape g) ≤ length (now main) ⌝ }
+    requires { ⌜ ramSize (shape g) ≤ length (now ram) ⌝ }
+    requires { ⌜ n ≤ recordCapacity (shape g) ⌝ }
+    requires { ⌜ d ≤ deletionCapacity (shape g) ⌝ }
+    ensures { λ r. ⌜ foundOf r ≡ search fnvFamily (shape g) (at n d (now (main .entry)) (now (ram .entry))) key ⌝ }
+{
+    let s = in_ram(g, main, ram, n, d, key);
+    match s {
+        Stop::Nothing => {
+            return in_pages(g, main, ram, n, d, key);
+        }
+        Stop::Found(j) => {
+            return Found {
+                stop: Stop::Found(j),
+                opened: 0,
+            };
+        }
+        Stop::Corrupt => {
+            return Found {
+                stop: Stop::Corrupt,
+                opened: 0,
+            };
+        }
+    }
+}
