@@ -1,0 +1,83 @@
+// The level store for firmware in C: include/level_store.h. Each function is the store's call; any state and
+// any bytes may be handed in.
+ghost use mathlib.Core.Path.{_≡_};
+ghost use Rattle.layout.specs.Hash.{fnvFamily};
+ghost use Rattle.layout.specs.Calls.{format, insert, update, delete, lookup, call};
+ghost use Rattle.state.specs.Contract.{volume, seen, changed};
+ghost use Rattle.store.specs.Looked.{looked};
+use state::Change;
+use state::State;
+use store::Lookup;
+
+#[no_mangle]
+pub extern "C" fn level_store_format(
+    old: State,
+    sector_size: u32,
+    ra_blocks: u32,
+    da_blocks: u32,
+    data: &mut [u8],
+    spare: &mut [u8],
+    ram: &mut [u8],
+) -> Change
+    ensures { λ r. ⌜ changed r (now («data» .exit)) (now (spare .exit)) (now (ram .exit)) ≡ seen (format (volume old (now («data» .entry)) (now (spare .entry)) (now (ram .entry))) «sector_size» «ra_blocks» «da_blocks») ⌝ }
+{
+    store::format(old, sector_size, ra_blocks, da_blocks, data, spare, ram)
+}
+
+#[no_mangle]
+pub extern "C" fn level_store_insert(
+    state: State,
+    key: u32,
+    moves: u32,
+    goal: u32,
+    word: u32,
+    data: &mut [u8],
+    spare: &mut [u8],
+    ram: &mut [u8],
+) -> Change
+    ensures { λ r. ⌜ changed r (now («data» .exit)) (now (spare .exit)) (now (ram .exit)) ≡ seen (call fnvFamily (volume state (now («data» .entry)) (now (spare .entry)) (now (ram .entry))) (insert key moves goal word)) ⌝ }
+{
+    store::insert(state, key, moves, goal, word, data, spare, ram)
+}
+
+#[no_mangle]
+pub extern "C" fn level_store_update(
+    state: State,
+    key: u32,
+    moves: u32,
+    goal: u32,
+    word: u32,
+    data: &mut [u8],
+    spare: &mut [u8],
+    ram: &mut [u8],
+) -> Change
+    ensures { λ r. ⌜ changed r (now («data» .exit)) (now (spare .exit)) (now (ram .exit)) ≡ seen (call fnvFamily (volume state (now («data» .entry)) (now (spare .entry)) (now (ram .entry))) (update key moves goal word)) ⌝ }
+{
+    store::update(state, key, moves, goal, word, data, spare, ram)
+}
+
+#[no_mangle]
+pub extern "C" fn level_store_delete(
+    state: State,
+    key: u32,
+    data: &mut [u8],
+    spare: &mut [u8],
+    ram: &mut [u8],
+) -> Change
+    ensures { λ r. ⌜ changed r (now («data» .exit)) (now (spare .exit)) (now (ram .exit)) ≡ seen (call fnvFamily (volume state (now («data» .entry)) (now (spare .entry)) (now (ram .entry))) (delete key)) ⌝ }
+{
+    store::delete(state, key, data, spare, ram)
+}
+
+#[no_mangle]
+pub extern "C" fn level_store_lookup(
+    state: State,
+    key: u32,
+    data: &[u8],
+    spare: &[u8],
+    ram: &[u8],
+) -> Lookup
+    ensures { λ r. ⌜ r ≡ looked (call fnvFamily (volume state (now («data» .entry)) (now (spare .entry)) (now (ram .entry))) (lookup key)) ⌝ }
+{
+    store::find(state, key, data, spare, ram)
+}

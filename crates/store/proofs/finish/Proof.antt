@@ -1,0 +1,34 @@
+use borrow.Author.Needs.{needs}
+use mathlib.Core.Path.{_≡_, refl, _∙_}
+use Rattle.store.proofs.finish.Statement.{statement}
+use Rattle.store.proofs.finish.Tie as tie
+use Rattle.store.proofs.finish.Reads as reads
+use Rattle.store.proofs.finish.Lts as lts
+use Rattle.geometry.proofs.Geometry.page.Reads as page-reads
+use Rattle.geometry.proofs.Geometry.work_ram.Reads as work-ram-reads
+use Rattle.words.proofs.fill_at.Reads as fill-at-reads
+
+-- src/lib.rt:77:25
+work-ram-requires : tie.Need-work-ram-requires
+work-ram-requires c κs = search needs
+
+-- src/lib.rt:77:39
+page-requires : tie.Need-page-requires
+page-requires c κs = search needs
+
+-- src/lib.rt:77:5
+fill-at-requires : tie.Need-fill-at-requires
+fill-at-requires c κs = search needs
+
+-- src/lib.rt:72:1
+same-length : tie.Need-same-length
+same-length c = search needs
+
+-- src/lib.rt:72:1
+returns : tie.Need-returns
+returns c =
+    (refl, c .before .before .fill-at .ensures ∙ rw (c .before .before .before .before .work-ram .ensures, c .before .before .before .page .ensures))
+
+pub finish-spec : {M : Type 1} → statement M
+finish-spec =
+    tie.close (tie.spec work-ram-requires page-requires fill-at-requires same-length returns)

@@ -1,0 +1,77 @@
+-- Demand 3 of the code: every chain of calls whose results satisfy the contracts, from an accepted format on, agrees with the map at FNV-1a.
+use mathlib.Core.Path.{_≡_, refl, sym, ap, _∙_}
+use mathlib.Core.Bool.{true, false}
+use mathlib.Core.List.{List, [], _∷_}
+use Prim.Native.Nat.{ℕ, _+_, _/_, _≤_}
+use lib.ListN.{length}
+use Rattle.layout.specs.Geometry.{geometry, allowed, entriesPerPage}
+use Rattle.layout.specs.Hash.{fnvFamily}
+use Rattle.layout.specs.Calls.{Volume, Call, accepted, tooShort, format, call}
+use Rattle.layout.specs.FiniteMap.{Map, emptyMap, Step, mapOf}
+use Rattle.history.specs.Live.{emptyHistory}
+use Rattle.history.specs.Season.{KeyWords, after, shown, Possible, HandedOn, stateOf, EachAgrees, historyOf, ImageOf}
+use Rattle.history.specs.Demands.{demand-2, demand-3}
+use Rattle.state.specs.Contract.{Left, seen}
+
+-- a chain of calls, each on what the one before it left: what each leaves is what its contract says
+abbrev pub Chain : Volume → List Call → List Left → Type 0
+Chain v [] [] = Unit {0}
+Chain v [] (l ∷ ls) = ⊥
+Chain v (c ∷ cs) [] = ⊥
+Chain v (c ∷ cs) (l ∷ ls) = (l ≡ seen (call fnvFamily v c)) × Chain (l .left) cs ls
+
+-- what a caller sees of a call on the volume v, and the map's step
+pub record Sees (S R D : ℕ) (v : Volume) (l : Left) (s : Step) : Type 0 where
+  pub says : shown (l .outcome) ≡ s .says
+  pub state-is : l .left .state ≡ stateOf S R D (s .next .n) (s .next .d)
+  pub live : l .left .state .records ≡ l .left .state .deletions + length (s .next .levels)
+  pub possible : Possible (l .outcome)
+  pub handed-on : HandedOn (l .outcome) v (l .left)
+  pub count-le : l .count ≤ v .state .records / entriesPerPage (S / 16)
+
+abbrev pub EachSees : ℕ → ℕ → ℕ → Volume → Map → List Call → List Left → Type 0
+EachSees S R D v m [] ls = Unit {0}
+EachSees S R D v m (c ∷ cs) [] = ⊥
+EachSees S R D v m (c ∷ cs) (l ∷ ls) = Sees S R D v l (mapOf (geometry S R D) m c) × EachSees S R D (l .left) (mapOf (geometry S R D) m c .next) cs ls
+
+-- the volume that the last call left
+abbrev pub lastLeft : Volume → List Left → Volume
+lastLeft v [] = v
+lastLeft v (l ∷ ls) = lastLeft (l .left) ls
+
+each-sees : (S R D : ℕ) (v : Volume) (m : Map) (cs : List Call) (ls : List Left) → Chain v cs ls → EachAgrees fnvFamily S R D v m cs → EachSees S R D v m cs ls
+each-sees S R D v m [] ls k a = tt
+each-sees S R D v m (c ∷ cs) [] k a = k
+each-sees S R D v m (c ∷ cs) (l ∷ ls) k a =
+    let e : l ≡ seen (call fnvFamily v c) = k .0 in
+    let w : l .left ≡ call fnvFamily v c .volume = ap (λ (x : Left). x .left) e in (
+      rw e (record { says = a .0 .says; state-is = a .0 .state-is; live = a .0 .live; possible = a .0 .possible; handed-on = a .0 .handed-on; count-le = a .0 .count-le }),
+      each-sees S R D (l .left) (mapOf (geometry S R D) m c .next) cs ls (k .1) (rw w (a .1)),
+    )
+
+last-is : (v : Volume) (cs : List Call) (ls : List Left) → Chain v cs ls → lastLeft v ls ≡ after fnvFamily v cs
+last-is v [] [] k = refl
+last-is v [] (l ∷ ls) k = absurd k
+last-is v (c ∷ cs) [] k = absurd k
+last-is v (c ∷ cs) (l ∷ ls) k = last-is (l .left) cs ls (k .1) ∙ ap (λ (x : Left). after fnvFamily (x .left) cs) (k .0)
+
+-- what demands 2 and 3 say of the code
+pub record CodeSeason (v : Volume) (S R D : ℕ) (first : Left) (cs : List Call) (ls : List Left) : Type 0 where
+  pub formatted : first .outcome ≡ accepted
+  pub started : first .left .state ≡ stateOf S R D 0 0
+  pub each : EachSees S R D (first .left) emptyMap cs ls
+  pub image : ImageOf fnvFamily (geometry S R D) (historyOf fnvFamily (first .left) emptyHistory cs) v (lastLeft (first .left) ls)
+
+pub code-season : (v : Volume) (S R D : ℕ) (first : Left) (cs : List Call) (ls : List Left)
+    → allowed S R D ≡ true → tooShort (geometry S R D) (v .flash) (v .ram) ≡ false → KeyWords cs
+    → first ≡ seen (format v S R D) → Chain (first .left) cs ls
+    → CodeSeason v S R D first cs ls
+code-season v S R D first cs ls can long words e k =
+    let d = demand-3 fnvFamily v S R D cs can long words in
+    let w : first .left ≡ format v S R D .volume = ap (λ (x : Left). x .left) e in
+    record {
+      formatted = ap (λ (x : Left). x .outcome) e ∙ d .formatted-ok;
+      started = ap (λ (x : Left). x .left .state) e ∙ d .started;
+      each = each-sees S R D (first .left) emptyMap cs ls k (rw w (d .agrees));
+      image = rw (last-is (first .left) cs ls k, w) (demand-2 fnvFamily v S R D cs can long words);
+    }
