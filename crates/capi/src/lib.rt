@@ -7,7 +7,7 @@ ghost use Rattle.state.specs.Contract.{volume, seen, changed};
 ghost use Rattle.store.specs.Looked.{looked};
 use state::Change;
 use state::State;
-use store::Lookup;
+use store::LookupResult;
 
 #[no_mangle]
 pub extern "C" fn level_store_format(
@@ -76,7 +76,7 @@ pub extern "C" fn level_store_lookup(
     data: &[u8],
     spare: &[u8],
     ram: &[u8],
-) -> Lookup
+) -> LookupResult
     ensures { λ r. ⌜ r ≡ looked (call fnvFamily (volume state (now («data» .entry)) (now (spare .entry)) (now (ram .entry))) (lookup key)) ⌝ }
 {
     store::find(state, key, data, spare, ram)

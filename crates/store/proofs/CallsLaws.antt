@@ -28,7 +28,7 @@ use Rattle.search.specs.declared.Found.{Found}
 use Rattle.changes.proofs.CallLaws.{refusedLeft}
 use Rattle.store.proofs.FormatLaws.{state-refusal, number}
 use Rattle.store.specs.Looked.{looked}
-use Rattle.store.specs.declared.Lookup.{Lookup}
+use Rattle.store.specs.declared.LookupResult.{LookupResult}
 
 -- where the search on a volume ended
 pub stop-at : (h : Family) (g : layout.Geometry) (v : Volume) (key : ℕ) (r : Found)
@@ -105,7 +105,7 @@ and-both a b p q = rw (p, q)
 -- ---- lookup
 
 -- what a refused lookup answers
-abbrev pub refusedLookup : ℕ → Lookup
+abbrev pub refusedLookup : ℕ → LookupResult
 refusedLookup i = record { refusal = i; found = 0; count = 0; «in_ram» = 0; offset = 0 }
 
 module _ (h : Family) (g : layout.Geometry) (v : Volume) (key : ℕ) where

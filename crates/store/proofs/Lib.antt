@@ -1,2 +1,3 @@
 pub mod CallsLaws
 pub mod FormatLaws
+pub mod PartLaws

@@ -4,20 +4,20 @@ use mathlib.Core.List.{List, []}
 use Prim.Native.Nat.{ℕ, _+_}
 use Rattle.layout.specs.Items as layout
 use Rattle.layout.specs.Calls.{Outcome, accepted, hit, miss, refused, Result}
-use Rattle.store.specs.declared.Lookup.{Lookup}
+use Rattle.store.specs.declared.LookupResult.{LookupResult}
 
-abbrev num : Bool → ℕ
+abbrev pub num : Bool → ℕ
 num true = 1
 num false = 0
 
 -- "hit, count and the 16 record bytes .. or miss, count and an empty part; its refusals give count 0 and an empty part"
-abbrev pub lookedOf : Outcome → ℕ → Lookup
+abbrev pub lookedOf : Outcome → ℕ → LookupResult
 lookedOf (hit place bytes) count = record { refusal = 0; found = 1; count = count; «in_ram» = num (place .inRam); offset = place .at }
 lookedOf miss count = record { refusal = 0; found = 0; count = count; «in_ram» = 0; offset = 0 }
 lookedOf (refused i) count = record { refusal = i; found = 0; count = 0; «in_ram» = 0; offset = 0 }
 lookedOf accepted count = record { refusal = 0; found = 0; count = 0; «in_ram» = 0; offset = 0 }
 
-abbrev pub looked : Result → Lookup
+abbrev pub looked : Result → LookupResult
 looked r = lookedOf (r .outcome) (r .count)
 
 -- the bytes of the part that lookup hands out

@@ -13,7 +13,7 @@ ghost use Rattle.layout.specs.Calls.{format, insert, update, delete, lookup, ca
 ghost use Rattle.geometry.specs.Shape.{shape, Sound};
 ghost use Rattle.state.specs.Contract.{stateOf, volume, seen, changed};
 ghost use Rattle.state.specs.Judge.{Long, Fits};
-ghost use Rattle.store.specs.Looked.{looked};
+ghost use Rattle.store.specs.Looked.{looked, partOf, whereOf};
 use geometry::Geometry;
 use search::Stop;
 use state::Change;
@@ -327,7 +327,7 @@ pub fn delete(s: State, key: u32, main: &mut [u8], spare: &mut [u8], ram: &mut [
 // The answer of a lookup. found 1: the record's 16 bytes start at `offset` of the RAM (in_ram 1) or of the
 // main area (in_ram 0).
 #[repr(C)]
-pub struct Lookup {
+pub struct LookupResult {
     pub refusal: u32,
     pub found: u32,
     pub count: u32,
@@ -335,10 +335,10 @@ pub struct Lookup {
     pub offset: u32,
 }
 
-fn refuse_lookup(i: u32) -> Lookup
+fn refuse_lookup(i: u32) -> LookupResult
     ensures { λ r. ⌜ r ≡ record { refusal = i; found = 0; count = 0; «in_ram» = 0; offset = 0 } ⌝ }
 {
-    Lookup {
+    LookupResult {
         refusal: i,
         found: 0,
         count: 0,
@@ -347,7 +347,7 @@ fn refuse_lookup(i: u32) -> Lookup
     }
 }
 
-fn find_in(g: Geometry, s: State, key: u32, main: &[u8], spare: &[u8], ram: &[u8]) -> Lookup
+fn find_in(g: Geometry, s: State, key: u32, main: &[u8], spare: &[u8], ram: &[u8]) -> LookupResult
     requires { ⌜ Fits s (now main) (now spare) (now ram) g ⌝ }
     ensures { λ r. ⌜ r ≡ looked (answer fnvFamily (shape g) (volume s (now (main .entry)) (now (spare .entry)) (now (ram .entry))) (lookup key)) ⌝ }
 {
@@ -360,7 +360,7 @@ fn find_in(g: Geometry, s: State, key: u32, main: &[u8], spare: &[u8], ram: &[u8
             return refuse_lookup(8);
         }
         Stop::Nothing => {
-            return Lookup {
+            return LookupResult {
                 refusal: 0,
                 found: 0,
                 count: opened,
@@ -373,7 +373,7 @@ fn find_in(g: Geometry, s: State, key: u32, main: &[u8], spare: &[u8], ram: &[u8
             let at = p.at;
             let in_ram = p.in_ram;
             if in_ram {
-                return Lookup {
+                return LookupResult {
                     refusal: 0,
                     found: 1,
                     count: opened,
@@ -381,7 +381,7 @@ fn find_in(g: Geometry, s: State, key: u32, main: &[u8], spare: &[u8], ram: &[u8
                     offset: at as u32,
                 };
             }
-            return Lookup {
+            return LookupResult {
                 refusal: 0,
                 found: 1,
                 count: opened,
@@ -393,7 +393,7 @@ fn find_in(g: Geometry, s: State, key: u32, main: &[u8], spare: &[u8], ram: &[u8
 }
 
 // Where a level's record lies, in numbers.
-pub fn find(s: State, key: u32, main: &[u8], spare: &[u8], ram: &[u8]) -> Lookup
+pub fn find(s: State, key: u32, main: &[u8], spare: &[u8], ram: &[u8]) -> LookupResult
     ensures { λ r. ⌜ r ≡ looked (call fnvFamily (volume s (now (main .entry)) (now (spare .entry)) (now (ram .entry))) (lookup key)) ⌝ }
 {
     match state::judge(s, main, spare, ram) {
@@ -404,4 +404,35 @@ pub fn find(s: State, key: u32, main: &[u8], spare: &[u8], ram: &[u8]) -> Lookup
             return find_in(g, s, key, main, spare, ram);
         }
     }
+}
+
+// A level's newest record where it lies: 16 bytes of the main area or of the RAM, or an empty part.
+pub fn lookup<'a>(
+    s: State,
+    key: u32,
+    main: &'a [u8],
+    spare: &[u8],
+    ram: &'a [u8],
+    refusal: &mut u32,
+    found: &mut u32,
+    count: &mut u32,
+) -> &'a [u8]
+    ensures { λ r. ⌜ (now r ≡ partOf (call fnvFamily (volume s (now (main .entry)) (now (spare .entry)) (now (ram .entry))) (lookup key) .outcome)) × (r .ptr ≡ whereOf ((main .entry) .ptr) ((ram .entry) .ptr) (call fnvFamily (volume s (now (main .entry)) (now (spare .entry)) (now (ram .entry))) (lookup key) .outcome)) ⌝ }
+    ensures { λ r. ⌜ (now (refusal .exit) ≡ looked (call fnvFamily (volume s (now (main .entry)) (now (spare .entry)) (now (ram .entry))) (lookup key)) .refusal) × (now (found .exit) ≡ looked (call fnvFamily (volume s (now (main .entry)) (now (spare .entry)) (now (ram .entry))) (lookup key)) .found) × (now (count .exit) ≡ looked (call fnvFamily (volume s (now (main .entry)) (now (spare .entry)) (now (ram .entry))) (lookup key)) .count) ⌝ }
+{
+    let f = find(s, key, main, spare, ram);
+    *refusal = f.refusal;
+    *found = f.found;
+    *count = f.count;
+    let hit = f.found;
+    let at = f.offset as usize;
+    let in_ram = f.in_ram;
+    if hit == 0 {
+        return &main[0..0];
+    }
+    let e = at + 16;
+    if in_ram == 1 {
+        return &ram[at..e];
+    }
+    &main[at..e]
 }
