@@ -106,7 +106,7 @@ fn insert_new(
     ensures { λ r. ⌜ changed r (now (main .exit)) (now (spare .exit)) (now (ram .exit)) ≡ seen (insertAfter fnvFamily (shape g) (volume s (now (main .entry)) (now (spare .entry)) (now (ram .entry))) key (recordBytes key moves goal word) none) ⌝ }
 {
     let n = s.records as usize;
-    if g.record_capacity() <= n {
+    if g.record_capacity() <= n { // 5 goes before 7
         return state::refuse(s, 5);
     }
     if !changes::insertion_fresh(spare, g, n) {
@@ -272,7 +272,7 @@ fn delete_found(
     ensures { λ r. ⌜ changed r (now (main .exit)) (now (spare .exit)) (now (ram .exit)) ≡ seen (deleteAfter fnvFamily (shape g) (volume s (now (main .entry)) (now (spare .entry)) (now (ram .entry))) (some (found j))) ⌝ }
 {
     let d = s.deletions as usize;
-    if g.deletion_capacity() <= d {
+    if g.deletion_capacity() <= d { // 6 goes before 7
         return state::refuse(s, 6);
     }
     if !changes::deletion_fresh(spare, g, d) {
