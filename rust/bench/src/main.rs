@@ -17,7 +17,7 @@ const SUBJECT: &dyn Store = &ModelStore;
 
 const SECTOR_SIZES: [u32; 3] = [16, 64, 512];
 const RECORDS: [usize; 3] = [1_000, 10_000, 100_000];
-/// Calls in a round, and rounds of each store.
+/// Changes in a round, and rounds of each store.
 const CALLS: usize = 64;
 const ROUNDS: usize = 5;
 
@@ -144,19 +144,19 @@ fn filled(sector_size: u32, n: usize) -> Unit {
 }
 
 fn side_by_side(unit: &Unit, n: usize, call: Call) -> (Measured, Measured) {
+    // Short lookups need many calls to be timed; all with other keys, lest the processor learns them.
+    let count = match call {
+        Call::Hit | Call::Miss => CALLS * (100_000 / n),
+        Call::Insert | Call::Update => CALLS,
+    };
     let mut random = Random::new(0xBE9C);
-    let keys: Vec<u32> = (0..CALLS)
+    let keys: Vec<u32> = (0..count)
         .map(|i| match call {
             Call::Hit => key(random.below(n)),
             Call::Update => key(random.below(n / CALLS) * CALLS + i),
             Call::Miss | Call::Insert => key(n + i),
         })
         .collect();
-    // A lookup changes nothing, so short ones can be made often enough to be timed.
-    let repeats = match call {
-        Call::Hit | Call::Miss => 100_000 / n,
-        Call::Insert | Call::Update => 1,
-    };
     let mut best = [f64::INFINITY; 2];
     let mut opened = 0;
     for _ in 0..ROUNDS {
@@ -164,10 +164,8 @@ fn side_by_side(unit: &Unit, n: usize, call: Call) -> (Measured, Measured) {
         for (which, store) in [SUBJECT, &ModelStore].into_iter().enumerate() {
             let mut own = unit.clone();
             let start = Instant::now();
-            for _ in 0..repeats {
-                opened = round(store, &mut own, &keys, call);
-            }
-            best[which] = best[which].min(start.elapsed().as_secs_f64() / repeats as f64);
+            opened = round(store, &mut own, &keys, call);
+            best[which] = best[which].min(start.elapsed().as_secs_f64());
             after.push((opened, own));
         }
         let [(a, x), (b, y)] = &after[..] else {
@@ -179,8 +177,8 @@ fn side_by_side(unit: &Unit, n: usize, call: Call) -> (Measured, Measured) {
         );
     }
     let measured = |which: usize| Measured {
-        micros: best[which] * 1e6 / CALLS as f64,
-        opened: opened as f64 / CALLS as f64,
+        micros: best[which] * 1e6 / count as f64,
+        opened: opened as f64 / count as f64,
     };
     (measured(0), measured(1))
 }
