@@ -1,0 +1,41 @@
+-- Document 01's replay example, computed by the definitions from its text to the text it prints.
+use mathlib.Core.Path.{_≡_, refl}
+use mathlib.Core.List.{List, [], _∷_}
+use Prim.Native.Nat.{ℕ}
+use lib.ListN.{replicate}
+use Rattle.memory.specs.Lists.{write, tab, tabFrom, pieces}
+use Rattle.memory.specs.Bits.{bit, pack}
+use Rattle.memory.specs.Power.{log2up}
+use Rattle.memory.specs.Words.{wordsBytes}
+use Rattle.memory.specs.Ranges.{any, memb, allOf}
+use Rattle.layout.specs.Geometry.{allowed}
+use Rattle.layout.specs.Flash.{fresh, allFresh}
+use Rattle.layout.specs.Hash.{fnvFrom, positions}
+use Rattle.layout.specs.Index.{rowBit, rowByte, bitAt, filterBit, setByte, flushAndBuild}
+use Rattle.layout.specs.Items.{recordBytes, entryBytes, deletionBytes, itemWord, put}
+use Rattle.layout.specs.Search.{scan, searchPages}
+use Rattle.layout.specs.Calls.{Volume, badState, tooShort, judged, formatted, format, isDeleted, tryAt, maybeIn, search, deletion, pageFilter, summary, insertion, commit, insertAfter, updateAfter, deleteAfter, lookupAfter, call}
+use Rattle.script.specs.Lines.{digitsFrom, number, fields, request}
+use Rattle.script.specs.Answers.{digits, text}
+use Rattle.script.specs.Script.{perform, endLine, advance, feed, prints}
+
+-- "It lends 59,392 cells, 3,712 marks and a desk of 640 bytes"; "Before any format the state is all zero"
+abbrev pub lent : ℕ → ℕ → ℕ → ℕ → Volume
+lent byte main spare ram =
+    record {
+      state = record { sectorSize = 0; raBlocks = 0; daBlocks = 0; records = 0; deletions = 0 };
+      flash = record { main = replicate main byte; spare = replicate spare byte };
+      ram = replicate ram byte;
+    }
+
+-- f 16 1 1, i 7 40, i 7 41, l 7, u 7 42, l 7, d 7, l 7, d 7
+abbrev input : List ℕ
+input = 102 ∷ 32 ∷ 49 ∷ 54 ∷ 32 ∷ 49 ∷ 32 ∷ 49 ∷ 10 ∷ 105 ∷ 32 ∷ 55 ∷ 32 ∷ 52 ∷ 48 ∷ 10 ∷ 105 ∷ 32 ∷ 55 ∷ 32 ∷ 52 ∷ 49 ∷ 10 ∷ 108 ∷ 32 ∷ 55 ∷ 10 ∷ 117 ∷ 32 ∷ 55 ∷ 32 ∷ 52 ∷ 50 ∷ 10 ∷ 108 ∷ 32 ∷ 55 ∷ 10 ∷ 100 ∷ 32 ∷ 55 ∷ 10 ∷ 108 ∷ 32 ∷ 55 ∷ 10 ∷ 100 ∷ 32 ∷ 55 ∷ 10 ∷ []
+
+-- ok 0 0, ok 1 0, no 3, hit 40 0, ok 2 1, hit 42 0, ok 2 2, miss 0, no 4
+abbrev output : List ℕ
+output = 111 ∷ 107 ∷ 32 ∷ 48 ∷ 32 ∷ 48 ∷ 10 ∷ 111 ∷ 107 ∷ 32 ∷ 49 ∷ 32 ∷ 48 ∷ 10 ∷ 110 ∷ 111 ∷ 32 ∷ 51 ∷ 10 ∷ 104 ∷ 105 ∷ 116 ∷ 32 ∷ 52 ∷ 48 ∷ 32 ∷ 48 ∷ 10 ∷ 111 ∷ 107 ∷ 32 ∷ 50 ∷ 32 ∷ 49 ∷ 10 ∷ 104 ∷ 105 ∷ 116 ∷ 32 ∷ 52 ∷ 50 ∷ 32 ∷ 48 ∷ 10 ∷ 111 ∷ 107 ∷ 32 ∷ 50 ∷ 32 ∷ 50 ∷ 10 ∷ 109 ∷ 105 ∷ 115 ∷ 115 ∷ 32 ∷ 48 ∷ 10 ∷ 110 ∷ 111 ∷ 32 ∷ 52 ∷ 10 ∷ []
+
+pub paper : prints (lent 0 59392 3712 640) input ≡ output
+unfolding write tab tabFrom pieces bit pack log2up wordsBytes any memb allOf allowed fresh allFresh fnvFrom positions rowBit rowByte bitAt filterBit setByte flushAndBuild recordBytes entryBytes deletionBytes itemWord put scan searchPages badState tooShort judged formatted format isDeleted tryAt maybeIn search deletion pageFilter summary insertion commit insertAfter updateAfter deleteAfter lookupAfter call digitsFrom number fields request digits text perform endLine advance feed prints
+paper = refl

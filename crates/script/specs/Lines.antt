@@ -1,0 +1,85 @@
+-- The lines of a script. Document 01, "Replay program".
+use mathlib.Core.Bool.{Bool, _&&_, cond}
+use mathlib.Core.Option.{Option, none, some}
+use mathlib.Core.List.{List, [], _∷_}
+use Prim.Native.Nat.{ℕ, _+_, _*_, _-_, _^_}
+use lib.Dec.{ltb, leb, eqb}
+use Rattle.layout.specs.Calls.{Call, insert, update, delete, lookup}
+
+-- what a line asks for; any line that asks for nothing is bad
+pub data Request : Type 0 where
+  format : ℕ → ℕ → ℕ → Request
+  call : Call → Request
+  bad : Request
+
+-- ---- numbers
+
+-- the digits 0 to 9
+abbrev pub isDigit : ℕ → Bool
+isDigit c = leb 48 c && leb c 57
+
+-- the number that decimal digits make after those that made v; none where a byte is no digit
+unfoldable pub digitsFrom : ℕ → List ℕ → Option ℕ
+digitsFrom v [] = some v
+digitsFrom v (c ∷ cs) = cond (isDigit c) (digitsFrom (v * 10 + (c - 48)) cs) none
+
+-- "below 2^32"
+abbrev pub small : Option ℕ → Option ℕ
+small none = none
+small (some v) = cond (ltb v (2 ^ 32)) (some v) none
+
+-- "in decimal below 2^32 without leading zeros"
+unfoldable pub number : List ℕ → Option ℕ
+number [] = none
+number (c ∷ []) = digitsFrom 0 (c ∷ [])
+number (c ∷ d ∷ cs) = cond (eqb c 48) none (small (digitsFrom 0 (c ∷ d ∷ cs)))
+
+-- ---- words
+
+-- a byte before the first word
+abbrev pub lengthen : ℕ → List (List ℕ) → List (List ℕ)
+lengthen c [] = (c ∷ []) ∷ []
+lengthen c (w ∷ ws) = (c ∷ w) ∷ ws
+
+-- the words between "single spaces": a second space in a row, or one at an end, makes an empty word
+unfoldable pub fields : List ℕ → List (List ℕ)
+fields [] = [] ∷ []
+fields (c ∷ cs) = cond (eqb c 32) ([] ∷ fields cs) (lengthen c (fields cs))
+
+-- ---- requests
+
+-- `d key` and `l key`
+abbrev pub one : ℕ → Option ℕ → Request
+one c none = bad
+one c (some key) = cond (eqb c 100) (call (delete key)) (cond (eqb c 108) (call (lookup key)) bad)
+
+-- `i key moves` and `u key moves`; "goal and free word are 0"
+abbrev pub two : ℕ → Option ℕ → Option ℕ → Request
+two c none moves = bad
+two c (some key) none = bad
+two c (some key) (some moves) = cond (eqb c 105) (call (insert key moves 0 0)) (cond (eqb c 117) (call (update key moves 0 0)) bad)
+
+-- `f S R D`
+abbrev pub three : ℕ → Option ℕ → Option ℕ → Option ℕ → Request
+three c none R D = bad
+three c (some S) none D = bad
+three c (some S) (some R) none = bad
+three c (some S) (some R) (some D) = cond (eqb c 102) (format S R D) bad
+
+-- the request with the letter c and these words after it
+abbrev pub lettered : ℕ → List (List ℕ) → Request
+lettered c [] = bad
+lettered c (x ∷ []) = one c (number x)
+lettered c (x ∷ y ∷ []) = two c (number x) (number y)
+lettered c (x ∷ y ∷ z ∷ []) = three c (number x) (number y) (number z)
+lettered c (x ∷ y ∷ z ∷ w ∷ ws) = bad
+
+abbrev pub requestOf : List (List ℕ) → Request
+requestOf [] = bad
+requestOf ([] ∷ ws) = bad
+requestOf ((c ∷ []) ∷ ws) = lettered c ws
+requestOf ((c ∷ d ∷ cs) ∷ ws) = bad
+
+-- what a line, without its line feed, asks for
+unfoldable pub request : List ℕ → Request
+request line = requestOf (fields line)

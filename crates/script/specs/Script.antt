@@ -1,0 +1,63 @@
+-- What a script does to a volume and what it prints. Document 01, "Replay program".
+use mathlib.Core.Bool.{cond}
+use mathlib.Core.List.{List, [], _∷_, _++_}
+use Prim.Native.Nat.{ℕ}
+use lib.Dec.{eqb}
+use Rattle.memory.specs.Words.{word}
+use Rattle.layout.specs.Hash.{fnvFamily}
+use Rattle.layout.specs.Calls as calls
+use Rattle.script.specs.Lines.{Request, format, call, bad, request}
+use Rattle.script.specs.Answers.{Answer, text}
+use Rattle.script.specs.Answers as answers
+
+-- the answer that a call's result gives: n and d; the record's second word and the count; the count; the number
+abbrev pub said : calls.Result → calls.Outcome → Answer
+said r calls.accepted = answers.ok (r .volume .state .records) (r .volume .state .deletions)
+said r (calls.hit place bytes) = answers.hit (word bytes 4) (r .count)
+said r calls.miss = answers.miss (r .count)
+said r (calls.refused i) = answers.no i
+
+-- an answer and the volume after it
+pub record Done : Type 0 where
+  pub answer : Answer
+  pub volume : calls.Volume
+
+abbrev pub done : calls.Result → Done
+done r = record { answer = said r (r .outcome); volume = r .volume }
+
+-- a request on a volume; a bad line changes nothing
+unfoldable pub perform : calls.Volume → Request → Done
+perform v (format S R D) = done (calls.format v S R D)
+perform v (call c) = done (calls.call fnvFamily v c)
+perform v bad = record { answer = answers.bad; volume = v }
+
+-- ---- the input, byte by byte
+
+-- the line that is not ended yet, the volume, and what has been printed
+pub record Progress : Type 0 where
+  pub line : List ℕ
+  pub volume : calls.Volume
+  pub printed : List ℕ
+
+-- a line's end: it is answered, and the volume is passed on to the next line
+unfoldable pub endLine : Progress → Progress
+endLine p =
+    let r : Done = perform (p .volume) (request (p .line)) in
+    record { line = []; volume = r .volume; printed = p .printed ++ text (r .answer) }
+
+-- one byte more: a line feed ends the line, any other byte lengthens it
+unfoldable pub advance : Progress → ℕ → Progress
+advance p c = cond (eqb c 10) (endLine p) (record { line = p .line ++ (c ∷ []); volume = p .volume; printed = p .printed })
+
+unfoldable pub feed : Progress → List ℕ → Progress
+feed p [] = p
+feed p (c ∷ cs) = feed (advance p c) cs
+
+-- the input's end: "the last [line feed] may be missing"
+abbrev pub close : Progress → List ℕ → Progress
+close p [] = p
+close p (c ∷ cs) = endLine p
+
+-- all that is printed for an input
+unfoldable pub prints : calls.Volume → List ℕ → List ℕ
+prints v input = let p : Progress = feed (record { line = []; volume = v; printed = [] }) input in close p (p .line) .printed
