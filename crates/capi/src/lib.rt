@@ -4,10 +4,10 @@ ghost use mathlib.Core.Path.{_≡_};
 ghost use Rattle.layout.specs.Hash.{fnvFamily};
 ghost use Rattle.layout.specs.Calls.{format, insert, update, delete, lookup, call};
 ghost use Rattle.state.specs.Contract.{volume, seen, changed};
-ghost use Rattle.store.specs.Looked.{looked};
+ghost use Rattle.lookup.specs.Looked.{looked};
+use lookup::LookupResult;
 use state::Change;
 use state::State;
-use store::LookupResult;
 
 #[no_mangle]
 pub extern "C" fn level_store_format(
@@ -21,7 +21,7 @@ pub extern "C" fn level_store_format(
 ) -> Change
     ensures { λ r. ⌜ changed r (now («data» .exit)) (now (spare .exit)) (now (ram .exit)) ≡ seen (format (volume old (now («data» .entry)) (now (spare .entry)) (now (ram .entry))) «sector_size» «ra_blocks» «da_blocks») ⌝ }
 {
-    store::format(old, sector_size, ra_blocks, da_blocks, data, spare, ram)
+    format::format(old, sector_size, ra_blocks, da_blocks, data, spare, ram)
 }
 
 #[no_mangle]
@@ -37,7 +37,7 @@ pub extern "C" fn level_store_insert(
 ) -> Change
     ensures { λ r. ⌜ changed r (now («data» .exit)) (now (spare .exit)) (now (ram .exit)) ≡ seen (call fnvFamily (volume state (now («data» .entry)) (now (spare .entry)) (now (ram .entry))) (insert key moves goal word)) ⌝ }
 {
-    store::insert(state, key, moves, goal, word, data, spare, ram)
+    insert::insert(state, key, moves, goal, word, data, spare, ram)
 }
 
 #[no_mangle]
@@ -53,7 +53,7 @@ pub extern "C" fn level_store_update(
 ) -> Change
     ensures { λ r. ⌜ changed r (now («data» .exit)) (now (spare .exit)) (now (ram .exit)) ≡ seen (call fnvFamily (volume state (now («data» .entry)) (now (spare .entry)) (now (ram .entry))) (update key moves goal word)) ⌝ }
 {
-    store::update(state, key, moves, goal, word, data, spare, ram)
+    update::update(state, key, moves, goal, word, data, spare, ram)
 }
 
 #[no_mangle]
@@ -66,7 +66,7 @@ pub extern "C" fn level_store_delete(
 ) -> Change
     ensures { λ r. ⌜ changed r (now («data» .exit)) (now (spare .exit)) (now (ram .exit)) ≡ seen (call fnvFamily (volume state (now («data» .entry)) (now (spare .entry)) (now (ram .entry))) (delete key)) ⌝ }
 {
-    store::delete(state, key, data, spare, ram)
+    delete::delete(state, key, data, spare, ram)
 }
 
 #[no_mangle]
@@ -79,5 +79,5 @@ pub extern "C" fn level_store_lookup(
 ) -> LookupResult
     ensures { λ r. ⌜ r ≡ looked (call fnvFamily (volume state (now («data» .entry)) (now (spare .entry)) (now (ram .entry))) (lookup key)) ⌝ }
 {
-    store::find(state, key, data, spare, ram)
+    lookup::find(state, key, data, spare, ram)
 }

@@ -1,2 +1,1 @@
-pub mod Looked
 pub mod Chain

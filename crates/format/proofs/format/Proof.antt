@@ -1,0 +1,83 @@
+use borrow.Author.Needs.{needs}
+use mathlib.Core.Path.{_≡_, sym, _∙_}
+use Rattle.layout.specs.Flash.{flashOf}
+use Rattle.state.specs.Contract.{volume}
+use Rattle.state.specs.Judge.{New}
+use Rattle.format.proofs.FormatLaws.{format-refused, format-left}
+use Rattle.format.proofs.format.Statement.{statement}
+use Rattle.format.proofs.format.Tie as tie
+use Rattle.format.proofs.format.Reads as reads
+use Rattle.format.proofs.format.Lts as lts
+use Rattle.state.proofs.judge_new.Reads as judge-new-reads
+use Rattle.state.proofs.refuse.Reads as refuse-reads
+use Rattle.format.proofs.erase_volume.Reads as erase-volume-reads
+
+judge-new-requires : tie.Need-judge-new-requires
+judge-new-requires c κs = search needs
+
+enum-known-i : tie.Need-enum-known-i
+enum-known-i c = search needs
+
+refuse-requires : tie.Need-refuse-requires
+refuse-requires c κs = search needs
+
+same-length : tie.Need-same-length
+same-length c = search needs
+
+same-length-2 : tie.Need-same-length-2
+same-length-2 c = search needs
+
+same-length-3 : tie.Need-same-length-3
+same-length-3 c = search needs
+
+returns : tie.Need-returns
+returns c =
+    let x = c .before .before .before .before .before .before .before .before .before .before .before .args in
+    let v = volume (x .old) (x .main .now) (x .spare .now) (x .ram .now) in
+    rw (c .refuse .ensures) (sym (format-refused v (x .sector-size) (x .ra-blocks) (x .da-blocks) (c .before .before .i .given .0 .0) (sym (c .before .before .before .before .judge-new .ensures .0) ∙ c .before .before .i .given .1)))
+
+enum-known-g : tie.Need-enum-known-g
+enum-known-g c = search needs
+
+-- what the judge says of the geometry
+new : (c : tie.After-g) → New (c .before .before .before .before .before .before .before .before .before .args .sector-size) (c .before .before .before .before .before .before .before .before .before .args .ra-blocks) (c .before .before .before .before .before .before .before .before .before .args .da-blocks) (c .before .before .before .before .before .before .before .before .before .args .main .now) (c .before .before .before .before .before .before .before .before .before .args .spare .now) (c .before .before .before .before .before .before .before .before .before .args .ram .now) (c .g .given .0 .0)
+new c = rw (c .g .given .1) at (c .before .before .judge-new .ensures .1)
+
+erase-volume-requires : tie.Need-erase-volume-requires
+erase-volume-requires c κs =
+    let n = new (c .before .before .before .before) in
+    (n .sound, n .long)
+
+same-length-4 : tie.Need-same-length-4
+same-length-4 c = search needs
+
+same-length-5 : tie.Need-same-length-5
+same-length-5 c = search needs
+
+same-length-6 : tie.Need-same-length-6
+same-length-6 c = search needs
+
+returns-2 : tie.Need-returns-2
+returns-2 c =
+    let x = c .before .before .before .before .before .before .before .before .before .before .before .before .before .before .before .before .before .before .before .before .args in
+    let v = volume (x .old) (x .main .now) (x .spare .now) (x .ram .now) in
+    let e = c .before .before .before .before .before .before .erase-volume in
+    format-left v (x .sector-size) (x .ra-blocks) (x .da-blocks) (c .before .before .before .before .before .before .before .before .before .before .before .g .given .0 .0) (flashOf (e .last .1 .0) (e .last .1 .1 .0)) (e .last .1 .1 .1 .0) (new (c .before .before .before .before .before .before .before .before .before .before .before)) (e .ensures .0) (e .ensures .1)
+
+pub format-spec : {M : Type 1} → statement M
+format-spec =
+    tie.close
+    (tie.spec
+    judge-new-requires
+    enum-known-i
+    refuse-requires
+    same-length
+    same-length-2
+    same-length-3
+    returns
+    enum-known-g
+    erase-volume-requires
+    same-length-4
+    same-length-5
+    same-length-6
+    returns-2)

@@ -1,0 +1,58 @@
+// Format: a new volume. Document 01, "Calls".
+ghost use mathlib.Core.Path.{_≡_};
+ghost use lib.ListN.{replicate};
+ghost use Rattle.memory.specs.Lists.{write};
+ghost use Rattle.layout.specs.Geometry.{blocks, ramSize};
+ghost use Rattle.layout.specs.Flash.{flashOf, applyAll, erases};
+ghost use Rattle.layout.specs.Calls.{format};
+ghost use Rattle.geometry.specs.Shape.{shape, Sound};
+ghost use Rattle.state.specs.Contract.{volume, seen, changed};
+ghost use Rattle.state.specs.Judge.{Long};
+use geometry::Geometry;
+use state::Change;
+use state::Judged;
+use state::State;
+
+// All blocks erased and the RAM zeroed.
+fn erase_volume(g: Geometry, main: &mut [u8], spare: &mut [u8], ram: &mut [u8])
+    requires { ⌜ Sound g × Long g (now main) (now spare) (now ram) ⌝ }
+    ensures { λ _. ⌜ flashOf (now (main .exit)) (now (spare .exit)) ≡ applyAll (g .unit) (erases 0 (blocks (shape g))) (flashOf (now (main .entry)) (now (spare .entry))) ⌝ }
+    ensures { λ _. ⌜ now (ram .exit) ≡ write (now (ram .entry)) 0 (replicate (ramSize (shape g)) 0) ⌝ }
+{
+    let unit = g.unit;
+    flash::erase_blocks(main, spare, unit, 0, g.blocks());
+    words::fill_at(ram, 0, g.ram_size(), 0);
+}
+
+// A new volume of the given sizes; the old state is not judged.
+pub fn format(
+    old: State,
+    sector_size: u32,
+    ra_blocks: u32,
+    da_blocks: u32,
+    main: &mut [u8],
+    spare: &mut [u8],
+    ram: &mut [u8],
+) -> Change
+    ensures { λ r. ⌜ changed r (now (main .exit)) (now (spare .exit)) (now (ram .exit)) ≡ seen (format (volume old (now (main .entry)) (now (spare .entry)) (now (ram .entry))) «sector_size» «ra_blocks» «da_blocks») ⌝ }
+{
+    match state::judge_new(sector_size, ra_blocks, da_blocks, main, spare, ram) {
+        Judged::Refused(i) => {
+            return state::refuse(old, i);
+        }
+        Judged::Good(g) => {
+            erase_volume(g, main, spare, ram);
+            let s = State {
+                sector_size,
+                ra_blocks,
+                da_blocks,
+                records: 0,
+                deletions: 0,
+            };
+            return Change {
+                refusal: 0,
+                state: s,
+            };
+        }
+    }
+}

@@ -1,0 +1,83 @@
+-- The layout's lookup by what the search met, and by what the judge of the state answers.
+use mathlib.Core.Path.{_≡_, refl, sym, ap, _∙_}
+use mathlib.Core.Bool.{Bool, true, false, _&&_, cond}
+use mathlib.Core.Option.{Option, none, some}
+use mathlib.Core.List.{List}
+use Prim.Native.Nat.{ℕ, zero, suc, _+_, _*_, _/_, _%_, _≤_, _<_}
+use lib.Dec.{eqb, leb, ltb}
+use native.Mathlib.Omega.{arith}
+use native.Mathlib.Nat.{mod-lt}
+use borrow.Author.Tests.{ltb-true}
+use Rattle.layout.specs.Geometry as layout
+use Rattle.layout.specs.Flash.{flashOf}
+use Rattle.layout.specs.Hash.{Family}
+use Rattle.layout.specs.Items.{recordBytes, Place, itemPlace, RA}
+use Rattle.layout.specs.Search as find
+use Rattle.layout.specs.Search.{found, corrupt}
+use Rattle.layout.specs.Calls.{Volume, Result, Call, insert, update, delete, lookup, refuse, badState, tooShort, judged, call, answer, search, insertAfter, updateAfter, deleteAfter, lookupAfter}
+use Rattle.geometry.specs.Shape.{shape, Sound}
+use Rattle.geometry.specs.Bounds.{record-capacity-le, multiples-le}
+use Rattle.geometry.specs.declared.Geometry.{Geometry}
+use Rattle.state.specs.Contract.{Left, seen, outcomeOf, volume, stateOf}
+use Rattle.state.specs.Judge.{judgedOf, geometryIn, Fits}
+use Rattle.state.specs.declared.State.{State}
+use Rattle.state.specs.declared.Judged.{Judged}
+use Rattle.state.specs.declared.Judged.the-variants.{Good, Refused}
+use Rattle.search.specs.Find.{stopOf, foundOf, search-at, at as volumeAt}
+use Rattle.search.specs.declared.Found.{Found}
+use Rattle.state.proofs.Refusals.{number, refuses}
+use Rattle.lookup.specs.Looked.{looked}
+use Rattle.lookup.specs.declared.LookupResult.{LookupResult}
+
+-- what a refused lookup answers
+abbrev pub refusedLookup : ℕ → LookupResult
+refusedLookup i = record { refusal = i; found = 0; count = 0; «in_ram» = 0; offset = 0 }
+
+module _ (h : Family) (g : layout.Geometry) (v : Volume) (key : ℕ) where
+  pub lookup-corrupt : (k : ℕ) → search h g v key ≡ find.reply (some corrupt) k → refusedLookup 8 ≡ looked (answer h g v (lookup key))
+  unfolding lookupAfter
+  lookup-corrupt k e = rw e
+
+  pub lookup-nothing : (k : ℕ) → search h g v key ≡ find.reply none k
+      → record { refusal = 0; found = 0; count = k; «in_ram» = 0; offset = 0 } ≡ looked (answer h g v (lookup key))
+  unfolding lookupAfter
+  lookup-nothing k e = rw e
+
+  pub lookup-ram : (k j o : ℕ) (b : Bool) → search h g v key ≡ find.reply (some (found j)) k
+      → record { inRam = b; at = o } ≡ itemPlace (g .u) (RA g) (v .state .records) j → b ≡ true
+      → record { refusal = 0; found = 1; count = k; «in_ram» = 1; offset = o } ≡ looked (answer h g v (lookup key))
+  unfolding lookupAfter
+  lookup-ram k j o b e p t = rw (e, ← p, t)
+
+  pub lookup-main : (k j o : ℕ) (b : Bool) → search h g v key ≡ find.reply (some (found j)) k
+      → record { inRam = b; at = o } ≡ itemPlace (g .u) (RA g) (v .state .records) j → b ≡ false
+      → record { refusal = 0; found = 1; count = k; «in_ram» = 0; offset = o } ≡ looked (answer h g v (lookup key))
+  unfolding lookupAfter
+  lookup-main k j o b e p t = rw (e, ← p, t)
+
+-- a record's place is a 32-bit number
+module _ (g : Geometry) (s : Sound g) (n j : ℕ) (m : n ≤ layout.recordCapacity (shape g)) where
+  place-at : (t : Bool) → ltb j (n / layout.recordsPerPage (g .unit) * layout.recordsPerPage (g .unit)) ≡ t
+      → cond {A = Place} t (record { inRam = false; at = layout.raBlock (shape g) * layout.block (g .unit) + j * 16 }) (record { inRam = true; at = layout.raRam (g .unit) + j % layout.recordsPerPage (g .unit) * 16 }) .at < 4294967296
+  place-at true q =
+      omega (arith, ltb-true j (n / layout.recordsPerPage (g .unit) * layout.recordsPerPage (g .unit)) q, multiples-le n (layout.recordsPerPage (g .unit)), record-capacity-le g s, m)
+  place-at false q =
+      let l : j % layout.recordsPerPage (g .unit) < layout.recordsPerPage (g .unit) = mod-lt j (omega (arith, s .some)) in
+      omega (arith, l, s .most)
+
+  pub place-fits : (p : Place) → p ≡ itemPlace (g .unit) (RA (shape g)) n j → p .at < 4294967296
+  place-fits p e = rw e (place-at (ltb j (n / layout.recordsPerPage (g .unit) * layout.recordsPerPage (g .unit))) refl)
+
+-- refusals 1 and 2 of a lookup
+lookup-refusal : (v : Volume) (a b : Bool) (g : Geometry) (x : Result) (i : ℕ) → cond a (Refused 1) (cond b (Refused 2) (Good g)) ≡ Refused i
+    → refusedLookup i ≡ looked (cond a (refuse v 1) (cond b (refuse v 2) x))
+lookup-refusal v true b g x i e = let k : 1 ≡ i = ap number e in rw (← k)
+lookup-refusal v false true g x i e = let k : 2 ≡ i = ap number e in rw (← k)
+lookup-refusal v false false g x i e = let z : false ≡ true = ap refuses e in cc
+
+pub lookup-refused : (h : Family) (s : State) (main spare ram : List ℕ) (c : Call) (i : ℕ) → judgedOf s main spare ram ≡ Refused i
+    → refusedLookup i ≡ looked (call h (volume s main spare ram) c)
+unfolding call judged
+lookup-refused h s main spare ram c i e =
+    lookup-refusal (volume s main spare ram) (badState (stateOf s)) (tooShort (layout.geometryOf (stateOf s)) (flashOf main spare) ram) (geometryIn s)
+    (answer h (layout.geometryOf (stateOf s)) (volume s main spare ram) c) i e

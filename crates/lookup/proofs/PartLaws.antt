@@ -1,0 +1,183 @@
+-- The part that a lookup hands out: it is there, it lies inside its slice, and it holds the record's bytes.
+use mathlib.Core.Path.{_≡_, refl, sym, ap, _∙_}
+use mathlib.Core.Logic.{_≢_}
+use mathlib.Core.Bool.{Bool, true, false, _||_, not, cond}
+use mathlib.Core.Option.{Option, none, some}
+use mathlib.Core.List.{List, []}
+use Prim.Native.Nat.{ℕ, _+_, _*_, _/_, _%_, _≤_, _<_}
+use native.Mathlib.Nat.{mod-lt, div-mul-le-self, mul-le-mul-right}
+use native.Mathlib.Omega.{arith}
+use lib.ListN.{length, take, drop}
+use lib.Dec.{ltb}
+use borrow.Author.Tests.{ltb-false}
+use Rattle.memory.specs.Cases.{either, bool?, lt?}
+use Rattle.layout.specs.Geometry as layout
+use Rattle.layout.specs.Items.{RA, Place, itemPlace, bytesAt, source}
+use Rattle.layout.specs.Hash.{Family}
+use Rattle.layout.specs.Search.{Stop, found, corrupt}
+use Rattle.layout.specs.Calls.{Volume, Outcome, accepted, hit, miss, refused, Result, refuse, badState, tooShort, judged, lookup, lookupAfter, recordPlace, search, answer, call}
+use Rattle.history.specs.Volumes.{Sound, sound, pu}
+use Rattle.flash.specs.Parts.{tab-part}
+use Rattle.lookup.specs.Looked.{num, lookedOf, looked, partOf, whereOf}
+use Rattle.lookup.specs.declared.LookupResult.{LookupResult}
+
+-- the place of an outcome, and its bytes
+abbrev placeOf : Place → Outcome → Place
+placeOf d (hit p b) = p
+placeOf d miss = d
+placeOf d (refused i) = d
+placeOf d accepted = d
+
+abbrev bytesOf : List ℕ → Outcome → List ℕ
+bytesOf d (hit p b) = b
+bytesOf d miss = d
+bytesOf d (refused i) = d
+bytesOf d accepted = d
+
+abbrev isHit : Outcome → Bool
+isHit (hit p b) = true
+isHit miss = false
+isHit (refused i) = false
+isHit accepted = false
+
+-- an answer with `found` set is a hit
+pub found-hit : (o : Outcome) (c : ℕ) → lookedOf o c .found ≢ 0 → (p : Place) × (b : List ℕ) × (o ≡ hit p b)
+found-hit (hit p b) c n = (p, b, refl)
+found-hit miss c n = absurd (n refl)
+found-hit (refused i) c n = absurd (n refl)
+found-hit accepted c n = absurd (n refl)
+
+first : (a b : Bool) → (a || b) ≡ false → a ≡ false
+first true b q = q
+first false b q = refl
+
+second : (a b : Bool) → (a || b) ≡ false → b ≡ false
+second true b q = cc
+second false b q = q
+
+not-false : (a : Bool) → not a ≡ false → a ≡ true
+not-false true q = refl
+not-false false q = cc
+
+-- a part of 16 bytes at a place, inside its slice
+abbrev Inside : List ℕ → List ℕ → Place → List ℕ → Type 0
+Inside main ram p b = (b ≡ bytesAt main ram p 16) × (p .at + 16 ≤ length (source main ram p))
+
+module _ (h : Family) (v : Volume) where
+  abbrev S : ℕ
+  S = v .state .sectorSize
+
+  abbrev g : layout.Geometry
+  g = layout.geometryOf (v .state)
+
+  place-inside : badState (v .state) ≡ false → tooShort g (v .flash) (v .ram) ≡ false → (j : ℕ)
+      → recordPlace h g v j .at + 16 ≤ length (source (v .flash .main) (v .ram) (recordPlace h g v j))
+  unfolding badState tooShort
+  place-inside bad short j =
+      let ok = sound S (v .state .raBlocks) (v .state .daBlocks) (not-false _ (first (not (layout.allowed S (v .state .raBlocks) (v .state .daBlocks))) _ bad)) in
+      let u-pos = pu h S (v .state .raBlocks) (v .state .daBlocks) ok in
+      let rest = second (not (layout.allowed S (v .state .raBlocks) (v .state .daBlocks))) _ bad in
+      let cap : v .state .records ≤ layout.recordCapacity g = ltb-false _ _ (first (ltb (layout.recordCapacity g) (v .state .records)) _ rest) in
+      let main-fits : layout.dataSize g ≤ length (v .flash .main) = ltb-false _ _ (first (ltb (length (v .flash .main)) (layout.dataSize g)) _ short) in
+      let two = second (ltb (length (v .flash .main)) (layout.dataSize g)) _ short in
+      let ram-fits : layout.ramSize g ≤ length (v .ram) = ltb-false _ _ (second (ltb (length (v .flash .spare)) (layout.spareSize g)) _ two) in
+      either (lt? j (v .state .records / (4 * (S / 16)) * (4 * (S / 16))))
+      (λ a. rw (a .0) (omega (arith, div-mul-le-self (v .state .records) (4 * (S / 16)), cap, main-fits)))
+      (λ a. rw (a .0) (omega (arith, mul-le-mul-right 16 (mod-lt j {m = 4 * (S / 16)} (omega (arith, u-pos))), ram-fits)))
+
+  after-inside : badState (v .state) ≡ false → tooShort g (v .flash) (v .ram) ≡ false → (opened : ℕ) (o : Option Stop) (p : Place) (b : List ℕ)
+      → lookupAfter h g v opened o .outcome ≡ hit p b → Inside (v .flash .main) (v .ram) p b
+  unfolding lookupAfter
+  after-inside bad short opened none p b e = let z : false ≡ true = ap isHit e in (cc, absurd (no z))
+    where
+      no : (false ≡ true) → ⊥
+      no z = let w : _≡_ {A = ℕ} 0 1 = cc in omega arith
+  after-inside bad short opened (some corrupt) p b e = let z : false ≡ true = ap isHit e in (cc, absurd (no z))
+    where
+      no : (false ≡ true) → ⊥
+      no z = let w : _≡_ {A = ℕ} 0 1 = cc in omega arith
+  after-inside bad short opened (some (found j)) p b e =
+      let q : recordPlace h g v j ≡ p = ap (placeOf p) e in
+      let r : bytesAt (v .flash .main) (v .ram) (recordPlace h g v j) 16 ≡ b = ap (bytesOf b) e in
+      (sym r ∙ ap (λ (x : Place). bytesAt (v .flash .main) (v .ram) x 16) q, rw q at (place-inside bad short j))
+
+  pub call-inside : (key : ℕ) (p : Place) (b : List ℕ) → call h v (lookup key) .outcome ≡ hit p b → Inside (v .flash .main) (v .ram) p b
+  unfolding call judged
+  call-inside key p b e = go (badState (v .state)) (tooShort g (v .flash) (v .ram)) refl refl e
+    where
+      no : (false ≡ true) → ⊥
+      no z = let w : _≡_ {A = ℕ} 0 1 = cc in omega arith
+
+      go : (x y : Bool) → badState (v .state) ≡ x → tooShort g (v .flash) (v .ram) ≡ y
+          → cond x (refuse v 1) (cond y (refuse v 2) (answer h g v (lookup key))) .outcome ≡ hit p b → Inside (v .flash .main) (v .ram) p b
+      go true y bx by q = let z : false ≡ true = ap isHit q in (cc, absurd (no z))
+      go false true bx by q = let z : false ≡ true = ap isHit q in (cc, absurd (no z))
+      go false false bx by q = after-inside bx by (search h g v key .opened) (search h g v key .stop) p b q
+
+-- ---- the part by the numbers of `find`
+
+num-true : (b : Bool) → num b ≡ 1 → b ≡ true
+num-true true q = refl
+num-true false q = absurd (omega (arith, q))
+
+num-false : (b : Bool) → num b ≢ 1 → b ≡ false
+num-false true q = absurd (q refl)
+num-false false q = refl
+
+-- an answer with `found` 0 hands out nothing
+pub empty-part : (m r : ℕ × ℕ) (o : Outcome) (c : ℕ) → lookedOf o c .found ≡ 0 → (partOf o ≡ []) × (whereOf m r o ≡ (m .0, 0 + m .1))
+empty-part m r (hit p b) c q = absurd (omega (arith, q))
+empty-part m r miss c q = (refl, refl)
+empty-part m r (refused i) c q = (refl, refl)
+empty-part m r accepted c q = (refl, refl)
+
+-- a place by its two numbers
+as-place : (p : Place) (x : Bool) (q : ℕ) → p .inRam ≡ x → q ≡ p .at → p ≡ record { inRam = x; at = q }
+as-place p x q t e = λ i. record { inRam = t i; at = sym e i }
+
+moved : (main ram : List ℕ) (p p′ : Place) (b : List ℕ) → p ≡ p′ → Inside main ram p b → Inside main ram p′ b
+moved main ram p p′ b e x = rw e at x
+
+module _ (h : Family) (v : Volume) (key : ℕ) (f : LookupResult) (is : f ≡ looked (call h v (lookup key))) (there : f .found ≢ 0) where
+  o : Outcome
+  o = call h v (lookup key) .outcome
+
+  at-hit : (p : Place) × (b : List ℕ) × (call h v (lookup key) .outcome ≡ hit p b)
+  at-hit = found-hit (call h v (lookup key) .outcome) (call h v (lookup key) .count) (rw is at there)
+
+  -- its numbers are those of the place
+  numbers : (f .offset ≡ at-hit .0 .at) × (f .«in_ram» ≡ num (at-hit .0 .inRam))
+  numbers =
+      let e : f ≡ lookedOf (hit (at-hit .0) (at-hit .1)) (call h v (lookup key) .count) = is ∙ ap (λ (x : Outcome). lookedOf x (call h v (lookup key) .count)) (at-hit .2) in
+      (ap (λ (x : LookupResult). x .offset) e, ap (λ (x : LookupResult). x .«in_ram») e)
+
+  inside : Inside (v .flash .main) (v .ram) (at-hit .0) (at-hit .1)
+  inside = call-inside h v key (at-hit .0) (at-hit .1) (at-hit .2)
+
+  module _ (m r : ℕ × ℕ) where
+    module _ (x : Bool) (t : at-hit .0 .inRam ≡ x) where
+      abbrev q : Place
+      q = record { inRam = x; at = f .offset }
+
+      place-is : at-hit .0 ≡ q
+      place-is = as-place (at-hit .0) x (f .offset) t (numbers .0)
+
+      there-inside : Inside (v .flash .main) (v .ram) q (at-hit .1)
+      there-inside = moved (v .flash .main) (v .ram) (at-hit .0) q (at-hit .1) place-is inside
+
+      where-is : whereOf m r (call h v (lookup key) .outcome) ≡ whereOf m r (hit q (at-hit .1))
+      where-is = ap (whereOf m r) (at-hit .2) ∙ ap (λ (y : Place). whereOf m r (hit y (at-hit .1))) place-is
+
+    pub part-in-ram : f .«in_ram» ≡ 1
+        → (f .offset + 16 ≤ length (v .ram)) × (take 16 (drop (f .offset) (v .ram)) ≡ partOf (call h v (lookup key) .outcome)) × ((r .0, f .offset + r .1) ≡ whereOf m r (call h v (lookup key) .outcome))
+    part-in-ram i =
+        let t : at-hit .0 .inRam ≡ true = num-true (at-hit .0 .inRam) (sym (numbers .1) ∙ i) in
+        let n = there-inside true t in
+        (n .1, sym (tab-part (v .ram) (f .offset) 16 (n .1)) ∙ sym (n .0) ∙ sym (ap partOf (at-hit .2)), sym (where-is true t))
+
+    pub part-in-main : f .«in_ram» ≢ 1
+        → (f .offset + 16 ≤ length (v .flash .main)) × (take 16 (drop (f .offset) (v .flash .main)) ≡ partOf (call h v (lookup key) .outcome)) × ((m .0, f .offset + m .1) ≡ whereOf m r (call h v (lookup key) .outcome))
+    part-in-main i =
+        let t : at-hit .0 .inRam ≡ false = num-false (at-hit .0 .inRam) (λ e. i (numbers .1 ∙ e)) in
+        let n = there-inside false t in
+        (n .1, sym (tab-part (v .flash .main) (f .offset) 16 (n .1)) ∙ sym (n .0) ∙ sym (ap partOf (at-hit .2)), sym (where-is false t))

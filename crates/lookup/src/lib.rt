@@ -1,0 +1,127 @@
+// Lookup: where a level's record lies. Document 01, "Calls".
+ghost use mathlib.Core.Path.{_≡_};
+ghost use Prim.Native.Nat.{_+_};
+ghost use Rattle.layout.specs.Hash.{fnvFamily};
+ghost use Rattle.layout.specs.Search.{found};
+ghost use Rattle.layout.specs.Calls.{lookup, call, answer};
+ghost use Rattle.geometry.specs.Shape.{shape};
+ghost use Rattle.state.specs.Contract.{volume};
+ghost use Rattle.state.specs.Judge.{Fits};
+ghost use Rattle.lookup.specs.Looked.{looked, partOf, whereOf};
+use geometry::Geometry;
+use search::Stop;
+use state::Judged;
+use state::State;
+
+// The answer of a lookup. found 1: the record's 16 bytes start at `offset` of the RAM (in_ram 1) or of the
+// main area (in_ram 0).
+#[repr(C)]
+pub struct LookupResult {
+    pub refusal: u32,
+    pub found: u32,
+    pub count: u32,
+    pub in_ram: u32,
+    pub offset: u32,
+}
+
+fn refuse_lookup(i: u32) -> LookupResult
+    ensures { λ r. ⌜ r ≡ record { refusal = i; found = 0; count = 0; «in_ram» = 0; offset = 0 } ⌝ }
+{
+    LookupResult {
+        refusal: i,
+        found: 0,
+        count: 0,
+        in_ram: 0,
+        offset: 0,
+    }
+}
+
+fn find_in(g: Geometry, s: State, key: u32, main: &[u8], spare: &[u8], ram: &[u8]) -> LookupResult
+    requires { ⌜ Fits s (now main) (now spare) (now ram) g ⌝ }
+    ensures { λ r. ⌜ r ≡ looked (answer fnvFamily (shape g) (volume s (now (main .entry)) (now (spare .entry)) (now (ram .entry))) (lookup key)) ⌝ }
+{
+    let n = s.records as usize;
+    let f = search::search(g, main, ram, n, s.deletions as usize, key);
+    let stop = f.stop;
+    let opened = f.opened;
+    match stop {
+        Stop::Corrupt => {
+            return refuse_lookup(8);
+        }
+        Stop::Nothing => {
+            return LookupResult {
+                refusal: 0,
+                found: 0,
+                count: opened,
+                in_ram: 0,
+                offset: 0,
+            };
+        }
+        Stop::Found(j) => {
+            let p = geometry::item_place(g, geometry::record_area(g), n, j as usize);
+            let at = p.at;
+            let in_ram = p.in_ram;
+            if in_ram {
+                return LookupResult {
+                    refusal: 0,
+                    found: 1,
+                    count: opened,
+                    in_ram: 1,
+                    offset: at as u32,
+                };
+            }
+            return LookupResult {
+                refusal: 0,
+                found: 1,
+                count: opened,
+                in_ram: 0,
+                offset: at as u32,
+            };
+        }
+    }
+}
+
+// Where a level's record lies, in numbers.
+pub fn find(s: State, key: u32, main: &[u8], spare: &[u8], ram: &[u8]) -> LookupResult
+    ensures { λ r. ⌜ r ≡ looked (call fnvFamily (volume s (now (main .entry)) (now (spare .entry)) (now (ram .entry))) (lookup key)) ⌝ }
+{
+    match state::judge(s, main, spare, ram) {
+        Judged::Refused(i) => {
+            return refuse_lookup(i);
+        }
+        Judged::Good(g) => {
+            return find_in(g, s, key, main, spare, ram);
+        }
+    }
+}
+
+// A level's newest record where it lies: 16 bytes of the main area or of the RAM, or an empty part.
+pub fn lookup<'a>(
+    s: State,
+    key: u32,
+    main: &'a [u8],
+    spare: &[u8],
+    ram: &'a [u8],
+    refusal: &mut u32,
+    found: &mut u32,
+    count: &mut u32,
+) -> &'a [u8]
+    ensures { λ r. ⌜ (now r ≡ partOf (call fnvFamily (volume s (now (main .entry)) (now (spare .entry)) (now (ram .entry))) (lookup key) .outcome)) × (r .ptr ≡ whereOf ((main .entry) .ptr) ((ram .entry) .ptr) (call fnvFamily (volume s (now (main .entry)) (now (spare .entry)) (now (ram .entry))) (lookup key) .outcome)) ⌝ }
+    ensures { λ r. ⌜ (now (refusal .exit) ≡ looked (call fnvFamily (volume s (now (main .entry)) (now (spare .entry)) (now (ram .entry))) (lookup key)) .refusal) × (now (found .exit) ≡ looked (call fnvFamily (volume s (now (main .entry)) (now (spare .entry)) (now (ram .entry))) (lookup key)) .found) × (now (count .exit) ≡ looked (call fnvFamily (volume s (now (main .entry)) (now (spare .entry)) (now (ram .entry))) (lookup key)) .count) ⌝ }
+{
+    let f = find(s, key, main, spare, ram);
+    *refusal = f.refusal;
+    *found = f.found;
+    *count = f.count;
+    let hit = f.found;
+    let at = f.offset as usize;
+    let in_ram = f.in_ram;
+    if hit == 0 {
+        return &main[0..0];
+    }
+    let e = at + 16;
+    if in_ram == 1 {
+        return &ram[at..e];
+    }
+    &main[at..e]
+}

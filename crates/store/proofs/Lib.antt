@@ -1,3 +1,0 @@
-pub mod CallsLaws
-pub mod FormatLaws
-pub mod PartLaws
