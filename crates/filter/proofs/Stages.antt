@@ -8,7 +8,7 @@ use lib.ListN.{length}
 use Rattle.memory.specs.Power.{log2up}
 use Rattle.memory.specs.Ranges.{allOf}
 use Rattle.layout.specs.Index.{Index, bitAt, flashPlace, filterBit, setWidth}
-use Rattle.filter.specs.Candidate.{candidate, candidate-ext, candidate-hit, candidate-miss}
+use Rattle.kernels.specs.Candidate.{candidate, candidate-ext, candidate-hit, candidate-miss}
 use Rattle.filter.specs.Filter.{Below, Fits}
 use Rattle.filter.specs.Levels.{levelBit, Room, Staged, stageOf, skaLevel, l1Level, setLevel, fullLevel}
 use Rattle.filter.specs.declared.Level.{Level}

@@ -8,7 +8,7 @@ use native.Mathlib.Omega.{arith}
 use lib.ListN.{length, getD}
 use Rattle.memory.specs.Numbers.{euclid, div-of, mod-of}
 use Rattle.memory.specs.Ranges.{allOf}
-use Rattle.filter.specs.Candidate.{candidate, candidate-ext, candidate-hit, candidate-miss}
+use Rattle.kernels.specs.Candidate.{candidate, candidate-ext, candidate-hit, candidate-miss}
 use Rattle.filter.specs.Levels.{bitIn, rowsOf, moved, allAt, Readable, Within, levelBit, Room}
 use Rattle.filter.specs.declared.Level.{Level}
 use Rattle.filter.specs.declared.Rows.{Rows}

@@ -14,7 +14,7 @@ ghost use Rattle.memory.specs.Words.{word, bytes4};
 ghost use Rattle.layout.specs.Geometry.{page, sideBlocks};
 ghost use Rattle.layout.specs.Hash.{fnvFamily, positions, positionCount};
 ghost use Rattle.layout.specs.Index.{bitAt, setWidth, sideBlock, flashPlace, filterBit, withFilter, inFull, fullFilters};
-ghost use Rattle.filter.specs.Candidate.{candidate};
+ghost use Rattle.kernels.specs.Candidate.{candidate};
 ghost use Rattle.filter.specs.Filter.{indexOf, arrayBit, Below, Fits};
 ghost use Rattle.filter.specs.Pieces.{fourthOf};
 ghost use Rattle.filter.specs.Levels.{rowsOf, moved, allAt, Readable, Within, levelBit, Room, skaLevel, l1Level, setLevel, fullLevel, stageOf, Staged};

@@ -21,7 +21,7 @@ use Rattle.geometry.specs.declared.Geometry.{Geometry}
 use Rattle.geometry.specs.Shape.{shape}
 use Rattle.geometry.specs.Bounds.{index-le, record-capacity-le}
 use Rattle.items.specs.Reading.{page-word, ram-word}
-use Rattle.filter.specs.Candidate.{candidate}
+use Rattle.kernels.specs.Candidate.{candidate}
 use Rattle.filter.specs.Filter.{Fits, fits-of}
 use Rattle.search.specs.Find.{at as volumeAt, Ready}
 use Rattle.search.proofs.Entries.{Same}

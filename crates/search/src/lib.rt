@@ -9,7 +9,7 @@ ghost use Rattle.layout.specs.Hash.{fnvFamily};
 ghost use Rattle.layout.specs.Calls.{keyPositions, isDeleted, tryAt, maybeIn, search};
 ghost use Rattle.layout.specs.Search.{scan, searchPages};
 ghost use Rattle.geometry.specs.Shape.{shape, Sound};
-ghost use Rattle.filter.specs.Candidate.{candidate};
+ghost use Rattle.kernels.specs.Candidate.{candidate};
 ghost use Rattle.filter.specs.Filter.{Below};
 ghost use Rattle.search.specs.Find.{stopOf, foundOf, at, Ready};
 use filter::Index;

@@ -5,7 +5,7 @@ use native.Mathlib.Nat.{mul-le-mul-right}
 use Prim.Native.Nat.{_*_, _-_, _/_, _≤_}
 use mathlib.Core.Path.{_≡_, refl, sym, _∙_}
 use lib.ListN.{length}
-use Rattle.filter.specs.Candidate.{candidate, candidate-le}
+use Rattle.kernels.specs.Candidate.{candidate, candidate-le}
 use Rattle.filter.specs.Levels.{allAt}
 use Rattle.filter.proofs.Walking.{hasAll, group-of, group-hit, group-miss, newest-is, small-group, within-group}
 use Rattle.filter.proofs.newest.Statement.{statement}

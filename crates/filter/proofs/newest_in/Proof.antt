@@ -3,7 +3,7 @@ use native.Mathlib.Omega.{arith}
 use native.Mathlib.Nat.{mul-le-mul-right}
 use Prim.Native.Nat.{suc, _*_, _-_, _≤_}
 use mathlib.Core.Path.{_≡_, refl, ap, sym, _∙_}
-use Rattle.filter.specs.Candidate.{candidate, candidate-open, candidate-shut}
+use Rattle.kernels.specs.Candidate.{candidate, candidate-open, candidate-shut}
 use Rattle.filter.specs.Levels.{allAt}
 use lib.ListN.{length}
 use Rattle.filter.proofs.Walking.{all-in}

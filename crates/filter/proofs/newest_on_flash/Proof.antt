@@ -5,7 +5,7 @@ use Prim.Native.Nat.{_-_}
 use mathlib.Core.Path.{sym, _∙_}
 use lib.ListN.{length}
 use Rattle.memory.specs.Ranges.{allOf}
-use Rattle.filter.specs.Candidate.{candidate-le}
+use Rattle.kernels.specs.Candidate.{candidate-le}
 use Rattle.filter.specs.Filter.{indexOf}
 use Rattle.filter.specs.Levels.{levelBit}
 use Rattle.filter.proofs.Stages.{l1-ready, l1-hit, l1-miss}

@@ -4,7 +4,7 @@ use native.Mathlib.Omega.{arith}
 use Prim.Native.Nat.{_-_, _*_, _/_, _<_, _≤_}
 use mathlib.Core.Path.{sym, _∙_}
 use Rattle.memory.specs.Ranges.{allOf}
-use Rattle.filter.specs.Candidate.{candidate-le}
+use Rattle.kernels.specs.Candidate.{candidate-le}
 use Rattle.filter.specs.Filter.{indexOf}
 use Rattle.filter.specs.Levels.{levelBit}
 use Rattle.filter.proofs.Rooms.{staged}

@@ -1,0 +1,1 @@
+// Fast passes over rows of bits.
