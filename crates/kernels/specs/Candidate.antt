@@ -3,7 +3,7 @@ use mathlib.Core.Path.{_≡_, refl, sym, ap, _∙_}
 use mathlib.Core.Bool.{Bool, true, false, cond}
 use Prim.Native.Nat.{ℕ, zero, suc, _+_, _-_, _≤_, _<_}
 use native.Mathlib.Omega.{arith}
-use Rattle.memory.specs.Cases.{bool?, either}
+use Rattle.memory.specs.Cases.{bool?, either, eq?}
 
 -- the newest filter below N whose gate is open, plus one; 0 if none is
 unfoldable pub candidate : (ℕ → Bool) → ℕ → ℕ
@@ -67,3 +67,20 @@ module _ (gate level : ℕ → Bool) (m n : ℕ) (h : m ≤ n) (same : (f : ℕ)
       let s : r ≡ 0 = omega arith in
       let t : m + (n - m) ≡ n = omega arith in
       ap (candidate gate) (sym t) ∙ candidate-low gate m (n - m) (above ∙ sym e ∙ s)
+
+-- ---- by the gates themselves
+
+-- those from m on may be left out if none is open
+pub candidate-skip : (gate : ℕ → Bool) (n m : ℕ) → m ≤ n → ((i : ℕ) → m ≤ i → i < n → gate i ≡ false) → candidate gate n ≡ candidate gate m
+unfolding candidate
+candidate-skip gate zero m l h = let e : m ≡ 0 = omega arith in rw e
+candidate-skip gate (suc n) m l h =
+    either (eq? m (suc n))
+    (λ t. rw (t .1))
+    (λ t.
+    let ne = t .1 in
+    rw (h n (omega arith) (omega arith)) (candidate-skip gate n m (omega arith) (λ i a b. h i a (omega arith))))
+
+-- one that is open, with none open above it
+pub candidate-top : (gate : ℕ → Bool) (n g : ℕ) → g < n → gate g ≡ true → ((i : ℕ) → g < i → i < n → gate i ≡ false) → candidate gate n ≡ suc g
+candidate-top gate n g l e h = candidate-skip gate n (suc g) l h ∙ candidate-open gate g e

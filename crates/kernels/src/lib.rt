@@ -1,1 +1,147 @@
-// Fast passes over rows of bits.
+// Fast passes over rows of bits: the newest filter that has all of its bits.
+ghost use mathlib.Core.Path.{_≡_};
+ghost use mathlib.Core.List.{[]};
+ghost use Prim.Native.Nat.{ℕ, _+_, _*_, _/_, _%_, _^_, _≤_, _<_};
+ghost use lib.Count.{leadingZeros};
+ghost use lib.ListN.{length, getD};
+ghost use Rattle.kernels.specs.Candidate.{candidate};
+ghost use Rattle.kernels.specs.Rows.{bitIn, allIn, Word, Words, Within, WordIn, BitIn};
+
+// Rows of bits, one for each position: its first byte, and the bit among the w that a filter has in
+// the row.
+pub struct Rows {
+    pub at: [usize; 8],
+    pub low: [usize; 8],
+    pub count: usize,
+    pub w: usize,
+}
+
+// ---- words of 64 bits
+
+fn wide(x: u32) -> u64
+    ensures { λ r. ⌜ r ≡ x ⌝ }
+{
+    x as u64
+}
+
+// The eight bytes from `at` on, the lowest first: one load.
+fn get64(s: &[u8], at: usize) -> u64
+    requires { ⌜ at + 8 ≤ length (now s) ⌝ }
+    ensures { λ r. ⌜ Word (now (s .entry)) at r ⌝ }
+{
+    wide(words::get32(s, at)) + wide(words::get32(s, at + 4)) * 4294967296
+}
+
+// The zero bits above the highest set bit.
+fn zeros(y: u64) -> usize
+    ensures { λ r. ⌜ r ≡ leadingZeros 64 y ⌝ }
+{
+    u64::leading_zeros(y) as usize
+}
+
+// Word q of all rows. Three rows have no inner loop.
+fn and_words(bytes: &[u8], at: [usize; 8], count: usize, q: usize) -> u64
+    requires { ⌜ WordIn at count q (length (now bytes)) ⌝ }
+    ensures { λ r. ⌜ Words (now (bytes .entry)) at [] count q r ⌝ }
+{
+    let o = q * 8;
+    let x = get64(bytes, at[0] + o);
+    if count == 3 {
+        return x & get64(bytes, at[1] + o) & get64(bytes, at[2] + o);
+    }
+    let mut r = x;
+    let mut i = 1;
+    while i < count {
+        r = r & get64(bytes, at[i] + o);
+        i += 1;
+    }
+    r
+}
+
+// ---- one bit for a filter in each row: 64 filters a turn
+
+fn last_and(bytes: &[u8], at: [usize; 8], count: usize, n: usize) -> usize
+    requires { ⌜ (0 < count) × (count ≤ 8) × ((i : ℕ) → i < count → getD at i 0 + (n + 63) / 64 * 8 ≤ length (now bytes)) ⌝ }
+    ensures { λ r. ⌜ r ≡ candidate (allIn (now (bytes .entry)) at [] 1 count) n ⌝ }
+{
+    let mut k = n;
+    while k > 0 {
+        let q = (k - 1) / 64;
+        let y = and_words(bytes, at, count, q) << (64 - (k - q * 64));
+        if y != 0 {
+            return k - zeros(y);
+        }
+        k = q * 64;
+    }
+    0
+}
+
+// ---- many bits for a filter in each row: a filter a turn
+
+// Which bit of its byte bit x of a row is.
+fn bit_place(x: usize) -> usize
+    ensures { λ r. ⌜ (r ≡ x % 8) × (r < 8) ⌝ }
+{
+    x % 8
+}
+
+// Bit x of the row that begins at byte `row`.
+fn bit_of(bytes: &[u8], row: usize, x: usize) -> bool
+    requires { ⌜ row + x / 8 < length (now bytes) ⌝ }
+    ensures { λ r. ⌜ r ≡ bitIn (now (bytes .entry)) row x ⌝ }
+{
+    (bytes[row + x / 8] >> bit_place(x)) % 2 == 1
+}
+
+// Has the filter whose bits begin at bit `lo` of each row all of its bits?
+fn all_at(bytes: &[u8], at: [usize; 8], low: [usize; 8], count: usize, lo: usize) -> bool
+    requires { ⌜ BitIn at low count lo (length (now bytes)) ⌝ }
+    ensures { λ r. ⌜ r ≡ allIn (now (bytes .entry)) at low 1 count lo ⌝ }
+{
+    let mut i = count;
+    while i > 0 {
+        i -= 1;
+        if !bit_of(bytes, at[i], lo + low[i]) {
+            return false;
+        }
+    }
+    true
+}
+
+fn last_plain(
+    bytes: &[u8],
+    at: [usize; 8],
+    low: [usize; 8],
+    count: usize,
+    w: usize,
+    n: usize,
+) -> usize
+    requires { ⌜ (count ≤ 8) × (n * w < 2 ^ 60) × ((i : ℕ) → i < count → (getD low i 0 < w) × (getD at i 0 + (n * w + 63) / 64 * 8 ≤ length (now bytes))) ⌝ }
+    ensures { λ r. ⌜ r ≡ candidate (allIn (now (bytes .entry)) at low w count) n ⌝ }
+{
+    let mut g = n;
+    while g > 0 {
+        let lo = (g - 1) * w;
+        if all_at(bytes, at, low, count, lo) {
+            return g;
+        }
+        g -= 1;
+    }
+    0
+}
+
+// ---- any width
+
+// The newest of n filters that has all its bits, plus one; 0 if none has.
+pub fn newest(bytes: &[u8], k: Rows, n: usize) -> usize
+    requires { ⌜ Within k n (length (now bytes)) ⌝ }
+    ensures { λ r. ⌜ r ≡ candidate (allIn (now (bytes .entry)) (k .at) (k .low) (k .w) (k .count)) n ⌝ }
+{
+    let at = k.at;
+    let count = k.count;
+    if k.w == 1 {
+        return last_and(bytes, at, count, n);
+    }
+    let low = k.low;
+    last_plain(bytes, at, low, count, k.w, n)
+}

@@ -1,0 +1,167 @@
+-- Bits of a number in two parts, of shifts, of a conjunction and of a little-endian number.
+use mathlib.Core.Path.{_≡_, refl, sym, ap, _∙_}
+use mathlib.Core.Bool.{Bool, true, false, _&&_}
+use mathlib.Core.List.{List}
+use Prim.Native.Nat.{ℕ, zero, suc, _+_, _*_, _-_, _/_, _%_, _^_, _≤_, _<_, min}
+use native.Mathlib.Nat.{le-of-suc-le-suc, not-suc-le-zero, mod-lt}
+use native.Mathlib.Omega.{arith}
+use lib.Bits.{bitAnd, and-step, block-half, block-odd}
+use lib.Count.{leadingZeros, leading-top}
+use lib.Dec.{eqb}
+use lib.ListN.{getD}
+use lib.Pow.{split, pow-pos}
+use Rattle.memory.specs.Bits.{bit}
+use Rattle.memory.specs.Cases.{either, lt?}
+use Rattle.memory.specs.Words.{word}
+use Rattle.kernels.specs.Rows.{bitIn, Word}
+
+-- ---- a number of two parts
+
+pub bit-low : (k x b i : ℕ) → i < k → bit (x * 2 ^ k + b) i ≡ bit b i
+unfolding bit
+bit-low zero x b i h = absurd (not-suc-le-zero h)
+bit-low (suc k) x b zero h = ap (λ (y : ℕ). eqb y 1) (block-odd x k b)
+bit-low (suc k) x b (suc i) h = ap (λ (y : ℕ). bit y i) (block-half x k b) ∙ bit-low k x (b / 2) i (le-of-suc-le-suc h)
+
+pub bit-high : (k x b i : ℕ) → b < 2 ^ k → bit (x * 2 ^ k + b) (k + i) ≡ bit x i
+unfolding bit
+bit-high zero x b i h =
+    let e : x * 2 ^ 0 + b ≡ x = omega arith in
+    let z : 0 + i ≡ i = omega arith in
+    rw (e, z)
+bit-high (suc k) x b i h =
+    let z : suc k + i ≡ suc (k + i) = omega arith in
+    rw z (ap (λ (y : ℕ). bit y (k + i)) (block-half x k b) ∙ bit-high k x (b / 2) i (omega arith))
+
+pub bit-zero : (i : ℕ) → bit 0 i ≡ false
+unfolding bit
+bit-zero zero = refl
+bit-zero (suc i) = bit-zero i
+
+-- ---- shifts
+
+bit-mod : (n m i : ℕ) → i < m → bit (n % 2 ^ m) i ≡ bit n i
+bit-mod n m i h = sym (ap (λ (y : ℕ). bit y i) (sym (split n m)) ∙ bit-low m (n / 2 ^ m) (n % 2 ^ m) i h)
+
+pub bit-shl : (x k m i : ℕ) → k + i < m → bit ((x * 2 ^ k) % 2 ^ m) (k + i) ≡ bit x i
+bit-shl x k m i h =
+    let e : x * 2 ^ k ≡ x * 2 ^ k + 0 = omega arith in
+    bit-mod (x * 2 ^ k) m (k + i) h ∙ (ap (λ (y : ℕ). bit y (k + i)) e ∙ bit-high k x 0 i (omega (arith, pow-pos k)))
+
+pub bit-shl-low : (x k m i : ℕ) → i < k → i < m → bit ((x * 2 ^ k) % 2 ^ m) i ≡ false
+bit-shl-low x k m i h l =
+    let e : x * 2 ^ k ≡ x * 2 ^ k + 0 = omega arith in
+    bit-mod (x * 2 ^ k) m i l ∙ (ap (λ (y : ℕ). bit y i) e ∙ (bit-low k x 0 i h ∙ bit-zero i))
+
+pub bit-shr : (x k i : ℕ) → bit (x / 2 ^ k) i ≡ bit x (k + i)
+bit-shr x k i = sym (ap (λ (y : ℕ). bit y (k + i)) (sym (split x k)) ∙ bit-high k (x / 2 ^ k) (x % 2 ^ k) i (mod-lt x (pow-pos k)))
+
+-- ---- above the highest set bit, and at it
+
+pub bit-over : (j y i : ℕ) → y < 2 ^ j → j ≤ i → bit y i ≡ false
+bit-over j y i h l =
+    let e : y ≡ 0 * 2 ^ j + y = omega arith in
+    let f : i ≡ j + (i - j) = omega arith in
+    ap (λ (z : ℕ). bit y z) f ∙ (ap (λ (z : ℕ). bit z (j + (i - j))) e ∙ (bit-high j 0 y (i - j) h ∙ bit-zero (i - j)))
+
+pub bit-top : (j y : ℕ) → 2 ^ j ≤ y → y < 2 ^ suc j → bit y j ≡ true
+unfolding bit
+bit-top j y l h =
+    let e : y ≡ 1 * 2 ^ j + (y - 2 ^ j) = omega arith in
+    let f : j ≡ j + 0 = omega arith in
+    ap (λ (z : ℕ). bit y z) f ∙ (ap (λ (z : ℕ). bit z (j + 0)) e ∙ bit-high j 1 (y - 2 ^ j) 0 (omega arith))
+
+-- ---- a conjunction
+
+min-and : (a b : ℕ) → a < 2 → b < 2 → eqb (min a b) 1 ≡ (eqb a 1 && eqb b 1)
+min-and zero zero h l = refl
+min-and zero (suc zero) h l = refl
+min-and zero (suc (suc b)) h l = absurd (omega arith)
+min-and (suc zero) zero h l = refl
+min-and (suc zero) (suc zero) h l = refl
+min-and (suc zero) (suc (suc b)) h l = absurd (omega arith)
+min-and (suc (suc a)) b h l = absurd (omega arith)
+
+pub bit-and : (a b i : ℕ) → bit (bitAnd a b) i ≡ (bit a i && bit b i)
+unfolding bit
+bit-and a b zero =
+    let s = and-step a b in
+    let e : bitAnd a b % 2 ≡ min (a % 2) (b % 2) = omega arith in
+    ap (λ (y : ℕ). eqb y 1) e ∙ min-and (a % 2) (b % 2) (omega arith) (omega arith)
+bit-and a b (suc i) =
+    let s = and-step a b in
+    let e : bitAnd a b / 2 ≡ bitAnd (a / 2) (b / 2) = omega arith in
+    ap (λ (y : ℕ). bit y i) e ∙ bit-and (a / 2) (b / 2) i
+
+-- ---- the lowest b bits of a word, shifted up so that all above falls off: the highest that is set has z zeros above it
+
+pub record Top (x b z : ℕ) : Type 0 where
+  pub within : z < b
+  pub is-set : bit x (b - 1 - z) ≡ true
+  pub clear : (i : ℕ) → b - 1 - z < i → i < b → bit x i ≡ false
+
+module _ (x b : ℕ) (bb : b ≤ 64) where
+  abbrev raised : ℕ
+  raised = (x * 2 ^ (64 - b)) % 2 ^ 64
+
+  seen : (i : ℕ) → i < b → bit x i ≡ bit raised (64 - b + i)
+  seen i h = sym (bit-shl x (64 - b) 64 i (omega arith))
+
+  pub raised-none : raised ≡ 0 → (i : ℕ) → i < b → bit x i ≡ false
+  raised-none e i h = seen i h ∙ (ap (λ (y : ℕ). bit y (64 - b + i)) e ∙ bit-zero (64 - b + i))
+
+  high : (j : ℕ) → j < 64 → bit raised j ≡ true → 64 - b ≤ j
+  high j l e =
+      either (lt? j (64 - b))
+      (λ h. absurd (let z : false ≡ true = sym (bit-shl-low x (64 - b) 64 j (h .1) l) ∙ e in let n : _≡_ {A = ℕ} 0 1 = cc in omega arith))
+      (λ h. h .1)
+
+  pub raised-top : 0 < raised → raised < 2 ^ 64 → Top x b (leadingZeros 64 raised)
+  raised-top p l =
+      let T = leading-top 64 raised p l in
+      let j = T .0 in
+      let set = bit-top j raised (T .2) (T .3) in
+      let h = high j (omega arith) set in
+      let e : 64 - b + (b - 1 - leadingZeros 64 raised) ≡ j = omega (arith, T .1) in
+      record {
+        within = omega (arith, T .1);
+        is-set = seen (b - 1 - leadingZeros 64 raised) (omega (arith, T .1)) ∙ rw e set;
+        clear = λ i a c. seen i c ∙ bit-over (suc j) raised (64 - b + i) (T .3) (omega (arith, T .1));
+      }
+
+-- ---- eight bytes, lowest first, as a number
+
+unfoldable number : List ℕ → ℕ → ℕ → ℕ
+number s at zero = 0
+number s at (suc n) = number s (at + 1) n * 2 ^ 8 + getD s at 0
+
+bit-number : (s : List ℕ) → ((k : ℕ) → getD s k 0 < 256) → (at n i : ℕ) → i < 8 * n → bit (number s at n) i ≡ bitIn s at i
+unfolding number
+bit-number s all at zero i h = absurd (omega arith)
+bit-number s all at (suc n) i h =
+    either (lt? i 8)
+    (λ l.
+    let d : at + i / 8 ≡ at = omega arith in
+    let m : i % 8 ≡ i = omega arith in
+    rw (d, m) (bit-low 8 (number s (at + 1) n) (getD s at 0) i (l .1)))
+    (λ l.
+    let e : i ≡ 8 + (i - 8) = omega arith in
+    let d : at + i / 8 ≡ at + 1 + (i - 8) / 8 = omega arith in
+    let m : i % 8 ≡ (i - 8) % 8 = omega arith in
+    rw (d, m) (ap (λ (z : ℕ). bit (number s (at + 1) n * 2 ^ 8 + getD s at 0) z) e
+    ∙ (bit-high 8 (number s (at + 1) n) (getD s at 0) (i - 8) (all at) ∙ bit-number s all (at + 1) n (i - 8) (omega arith))))
+
+eight : (s : List ℕ) (at x y : ℕ) → x ≡ word s at → y ≡ word s (at + 4) → x + y * 4294967296 ≡ number s at 8
+unfolding number
+eight s at x y ex ey =
+    let f2 : at + 1 + 1 ≡ at + 2 = omega arith in
+    let f3 : at + 2 + 1 ≡ at + 3 = omega arith in
+    let f4 : at + 3 + 1 ≡ at + 4 = omega arith in
+    let f6 : at + 4 + 1 + 1 ≡ at + 4 + 2 = omega arith in
+    let f7 : at + 4 + 2 + 1 ≡ at + 4 + 3 = omega arith in
+    rw (f2, f3, f4, f6, f7) (omega arith)
+
+-- two numbers of four bytes make a word
+pub word-of : (s : List ℕ) (at x y : ℕ) → ((k : ℕ) → getD s k 0 < 256) → x ≡ word s at → y ≡ word s (at + 4) → Word s at (x + y * 4294967296)
+unfolding Word
+word-of s at x y all ex ey i h = ap (λ (z : ℕ). bit z i) (eight s at x y ex ey) ∙ bit-number s all at 8 i h
