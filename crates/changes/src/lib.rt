@@ -10,11 +10,11 @@ ghost use Rattle.layout.specs.Items.{DA, recordBytes, entryBytes, deletionBytes
 ghost use Rattle.layout.specs.Calls.{deletion, keyIndex};
 ghost use Rattle.items.specs.Fresh.{itemFresh};
 ghost use Rattle.geometry.specs.Shape.{shape, Sound};
-ghost use Rattle.filter.specs.Filter.{indexOf};
+ghost use Rattle.sets.specs.Indexes.{indexOf};
 ghost use Rattle.state.specs.Judge.{Long};
 ghost use Rattle.changes.specs.Inserted.{insertFresh, lastFlash, lastRam, insertedFlash, insertedRam};
-use filter::Index;
 use geometry::Geometry;
+use sets::Index;
 
 // ---- the bytes of records, entries and deletions
 

@@ -13,11 +13,6 @@ use Rattle.layout.specs.Geometry.{Geometry, page, block, kaRam}
 use Rattle.layout.specs.Index.{Index as LayoutIndex, fullBlock}
 use Rattle.layout.specs.Hash.{fnvFamily, positions, positionCount}
 use Rattle.layout.specs.Calls.{pageFilter}
-use Rattle.filter.specs.declared.Index.{Index}
-
--- the index of the layout that the code's index stands for
-abbrev pub indexOf : Index → LayoutIndex
-indexOf ix = record { first = ix .first; ska = ix .ska }
 
 -- bit x of an array of bytes; bit 0 is the lowest bit of a byte
 unfoldable pub arrayBit : List ℕ → ℕ → Bool

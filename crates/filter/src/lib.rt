@@ -8,22 +8,17 @@ ghost use lib.Dec.{eqb};
 ghost use lib.ListN.{length, getD, replicate};
 ghost use Rattle.memory.specs.Bits.{bit};
 ghost use Rattle.memory.specs.Lists.{write};
-ghost use Rattle.memory.specs.Power.{log2up};
 ghost use Rattle.memory.specs.Ranges.{any, memb, allOf};
 ghost use Rattle.memory.specs.Words.{word, bytes4};
 ghost use Rattle.layout.specs.Geometry.{page, sideBlocks};
 ghost use Rattle.layout.specs.Hash.{fnvFamily, positions, positionCount};
-ghost use Rattle.layout.specs.Index.{bitAt, setWidth, sideBlock, flashPlace, filterBit, withFilter, inFull, fullFilters};
+ghost use Rattle.layout.specs.Index.{bitAt, flashPlace, filterBit, withFilter, inFull, fullFilters};
 ghost use Rattle.kernels.specs.Candidate.{candidate};
-ghost use Rattle.filter.specs.Filter.{indexOf, arrayBit, Below, Fits};
+ghost use Rattle.sets.specs.Indexes.{indexOf};
+ghost use Rattle.filter.specs.Filter.{arrayBit, Below, Fits};
 ghost use Rattle.filter.specs.Pieces.{fourthOf};
 ghost use Rattle.filter.specs.Levels.{rowsOf, moved, allAt, Readable, Within, levelBit, Room, skaLevel, l1Level, setLevel, fullLevel, stageOf, Staged};
-
-// An index: its first block and its SKA page in RAM.
-pub struct Index {
-    pub first: usize,
-    pub ska: usize,
-}
+use sets::Index;
 
 // Where the bits of three positions lie: a row of bits for each, by its first byte, and the bit
 // among those that a filter has in the row.
@@ -260,44 +255,6 @@ fn newest(bytes: &[u8], l: Level, n: usize, ps: [u32; 3]) -> usize
 
 // ---- the levels of an index
 
-// The least exponent whose power of two reaches c.
-fn log2up(c: usize) -> u32
-    requires { ⌜ c ≤ 128 ⌝ }
-    ensures { λ r. ⌜ (r ≡ log2up c) × (r ≤ 7) ⌝ }
-{
-    if c == 0 {
-        return 0;
-    }
-    32 - u32::leading_zeros((c - 1) as u32)
-}
-
-// Pages of the set that c rounds make.
-fn set_pages(c: usize) -> usize
-    requires { ⌜ c ≤ 128 ⌝ }
-    ensures { λ r. ⌜ (r ≡ 16 * 2 ^ log2up c) × (0 < r) ⌝ }
-{
-    16 << log2up(c)
-}
-
-// Bits that a filter has in a row of that set.
-fn set_width(unit: usize, c: usize) -> usize
-    requires { ⌜ (unit ≤ 32) × (c ≤ 128) ⌝ }
-    ensures { λ r. ⌜ r ≡ setWidth unit c ⌝ }
-{
-    64 * unit / set_pages(c)
-}
-
-// First block of that set.
-fn side_block(unit: usize, ix: Index, c: usize) -> usize
-    requires { ⌜ (unit ≤ 32) × (ix .first ≤ 20000) ⌝ }
-    ensures { λ r. ⌜ (r ≡ sideBlock unit (indexOf ix) c) × (r ≤ 20129) ⌝ }
-{
-    if c % 2 == 1 {
-        return ix.first + 1;
-    }
-    ix.first + 1 + 4 * unit
-}
-
 fn ska_level(unit: usize, ix: Index) -> Level
     requires { ⌜ unit ≤ 32 ⌝ }
     ensures { λ r. ⌜ r ≡ skaLevel unit (indexOf ix) ⌝ }
@@ -339,9 +296,9 @@ fn set_level(unit: usize, ix: Index, c: usize) -> Level
     ensures { λ r. ⌜ r ≡ setLevel unit (indexOf ix) c ⌝ }
 {
     Level {
-        base: block_start(unit, side_block(unit, ix, c)),
+        base: block_start(unit, sets::side_block(unit, ix, c)),
         step: 0,
-        w: set_width(unit, c),
+        w: sets::set_width(unit, c),
         stride: 64 * unit,
         size: 128 * c,
     }

@@ -425,29 +425,3 @@ pub fn partition_exponent(c: u32) -> u32
 {
     32 - u32::leading_zeros(c - 1)
 }
-
-// The least power of two not below c.
-fn partition_power(c: usize) -> usize
-    requires { ⌜ (1 ≤ c) × (c ≤ 128) ⌝ }
-    ensures { λ r. ⌜ (r ≡ 2 ^ log2up c) × (r ≤ 128) ⌝ }
-{
-    1 << partition_exponent(c as u32)
-}
-
-// Pages and blocks of set number c + 1, made of c rounds. The unit of a volume has no part in them.
-pub fn set_pages(c: usize) -> usize
-    requires { ⌜ (1 ≤ c) × (c ≤ 128) ⌝ }
-    ensures { λ r. ⌜ r ≡ setPages 1 c ⌝ }
-{
-    Geometry::PAGES_PER_BLOCK * partition_power(c)
-}
-
-pub fn set_blocks(c: usize) -> usize
-    requires { ⌜ c ≤ 128 ⌝ }
-    ensures { λ r. ⌜ r ≡ setBlocks 1 c ⌝ }
-{
-    if c == 0 {
-        return 0;
-    }
-    partition_power(c)
-}

@@ -63,11 +63,6 @@ module _ (u : ℕ) (ix : Index) (z c len sectors : ℕ) (P : SetFits u ix z c le
       let l : b + k ≤ fullBlock u ix 0 = rw (b-is, k-is) s in
       (omega (arith, mul-le-mul-right (1024 * u) l, P .sides), omega (arith, l, P .spare-sides))
 
--- blocks of a set by its pages
-pub blocks-of : (u c P : ℕ) → c ≢ 0 → P ≡ setPages u c → P / 16 ≡ setBlocks u c
-blocks-of u zero P h e = absurd (h refl)
-blocks-of u (suc c) P h e = omega (arith, e)
-
 -- ---- one more filter
 
 -- L1 and the sides, by blocks of w bytes or sectors

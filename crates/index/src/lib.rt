@@ -4,13 +4,14 @@ ghost use mathlib.Core.Path.{_≡_};
 ghost use Prim.Native.Nat.{_+_, _*_, _≤_, _<_};
 ghost use lib.ListN.{length};
 ghost use Rattle.layout.specs.Flash.{flashOf, applyAll};
-ghost use Rattle.layout.specs.Index.{inSka, setPages, setBlocks, setBlock, withFilter, buildOps, flushAndBuild, filterOps, filterRam};
-ghost use Rattle.filter.specs.Filter.{indexOf, arrayBit};
+ghost use Rattle.layout.specs.Index.{inSka, setPages, setBlock, withFilter, buildOps, flushAndBuild, filterOps, filterRam};
+ghost use Rattle.sets.specs.Indexes.{indexOf};
+ghost use Rattle.filter.specs.Filter.{arrayBit};
 ghost use Rattle.partition.specs.Indexes.{SetFits};
 ghost use Rattle.flash.specs.Fresh.{freshRun};
 ghost use Rattle.index.specs.Fits.{Fits, SpareFits, SetSectors};
 ghost use Rattle.index.specs.Fresh.{indexFresh};
-use filter::Index;
+use sets::Index;
 
 // Filters of the SKA page, flushes of L1, sectors of a block and of a page.
 const SKA_FILTERS: usize = 8;
@@ -21,27 +22,14 @@ const BLOCK_SECTORS: usize = 64;
 
 const PAGE_SECTORS: usize = 4;
 
-const BLOCK_PAGES: usize = 16;
-
-// Blocks of the set of c rounds.
-fn set_blocks(unit: usize, c: usize) -> usize
-    requires { ⌜ c ≤ 128 ⌝ }
-    ensures { λ r. ⌜ r ≡ setBlocks unit c ⌝ }
-{
-    if c == 0 {
-        return 0;
-    }
-    partition::set_pages(unit, c) / BLOCK_PAGES
-}
-
 // The next set out of L1 and the current one: its sectors, then the erases of L1 and of the old set.
 fn build_set(main: &mut [u8], spare: &mut [u8], unit: usize, ix: Index, z: usize, c: usize)
     requires { ⌜ SetFits unit (indexOf ix) z c (length (now main)) (length (now spare)) ⌝ }
     ensures { λ _. ⌜ flashOf (now (main .exit)) (now (spare .exit)) ≡ applyAll unit (buildOps unit (indexOf ix) (now (main .entry)) z c) (flashOf (now (main .entry)) (now (spare .entry))) ⌝ }
 {
     let first = ix.first;
-    let old = partition::side_block(unit, ix, c);
-    let blocks = set_blocks(unit, c);
+    let old = sets::side_block(unit, ix, c);
+    let blocks = sets::set_blocks(unit, c);
     partition::program_set(main, spare, unit, ix, z, c);
     flash::erase_blocks(main, spare, unit, first, 1);
     flash::erase_blocks(main, spare, unit, old, blocks);
@@ -103,8 +91,8 @@ fn set_fresh(spare: &[u8], unit: usize, ix: Index, z: usize, c: usize) -> bool
     requires { ⌜ SetSectors unit (indexOf ix) z c (length (now spare)) ⌝ }
     ensures { λ r. ⌜ r ≡ freshRun (now (spare .entry)) 1 (setBlock unit (indexOf ix) z c * 64) (setPages unit (c + 1) * 4) ⌝ }
 {
-    let s = partition::set_block(unit, ix, z, c) * BLOCK_SECTORS;
-    let n = partition::set_pages(unit, c + 1) * PAGE_SECTORS;
+    let s = sets::set_block(unit, ix, z, c) * BLOCK_SECTORS;
+    let n = sets::set_pages(c + 1) * PAGE_SECTORS;
     flash::all_fresh(spare, s, 1, n)
 }
 

@@ -17,15 +17,9 @@ use Rattle.partition.specs.Reach.{unit-small}
 pub unit-le : (u : ℕ) → Unit? u → u ≤ 32
 unit-le u U = unit-small u (U .e) (U .is) (U .small)
 
--- one shifted left
-power-is : (k : ℕ) → k ≤ 7 → 1 * 2 ^ k % 2 ^ 64 ≡ 2 ^ k
-power-is k h = omega (arith, pow-mono h)
-
-pub pages-are : (c k : ℕ) → k ≡ log2up c → k ≤ 7 → (16 * (1 * 2 ^ k % 2 ^ 64) ≡ 16 * 2 ^ log2up c) × (0 < 16 * (1 * 2 ^ k % 2 ^ 64)) × (16 * (1 * 2 ^ k % 2 ^ 64) ≤ 2048)
-pages-are c k e h = rw (power-is k h) (ap (λ (n : ℕ). 16 * 2 ^ n) e, omega (arith, pow-pos k), omega (arith, pow-mono h))
-
-pub width-of : (u c P : ℕ) → Unit? u → c ≤ 4 * u → P ≡ setPages u c → (64 * u / P ≡ setWidth u c) × (0 < 64 * u / P) × (64 * u / P ≤ 128)
-width-of u c P U h e =
+-- a set's width and its bounds
+pub width-of : (u c r : ℕ) → Unit? u → c ≤ 4 * u → r ≡ setWidth u c → (r ≡ setWidth u c) × (0 < r) × (r ≤ 128)
+width-of u c r U h e =
     let w = width-is u (U .e) (U .is) c h in
     let l : U .e + 2 - log2up c ≤ 7 = omega (arith, U .small) in
     rw e (refl, width-pos u (U .e) (U .is) c h, rw w (omega (arith, pow-mono l)))

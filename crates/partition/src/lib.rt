@@ -3,16 +3,15 @@ ghost use mathlib.Core.Path.{_≡_};
 ghost use Prim.Native.Nat.{ℕ, _+_, _*_, _<_, _≤_};
 ghost use lib.ListN.{length};
 ghost use Rattle.memory.specs.Lists.{tab};
-ghost use Rattle.memory.specs.Power.{log2up};
 ghost use Rattle.layout.specs.Geometry.{sector, block};
 ghost use Rattle.layout.specs.Flash.{flashOf, applyAll, programs};
-ghost use Rattle.layout.specs.Index.{setPages, setWidth, sideBlock, fullBlock, setByte, setBlock};
-ghost use Rattle.filter.specs.Filter.{indexOf};
+ghost use Rattle.layout.specs.Index.{setPages, fullBlock, setByte, setBlock};
+ghost use Rattle.sets.specs.Indexes.{indexOf};
 ghost use Rattle.partition.specs.Indexes.{Unit?, SetFits};
 ghost use Rattle.partition.specs.Sources.{fieldByte, pageByte, sourceOf, rowOf};
 ghost use Rattle.partition.specs.Halves.{Narrow, Half};
 ghost use Rattle.partition.specs.Reach.{Aligned, Reaches, RowFits};
-use filter::Index;
+use sets::Index;
 
 // Fields of bits in a row of flash: the row's first byte, bits from a field to the next, first bit
 // taken of each.
@@ -38,57 +37,6 @@ fn wide(x: u8) -> u32
     x as u32
 }
 
-// The least k with n at most 2^k.
-fn log2_up(n: usize) -> u32
-    requires { ⌜ n ≤ 128 ⌝ }
-    ensures { λ r. ⌜ (r ≡ log2up n) × (r ≤ 7) ⌝ }
-{
-    if n == 0 {
-        return 0;
-    }
-    32 - u32::leading_zeros((n - 1) as u32)
-}
-
-// Pages of the set of c rounds.
-pub fn set_pages(unit: usize, c: usize) -> usize
-    requires { ⌜ c ≤ 128 ⌝ }
-    ensures { λ r. ⌜ (r ≡ setPages unit c) × (0 < r) × (r ≤ 2048) ⌝ }
-{
-    let k = log2_up(c);
-    let power = 1usize << k;
-    16 * power
-}
-
-// Bits of a filter in each of those pages.
-fn set_width(unit: usize, c: usize) -> usize
-    requires { ⌜ Unit? unit × (c ≤ 4 * unit) ⌝ }
-    ensures { λ r. ⌜ (r ≡ setWidth unit c) × (0 < r) × (r ≤ 128) ⌝ }
-{
-    64 * unit / set_pages(unit, c)
-}
-
-// First block of the set of c rounds.
-pub fn side_block(unit: usize, ix: Index, c: usize) -> usize
-    requires { ⌜ (unit ≤ 32) × (ix .first ≤ 20000) ⌝ }
-    ensures { λ r. ⌜ (r ≡ sideBlock unit (indexOf ix) c) × (r ≤ 20129) ⌝ }
-{
-    if c % 2 == 1 {
-        return ix.first + 1;
-    }
-    ix.first + 1 + 4 * unit
-}
-
-// First block of the set that c rounds and L1 make, with z full sets.
-pub fn set_block(unit: usize, ix: Index, z: usize, c: usize) -> usize
-    requires { ⌜ (unit ≤ 32) × (ix .first ≤ 20000) × (z ≤ 1024) × (c < 4 * unit) ⌝ }
-    ensures { λ r. ⌜ (r ≡ setBlock unit (indexOf ix) z c) × (r ≤ 200000) ⌝ }
-{
-    if c + 1 == 4 * unit {
-        return ix.first + 1 + 2 * (4 * unit) + z * (4 * unit);
-    }
-    side_block(unit, ix, c + 1)
-}
-
 // Where page p takes its w bits of a field from: fields of v bits, in rows `gap` bytes apart from
 // `base` on.
 fn source_of(base: usize, gap: usize, v: usize, w: usize, p: usize) -> Source
@@ -106,9 +54,9 @@ fn row_of(unit: usize, ix: Index, c: usize, p: usize) -> Row
     requires { ⌜ Unit? unit × (c < 4 * unit) × (p < 2048) × (ix .first ≤ 20000) ⌝ }
     ensures { λ r. ⌜ r ≡ rowOf unit (indexOf ix) c p ⌝ }
 {
-    let w = set_width(unit, c + 1);
-    let v = set_width(unit, c);
-    let side = side_block(unit, ix, c) * (1024 * unit);
+    let w = sets::set_width(unit, c + 1);
+    let v = sets::set_width(unit, c);
+    let side = sets::side_block(unit, ix, c) * (1024 * unit);
     let first = ix.first * (1024 * unit);
     let split = 16 * c * w;
     let end = 16 * (c + 1) * w;
@@ -272,9 +220,9 @@ fn program_sectors(
     requires { ⌜ SetFits unit (indexOf ix) z c (length (now main)) (length (now spare)) × (length (now buf) ≡ sector unit) ⌝ }
     ensures { λ _. ⌜ flashOf (now (main .exit)) (now (spare .exit)) ≡ applyAll unit (programs unit 1 (setBlock unit (indexOf ix) z c * 64) (setPages unit (c + 1) * 4) (setByte unit (indexOf ix) (now (main .entry)) z c)) (flashOf (now (main .entry)) (now (spare .entry))) ⌝ }
 {
-    let b = set_block(unit, ix, z, c);
+    let b = sets::set_block(unit, ix, z, c);
     let first = b * 64;
-    let p = set_pages(unit, c + 1);
+    let p = sets::set_pages(c + 1);
     let n = p * 4;
     let mut j = 0;
     while j < n {

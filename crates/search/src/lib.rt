@@ -12,8 +12,8 @@ ghost use Rattle.geometry.specs.Shape.{shape, Sound};
 ghost use Rattle.kernels.specs.Candidate.{candidate};
 ghost use Rattle.filter.specs.Filter.{Below};
 ghost use Rattle.search.specs.Find.{stopOf, foundOf, at, Ready};
-use filter::Index;
 use geometry::Geometry;
+use sets::Index;
 
 // Where a search ends: nowhere, at a live entry, with its record number, or at a number of n or more.
 pub enum Stop {

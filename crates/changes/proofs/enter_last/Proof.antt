@@ -13,7 +13,8 @@ use Rattle.geometry.specs.Bounds.{record-capacity-le}
 use mathlib.Core.List.{[]}
 use Rattle.layout.specs.Flash.{flashOf}
 use Rattle.layout.specs.Hash.{fnvFamily}
-use Rattle.filter.specs.Filter.{indexOf, arrayBit}
+use Rattle.sets.specs.Indexes.{indexOf}
+use Rattle.filter.specs.Filter.{arrayBit}
 use Rattle.items.specs.Fits.{fits-entries, spare-fits-entries}
 use Rattle.changes.proofs.FitLaws.{all-fits}
 use Rattle.changes.proofs.PlanLaws.{last-is, put-by, page-by}

@@ -6,7 +6,7 @@ use mathlib.Core.Path.{_≡_, refl, sym, ap, _∙_}
 use lib.ListN.{length}
 use Rattle.layout.specs.Calls.{keyIndex}
 use Rattle.geometry.specs.Shape.{shape, area}
-use Rattle.filter.specs.Filter.{indexOf}
+use Rattle.sets.specs.Indexes.{indexOf}
 use Rattle.items.specs.Fits.{spare-fits-records, spare-fits-entries}
 use Rattle.changes.proofs.FitLaws.{spare-fits, fresh-record, fresh-entry, fresh-part, fresh-index}
 use Rattle.changes.proofs.insertion_fresh.Statement.{statement}

@@ -3,7 +3,7 @@ use borrow.Author.Needs.{needs}
 use native.Mathlib.Omega.{arith}
 use Prim.Native.Nat.{_+_, _-_, _*_, _/_, _<_, _≤_}
 use mathlib.Core.Path.{sym, _∙_}
-use Rattle.filter.specs.Filter.{indexOf}
+use Rattle.sets.specs.Indexes.{indexOf}
 use Rattle.filter.proofs.Rooms.{staged}
 use Rattle.filter.proofs.Stages.{ska-ready, gate-flash, gate-ska}
 use Rattle.filter.proofs.has_all.Statement.{statement}

@@ -4,7 +4,7 @@ use native.Mathlib.Omega.{arith}
 use Prim.Native.Nat.{_+_, _-_}
 use mathlib.Core.Path.{sym, _∙_}
 use lib.ListN.{length}
-use Rattle.filter.specs.Filter.{indexOf}
+use Rattle.sets.specs.Indexes.{indexOf}
 use Rattle.filter.proofs.Stages.{full-ready, set-ready, l1-ready, gate-full, gate-set, gate-l1}
 use Rattle.filter.proofs.has_on_flash.Statement.{statement}
 use Rattle.filter.proofs.has_on_flash.Tie as tie

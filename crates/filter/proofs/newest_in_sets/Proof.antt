@@ -6,7 +6,7 @@ use mathlib.Core.Path.{sym, _∙_}
 use lib.ListN.{length}
 use Rattle.memory.specs.Ranges.{allOf}
 use Rattle.kernels.specs.Candidate.{candidate-le}
-use Rattle.filter.specs.Filter.{indexOf}
+use Rattle.sets.specs.Indexes.{indexOf}
 use Rattle.filter.specs.Levels.{levelBit}
 use Rattle.filter.proofs.Stages.{full-ready, set-ready, newest-full, set-hit, set-miss}
 use Rattle.filter.proofs.newest_in_sets.Statement.{statement}

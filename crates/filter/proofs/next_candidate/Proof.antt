@@ -5,7 +5,7 @@ use Prim.Native.Nat.{_-_, _*_, _/_, _<_, _≤_}
 use mathlib.Core.Path.{sym, _∙_}
 use Rattle.memory.specs.Ranges.{allOf}
 use Rattle.kernels.specs.Candidate.{candidate-le}
-use Rattle.filter.specs.Filter.{indexOf}
+use Rattle.sets.specs.Indexes.{indexOf}
 use Rattle.filter.specs.Levels.{levelBit}
 use Rattle.filter.proofs.Rooms.{staged}
 use Rattle.filter.proofs.Stages.{ska-ready, newest-flash, ska-hit, ska-miss}

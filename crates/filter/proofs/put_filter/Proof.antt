@@ -5,7 +5,8 @@ use native.Mathlib.Nat.{mul-le-mul-right}
 use Prim.Native.Nat.{_*_}
 use mathlib.Core.Path.{_≡_}
 use lib.ListN.{length}
-use Rattle.filter.specs.Filter.{indexOf, arrayBit}
+use Rattle.sets.specs.Indexes.{indexOf}
+use Rattle.filter.specs.Filter.{arrayBit}
 use Rattle.filter.specs.Pieces.{four-pieces}
 use Rattle.filter.proofs.put_filter.Statement.{statement}
 use Rattle.filter.proofs.put_filter.Tie as tie

@@ -7,7 +7,7 @@ use borrow.Author.Tests.{eq-eqb, ne-eqb}
 use Rattle.layout.specs.Flash.{flashOf, applyAll}
 use Rattle.layout.specs.Items.{zeroPage}
 use Rattle.layout.specs.Index.{flushAndBuild}
-use Rattle.filter.specs.Filter.{indexOf}
+use Rattle.sets.specs.Indexes.{indexOf}
 use Rattle.index.specs.Fits.{unit-some, unit-few}
 use borrow.Author.Needs.{needs}
 use Rattle.index.proofs.add_filter.Statement.{statement}

@@ -2,7 +2,7 @@ use native.Mathlib.Omega.{arith}
 use mathlib.Core.Path.{_≡_}
 use lib.ListN.{length}
 use Rattle.layout.specs.Flash.{flashOf}
-use Rattle.filter.specs.Filter.{indexOf}
+use Rattle.sets.specs.Indexes.{indexOf}
 use Rattle.index.specs.Fits.{unit-few, first-inside, old-inside}
 use Rattle.index.specs.Build.{build-is}
 use borrow.Author.Needs.{needs}

@@ -4,7 +4,7 @@ use mathlib.Core.Path.{_≡_}
 use Prim.Native.Nat.{_*_, _/_, _%_, _≤_}
 use lib.ListN.{length}
 use Rattle.layout.specs.Flash.{flashOf}
-use Rattle.filter.specs.Filter.{indexOf}
+use Rattle.sets.specs.Indexes.{indexOf}
 use Rattle.index.specs.Fits.{unit-some, unit-few, l1-inside, set-fits}
 use Rattle.index.specs.Build.{flush-is, flush-build-is}
 use borrow.Author.Needs.{needs}

@@ -1,6 +1,6 @@
 use native.Mathlib.Omega.{arith}
 use lib.ListN.{length}
-use Rattle.filter.specs.Filter.{indexOf}
+use Rattle.sets.specs.Indexes.{indexOf}
 use Rattle.index.specs.Fits.{unit-some, set-sectors}
 use Rattle.index.specs.Fresh.{fresh-few, fresh-none, fresh-flush, fresh-set}
 use borrow.Author.Needs.{needs}

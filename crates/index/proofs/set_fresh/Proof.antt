@@ -3,7 +3,7 @@ use mathlib.Core.Path.{ap, _∙_}
 use Prim.Native.Nat.{ℕ, _*_}
 use Rattle.layout.specs.Index.{setBlock}
 use Rattle.flash.specs.Fresh.{freshRun}
-use Rattle.filter.specs.Filter.{indexOf}
+use Rattle.sets.specs.Indexes.{indexOf}
 use Rattle.index.specs.Fits.{unit-few}
 use borrow.Author.Needs.{needs}
 use Rattle.index.proofs.set_fresh.Statement.{statement}

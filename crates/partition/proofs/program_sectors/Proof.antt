@@ -9,15 +9,15 @@ use mathlib.Core.Path.{_≡_, refl, ap, sym, _∙_}
 use lib.ListN.{length}
 use borrow.Author.Needs.{needs}
 use Rattle.layout.specs.Index.{setByte}
-use Rattle.filter.specs.Filter.{indexOf}
+use Rattle.sets.specs.Indexes.{indexOf}
 use Rattle.partition.proofs.Steps.{After, main-length, spare-length, after-more, after-all, sector-inside}
 use Rattle.partition.proofs.program_sectors.Statement.{statement}
 use Rattle.partition.proofs.program_sectors.Tie as tie
 use Rattle.partition.proofs.program_sectors.Reads as reads
 use Rattle.partition.proofs.program_sectors.Lts as lts
 use Rattle.flash.proofs.program_sector.Reads as program-sector-reads
-use Rattle.partition.proofs.set_block.Reads as set-block-reads
-use Rattle.partition.proofs.set_pages.Reads as set-pages-reads
+use Rattle.sets.proofs.set_block.Reads as set-block-reads
+use Rattle.sets.proofs.set_pages.Reads as set-pages-reads
 use Rattle.partition.proofs.set_sector.Reads as set-sector-reads
 
 abbrev Inv-loop : tie.InvT-loop

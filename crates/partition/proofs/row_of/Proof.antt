@@ -2,25 +2,27 @@ use native.Mathlib.Omega.{arith}
 use native.Mathlib.Nat.{mul-le-mul-right}
 use Prim.Native.Nat.{ℕ, _+_, _*_, _≤_}
 use mathlib.Core.Path.{_≡_}
-use Rattle.filter.specs.Filter.{indexOf}
-use Rattle.partition.proofs.Numbers.{unit-le, next-le, sector-le, row-made}
+use Rattle.sets.specs.Indexes.{indexOf}
+use Rattle.partition.proofs.Numbers.{unit-le, width-of, next-le, sector-le, row-made}
 use borrow.Author.Needs.{needs}
 use Rattle.partition.proofs.row_of.Statement.{statement}
 use Rattle.partition.proofs.row_of.Tie as tie
 use Rattle.partition.proofs.row_of.Reads as reads
 use Rattle.partition.proofs.row_of.Lts as lts
-use Rattle.partition.proofs.set_width.Reads as set-width-reads
-use Rattle.partition.proofs.side_block.Reads as side-block-reads
+use Rattle.sets.proofs.set_width.Reads as set-width-reads
+use Rattle.sets.proofs.side_block.Reads as side-block-reads
 use Rattle.partition.proofs.source_of.Reads as source-of-reads
 
 add-set-width : tie.Need-add-set-width
 add-set-width c = omega (arith, unit-le (c .args .unit) (c .pre .0))
 
 set-width-requires : tie.Need-set-width-requires
-set-width-requires c κs = search needs
+set-width-requires c κs = let l = unit-le (c .args .unit) (c .pre .0) in (l, omega (arith, l, c .pre .1))
 
 set-width-requires-2 : tie.Need-set-width-requires-2
-set-width-requires-2 c κs = search needs
+set-width-requires-2 c κs =
+    let l = unit-le (c .before .args .unit) (c .before .pre .0) in
+    (l, omega (arith, l, c .before .pre .1))
 
 side-block-requires : tie.Need-side-block-requires
 side-block-requires c κs = (unit-le (c .before .before .args .unit) (c .before .before .pre .0), c .before .before .pre .3)
@@ -47,7 +49,7 @@ mul-split-2 : tie.Need-mul-split-2
 mul-split-2 c =
     let x = c .before .before .before .before in
     let h : x .args .c + 1 ≤ 128 = omega (arith, unit-le (x .args .unit) (x .pre .0), x .pre .1) in
-    omega (arith, mul-le-mul-right (c .before .before .before .set-width .result) h, c .before .before .before .set-width .ensures .2)
+    omega (arith, mul-le-mul-right (c .before .before .before .set-width .result) h, (width-of (x .args .unit) (x .args .c + 1) (c .before .before .before .set-width .result) (x .pre .0) (omega (arith, x .pre .1)) (c .before .before .before .set-width .ensures)) .2)
 
 add-end : tie.Need-add-end
 add-end c =
@@ -65,7 +67,7 @@ mul-end-2 : tie.Need-mul-end-2
 mul-end-2 c =
     let x = c .before .before .before .before in
     let h : x .args .c + 1 ≤ 128 = omega (arith, unit-le (x .args .unit) (x .pre .0), x .pre .1) in
-    omega (arith, mul-le-mul-right (c .before .before .before .set-width .result) h, c .before .before .before .set-width .ensures .2)
+    omega (arith, mul-le-mul-right (c .before .before .before .set-width .result) h, (width-of (x .args .unit) (x .args .c + 1) (c .before .before .before .set-width .result) (x .pre .0) (omega (arith, x .pre .1)) (c .before .before .before .set-width .ensures)) .2)
 
 mul-source-of : tie.Need-mul-source-of
 mul-source-of c = omega (arith, unit-le (c .before .before .before .before .args .unit) (c .before .before .before .before .pre .0))
@@ -73,8 +75,8 @@ mul-source-of c = omega (arith, unit-le (c .before .before .before .before .args
 source-of-requires : tie.Need-source-of-requires
 source-of-requires c κs =
     let x = c .before .before .before .before in
-    let w = c .before .before .before .set-width .ensures in
-    let v = c .before .before .set-width2 .ensures in
+    let w = width-of (x .args .unit) (x .args .c + 1) (c .before .before .before .set-width .result) (x .pre .0) (omega (arith, x .pre .1)) (c .before .before .before .set-width .ensures) in
+    let v = width-of (x .args .unit) (x .args .c) (c .before .before .set-width2 .result) (x .pre .0) (omega (arith, x .pre .1)) (c .before .before .set-width2 .ensures) in
     let l = unit-le (x .args .unit) (x .pre .0) in (
       omega (arith, l, mul-le-mul-right (1024 * x .args .unit) (c .before .side-block .ensures .1)),
       omega (arith, l),
@@ -96,7 +98,7 @@ mul-source-of-4 c = omega (arith, unit-le (c .before .before .before .before .be
 source-of-requires-2 : tie.Need-source-of-requires-2
 source-of-requires-2 c κs =
     let x = c .before .before .before .before .before in
-    let w = c .before .before .before .before .set-width .ensures in
+    let w = width-of (x .args .unit) (x .args .c + 1) (c .before .before .before .before .set-width .result) (x .pre .0) (omega (arith, x .pre .1)) (c .before .before .before .before .set-width .ensures) in
     let l = unit-le (x .args .unit) (x .pre .0) in (
       omega (arith, l, mul-le-mul-right (1024 * x .args .unit) (x .pre .3)),
       omega (arith, l),
@@ -110,7 +112,7 @@ returns : tie.Need-returns
 returns c =
     let x = c .before .before .before .before .before .before in
     row-made (x .args .unit) (indexOf (x .args .ix)) (x .args .c) (x .args .p) (c .before .before .before .before .before .set-width .result) (c .before .before .before .before .set-width2 .result) (c .before .before .before .side-block .result) (c .before .source-of .result) (c .source-of2 .result)
-    (c .before .before .before .before .before .set-width .ensures .0) (c .before .before .before .before .set-width2 .ensures .0) (c .before .before .before .side-block .ensures .0) (c .before .source-of .ensures) (c .source-of2 .ensures)
+    (c .before .before .before .before .before .set-width .ensures) (c .before .before .before .before .set-width2 .ensures) (c .before .before .before .side-block .ensures .0) (c .before .source-of .ensures) (c .source-of2 .ensures)
 
 pub row-of-spec : {M : Type 1} → statement M
 row-of-spec =

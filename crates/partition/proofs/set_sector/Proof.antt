@@ -3,7 +3,7 @@ use native.Mathlib.Nat.{mul-le-mul-right}
 use Prim.Native.Nat.{ℕ, _+_, _*_, _/_, _%_, _≤_}
 use mathlib.Core.Path.{_≡_, _∙_}
 use lib.ListN.{length}
-use Rattle.filter.specs.Filter.{indexOf}
+use Rattle.sets.specs.Indexes.{indexOf}
 use Rattle.partition.specs.Reach.{row-fits}
 use Rattle.partition.specs.Widths.{unit-pos}
 use Rattle.partition.proofs.Numbers.{unit-le, pages-le}

@@ -1,16 +1,17 @@
--- The side by the parity of c.
-use borrow.Author.Needs.{needs}
 use native.Mathlib.Omega.{arith}
-use Prim.Native.Nat.{_%_}
+use mathlib.Core.Path.{refl}
 use borrow.Author.Tests.{eq-eqb, ne-eqb}
-use Rattle.filter.proofs.side_block.Statement.{statement}
-use Rattle.filter.proofs.side_block.Tie as tie
+use borrow.Author.Needs.{needs}
+use Rattle.sets.proofs.side_block.Statement.{statement}
+use Rattle.sets.proofs.side_block.Tie as tie
+use Rattle.sets.proofs.side_block.Reads as reads
+use Rattle.sets.proofs.side_block.Lts as lts
 
 add-result : tie.Need-add-result
 add-result c = search needs
 
 returns : tie.Need-returns
-returns c = (rw (eq-eqb (c .before .before .args .c % 2) 1 (c .before .if1 .taken)), omega arith)
+returns c = rw (eq-eqb _ _ (c .before .if1 .taken)) (refl, omega arith)
 
 add-result-2 : tie.Need-add-result-2
 add-result-2 c = search needs
@@ -22,7 +23,7 @@ add-result-3 : tie.Need-add-result-3
 add-result-3 c = search needs
 
 returns-2 : tie.Need-returns-2
-returns-2 c = (rw (ne-eqb (c .before .before .args .c % 2) 1 (c .before .if1 .left)), omega arith)
+returns-2 c = rw (ne-eqb _ _ (c .before .if1 .left)) (refl, omega arith)
 
 pub side-block-spec : {M : Type 1} → statement M
 side-block-spec =

@@ -2,8 +2,8 @@
 use borrow.Author.Needs.{needs}
 use Prim.Native.Nat.{ℕ, _*_, _/_}
 use mathlib.Core.Path.{ap}
-use Rattle.filter.proofs.set_width.Statement.{statement}
-use Rattle.filter.proofs.set_width.Tie as tie
+use Rattle.sets.proofs.set_width.Statement.{statement}
+use Rattle.sets.proofs.set_width.Tie as tie
 
 mul-result : tie.Need-mul-result
 mul-result c = search needs
