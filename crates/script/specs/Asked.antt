@@ -1,0 +1,22 @@
+-- The reader's answers as the definitions of Lines have them.
+use mathlib.Core.Option.{Option, none, some}
+use Prim.Native.Nat.{ℕ}
+use Rattle.layout.specs.Calls.{insert, update, delete, lookup}
+use Rattle.script.specs.Lines as lines
+use Rattle.script.specs.declared.Number.{Number}
+use Rattle.script.specs.declared.Number.the-variants.{No, Value}
+use Rattle.script.specs.declared.Request.{Request}
+use Rattle.script.specs.declared.Request.the-variants.{Bad, Format, Insert, Update, Delete, Lookup}
+
+abbrev pub numberOf : Number → Option ℕ
+numberOf No = none
+numberOf (Value v) = some v
+
+-- "goal and free word are 0"
+abbrev pub asked : Request → lines.Request
+asked Bad = lines.bad
+asked (Format S R D) = lines.format S R D
+asked (Insert key moves) = lines.call (insert key moves 0 0)
+asked (Update key moves) = lines.call (update key moves 0 0)
+asked (Delete key) = lines.call (delete key)
+asked (Lookup key) = lines.call (lookup key)
