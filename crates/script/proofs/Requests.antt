@@ -1,10 +1,10 @@
 -- The request that a line makes, at each way that the reader goes.
-use mathlib.Core.Path.{_≡_, refl, _∙_}
+use mathlib.Core.Path.{_≡_, refl}
 use mathlib.Core.List.{List, [], _∷_}
 use Prim.Native.Nat.{ℕ, zero, suc, _+_, _≤_, _<_}
 use native.Mathlib.Omega.{arith}
 use lib.ListN.{length, getD, take, drop}
-use Rattle.script.specs.Lines.{Request, bad, number, fields, one, two, three, lettered, requestOf, request}
+use Rattle.script.specs.Lines.{bad, number, fields, one, two, three, lettered, requestOf, request}
 use Rattle.script.specs.FirstWord.{wordLength, after, fields-word, fields-last, fields-next}
 
 -- ---- the words after the letter

@@ -2,12 +2,12 @@
 use mathlib.Core.Path.{_≡_, refl, ap, sym, _∙_}
 use mathlib.Core.Option.{Option, none, some}
 use mathlib.Core.List.{List, [], _∷_}
-use Prim.Native.Nat.{ℕ, suc, _+_, _≤_, _<_}
+use Prim.Native.Nat.{ℕ, suc, _+_, _<_}
 use native.Mathlib.Omega.{arith}
 use lib.ListN.{length, take, length-take}
 use lib.Seq.{take-all}
 use Rattle.memory.specs.Cases.{either, le?, eq?}
-use Rattle.script.specs.Lines.{Request, bad, number, lengthen, fields, two, three, requestOf, request}
+use Rattle.script.specs.Lines.{bad, number, lengthen, fields, two, three, requestOf, request}
 use Rattle.script.specs.ReadNumber.{number-long}
 
 -- ---- the words are as long as the line

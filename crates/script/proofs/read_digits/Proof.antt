@@ -1,10 +1,9 @@
 -- What is left to read, at each digit: the value so far is below 2^32.
 use native.Mathlib.Omega.{arith}
 use mathlib.Core.Path.{_≡_, refl, sym, ap, _∙_}
-use mathlib.Core.Option.{Option}
-use Prim.Native.Nat.{ℕ, _+_, _*_, _-_, _^_, _≤_, _<_}
+use Prim.Native.Nat.{_+_, _*_, _-_, _≤_, _<_}
 use borrow.Author.Tests.{lt-ltb}
-use lib.ListN.{length, getD, drop}
+use lib.ListN.{length, drop}
 use Rattle.script.specs.Lines.{digitsFrom, small}
 use Rattle.script.specs.ReadNumber.{digits-more, digits-low, digits-high, digits-end, stays-large}
 use Rattle.script.proofs.read_digits.Statement.{statement}

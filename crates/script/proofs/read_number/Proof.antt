@@ -1,7 +1,6 @@
 -- Two digits or more do not begin with 0.
 use native.Mathlib.Omega.{arith}
 use mathlib.Core.Path.{sym, _∙_}
-use Prim.Native.Nat.{_≤_}
 use Rattle.script.specs.ReadNumber.{number-empty, number-one, number-zero, number-more}
 use borrow.Author.Needs.{needs}
 use Rattle.script.proofs.read_number.Statement.{statement}
