@@ -22,9 +22,17 @@ and-comm true false = refl
 and-comm false true = refl
 and-comm false false = refl
 
-and-true : (b : Bool) → (b && true) ≡ b
+pub and-true : (b : Bool) → (b && true) ≡ b
 and-true true = refl
 and-true false = refl
+
+pub and-false : (b : Bool) → (b && false) ≡ false
+and-false true = refl
+and-false false = refl
+
+pub no-rows : (bytes at low : List ℕ) (w g : ℕ) → allIn bytes at low w 0 g ≡ true
+unfolding allIn
+no-rows bytes at low w g = refl
 
 -- ---- the same filter, by the first of its bits
 
@@ -177,6 +185,12 @@ module _ (bytes at low : List ℕ) (lo i : ℕ) (pos : 0 < i) (b : Bool) (e : b 
   pub row-shut : not b ≡ true → allIn bytes at low 1 i lo ≡ false
   row-shut t = row-more ∙ either (bool? b) (λ h. cc) (λ h. rw h)
 
-pub no-rows : (bytes at low : List ℕ) (w g : ℕ) → allIn bytes at low w 0 g ≡ true
-unfolding allIn
-no-rows bytes at low w g = refl
+pub all-three : (bytes at low : List ℕ) (k lo : ℕ) (x y z : Bool) → k ≡ 3 → x ≡ bitIn bytes (getD at 0 0) (lo + getD low 0 0)
+    → y ≡ bitIn bytes (getD at 1 0) (lo + getD low 1 0) → z ≡ bitIn bytes (getD at 2 0) (lo + getD low 2 0) → ((x && y) && z) ≡ allIn bytes at low 1 k lo
+all-three bytes at low k lo x y z e ex ey ez =
+    let m = row-more bytes at low lo in
+    rw e (sym (m 3 (omega arith) z ez ∙ (ap (λ (t : Bool). z && t) (m 2 (omega arith) y ey ∙ ap (λ (t : Bool). y && t) (m 1 (omega arith) x ex)) ∙ order)))
+  where
+    order : (z && (y && (x && allIn bytes at low 1 0 lo))) ≡ ((x && y) && z)
+    order =
+        rw (no-rows bytes at low 1 lo) (ap (λ (t : Bool). z && (y && t)) (and-true x) ∙ (and-comm z (y && x) ∙ ap (λ (t : Bool). t && z) (and-comm y x)))

@@ -1,2 +1,4 @@
 pub mod Bits
 pub mod Filters
+pub mod Widths
+pub mod Fields

@@ -1,2 +1,3 @@
 pub mod Candidate
 pub mod Rows
+pub mod Width

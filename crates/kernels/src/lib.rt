@@ -6,6 +6,7 @@ ghost use lib.Count.{leadingZeros};
 ghost use lib.ListN.{length, getD};
 ghost use Rattle.kernels.specs.Candidate.{candidate};
 ghost use Rattle.kernels.specs.Rows.{bitIn, allIn, Word, Words, Within, WordIn, BitIn};
+ghost use Rattle.kernels.specs.Width.{IsWidth};
 
 // Rows of bits, one for each position: its first byte, and the bit among the w that a filter has in
 // the row.
@@ -76,6 +77,115 @@ fn last_and(bytes: &[u8], at: [usize; 8], count: usize, n: usize) -> usize
     0
 }
 
+// ---- two to sixteen bits for a filter in each row: 32 to 4 filters a turn
+
+// A filter has w = 2^lw bits in a row; a word has the bits of per = 2^lp filters, and `mask` the
+// lowest bit of each.
+struct Width {
+    lw: u32,
+    lp: u32,
+    w: usize,
+    per: usize,
+    mask: u64,
+}
+
+fn width_of(w: usize) -> Width
+    requires { ⌜ ((e : ℕ) × (0 < e) × (e < 5) × (w ≡ 2 ^ e)) ⌝ }
+    ensures { λ r. ⌜ IsWidth r × (r .w ≡ w) ⌝ }
+{
+    if w == 2 {
+        return Width {
+            lw: 1,
+            lp: 5,
+            w: 2,
+            per: 32,
+            mask: 0x5555_5555_5555_5555,
+        };
+    }
+    if w == 4 {
+        return Width {
+            lw: 2,
+            lp: 4,
+            w: 4,
+            per: 16,
+            mask: 0x1111_1111_1111_1111,
+        };
+    }
+    if w == 8 {
+        return Width {
+            lw: 3,
+            lp: 3,
+            w: 8,
+            per: 8,
+            mask: 0x0101_0101_0101_0101,
+        };
+    }
+    Width {
+        lw: 4,
+        lp: 2,
+        w: 16,
+        per: 4,
+        mask: 0x0001_0001_0001_0001,
+    }
+}
+
+// x / w by a shift.
+fn down(x: usize, l: u32, w: usize) -> usize
+    requires { ⌜ (l ≤ 6) × (w ≡ 2 ^ l) ⌝ }
+    ensures { λ r. ⌜ r ≡ x / w ⌝ }
+{
+    x >> l
+}
+
+// Word q of all rows, each moved down by its `low`. Three rows have no inner loop.
+fn field_words(bytes: &[u8], at: [usize; 8], low: [usize; 8], count: usize, q: usize) -> u64
+    requires { ⌜ WordIn at count q (length (now bytes)) × ((i : ℕ) → i < count → getD low i 0 < 64) ⌝ }
+    ensures { λ r. ⌜ Words (now (bytes .entry)) at low count q r ⌝ }
+{
+    let o = q * 8;
+    let x = get64(bytes, at[0] + o) >> low[0];
+    if count == 3 {
+        return x & (get64(bytes, at[1] + o) >> low[1]) & (get64(bytes, at[2] + o) >> low[2]);
+    }
+    let mut r = x;
+    let mut i = 1;
+    while i < count {
+        r = r & (get64(bytes, at[i] + o) >> low[i]);
+        i += 1;
+    }
+    r
+}
+
+fn last_field(
+    bytes: &[u8],
+    at: [usize; 8],
+    low: [usize; 8],
+    count: usize,
+    f: Width,
+    n: usize,
+) -> usize
+    requires { ⌜ IsWidth f × (0 < count) × (count ≤ 8) × (n < 2 ^ 60) ⌝ }
+    requires { ⌜ ((i : ℕ) → i < count → (getD low i 0 < f .w) × (getD at i 0 + (n * f .w + 63) / 64 * 8 ≤ length (now bytes))) ⌝ }
+    ensures { λ r. ⌜ r ≡ candidate (allIn (now (bytes .entry)) at low (f .w) count) n ⌝ }
+{
+    let lw = f.lw;
+    let lp = f.lp;
+    let w = f.w;
+    let per = f.per;
+    let mask = f.mask;
+    let mut k = n;
+    while k > 0 {
+        let q = down(k - 1, lp, per);
+        let base = q * per;
+        let y = (field_words(bytes, at, low, count, q) & mask) << (64 - (k - base) * w);
+        if y != 0 {
+            return k - down(zeros(y), lw, w);
+        }
+        k = base;
+    }
+    0
+}
+
 // ---- many bits for a filter in each row: a filter a turn
 
 // Which bit of its byte bit x of a row is.
@@ -98,6 +208,11 @@ fn all_at(bytes: &[u8], at: [usize; 8], low: [usize; 8], count: usize, lo: usize
     requires { ⌜ BitIn at low count lo (length (now bytes)) ⌝ }
     ensures { λ r. ⌜ r ≡ allIn (now (bytes .entry)) at low 1 count lo ⌝ }
 {
+    if count == 3 {
+        return bit_of(bytes, at[0], lo + low[0])
+            & bit_of(bytes, at[1], lo + low[1])
+            & bit_of(bytes, at[2], lo + low[2]);
+    }
     let mut i = count;
     while i > 0 {
         i -= 1;
@@ -143,5 +258,9 @@ pub fn newest(bytes: &[u8], k: Rows, n: usize) -> usize
         return last_and(bytes, at, count, n);
     }
     let low = k.low;
-    last_plain(bytes, at, low, count, k.w, n)
+    let w = k.w;
+    if w < 32 {
+        return last_field(bytes, at, low, count, width_of(w), n);
+    }
+    last_plain(bytes, at, low, count, w, n)
 }
