@@ -16,7 +16,8 @@ use Rattle.kernels.specs.Candidate.{candidate}
 use Rattle.kernels.specs.Rows.{allIn, Words}
 use Rattle.kernels.specs.Width.{Mask}
 use Rattle.kernels.proofs.Bits.{bit-and}
-use Rattle.kernels.proofs.Filters.{and-true, and-false, all-from, turn-none, turn-hit}
+use Rattle.kernels.proofs.Filters.{and-true, and-false, all-from}
+use Rattle.kernels.proofs.Turns.{turn-none, turn-hit}
 
 -- the numbers of a turn: word q holds filter k - 1
 pub record Turn (w per k n q : ℕ) : Type 0 where

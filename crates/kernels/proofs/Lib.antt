@@ -1,4 +1,5 @@
 pub mod Bits
 pub mod Filters
+pub mod Turns
 pub mod Widths
 pub mod Fields

@@ -1,7 +1,7 @@
 -- The widths: their masks, by computing 64 bits, and the powers of two that they are.
 use mathlib.Core.Path.{_≡_, refl, sym}
 use mathlib.Core.Bool.{Bool, true, false, _&&_}
-use Prim.Native.Nat.{ℕ, zero, suc, _%_, _^_, _<_}
+use Prim.Native.Nat.{ℕ, zero, suc, _%_, _^_, _≤_, _<_}
 use native.Mathlib.Omega.{arith}
 use lib.Dec.{eqb}
 use lib.Pow.{pow-mono}
@@ -75,3 +75,10 @@ pub between : (e w : ℕ) → w ≡ 2 ^ e → (w ≡ 1 → ⊥) → w < 32 → (
 between zero w c x h = absurd (x c)
 between (suc e) w c x h =
     (omega arith, either (lt? (suc e) 5) (λ l. l .1) (λ l. absurd (omega (arith, pow-mono (l .1)))))
+
+-- one of 32 and more has whole bytes
+pub whole-bytes : (e w : ℕ) → w ≡ 2 ^ e → 32 ≤ w → w % 8 ≡ 0
+whole-bytes zero w c h = absurd (omega arith)
+whole-bytes (suc zero) w c h = absurd (omega arith)
+whole-bytes (suc (suc zero)) w c h = absurd (omega arith)
+whole-bytes (suc (suc (suc e))) w c h = omega arith

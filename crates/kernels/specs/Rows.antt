@@ -42,8 +42,8 @@ pub record WordIn (at : List ℕ) (count q len : ℕ) : Type 0 where
   pub few : count ≤ 8
   pub row-in : (k : ℕ) → k < count → getD at k 0 + q * 8 + 8 ≤ len
 
--- bits `lo + low` of the rows lie within `len` bytes
-pub record BitIn (at low : List ℕ) (count lo len : ℕ) : Type 0 where
+-- the bytes that have the rows' bits `low` lie within `len` bytes, o bytes further on
+pub record BytesIn (at low : List ℕ) (count o len : ℕ) : Type 0 where
+  pub some : 0 < count
   pub few : count ≤ 8
-  pub row-in : (k : ℕ) → k < count → getD at k 0 + (lo + getD low k 0) / 8 < len
-  pub small : (k : ℕ) → k < count → lo + getD low k 0 < 2 ^ 61
+  pub row-in : (k : ℕ) → k < count → getD at k 0 + o + getD low k 0 / 8 < len

@@ -4,8 +4,9 @@ ghost use mathlib.Core.List.{[]};
 ghost use Prim.Native.Nat.{ℕ, _+_, _*_, _/_, _%_, _^_, _≤_, _<_};
 ghost use lib.Count.{leadingZeros};
 ghost use lib.ListN.{length, getD};
+ghost use Rattle.memory.specs.Bits.{bit};
 ghost use Rattle.kernels.specs.Candidate.{candidate};
-ghost use Rattle.kernels.specs.Rows.{bitIn, allIn, Word, Words, Within, WordIn, BitIn};
+ghost use Rattle.kernels.specs.Rows.{bitIn, allIn, Word, Words, Within, WordIn, BytesIn};
 ghost use Rattle.kernels.specs.Width.{IsWidth};
 
 // Rows of bits, one for each position: its first byte, and the bit among the w that a filter has in
@@ -186,7 +187,7 @@ fn last_field(
     0
 }
 
-// ---- many bits for a filter in each row: a filter a turn
+// ---- whole bytes for a filter in each row: a filter a turn
 
 // Which bit of its byte bit x of a row is.
 fn bit_place(x: usize) -> usize
@@ -195,32 +196,33 @@ fn bit_place(x: usize) -> usize
     x % 8
 }
 
-// Bit x of the row that begins at byte `row`.
-fn bit_of(bytes: &[u8], row: usize, x: usize) -> bool
+// The byte that has bit x of the row from byte `row` on, moved down so that this bit is its lowest.
+fn byte_of(bytes: &[u8], row: usize, x: usize) -> u8
     requires { ⌜ row + x / 8 < length (now bytes) ⌝ }
-    ensures { λ r. ⌜ r ≡ bitIn (now (bytes .entry)) row x ⌝ }
+    ensures { λ r. ⌜ bit r 0 ≡ bitIn (now (bytes .entry)) row x ⌝ }
 {
-    (bytes[row + x / 8] >> bit_place(x)) % 2 == 1
+    bytes[row + x / 8] >> bit_place(x)
 }
 
-// Has the filter whose bits begin at bit `lo` of each row all of its bits?
-fn all_at(bytes: &[u8], at: [usize; 8], low: [usize; 8], count: usize, lo: usize) -> bool
-    requires { ⌜ BitIn at low count lo (length (now bytes)) ⌝ }
-    ensures { λ r. ⌜ r ≡ allIn (now (bytes .entry)) at low 1 count lo ⌝ }
+// Has the filter whose bits begin o bytes after each row all of its bits? Three rows have no inner
+// loop.
+fn all_at(bytes: &[u8], at: [usize; 8], low: [usize; 8], count: usize, o: usize) -> bool
+    requires { ⌜ BytesIn at low count o (length (now bytes)) ⌝ }
+    ensures { λ r. ⌜ r ≡ allIn (now (bytes .entry)) at low 1 count (o * 8) ⌝ }
 {
+    let x = byte_of(bytes, at[0] + o, low[0]);
     if count == 3 {
-        return bit_of(bytes, at[0], lo + low[0])
-            & bit_of(bytes, at[1], lo + low[1])
-            & bit_of(bytes, at[2], lo + low[2]);
+        let y = byte_of(bytes, at[1] + o, low[1]);
+        let z = byte_of(bytes, at[2] + o, low[2]);
+        return (x & y & z) % 2 == 1;
     }
-    let mut i = count;
-    while i > 0 {
-        i -= 1;
-        if !bit_of(bytes, at[i], lo + low[i]) {
-            return false;
-        }
+    let mut r = x;
+    let mut i = 1;
+    while i < count {
+        r = r & byte_of(bytes, at[i] + o, low[i]);
+        i += 1;
     }
-    true
+    r % 2 == 1
 }
 
 fn last_plain(
@@ -231,13 +233,15 @@ fn last_plain(
     w: usize,
     n: usize,
 ) -> usize
-    requires { ⌜ (count ≤ 8) × (n * w < 2 ^ 60) × ((i : ℕ) → i < count → (getD low i 0 < w) × (getD at i 0 + (n * w + 63) / 64 * 8 ≤ length (now bytes))) ⌝ }
+    requires { ⌜ (0 < count) × (count ≤ 8) × (w % 8 ≡ 0) × (n * w < 2 ^ 60) ⌝ }
+    requires { ⌜ ((i : ℕ) → i < count → (getD low i 0 < w) × (getD at i 0 + (n * w + 63) / 64 * 8 ≤ length (now bytes))) ⌝ }
     ensures { λ r. ⌜ r ≡ candidate (allIn (now (bytes .entry)) at low w count) n ⌝ }
 {
+    let step = w / 8;
     let mut g = n;
     while g > 0 {
-        let lo = (g - 1) * w;
-        if all_at(bytes, at, low, count, lo) {
+        let o = (g - 1) * step;
+        if all_at(bytes, at, low, count, o) {
             return g;
         }
         g -= 1;

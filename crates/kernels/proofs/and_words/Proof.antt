@@ -2,7 +2,6 @@
 use native.Mathlib.Omega.{arith}
 use mathlib.Core.List.{[]}
 use Prim.Native.Nat.{zero, _+_, _*_, _-_, _≤_, _<_}
-use lib.ListN.{getD}
 use mathlib.Core.Path.{_≡_}
 use Rattle.kernels.specs.Rows.{Words}
 use Rattle.kernels.proofs.Filters.{row-word, words-one, words-more, words-three}
@@ -51,9 +50,9 @@ returns c =
     let one = two .before .before in
     let x = one .before .before .args in
     words-three (x .bytes .now) (x .t2) [] (x .q) (x .count) (one .get64 .result) (two .get642 .result) (c .get643 .result) (omega arith)
-    (row-word (x .bytes .now) (getD (x .t2) 0 0) (x .q) (one .get64 .result) (one .get64 .ensures))
-    (row-word (x .bytes .now) (getD (x .t2) 1 0) (x .q) (two .get642 .result) (two .get642 .ensures))
-    (row-word (x .bytes .now) (getD (x .t2) 2 0) (x .q) (c .get643 .result) (c .get643 .ensures))
+    (row-word (x .bytes .now) (x .t2) (x .q) 0 (one .get64 .result) (one .get64 .ensures))
+    (row-word (x .bytes .now) (x .t2) (x .q) 1 (two .get642 .result) (two .get642 .ensures))
+    (row-word (x .bytes .now) (x .t2) (x .q) 2 (c .get643 .result) (c .get643 .ensures))
 
 loop-holds : tie.Need-loop-holds Inv-loop μ-loop
 loop-holds c =
@@ -63,7 +62,7 @@ loop-holds c =
       omega arith,
       b .pre .some,
       words-one (x .bytes .now) (x .t2) [] (x .q) (one .get64 .result)
-          (row-word (x .bytes .now) (getD (x .t2) 0 0) (x .q) (one .get64 .result) (one .get64 .ensures)),
+          (row-word (x .bytes .now) (x .t2) (x .q) 0 (one .get64 .result) (one .get64 .ensures)),
     )
 
 mul-get64 : tie.Need-mul-get64 Inv-loop μ-loop
@@ -91,7 +90,7 @@ loop-again c =
       omega arith,
       omega arith,
       words-more (x .bytes .now) (x .t2) [] (x .q) (l .i) (l .r) (c .get644 .result) (l .inv .2)
-          (row-word (x .bytes .now) (getD (x .t2) (l .i) 0) (x .q) (c .get644 .result) (c .get644 .ensures)),
+          (row-word (x .bytes .now) (x .t2) (x .q) (l .i) (c .get644 .result) (c .get644 .ensures)),
     )
 
 returns-2 : tie.Need-returns-2 Inv-loop μ-loop

@@ -5,7 +5,7 @@ use mathlib.Core.Path.{_≡_, refl, sym, ap, _∙_}
 use Prim.Native.Nat.{zero, _+_, _*_, _-_, _/_, _≤_, _<_}
 use Rattle.kernels.specs.Candidate.{candidate}
 use Rattle.kernels.specs.Rows.{allIn}
-use Rattle.kernels.proofs.Filters.{single-none, single-hit}
+use Rattle.kernels.proofs.Turns.{single-none, single-hit}
 use Rattle.kernels.proofs.last_and.Statement.{statement}
 use Rattle.kernels.proofs.last_and.Tie as tie
 

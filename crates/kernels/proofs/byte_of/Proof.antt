@@ -1,11 +1,13 @@
--- A bit of a byte is its quotient by a power of two, modulo 2.
-use mathlib.Core.Path.{sym}
+-- A shift moves the bit to the lowest place.
+use mathlib.Core.Path.{_≡_, ap, _∙_}
 use Prim.Native.Nat.{_+_, _/_, _%_}
+use native.Mathlib.Omega.{arith}
 use lib.ListN.{getD}
-use Rattle.memory.specs.Bits.{bit-is}
+use Rattle.memory.specs.Bits.{bit}
+use Rattle.kernels.proofs.Bits.{bit-shr}
 use borrow.Author.Needs.{needs}
-use Rattle.kernels.proofs.bit_of.Statement.{statement}
-use Rattle.kernels.proofs.bit_of.Tie as tie
+use Rattle.kernels.proofs.byte_of.Statement.{statement}
+use Rattle.kernels.proofs.byte_of.Tie as tie
 
 add-result : tie.Need-add-result
 add-result c = search needs
@@ -25,10 +27,11 @@ shr-result c = search needs
 returns : tie.Need-returns
 returns c =
     let x = c .before .before .before .args in
-    rw (c .bit-place .ensures .0) (sym (bit-is (getD (x .bytes .now) (x .row + x .x / 8) 0) (x .x % 8)))
+    let e : x .x % 8 + 0 ≡ x .x % 8 = omega arith in
+    rw (c .bit-place .ensures .0) (bit-shr (getD (x .bytes .now) (x .row + x .x / 8) 0) (x .x % 8) 0 ∙ ap (bit (getD (x .bytes .now) (x .row + x .x / 8) 0)) e)
 
-pub bit-of-spec : {M : Type 1} → statement M
-bit-of-spec =
+pub byte-of-spec : {M : Type 1} → statement M
+byte-of-spec =
     tie.close
     (tie.spec
     add-result
