@@ -1,4 +1,4 @@
--- Words of items in full pages and in the page that is not full, the deletions as two runs of words, and the search of a page by its newest entry. Assumes nothing.
+-- Words of items in full pages and in the page that is not full, and the deletions as two runs of words. Assumes nothing.
 use mathlib.Core.Path.{_≡_, refl, sym, ap, _∙_}
 use mathlib.Core.Bool.{Bool, true, false, _||_}
 use mathlib.Core.List.{List}
@@ -15,7 +15,7 @@ use Rattle.memory.specs.Ranges.{any, any-ext}
 use Rattle.layout.specs.Geometry.{block, page}
 use Rattle.layout.specs.Items.{Area, itemPlace, itemWord}
 use Rattle.layout.specs.Search.{Stop, orElse, scan}
-use Rattle.items.specs.Scans.{isWord, hasWord, newest, any-sum}
+use Rattle.items.specs.Scans.{isWord, hasWord, any-sum}
 
 -- one of two parts, where it is known whether it is the second
 in-first : (ram main : Bool) → main ≡ true → (ram || main) ≡ true
@@ -89,22 +89,3 @@ module _ (u : ℕ) (a : Area) (n : ℕ) (main ram : List ℕ) where
         → any (λ i. eqb (itemWord u a n main ram i 0) j) n ≡ hasWord ram (a .ram) (n % a .perPage) j
     deleted-in-ram e =
         deleted-parts ∙ in-second (hasWord ram (a .ram) (n % a .perPage) j) (hasWord main (a .first * block u) (n / a .perPage * a .perPage) j) e
-
--- ---- a scan of entries passes over those that do not have the key
-
-module _ (try : ℕ → Option Stop) (f : ℕ → Bool) (lo : ℕ) where
-  pub scan-none : (n : ℕ) → ((i : ℕ) → i < n → f i ≡ false → try (lo + i) ≡ none) → newest f n ≡ 0 → scan try lo n ≡ none
-  unfolding scan newest
-  scan-none zero pass e = refl
-  scan-none (suc n) pass e =
-      either (bool? (f n))
-      (λ t. let z : suc n ≡ 0 = rw t at e in absurd (omega arith))
-      (λ t. let z : newest f n ≡ 0 = rw t at e in rw (pass n (omega arith) t) (scan-none n (λ i h. pass i (omega arith)) z))
-
-  pub scan-newest : (n k : ℕ) → ((i : ℕ) → i < n → f i ≡ false → try (lo + i) ≡ none) → newest f n ≡ suc k → scan try lo n ≡ orElse (try (lo + k)) (scan try lo k)
-  unfolding scan newest
-  scan-newest zero k pass e = absurd (omega arith)
-  scan-newest (suc n) k pass e =
-      either (bool? (f n))
-      (λ t. let z : suc n ≡ suc k = rw t at e in let q : n ≡ k = omega arith in rw q)
-      (λ t. let z : newest f n ≡ suc k = rw t at e in rw (pass n (omega arith) t) (scan-newest n k (λ i h. pass i (omega arith)) z))

@@ -10,6 +10,7 @@ use lib.Dec.{eqb}
 use Rattle.memory.specs.Words.{word}
 use Rattle.memory.specs.Cases.{bool?, either}
 use Rattle.memory.specs.Ranges.{any}
+use Rattle.kernels.specs.Candidate.{candidate, candidate-open, candidate-shut}
 
 -- is word i from byte `at` on the number j
 unfoldable pub isWord : List ℕ → ℕ → ℕ → ℕ → Bool
@@ -23,14 +24,9 @@ hasWord s at n j = any (isWord s at j) n
 unfoldable pub hasKey : List ℕ → ℕ → ℕ → ℕ → Bool
 hasKey s at key i = eqb (word s (at + i * 8)) key
 
--- the greatest i below n that passes, plus one; 0 if none does
-unfoldable pub newest : (ℕ → Bool) → ℕ → ℕ
-newest f zero = 0
-newest f (suc n) = cond (f n) (suc n) (newest f n)
-
 -- the newest of n entries with the key, plus one
 abbrev pub lastEntry : List ℕ → ℕ → ℕ → ℕ → ℕ
-lastEntry s at n key = newest (hasKey s at key) n
+lastEntry s at n key = candidate (hasKey s at key) n
 
 -- ---- some number passes: one more each time, and two ranges, one after the other
 
@@ -57,28 +53,24 @@ any-sum f m (suc k) =
 
 -- ---- the newest that passes
 
-pub newest-end : (f : ℕ → Bool) → newest f 0 ≡ 0
-unfolding newest
+pub newest-end : (f : ℕ → Bool) → candidate f 0 ≡ 0
+unfolding candidate
 newest-end f = refl
 
-pub newest-yes : (f : ℕ → Bool) (k : ℕ) → 0 < k → f (k - 1) ≡ true → newest f k ≡ k
-unfolding newest
-newest-yes f zero p t = refl
+pub newest-yes : (f : ℕ → Bool) (k : ℕ) → 0 < k → f (k - 1) ≡ true → candidate f k ≡ k
+newest-yes f zero p t = absurd (omega arith)
 newest-yes f (suc k) p t =
     let e : suc k - 1 ≡ k = omega arith in
-    let u : f k ≡ true = rw e at t in
-    rw u
+    candidate-open f k (rw e at t)
 
-pub newest-no : (f : ℕ → Bool) (k : ℕ) → f (k - 1) ≡ false → newest f k ≡ newest f (k - 1)
-unfolding newest
-newest-no f zero t = refl
-newest-no f (suc k) t =
+pub newest-no : (f : ℕ → Bool) (k : ℕ) → 0 < k → f (k - 1) ≡ false → candidate f k ≡ candidate f (k - 1)
+newest-no f zero p t = absurd (omega arith)
+newest-no f (suc k) p t =
     let e : suc k - 1 ≡ k = omega arith in
-    let u : f k ≡ false = rw e at t in
-    rw (e, u)
+    rw e (candidate-shut f k (rw e at t))
 
-pub newest-none : (f : ℕ → Bool) (n : ℕ) → any f n ≡ false → newest f n ≡ 0
-unfolding any newest
+pub newest-none : (f : ℕ → Bool) (n : ℕ) → any f n ≡ false → candidate f n ≡ 0
+unfolding any candidate
 newest-none f zero t = refl
 newest-none f (suc n) t =
     either (bool? (f n))
@@ -106,3 +98,10 @@ key-yes s at key i r e h = eq-eqb _ _ (sym e ∙ h)
 pub key-no : (s : List ℕ) (at key i r : ℕ) → r ≡ word s (at + i * 8) → (r ≡ key → ⊥) → hasKey s at key i ≡ false
 unfolding hasKey
 key-no s at key i r e h = ne-eqb _ _ (λ q. h (e ∙ q))
+
+-- entries counted from a later one
+pub key-later : (s : List ℕ) (at key m i : ℕ) → hasKey s at key (m + i) ≡ hasKey s (at + m * 8) key i
+unfolding hasKey
+key-later s at key m i =
+    let e : at + (m + i) * 8 ≡ at + m * 8 + i * 8 = omega arith in
+    rw e

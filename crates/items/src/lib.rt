@@ -160,7 +160,7 @@ fn last_key(s: &[u8], at: usize, n: usize, key: u32) -> usize
 }
 
 // The same: a pass without exit comes first where there are many entries, and nearly always ends it.
-pub fn find_entry(s: &[u8], at: usize, count: usize, key: u32) -> usize
+fn find_few(s: &[u8], at: usize, count: usize, key: u32) -> usize
     requires { ⌜ at + count * 8 ≤ length (now s) ⌝ }
     ensures { λ r. ⌜ r ≡ lastEntry (now (s .entry)) at count key ⌝ }
 {
@@ -170,4 +170,22 @@ pub fn find_entry(s: &[u8], at: usize, count: usize, key: u32) -> usize
         }
     }
     last_key(s, at, count, key)
+}
+
+// The newest of the entries with the key, plus one, by blocks from the newest on: the pass over a block has
+// no exit, and what lies before the block with the key is not read.
+pub fn find_entry(s: &[u8], at: usize, count: usize, key: u32) -> usize
+    requires { ⌜ at + count * 8 ≤ length (now s) ⌝ }
+    ensures { λ r. ⌜ r ≡ lastEntry (now (s .entry)) at count key ⌝ }
+{
+    let mut k = count;
+    while k > 64 {
+        let lo = k - 64;
+        let r = find_few(s, at + lo * 8, 64, key);
+        if r > 0 {
+            return lo + r;
+        }
+        k = lo;
+    }
+    find_few(s, at, k, key)
 }

@@ -10,7 +10,8 @@ use lib.Dec.{leb}
 use Rattle.memory.specs.Cases.{bool?, either}
 use Rattle.memory.specs.Words.{word}
 use Rattle.layout.specs.Search.{Stop, found, corrupt, tryEntry, orElse, scan}
-use Rattle.items.specs.Scans.{hasKey, newest, lastEntry}
+use Rattle.kernels.specs.Candidate.{candidate, candidate-le}
+use Rattle.items.specs.Scans.{hasKey, lastEntry}
 
 pub not-false : (b : Bool) → not b ≡ false → b ≡ true
 not-false true e = refl
@@ -18,23 +19,18 @@ not-false false e = cc
 
 -- ---- the newest that passes
 
-newest-le : (f : ℕ → Bool) (m : ℕ) → newest f m ≤ m
-unfolding newest
-newest-le f zero = omega arith
-newest-le f (suc m) = either (bool? (f m)) (λ t. rw t (omega arith)) (λ t. rw t (let ih = newest-le f m in omega arith))
-
-newest-has : (f : ℕ → Bool) (m : ℕ) → 0 < newest f m → f (newest f m - 1) ≡ true
-unfolding newest
+newest-has : (f : ℕ → Bool) (m : ℕ) → 0 < candidate f m → f (candidate f m - 1) ≡ true
+unfolding candidate
 newest-has f zero h = absurd (omega arith)
 newest-has f (suc m) h =
     either (bool? (f m))
     (λ t. let e : suc m - 1 ≡ m = omega arith in rw (t, e) t)
-    (λ t. let z : 0 < newest f m = rw t at h in rw t (newest-has f m z))
+    (λ t. let z : 0 < candidate f m = rw t at h in rw t (newest-has f m z))
 
 -- a scan may begin at the newest entry that passes
 scan-from : (try : ℕ → Option Stop) (f : ℕ → Bool) (lo m : ℕ) → ((i : ℕ) → i < m → f i ≡ false → try (lo + i) ≡ none)
-    → scan try lo m ≡ scan try lo (newest f m)
-unfolding scan newest
+    → scan try lo m ≡ scan try lo (candidate f m)
+unfolding scan candidate
 scan-from try f lo zero pass = refl
 scan-from try f lo (suc m) pass =
     either (bool? (f m))
@@ -85,7 +81,7 @@ module _ (bytes : List ℕ) (from count n key : ℕ) (deleted : ℕ → Bool) (t
   pub left-first : (e : ℕ) → e ≡ lastEntry bytes from count key → Left bytes from key try lo count e
   left-first e is =
       record {
-        le = omega (arith, newest-le (hasKey bytes from key) count);
+        le = omega (arith, candidate-le (hasKey bytes from key) count);
         has = rw is (newest-has (hasKey bytes from key) count);
         rest = rw is (skipped count (omega arith));
       }
@@ -110,10 +106,10 @@ module _ (bytes : List ℕ) (from count n key : ℕ) (deleted : ℕ → Bool) (t
       pub left-next : (r : ℕ) → deleted j ≡ true → r ≡ lastEntry bytes from (e - 1) key → Left bytes from key try lo count r
       left-next r t is =
           record {
-            le = omega (arith, newest-le (hasKey bytes from key) (e - 1), L .le);
+            le = omega (arith, candidate-le (hasKey bytes from key) (e - 1), L .le);
             has = rw is (newest-has (hasKey bytes from key) (e - 1));
             rest = rw is (gone t ∙ skipped (e - 1) (omega (arith, L .le)));
           }
 
       pub left-less : (r : ℕ) → r ≡ lastEntry bytes from (e - 1) key → r < e
-      left-less r is = omega (arith, newest-le (hasKey bytes from key) (e - 1))
+      left-less r is = omega (arith, candidate-le (hasKey bytes from key) (e - 1))
