@@ -7,7 +7,7 @@ use lib.ListN.{length, set, length-append}
 use borrow.Author.Tests.{lt-ltb, le-ltb}
 use Rattle.memory.specs.Cases.{either, lt?}
 use Rattle.memory.specs.Lists.{write}
-use Rattle.script.specs.Answers.{digits, decimal}
+use Rattle.script.specs.Answers.{Answer, ok, hit, miss, no, bad, digits, decimal, text}
 
 -- a store is a write of one byte
 pub write-byte : (l : List ℕ) (at c : ℕ) → set l at c ≡ write l at (c ∷ [])
@@ -93,3 +93,12 @@ decimal-length n = digits-length 10 n
 pub decimal-there : (n : ℕ) → 1 ≤ length (decimal n)
 unfolding digits
 decimal-there n = either (lt? n 10) (λ a. rw (a .0) (omega arith)) (λ a. rw (a .0) (simp length-append (omega arith)))
+
+-- every answer's line fits a buffer of 32 bytes
+pub text-length : (a : Answer) → length (text a) ≤ 32
+unfolding text
+text-length (ok n d) = simp length-append (omega (arith, decimal-length n, decimal-length d))
+text-length (hit moves count) = simp length-append (omega (arith, decimal-length moves, decimal-length count))
+text-length (miss count) = simp length-append (omega (arith, decimal-length count))
+text-length (no number) = simp length-append (omega (arith, decimal-length number))
+text-length bad = omega arith

@@ -1,0 +1,45 @@
+-- What a line does to a volume, as the contracts compare it.
+use mathlib.Core.Bool.{cond}
+use mathlib.Core.List.{List}
+use Prim.Native.Nat.{ℕ}
+use lib.Dec.{eqb}
+use lib.ListN.{length}
+use Rattle.memory.specs.Lists.{write}
+use Rattle.layout.specs.Calls.{Volume}
+use Rattle.state.specs.Contract.{volume}
+use Rattle.state.specs.declared.Change.{Change}
+use Rattle.script.specs.Lines.{request}
+use Rattle.script.specs.Answers.{text}
+use Rattle.script.specs.Answered.{answered}
+use Rattle.script.specs.Script.{Done, perform}
+use Rattle.script.specs.declared.Answer.{Answer}
+use Rattle.script.specs.declared.Answer.the-variants.{Ok, No}
+use Rattle.requests.specs.declared.Performed.{Performed}
+use Rattle.requests.specs.declared.Step.{Step}
+
+-- ---- a request
+
+-- the code's answer and what it leaves
+abbrev pub performed : Performed → List ℕ → List ℕ → List ℕ → Done
+performed r main spare ram = record { answer = answered (r .answer); volume = volume (r .state) main spare ram }
+
+-- a change's answer: n and d, or the refusal's number
+abbrev pub changeAnswer : Change → Answer
+changeAnswer c = cond (eqb (c .refusal) 0) (Ok (c .state .records) (c .state .deletions)) (No (c .refusal))
+
+-- ---- a line
+
+-- what a line leaves: the length of its answer, the volume, and the bytes of `out`
+pub record LineLeft : Type 0 where
+  pub length : ℕ
+  pub volume : Volume
+  pub out : List ℕ
+
+abbrev pub stepped : Step → List ℕ → List ℕ → List ℕ → List ℕ → LineLeft
+stepped r main spare ram out = record { length = r .length; volume = volume (r .state) main spare ram; out = out }
+
+-- the line's request performed, and its answer's text at the start of `out`
+unfoldable pub answeredLine : Volume → List ℕ → List ℕ → LineLeft
+answeredLine v line out =
+    let r : Done = perform v (request line) in
+    record { length = length (text (r .answer)); volume = r .volume; out = write out 0 (text (r .answer)) }

@@ -1,0 +1,183 @@
+// What a line of a script does to a volume: its request is performed and answered. Document 01, "Replay program".
+ghost use mathlib.Core.Path.{_≡_};
+ghost use Prim.Native.Nat.{_≤_};
+ghost use lib.ListN.{length};
+ghost use Rattle.layout.specs.Calls.{insert, update, delete, lookup};
+ghost use Rattle.state.specs.Contract.{volume};
+ghost use Rattle.script.specs.Lines as lines;
+ghost use Rattle.script.specs.Asked.{asked};
+ghost use Rattle.script.specs.Answered.{answered};
+ghost use Rattle.script.specs.Script.{perform};
+ghost use Rattle.requests.specs.Contract.{performed, changeAnswer, stepped, answeredLine};
+use script::Answer;
+use script::Request;
+use state::Change;
+use state::State;
+
+// ---- requests
+
+// The state after a request, and its answer.
+pub struct Performed {
+    pub state: State,
+    pub answer: Answer,
+}
+
+// A change is answered by n and d, or by the number of its refusal.
+fn after_change(c: Change) -> Performed
+    ensures { λ r. ⌜ r ≡ record { state = c .state; answer = changeAnswer c } ⌝ }
+{
+    let s = c.state;
+    if c.refusal == 0 {
+        return Performed {
+            state: s,
+            answer: Answer::Ok(s.records, s.deletions),
+        };
+    }
+    Performed {
+        state: s,
+        answer: Answer::No(c.refusal),
+    }
+}
+
+fn format(
+    s: State,
+    sector_size: u32,
+    ra_blocks: u32,
+    da_blocks: u32,
+    main: &mut [u8],
+    spare: &mut [u8],
+    ram: &mut [u8],
+) -> Performed
+    ensures { λ r. ⌜ performed r (now (main .exit)) (now (spare .exit)) (now (ram .exit)) ≡ perform (volume s (now (main .entry)) (now (spare .entry)) (now (ram .entry))) (lines.format «sector_size» «ra_blocks» «da_blocks») ⌝ }
+{
+    let c = format::format(s, sector_size, ra_blocks, da_blocks, main, spare, ram);
+    after_change(c)
+}
+
+fn insert(
+    s: State,
+    key: u32,
+    moves: u32,
+    main: &mut [u8],
+    spare: &mut [u8],
+    ram: &mut [u8],
+) -> Performed
+    ensures { λ r. ⌜ performed r (now (main .exit)) (now (spare .exit)) (now (ram .exit)) ≡ perform (volume s (now (main .entry)) (now (spare .entry)) (now (ram .entry))) (lines.call (insert key moves 0 0)) ⌝ }
+{
+    let c = insert::insert(s, key, moves, 0, 0, main, spare, ram);
+    after_change(c)
+}
+
+fn update(
+    s: State,
+    key: u32,
+    moves: u32,
+    main: &mut [u8],
+    spare: &mut [u8],
+    ram: &mut [u8],
+) -> Performed
+    ensures { λ r. ⌜ performed r (now (main .exit)) (now (spare .exit)) (now (ram .exit)) ≡ perform (volume s (now (main .entry)) (now (spare .entry)) (now (ram .entry))) (lines.call (update key moves 0 0)) ⌝ }
+{
+    let c = update::update(s, key, moves, 0, 0, main, spare, ram);
+    after_change(c)
+}
+
+fn delete(s: State, key: u32, main: &mut [u8], spare: &mut [u8], ram: &mut [u8]) -> Performed
+    ensures { λ r. ⌜ performed r (now (main .exit)) (now (spare .exit)) (now (ram .exit)) ≡ perform (volume s (now (main .entry)) (now (spare .entry)) (now (ram .entry))) (lines.call (delete key)) ⌝ }
+{
+    let c = delete::delete(s, key, main, spare, ram);
+    after_change(c)
+}
+
+// A hit's moves are its record's second word.
+fn lookup_answer<'a>(s: State, key: u32, main: &'a [u8], spare: &[u8], ram: &'a [u8]) -> Answer
+    ensures { λ r. ⌜ answered r ≡ perform (volume s (now (main .entry)) (now (spare .entry)) (now (ram .entry))) (lines.call (lookup key)) .answer ⌝ }
+{
+    let mut refusal: u32 = 0;
+    let mut found: u32 = 0;
+    let mut count: u32 = 0;
+    let bytes = lookup::lookup(
+        s,
+        key,
+        main,
+        spare,
+        ram,
+        &mut refusal,
+        &mut found,
+        &mut count,
+    );
+    if refusal != 0 {
+        return Answer::No(refusal);
+    }
+    if found == 0 {
+        return Answer::Miss(count);
+    }
+    Answer::Hit(words::get32(bytes, 4), count)
+}
+
+fn lookup<'a>(s: State, key: u32, main: &'a [u8], spare: &[u8], ram: &'a [u8]) -> Performed
+    ensures { λ r. ⌜ performed r (now (main .entry)) (now (spare .entry)) (now (ram .entry)) ≡ perform (volume s (now (main .entry)) (now (spare .entry)) (now (ram .entry))) (lines.call (lookup key)) ⌝ }
+{
+    let answer = lookup_answer(s, key, main, spare, ram);
+    Performed { state: s, answer }
+}
+
+// A request on a volume.
+pub fn perform(s: State, q: Request, main: &mut [u8], spare: &mut [u8], ram: &mut [u8]) -> Performed
+    ensures { λ r. ⌜ performed r (now (main .exit)) (now (spare .exit)) (now (ram .exit)) ≡ perform (volume s (now (main .entry)) (now (spare .entry)) (now (ram .entry))) (asked q) ⌝ }
+{
+    match q {
+        Request::Format(sector_size, ra_blocks, da_blocks) => {
+            return format(s, sector_size, ra_blocks, da_blocks, main, spare, ram);
+        }
+        Request::Insert(key, moves) => {
+            return insert(s, key, moves, main, spare, ram);
+        }
+        Request::Update(key, moves) => {
+            return update(s, key, moves, main, spare, ram);
+        }
+        Request::Delete(key) => {
+            return delete(s, key, main, spare, ram);
+        }
+        Request::Lookup(key) => {
+            return lookup(s, key, main, spare, ram);
+        }
+        Request::Bad => {
+            return Performed {
+                state: s,
+                answer: Answer::Bad,
+            };
+        }
+    }
+}
+
+// ---- lines
+
+// The state after a line, and the length of its answer.
+pub struct Step {
+    pub state: State,
+    pub length: usize,
+}
+
+// A line on a volume: the request is performed and its answer written at the start of `out`.
+pub fn answer_line(
+    s: State,
+    line: &[u8],
+    main: &mut [u8],
+    spare: &mut [u8],
+    ram: &mut [u8],
+    out: &mut [u8],
+) -> Step
+    requires { ⌜ 32 ≤ length (now out) ⌝ }
+    ensures { λ r. ⌜ stepped r (now (main .exit)) (now (spare .exit)) (now (ram .exit)) (now (out .exit)) ≡ answeredLine (volume s (now (main .entry)) (now (spare .entry)) (now (ram .entry))) (now (line .entry)) (now (out .entry)) ⌝ }
+{
+    let q = script::parse_line(line);
+    let p = perform(s, q, main, spare, ram);
+    let next = p.state;
+    let answer = p.answer;
+    let length = script::put_answer(out, answer);
+    Step {
+        state: next,
+        length,
+    }
+}
