@@ -2,7 +2,7 @@
 use mathlib.Core.Path.{_≡_, sym, ap, _∙_}
 use mathlib.Core.Bool.{Bool, true, false}
 use mathlib.Core.List.{List, []}
-use Prim.Native.Nat.{ℕ, zero, suc, _+_, _*_, _-_, _/_, _%_, _^_, _≤_, _<_}
+use Prim.Native.Nat.{ℕ, suc, _+_, _*_, _-_, _/_, _%_, _^_, _≤_, _<_}
 use native.Mathlib.Nat.{mul-le-mul-right, div-add-mod}
 use native.Mathlib.Omega.{arith}
 use lib.Arith.{digits-div}
@@ -53,12 +53,12 @@ module _ (w per q t k b x : ℕ) (f : ℕ → Bool) (pw : 0 < w) (k-is : k ≡ q
         omega arith,
         candidate-top f k (q * per + u) (omega arith)
             (gate true (q * per + u) (omega arith) (omega arith) (rw (g, ← e) (T .is-set)))
-            (λ i a c. gate false i (omega arith) c (T .clear ((i - q * per) * w) (above i u a e) (omega (arith, fit (i - q * per) (omega arith)))))
+            (λ i a c. gate false i (omega arith) c (T .clear ((i - q * per) * w) (above i a) (omega (arith, fit (i - q * per) (omega arith)))))
             ∙ omega arith,
       )
     where
-      above : (i u : ℕ) → q * per + u < i → b - 1 - z ≡ u * w → b - 1 - z < (i - q * per) * w
-      above i u a e = let h : suc u ≤ i - q * per = omega arith in omega (arith, mul-le-mul-right w h)
+      above : (i : ℕ) → q * per + u < i → b - 1 - z < (i - q * per) * w
+      above i a = let h : suc u ≤ i - q * per = omega arith in omega (arith, mul-le-mul-right w h)
 
   pub turn-hit : (z v : ℕ) → ((x * 2 ^ (64 - b)) % 2 ^ 64 ≡ 0 → ⊥) → (x * 2 ^ (64 - b)) % 2 ^ 64 < 2 ^ 64
       → z ≡ leadingZeros 64 ((x * 2 ^ (64 - b)) % 2 ^ 64) → v ≡ z / w → (v < t) × (candidate f k ≡ k - v)

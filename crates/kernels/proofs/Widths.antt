@@ -61,7 +61,7 @@ mask-16 = mask-by 0x0001000100010001 16 refl
 
 -- ---- the powers of two among which the widths are
 
--- a power of two that is none of the first four is the next
+-- of 2, 4, 8 and 16 the one that is none of the others
 pub sixteen : (e w : ℕ) → 0 < e → e < 5 → w ≡ 2 ^ e → (w ≡ 2 → ⊥) → (w ≡ 4 → ⊥) → (w ≡ 8 → ⊥) → 16 ≡ w
 sixteen zero w a b c x y z = absurd (omega arith)
 sixteen (suc zero) w a b c x y z = absurd (x c)
@@ -76,7 +76,7 @@ between zero w c x h = absurd (x c)
 between (suc e) w c x h =
     (omega arith, either (lt? (suc e) 5) (λ l. l .1) (λ l. absurd (omega (arith, pow-mono (l .1)))))
 
--- one of 32 and more has whole bytes
+-- one from 32 on
 pub whole-bytes : (e w : ℕ) → w ≡ 2 ^ e → 32 ≤ w → w % 8 ≡ 0
 whole-bytes zero w c h = absurd (omega arith)
 whole-bytes (suc zero) w c h = absurd (omega arith)

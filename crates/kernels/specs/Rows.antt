@@ -25,7 +25,7 @@ pub record Within (k : Rows) (n len : ℕ) : Type 0 where
   pub at-in : (i : ℕ) → i < k .count → getD (k .at) i 0 + (n * k .w + 63) / 64 * 8 ≤ len
   pub small : n * k .w < 2 ^ 60
 
--- ---- for the passes by words and by bits
+-- ---- for the passes by words and by bytes
 
 -- r is the word of 64 bits from byte `at` on
 unfoldable pub Word : List ℕ → ℕ → ℕ → Type 0

@@ -62,6 +62,7 @@ fn and_words(bytes: &[u8], at: [usize; 8], count: usize, q: usize) -> u64
 
 // ---- one bit for a filter in each row: 64 filters a turn
 
+// `newest` at w = 1. What lies past the bound in the last word is shifted out at the top.
 fn last_and(bytes: &[u8], at: [usize; 8], count: usize, n: usize) -> usize
     requires { ⌜ (0 < count) × (count ≤ 8) × ((i : ℕ) → i < count → getD at i 0 + (n + 63) / 64 * 8 ≤ length (now bytes)) ⌝ }
     ensures { λ r. ⌜ r ≡ candidate (allIn (now (bytes .entry)) at [] 1 count) n ⌝ }
@@ -157,6 +158,7 @@ fn field_words(bytes: &[u8], at: [usize; 8], low: [usize; 8], count: usize, q: u
     r
 }
 
+// `newest` at these widths.
 fn last_field(
     bytes: &[u8],
     at: [usize; 8],
@@ -225,6 +227,7 @@ fn all_at(bytes: &[u8], at: [usize; 8], low: [usize; 8], count: usize, o: usize)
     r % 2 == 1
 }
 
+// `newest` at these widths.
 fn last_plain(
     bytes: &[u8],
     at: [usize; 8],

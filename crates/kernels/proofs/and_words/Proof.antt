@@ -1,7 +1,7 @@
 -- A row more each turn.
 use native.Mathlib.Omega.{arith}
 use mathlib.Core.List.{[]}
-use Prim.Native.Nat.{zero, _+_, _*_, _-_, _≤_, _<_}
+use Prim.Native.Nat.{_-_, _≤_, _<_}
 use mathlib.Core.Path.{_≡_}
 use Rattle.kernels.specs.Rows.{Words}
 use Rattle.kernels.proofs.Filters.{row-word, words-one, words-more, words-three}
