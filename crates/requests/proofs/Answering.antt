@@ -3,7 +3,7 @@ use mathlib.Core.Path.{_≡_, refl, sym, ap, _∙_}
 use mathlib.Core.Logic.{_≢_}
 use mathlib.Core.Option.{Option, none, some}
 use mathlib.Core.List.{List}
-use Prim.Native.Nat.{ℕ, _≤_}
+use Prim.Native.Nat.{ℕ}
 use Prim.{Unit}
 use native.Mathlib.Omega.{arith}
 use lib.Dec.{eqb}
@@ -114,9 +114,9 @@ missed-said r miss i f n l ei ef en zi zf = ap answers.miss en
 missed-said r (refused j) i f n l ei ef en zi zf = absurd (l (sym ei ∙ zi))
 
 hit-said : (r : Result) (o : Outcome) (f n : ℕ) (bytes : List ℕ) → Looks o → f ≡ lookedOf o (r .count) .found → n ≡ lookedOf o (r .count) .count → bytes ≡ partOf o
-    → f ≢ 0 → (8 ≤ length bytes) × (answers.hit (word bytes 4) n ≡ said r o)
+    → f ≢ 0 → (length bytes ≡ 16) × (answers.hit (word bytes 4) n ≡ said r o)
 hit-said r accepted f n bytes l ef en eb nf = absurd l
-hit-said r (hit place b) f n bytes l ef en eb nf = rw (eb, en) (omega arith, refl)
+hit-said r (hit place b) f n bytes l ef en eb nf = rw (eb, en) (l, refl)
 hit-said r miss f n bytes l ef en eb nf = absurd (nf ef)
 hit-said r (refused j) f n bytes l ef en eb nf = absurd (nf ef)
 
@@ -131,7 +131,7 @@ module _ (h : Family) (v : Volume) (key : ℕ) where
   looked-missed i f n = missed-said r (r .outcome) i f n (call-looks h v key)
 
   pub looked-hit : (f n : ℕ) (bytes : List ℕ) → f ≡ looked r .found → n ≡ looked r .count → bytes ≡ partOf (r .outcome)
-      → f ≢ 0 → (8 ≤ length bytes) × (answers.hit (word bytes 4) n ≡ done r .answer)
+      → f ≢ 0 → (length bytes ≡ 16) × (answers.hit (word bytes 4) n ≡ done r .answer)
   looked-hit f n bytes = hit-said r (r .outcome) f n bytes (call-looks h v key)
 
   -- an answer with the volume as it was

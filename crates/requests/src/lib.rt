@@ -2,7 +2,7 @@
 ghost use mathlib.Core.Path.{_≡_};
 ghost use Prim.Native.Nat.{_≤_};
 ghost use lib.ListN.{length};
-ghost use Rattle.layout.specs.Calls.{insert, update, delete, lookup};
+ghost use Rattle.layout.specs.Calls.{lookup};
 ghost use Rattle.state.specs.Contract.{volume};
 ghost use Rattle.script.specs.Lines as lines;
 ghost use Rattle.script.specs.Asked.{asked};
@@ -39,58 +39,8 @@ fn after_change(c: Change) -> Performed
     }
 }
 
-fn format(
-    s: State,
-    sector_size: u32,
-    ra_blocks: u32,
-    da_blocks: u32,
-    main: &mut [u8],
-    spare: &mut [u8],
-    ram: &mut [u8],
-) -> Performed
-    ensures { λ r. ⌜ performed r (now (main .exit)) (now (spare .exit)) (now (ram .exit)) ≡ perform (volume s (now (main .entry)) (now (spare .entry)) (now (ram .entry))) (lines.format «sector_size» «ra_blocks» «da_blocks») ⌝ }
-{
-    let c = format::format(s, sector_size, ra_blocks, da_blocks, main, spare, ram);
-    after_change(c)
-}
-
-fn insert(
-    s: State,
-    key: u32,
-    moves: u32,
-    main: &mut [u8],
-    spare: &mut [u8],
-    ram: &mut [u8],
-) -> Performed
-    ensures { λ r. ⌜ performed r (now (main .exit)) (now (spare .exit)) (now (ram .exit)) ≡ perform (volume s (now (main .entry)) (now (spare .entry)) (now (ram .entry))) (lines.call (insert key moves 0 0)) ⌝ }
-{
-    let c = insert::insert(s, key, moves, 0, 0, main, spare, ram);
-    after_change(c)
-}
-
-fn update(
-    s: State,
-    key: u32,
-    moves: u32,
-    main: &mut [u8],
-    spare: &mut [u8],
-    ram: &mut [u8],
-) -> Performed
-    ensures { λ r. ⌜ performed r (now (main .exit)) (now (spare .exit)) (now (ram .exit)) ≡ perform (volume s (now (main .entry)) (now (spare .entry)) (now (ram .entry))) (lines.call (update key moves 0 0)) ⌝ }
-{
-    let c = update::update(s, key, moves, 0, 0, main, spare, ram);
-    after_change(c)
-}
-
-fn delete(s: State, key: u32, main: &mut [u8], spare: &mut [u8], ram: &mut [u8]) -> Performed
-    ensures { λ r. ⌜ performed r (now (main .exit)) (now (spare .exit)) (now (ram .exit)) ≡ perform (volume s (now (main .entry)) (now (spare .entry)) (now (ram .entry))) (lines.call (delete key)) ⌝ }
-{
-    let c = delete::delete(s, key, main, spare, ram);
-    after_change(c)
-}
-
-// A hit's moves are its record's second word.
-fn lookup_answer<'a>(s: State, key: u32, main: &'a [u8], spare: &[u8], ram: &'a [u8]) -> Answer
+// The answer to a lookup; a hit's moves are its record's second word.
+fn lookup<'a>(s: State, key: u32, main: &'a [u8], spare: &[u8], ram: &'a [u8]) -> Answer
     ensures { λ r. ⌜ answered r ≡ perform (volume s (now (main .entry)) (now (spare .entry)) (now (ram .entry))) (lines.call (lookup key)) .answer ⌝ }
 {
     let mut refusal: u32 = 0;
@@ -115,32 +65,30 @@ fn lookup_answer<'a>(s: State, key: u32, main: &'a [u8], spare: &[u8], ram: &'a 
     Answer::Hit(words::get32(bytes, 4), count)
 }
 
-fn lookup<'a>(s: State, key: u32, main: &'a [u8], spare: &[u8], ram: &'a [u8]) -> Performed
-    ensures { λ r. ⌜ performed r (now (main .entry)) (now (spare .entry)) (now (ram .entry)) ≡ perform (volume s (now (main .entry)) (now (spare .entry)) (now (ram .entry))) (lines.call (lookup key)) ⌝ }
-{
-    let answer = lookup_answer(s, key, main, spare, ram);
-    Performed { state: s, answer }
-}
-
-// A request on a volume.
+// A request on a volume; goal and free word of a record are 0.
 pub fn perform(s: State, q: Request, main: &mut [u8], spare: &mut [u8], ram: &mut [u8]) -> Performed
     ensures { λ r. ⌜ performed r (now (main .exit)) (now (spare .exit)) (now (ram .exit)) ≡ perform (volume s (now (main .entry)) (now (spare .entry)) (now (ram .entry))) (asked q) ⌝ }
 {
     match q {
         Request::Format(sector_size, ra_blocks, da_blocks) => {
-            return format(s, sector_size, ra_blocks, da_blocks, main, spare, ram);
+            let c = format::format(s, sector_size, ra_blocks, da_blocks, main, spare, ram);
+            return after_change(c);
         }
         Request::Insert(key, moves) => {
-            return insert(s, key, moves, main, spare, ram);
+            let c = insert::insert(s, key, moves, 0, 0, main, spare, ram);
+            return after_change(c);
         }
         Request::Update(key, moves) => {
-            return update(s, key, moves, main, spare, ram);
+            let c = update::update(s, key, moves, 0, 0, main, spare, ram);
+            return after_change(c);
         }
         Request::Delete(key) => {
-            return delete(s, key, main, spare, ram);
+            let c = delete::delete(s, key, main, spare, ram);
+            return after_change(c);
         }
         Request::Lookup(key) => {
-            return lookup(s, key, main, spare, ram);
+            let answer = lookup(s, key, main, spare, ram);
+            return Performed { state: s, answer };
         }
         Request::Bad => {
             return Performed {

@@ -1,5 +1,10 @@
--- Each request is its own function's.
+-- Each request is its call's.
+use Rattle.layout.specs.Hash.{fnvFamily}
+use Rattle.layout.specs.Calls as calls
+use Rattle.state.specs.Contract.{volume}
+use Rattle.script.specs.Answered.{answered}
 use Rattle.script.specs.Script.{perform}
+use Rattle.requests.proofs.Answering.{change-done, lookup-done}
 use borrow.Author.Needs.{needs}
 use Rattle.requests.proofs.perform.Statement.{statement}
 use Rattle.requests.proofs.perform.Tie as tie
@@ -9,6 +14,9 @@ enum-known-q c = search needs
 
 format-requires : tie.Need-format-requires
 format-requires c κs = search needs
+
+after-change-requires : tie.Need-after-change-requires
+after-change-requires c κs = search needs
 
 same-length : tie.Need-same-length
 same-length c = search needs
@@ -20,13 +28,22 @@ same-length-3 : tie.Need-same-length-3
 same-length-3 c = search needs
 
 returns : tie.Need-returns
-returns c = rw (c .before .before .before .before .before .before .before .before .before .before .before .q .given .1) (c .before .before .before .before .before .before .format .ensures)
+unfolding perform
+returns c =
+    let k = c .before .before .before .before .before .before .before .format in
+    let x = c .before .before .before .before .before .before .before .before .before .before .before .before .before .before .before .before .before .args in
+    let g = c .before .before .before .before .before .before .before .before .before .before .before .before .q .given in
+    let v = volume (x .s) (x .main .now) (x .spare .now) (x .ram .now) in
+    rw (g .1) (change-done (c .after-change .result) (k .result) (k .last .1 .1 .1 .1 .0) (k .last .1 .1 .1 .1 .1 .0) (k .last .1 .1 .1 .1 .1 .1 .0) (calls.format v (g .0 .0) (g .0 .1 .0) (g .0 .1 .1 .0)) (c .after-change .ensures) (k .ensures))
 
 enum-known-q-2 : tie.Need-enum-known-q-2
 enum-known-q-2 c = search needs
 
 insert-requires : tie.Need-insert-requires
 insert-requires c κs = search needs
+
+after-change-requires-2 : tie.Need-after-change-requires-2
+after-change-requires-2 c κs = search needs
 
 same-length-4 : tie.Need-same-length-4
 same-length-4 c = search needs
@@ -38,13 +55,22 @@ same-length-6 : tie.Need-same-length-6
 same-length-6 c = search needs
 
 returns-2 : tie.Need-returns-2
-returns-2 c = rw (c .before .before .before .before .before .before .before .before .before .before .before .q2 .given .1) (c .before .before .before .before .before .before .insert .ensures)
+unfolding perform
+returns-2 c =
+    let k = c .before .before .before .before .before .before .before .insert in
+    let x = c .before .before .before .before .before .before .before .before .before .before .before .before .before .before .before .before .before .args in
+    let g = c .before .before .before .before .before .before .before .before .before .before .before .before .q2 .given in
+    let v = volume (x .s) (x .main .now) (x .spare .now) (x .ram .now) in
+    rw (g .1) (change-done (c .after-change2 .result) (k .result) (k .last .1 .1 .1 .1 .1 .0) (k .last .1 .1 .1 .1 .1 .1 .0) (k .last .1 .1 .1 .1 .1 .1 .1 .0) (calls.call fnvFamily v (calls.insert (g .0 .0) (g .0 .1 .0) 0 0)) (c .after-change2 .ensures) (k .ensures))
 
 enum-known-q-3 : tie.Need-enum-known-q-3
 enum-known-q-3 c = search needs
 
 update-requires : tie.Need-update-requires
 update-requires c κs = search needs
+
+after-change-requires-3 : tie.Need-after-change-requires-3
+after-change-requires-3 c κs = search needs
 
 same-length-7 : tie.Need-same-length-7
 same-length-7 c = search needs
@@ -56,13 +82,22 @@ same-length-9 : tie.Need-same-length-9
 same-length-9 c = search needs
 
 returns-3 : tie.Need-returns-3
-returns-3 c = rw (c .before .before .before .before .before .before .before .before .before .before .before .q3 .given .1) (c .before .before .before .before .before .before .update .ensures)
+unfolding perform
+returns-3 c =
+    let k = c .before .before .before .before .before .before .before .update in
+    let x = c .before .before .before .before .before .before .before .before .before .before .before .before .before .before .before .before .before .args in
+    let g = c .before .before .before .before .before .before .before .before .before .before .before .before .q3 .given in
+    let v = volume (x .s) (x .main .now) (x .spare .now) (x .ram .now) in
+    rw (g .1) (change-done (c .after-change3 .result) (k .result) (k .last .1 .1 .1 .1 .1 .0) (k .last .1 .1 .1 .1 .1 .1 .0) (k .last .1 .1 .1 .1 .1 .1 .1 .0) (calls.call fnvFamily v (calls.update (g .0 .0) (g .0 .1 .0) 0 0)) (c .after-change3 .ensures) (k .ensures))
 
 enum-known-q-4 : tie.Need-enum-known-q-4
 enum-known-q-4 c = search needs
 
 delete-requires : tie.Need-delete-requires
 delete-requires c κs = search needs
+
+after-change-requires-4 : tie.Need-after-change-requires-4
+after-change-requires-4 c κs = search needs
 
 same-length-10 : tie.Need-same-length-10
 same-length-10 c = search needs
@@ -74,7 +109,13 @@ same-length-12 : tie.Need-same-length-12
 same-length-12 c = search needs
 
 returns-4 : tie.Need-returns-4
-returns-4 c = rw (c .before .before .before .before .before .before .before .before .before .before .before .q4 .given .1) (c .before .before .before .before .before .before .delete .ensures)
+unfolding perform
+returns-4 c =
+    let k = c .before .before .before .before .before .before .before .delete in
+    let x = c .before .before .before .before .before .before .before .before .before .before .before .before .before .before .before .before .before .args in
+    let g = c .before .before .before .before .before .before .before .before .before .before .before .before .q4 .given in
+    let v = volume (x .s) (x .main .now) (x .spare .now) (x .ram .now) in
+    rw (g .1) (change-done (c .after-change4 .result) (k .result) (k .last .1 .1 .0) (k .last .1 .1 .1 .0) (k .last .1 .1 .1 .1 .0) (calls.call fnvFamily v (calls.delete (g .0 .0))) (c .after-change4 .ensures) (k .ensures))
 
 enum-known-q-5 : tie.Need-enum-known-q-5
 enum-known-q-5 c = search needs
@@ -92,7 +133,11 @@ same-length-15 : tie.Need-same-length-15
 same-length-15 c = search needs
 
 returns-5 : tie.Need-returns-5
-returns-5 c = rw (c .before .before .before .before .before .q5 .given .1) (c .lookup .ensures)
+unfolding perform
+returns-5 c =
+    let x = c .before .before .before .before .before .before .before .before .before .before .args in
+    rw (c .before .before .before .before .before .q5 .given .1)
+    (lookup-done fnvFamily (volume (x .s) (x .main .now) (x .spare .now) (x .ram .now)) (c .before .before .before .before .before .q5 .given .0 .0) (answered (c .lookup .result)) (c .lookup .ensures))
 
 enum-told : tie.Need-enum-told
 enum-told c = search needs
@@ -107,24 +152,28 @@ perform-spec =
     (tie.spec
     enum-known-q
     format-requires
+    after-change-requires
     same-length
     same-length-2
     same-length-3
     returns
     enum-known-q-2
     insert-requires
+    after-change-requires-2
     same-length-4
     same-length-5
     same-length-6
     returns-2
     enum-known-q-3
     update-requires
+    after-change-requires-3
     same-length-7
     same-length-8
     same-length-9
     returns-3
     enum-known-q-4
     delete-requires
+    after-change-requires-4
     same-length-10
     same-length-11
     same-length-12
