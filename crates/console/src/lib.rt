@@ -1,0 +1,151 @@
+// A script from standard input, its answers to standard output. What matters is proved of `stream`; here
+// bytes are moved, in chunks, and nothing else.
+ghost use mathlib.Core.Path.{_≡_};
+ghost use Prim.Native.Nat.{_*_, _≤_, _<_};
+ghost use lib.ListN.{length};
+use libc::STDERR_FILENO;
+use libc::STDIN_FILENO;
+use libc::STDOUT_FILENO;
+use state::State;
+use stream::Progress;
+
+// What a turn leaves, and whether more may come.
+struct Turn {
+    progress: Progress,
+    more: bool,
+}
+
+// "Before any format the state is all zero."
+fn begin() -> Progress
+    ensures { λ r. ⌜ r ≡ record { state = record { «sector_size» = 0; «ra_blocks» = 0; «da_blocks» = 0; records = 0; deletions = 0 }; fill = 0; printed = 0 } ⌝ }
+    ensures { λ r. ⌜ (r .fill ≡ 0) × (r .printed ≡ 0) ⌝ }
+{
+    let state = State {
+        sector_size: 0,
+        ra_blocks: 0,
+        da_blocks: 0,
+        records: 0,
+        deletions: 0,
+    };
+    Progress {
+        state,
+        fill: 0,
+        printed: 0,
+    }
+}
+
+// The next turn of a run: none after the input's end.
+fn turns_left(turns: u64, more: bool) -> u64
+    requires { ⌜ 0 < turns ⌝ }
+    ensures { λ r. ⌜ r < turns ⌝ }
+{
+    if more {
+        return turns - 1;
+    }
+    0
+}
+
+// Between two chunks: the state and the bytes of an unfinished line; nothing is left to be written.
+fn between(state: State, fill: usize, more: bool) -> Turn
+    ensures { λ r. ⌜ (r .progress .fill ≡ fill) × (r .progress .printed ≡ 0) ⌝ }
+{
+    let progress = Progress {
+        state,
+        fill,
+        printed: 0,
+    };
+    Turn { progress, more }
+}
+
+// After a byte could not be read or written: the reason is told, and an unfinished line is not answered.
+fn fail(state: State, reason: &[u8]) -> Turn
+    ensures { λ r. ⌜ (r .progress .fill ≡ 0) × (r .progress .printed ≡ 0) ⌝ }
+{
+    io::write_all(STDERR_FILENO, reason);
+    between(state, 0, false)
+}
+
+// The lines that end in the first n bytes of a chunk are answered, and the answers are written.
+fn answer_chunk(
+    p: Progress,
+    chunk: &[u8],
+    n: usize,
+    line: &mut [u8],
+    main: &mut [u8],
+    spare: &mut [u8],
+    ram: &mut [u8],
+    out: &mut [u8],
+) -> Turn
+    requires { ⌜ (p .fill ≤ length (now line)) × (p .printed ≡ 0) × (n ≤ length (now chunk)) × (length (now chunk) * 32 ≤ length (now out)) ⌝ }
+    ensures { λ r. ⌜ (r .progress .fill ≤ length (now (line .entry))) × (r .progress .printed ≡ 0) ⌝ }
+{
+    let q = stream::feed(p, &chunk[0..n], line, main, spare, ram, out);
+    let printed = q.printed;
+    let state = q.state;
+    if !io::write_all(STDOUT_FILENO, &out[0..printed]) {
+        return fail(state, b"replay: cannot write the answers\n");
+    }
+    between(state, q.fill, true)
+}
+
+// A chunk is read and answered.
+fn take_turn(
+    p: Progress,
+    chunk: &mut [u8],
+    line: &mut [u8],
+    main: &mut [u8],
+    spare: &mut [u8],
+    ram: &mut [u8],
+    out: &mut [u8],
+) -> Turn
+    requires { ⌜ (p .fill ≤ length (now line)) × (p .printed ≡ 0) × (length (now chunk) * 32 ≤ length (now out)) ⌝ }
+    ensures { λ r. ⌜ (r .progress .fill ≤ length (now (line .entry))) × (r .progress .printed ≡ 0) ⌝ }
+{
+    let got = libc::read(STDIN_FILENO, chunk);
+    let state = p.state;
+    if got < 0 {
+        return fail(state, b"replay: cannot read the input\n");
+    }
+    let n = io::count(got, chunk);
+    if n == 0 {
+        return between(state, p.fill, false);
+    }
+    answer_chunk(p, chunk, n, line, main, spare, ram, out)
+}
+
+// The input's end.
+fn finish(
+    p: Progress,
+    line: &[u8],
+    main: &mut [u8],
+    spare: &mut [u8],
+    ram: &mut [u8],
+    out: &mut [u8],
+)
+    requires { ⌜ (p .fill ≤ length (now line)) × (p .printed ≡ 0) × (32 ≤ length (now out)) ⌝ }
+{
+    let q = stream::close(p, line, main, spare, ram, out);
+    let printed = q.printed;
+    io::write_all(STDOUT_FILENO, &out[0..printed]);
+}
+
+// The whole input. A proved loop ends, so it counts its turns down from a number that no run uses up.
+pub fn run(
+    chunk: &mut [u8],
+    line: &mut [u8],
+    main: &mut [u8],
+    spare: &mut [u8],
+    ram: &mut [u8],
+    out: &mut [u8],
+)
+    requires { ⌜ (length (now chunk) * 32 ≤ length (now out)) × (32 ≤ length (now out)) ⌝ }
+{
+    let mut p = begin();
+    let mut turns = u64::MAX;
+    while turns > 0 {
+        let t = take_turn(p, chunk, line, main, spare, ram, out);
+        p = t.progress;
+        turns = turns_left(turns, t.more);
+    }
+    finish(p, line, main, spare, ram, out);
+}

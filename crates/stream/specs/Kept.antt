@@ -1,0 +1,40 @@
+-- What a byte of the input, its end and a whole chunk do to what is kept between them. Document 01, "Replay program".
+use mathlib.Core.Bool.{cond}
+use mathlib.Core.List.{List, [], _∷_}
+use Prim.Native.Nat.{ℕ, _+_}
+use lib.Dec.{ltb, eqb}
+use lib.ListN.{length, take}
+use Rattle.memory.specs.Lists.{write}
+use Rattle.layout.specs.Calls.{Volume}
+use Rattle.script.specs.Lines.{request}
+use Rattle.script.specs.Answers.{text}
+use Rattle.script.specs.Script.{Done, perform}
+
+-- what is kept from one byte of the input to the next: the volume, the line's buffer and how much of it is in use, the output's buffer and how much of it is in use
+pub record Kept : Type 0 where
+  pub volume : Volume
+  pub buffer : List ℕ
+  pub fill : ℕ
+  pub out : List ℕ
+  pub printed : ℕ
+
+-- a line's end: it is answered behind what was printed
+unfoldable pub endKept : Kept → Kept
+endKept k =
+    let r : Done = perform (k .volume) (request (take (k .fill) (k .buffer))) in
+    record { volume = r .volume; buffer = k .buffer; fill = 0; out = write (k .out) (k .printed) (text (r .answer)); printed = k .printed + length (text (r .answer)) }
+
+-- any other byte is kept as long as the buffer has room
+unfoldable pub addKept : Kept → ℕ → Kept
+addKept k c = record { volume = k .volume; buffer = write (k .buffer) (k .fill) (c ∷ []); fill = cond (ltb (k .fill) (length (k .buffer))) (k .fill + 1) (k .fill); out = k .out; printed = k .printed }
+
+unfoldable pub keptByte : Kept → ℕ → Kept
+keptByte k c = cond (eqb c 10) (endKept k) (addKept k c)
+
+unfoldable pub keptFeed : Kept → List ℕ → Kept
+keptFeed k [] = k
+keptFeed k (c ∷ cs) = keptFeed (keptByte k c) cs
+
+-- the input's end: a line without its line feed is answered too
+unfoldable pub keptClose : Kept → Kept
+keptClose k = cond (eqb (k .fill) 0) k (endKept k)

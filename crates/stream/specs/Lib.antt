@@ -1,0 +1,4 @@
+pub mod Kept
+pub mod Contract
+pub mod Buffers
+pub mod Stream

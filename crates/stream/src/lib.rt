@@ -1,0 +1,126 @@
+// The input of the replay program, chunk by chunk: its bytes are put together to lines, and each line is answered. Document 01,
+// "Replay program".
+ghost use mathlib.Core.Path.{_≡_};
+ghost use mathlib.Core.List.{[], _∷_};
+ghost use mathlib.Core.Bool.{cond};
+ghost use Prim.Native.Nat.{_+_, _*_, _≤_};
+ghost use lib.Dec.{ltb};
+ghost use lib.ListN.{length};
+ghost use Rattle.memory.specs.Lists.{write};
+ghost use Rattle.stream.specs.Kept.{endKept, keptByte, keptFeed, keptClose};
+ghost use Rattle.stream.specs.Contract.{kept};
+use state::State;
+
+// What is kept from one chunk to the next beside the buffers.
+pub struct Progress {
+    pub state: State,
+    pub fill: usize,
+    pub printed: usize,
+}
+
+// A byte of a line is kept as long as the buffer has room.
+fn add_byte(line: &mut [u8], fill: usize, c: u8) -> usize
+    requires { ⌜ fill ≤ length (now line) ⌝ }
+    ensures { λ r. ⌜ (r ≡ cond (ltb fill (length (now (line .entry)))) (fill + 1) fill) × (now (line .exit) ≡ write (now (line .entry)) fill (c ∷ [])) ⌝ }
+    ensures { λ r. ⌜ r ≤ length (now (line .entry)) ⌝ }
+{
+    if fill < line.len() {
+        line[fill] = c;
+        return fill + 1;
+    }
+    fill
+}
+
+// A line's end: the line is answered behind what was printed.
+fn end_line(
+    p: Progress,
+    line: &[u8],
+    main: &mut [u8],
+    spare: &mut [u8],
+    ram: &mut [u8],
+    out: &mut [u8],
+) -> Progress
+    requires { ⌜ (p .fill ≤ length (now line)) × (p .printed + 32 ≤ length (now out)) ⌝ }
+    ensures { λ r. ⌜ kept r (now (line .entry)) (now (main .exit)) (now (spare .exit)) (now (ram .exit)) (now (out .exit)) ≡ endKept (kept p (now (line .entry)) (now (main .entry)) (now (spare .entry)) (now (ram .entry)) (now (out .entry))) ⌝ }
+    ensures { λ r. ⌜ (r .fill ≡ 0) × (r .printed ≤ p .printed + 32) ⌝ }
+{
+    let state = p.state;
+    let fill = p.fill;
+    let at = p.printed;
+    let end = at + 32;
+    let s = volume::answer_next(state, &line[0..fill], main, spare, ram, &mut out[at..end]);
+    let next = s.state;
+    Progress {
+        state: next,
+        fill: 0,
+        printed: at + s.length,
+    }
+}
+
+// One byte of the input: a line feed ends the line, any other byte lengthens it.
+fn next_byte(
+    p: Progress,
+    c: u8,
+    line: &mut [u8],
+    main: &mut [u8],
+    spare: &mut [u8],
+    ram: &mut [u8],
+    out: &mut [u8],
+) -> Progress
+    requires { ⌜ (p .fill ≤ length (now line)) × (p .printed + 32 ≤ length (now out)) ⌝ }
+    ensures { λ r. ⌜ kept r (now (line .exit)) (now (main .exit)) (now (spare .exit)) (now (ram .exit)) (now (out .exit)) ≡ keptByte (kept p (now (line .entry)) (now (main .entry)) (now (spare .entry)) (now (ram .entry)) (now (out .entry))) c ⌝ }
+    ensures { λ r. ⌜ (r .fill ≤ length (now (line .entry))) × (r .printed ≤ p .printed + 32) ⌝ }
+{
+    if c == b'\n' {
+        return end_line(p, line, main, spare, ram, out);
+    }
+    let state = p.state;
+    let fill = add_byte(line, p.fill, c);
+    Progress {
+        state,
+        fill,
+        printed: p.printed,
+    }
+}
+
+// The bytes of a chunk, one after another: each line that ends is answered.
+pub fn feed(
+    p: Progress,
+    chunk: &[u8],
+    line: &mut [u8],
+    main: &mut [u8],
+    spare: &mut [u8],
+    ram: &mut [u8],
+    out: &mut [u8],
+) -> Progress
+    requires { ⌜ (p .fill ≤ length (now line)) × (p .printed + length (now chunk) * 32 ≤ length (now out)) ⌝ }
+    ensures { λ r. ⌜ kept r (now (line .exit)) (now (main .exit)) (now (spare .exit)) (now (ram .exit)) (now (out .exit)) ≡ keptFeed (kept p (now (line .entry)) (now (main .entry)) (now (spare .entry)) (now (ram .entry)) (now (out .entry))) (now (chunk .entry)) ⌝ }
+    ensures { λ r. ⌜ (r .fill ≤ length (now (line .entry))) × (r .printed ≤ length (now (out .entry))) ⌝ }
+{
+    let mut q = p;
+    let mut i = 0;
+    while i < chunk.len() {
+        q = next_byte(q, chunk[i], line, main, spare, ram, out);
+        i += 1;
+    }
+    q
+}
+
+// The input's end: a line without its line feed is answered too.
+pub fn close(
+    p: Progress,
+    line: &[u8],
+    main: &mut [u8],
+    spare: &mut [u8],
+    ram: &mut [u8],
+    out: &mut [u8],
+) -> Progress
+    requires { ⌜ (p .fill ≤ length (now line)) × (p .printed + 32 ≤ length (now out)) ⌝ }
+    ensures { λ r. ⌜ kept r (now (line .entry)) (now (main .exit)) (now (spare .exit)) (now (ram .exit)) (now (out .exit)) ≡ keptClose (kept p (now (line .entry)) (now (main .entry)) (now (spare .entry)) (now (ram .entry)) (now (out .entry))) ⌝ }
+    ensures { λ r. ⌜ r .printed ≤ length (now (out .entry)) ⌝ }
+{
+    if p.fill == 0 {
+        return p;
+    }
+    end_line(p, line, main, spare, ram, out)
+}
