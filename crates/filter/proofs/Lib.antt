@@ -1,5 +1,3 @@
+pub mod Levels
+pub mod Rows
 pub mod Setting
-pub mod Walking
-pub mod Places
-pub mod Rooms
-pub mod Stages

@@ -1,4 +1,3 @@
-pub mod Candidate
 pub mod Filter
-pub mod Levels
+pub mod Groups
 pub mod Pieces

@@ -1,49 +1,46 @@
-// Bloom filters of an index: a page's filter, its place in the SKA page, and the walk over filters
-// wherever they lie. Document 01, "Filters".
+// Bloom filters of an index: a page's filter, its place in the SKA page, and groups of filters whose
+// bits lie in the same rows. Document 01, "Filters".
 ghost use mathlib.Core.Path.{_≡_};
-ghost use mathlib.Core.Bool.{_||_};
-ghost use mathlib.Core.List.{[]};
+ghost use mathlib.Core.Bool.{_||_, cond};
 ghost use Prim.Native.Nat.{ℕ, _+_, _*_, _/_, _%_, _^_, _<_, _≤_};
 ghost use lib.Dec.{eqb};
-ghost use lib.ListN.{length, getD, replicate};
-ghost use Rattle.memory.specs.Bits.{bit};
+ghost use lib.ListN.{length, getD, take, replicate};
 ghost use Rattle.memory.specs.Lists.{write};
-ghost use Rattle.memory.specs.Ranges.{any, memb, allOf};
+ghost use Rattle.memory.specs.Power.{log2up};
+ghost use Rattle.memory.specs.Ranges.{any, memb};
 ghost use Rattle.memory.specs.Words.{word, bytes4};
-ghost use Rattle.layout.specs.Geometry.{page, sideBlocks};
+ghost use Rattle.layout.specs.Geometry.{page};
 ghost use Rattle.layout.specs.Hash.{fnvFamily, positions, positionCount};
-ghost use Rattle.layout.specs.Index.{bitAt, flashPlace, filterBit, withFilter, inFull, fullFilters};
+ghost use Rattle.layout.specs.Index.{withFilter, inFull};
 ghost use Rattle.kernels.specs.Candidate.{candidate};
+ghost use Rattle.kernels.specs.Rows.{allIn, Within};
 ghost use Rattle.sets.specs.Indexes.{indexOf};
 ghost use Rattle.filter.specs.Filter.{arrayBit, Below, Fits};
 ghost use Rattle.filter.specs.Pieces.{fourthOf};
-ghost use Rattle.filter.specs.Levels.{rowsOf, moved, allAt, Readable, Within, levelBit, Room, skaLevel, l1Level, setLevel, fullLevel, stageOf, Staged};
+ghost use Rattle.filter.specs.Groups.{UnitIs, stageOf, skaLevel, l1Level, setLevel, fullLevel, levelBelow, RowsAt, bytesOf, GroupAt};
+use kernels::Rows;
 use sets::Index;
 
-// Where the bits of three positions lie: a row of bits for each, by its first byte, and the bit
-// among those that a filter has in the row.
-struct Rows {
-    a: usize,
-    b: usize,
-    c: usize,
-    ra: usize,
-    rb: usize,
-    rc: usize,
+// A group of filters whose bits lie in the same rows: its first filter, whether it lies in RAM, and
+// its rows.
+pub struct Group {
+    pub start: usize,
+    pub in_ram: bool,
+    pub rows: Rows,
 }
 
-// A place of filters: groups of `size` filters, `step` bytes apart; a filter has w bits in a row,
-// and the next w bits in the row `stride` bytes further on.
+// Where a group lies: its first filter, in RAM or on flash, the first byte of its first row; a
+// filter has 2 ^ exponent bits in a row, and the next ones in the row `stride` bytes further on.
 struct Level {
+    start: usize,
+    in_ram: bool,
     base: usize,
-    step: usize,
-    w: usize,
+    exponent: usize,
     stride: usize,
-    size: usize,
 }
 
-// How filters are shared out over the places.
+// How filters are shared out over the levels.
 struct Stage {
-    sets: usize,
     rounds: usize,
     full: usize,
     parted: usize,
@@ -129,15 +126,7 @@ pub fn put_filter(ram: &mut [u8], unit: usize, ix: Index, s: usize, bits: [u8; 2
     put_fourth(ram, at3, unit, &bits, 3);
 }
 
-// ---- bits of rows
-
-// Bit `at` of the row of bits that begins at byte `row`.
-pub fn bit_of(bytes: &[u8], row: usize, at: usize) -> bool
-    requires { ⌜ row + at / 8 < length (now bytes) ⌝ }
-    ensures { λ r. ⌜ r ≡ bit (getD (now (bytes .entry)) (row + at / 8) 0) (at % 8) ⌝ }
-{
-    (bytes[row + at / 8] >> bit_place(at)) % 2 == 1
-}
+// ---- numbers
 
 fn wide(x: u32) -> usize
     ensures { λ r. ⌜ r ≡ x ⌝ }
@@ -145,290 +134,184 @@ fn wide(x: u32) -> usize
     x as usize
 }
 
-// The first byte of the row of position x.
-fn row_of(base: usize, w: usize, stride: usize, x: usize) -> usize
-    requires { ⌜ (0 < w) × (base + x / w * stride < 2 ^ 63) ⌝ }
-    ensures { λ r. ⌜ r ≡ base + x / w * stride ⌝ }
+// The exponent of the least power of two not below x.
+fn exponent(x: usize) -> usize
+    requires { ⌜ (0 < x) × (x ≤ 128) ⌝ }
+    ensures { λ r. ⌜ (r ≡ log2up x) × (r ≤ 7) ⌝ }
 {
-    base + x / w * stride
+    geometry::partition_exponent(x as u32) as usize
 }
 
-// The rows of three positions.
-fn rows_of(base: usize, w: usize, stride: usize, ps: [u32; 3]) -> Rows
-    requires { ⌜ (0 < w) × (base + getD ps 0 0 / w * stride < 2 ^ 63) × (base + getD ps 1 0 / w * stride < 2 ^ 63) × (base + getD ps 2 0 / w * stride < 2 ^ 63) ⌝ }
-    ensures { λ r. ⌜ r ≡ rowsOf base w stride ps ⌝ }
+fn power(e: usize) -> usize
+    requires { ⌜ e < 10 ⌝ }
+    ensures { λ r. ⌜ (r ≡ 2 ^ e) × (0 < r) ⌝ }
 {
-    let x = wide(ps[0]);
-    let y = wide(ps[1]);
-    let z = wide(ps[2]);
-    Rows {
-        a: row_of(base, w, stride, x),
-        b: row_of(base, w, stride, y),
-        c: row_of(base, w, stride, z),
-        ra: x % w,
-        rb: y % w,
-        rc: z % w,
-    }
+    1usize << e
 }
 
-// The same rows d bytes further on.
-fn moved(k: Rows, d: usize) -> Rows
-    requires { ⌜ (k .a + d < 2 ^ 63) × (k .b + d < 2 ^ 63) × (k .c + d < 2 ^ 63) ⌝ }
-    ensures { λ r. ⌜ r ≡ moved k d ⌝ }
+// The quotient by a power of two.
+fn shifted(x: usize, e: usize) -> usize
+    requires { ⌜ e < 64 ⌝ }
+    ensures { λ r. ⌜ r ≡ x / 2 ^ e ⌝ }
 {
-    Rows {
-        a: k.a + d,
-        b: k.b + d,
-        c: k.c + d,
-        ra: k.ra,
-        rb: k.rb,
-        rc: k.rc,
-    }
-}
-
-// Has the filter whose bits begin at bit `lo` of each row all three bits?
-fn all_at(bytes: &[u8], k: Rows, lo: usize) -> bool
-    requires { ⌜ Readable k lo (length (now bytes)) ⌝ }
-    ensures { λ r. ⌜ r ≡ allAt (now (bytes .entry)) k lo ⌝ }
-{
-    if bit_of(bytes, k.a, lo + k.ra) {
-        if bit_of(bytes, k.b, lo + k.rb) {
-            return bit_of(bytes, k.c, lo + k.rc);
-        }
-    }
-    false
-}
-
-// The newest of n filters of w bits that has all three bits, plus one; 0 if none has.
-fn newest_in(bytes: &[u8], k: Rows, w: usize, n: usize) -> usize
-    requires { ⌜ (n * w < 2 ^ 62) × Within k w n (length (now bytes)) ⌝ }
-    ensures { λ r. ⌜ r ≡ candidate (λ g. allAt (now (bytes .entry)) k (g * w)) n ⌝ }
-{
-    let mut g = n;
-    while g > 0 {
-        let lo = (g - 1) * w;
-        if all_at(bytes, k, lo) {
-            return g;
-        }
-        g -= 1;
-    }
-    0
-}
-
-// ---- filters of a level
-
-// Has filter f of a level all three bits?
-fn has_in(bytes: &[u8], l: Level, f: usize, ps: [u32; 3]) -> bool
-    requires { ⌜ (l .size * l .w < 2 ^ 62) × Room l (f + 1) (length (now bytes)) ps ⌝ }
-    ensures { λ r. ⌜ r ≡ allOf (levelBit (now (bytes .entry)) l f) ps ⌝ }
-{
-    let rows = rows_of(l.base, l.w, l.stride, ps);
-    let k = f / l.size;
-    let lo = f % l.size * l.w;
-    all_at(bytes, moved(rows, k * l.step), lo)
-}
-
-// The newest filter of a level below n that has all three bits, plus one; 0 if none has.
-fn newest(bytes: &[u8], l: Level, n: usize, ps: [u32; 3]) -> usize
-    requires { ⌜ (l .size * l .w < 2 ^ 62) × Room l n (length (now bytes)) ps ⌝ }
-    ensures { λ r. ⌜ r ≡ candidate (λ f. allOf (levelBit (now (bytes .entry)) l f) ps) n ⌝ }
-{
-    if n == 0 {
-        return 0;
-    }
-    let rows = rows_of(l.base, l.w, l.stride, ps);
-    let w = l.w;
-    let step = l.step;
-    let size = l.size;
-    let mut m = n;
-    while m > 0 {
-        let k = (m - 1) / size;
-        let start = k * size;
-        let r = newest_in(bytes, moved(rows, k * step), w, m - start);
-        if r > 0 {
-            return start + r;
-        }
-        m = start;
-    }
-    0
-}
-
-// ---- the levels of an index
-
-fn ska_level(unit: usize, ix: Index) -> Level
-    requires { ⌜ unit ≤ 32 ⌝ }
-    ensures { λ r. ⌜ r ≡ skaLevel unit (indexOf ix) ⌝ }
-{
-    let sector = 16 * unit;
-    Level {
-        base: ix.ska,
-        step: 0,
-        w: sector,
-        stride: sector,
-        size: 8,
-    }
+    x >> e
 }
 
 // The first byte of a block.
 fn block_start(unit: usize, b: usize) -> usize
-    requires { ⌜ (unit ≤ 32) × (b ≤ 200000) ⌝ }
+    requires { ⌜ (unit ≤ 32) × (b ≤ 300000) ⌝ }
     ensures { λ r. ⌜ r ≡ b * (1024 * unit) ⌝ }
 {
     b * (1024 * unit)
 }
 
-fn l1_level(unit: usize, ix: Index) -> Level
-    requires { ⌜ (unit ≤ 32) × (ix .first ≤ 20000) ⌝ }
-    ensures { λ r. ⌜ r ≡ l1Level unit (indexOf ix) ⌝ }
+// ---- the levels of an index, by the unit, which is 2 ^ e
+
+fn ska_level(unit: usize, e: usize, ix: Index, flash: usize) -> Level
+    requires { ⌜ (unit ≤ 32) × (e < 6) ⌝ }
+    ensures { λ r. ⌜ r ≡ skaLevel unit e (indexOf ix) flash ⌝ }
 {
-    let sector = 16 * unit;
     Level {
+        start: flash,
+        in_ram: true,
+        base: ix.ska,
+        exponent: e + 4,
+        stride: 16 * unit,
+    }
+}
+
+// Sixteen flushes lie side by side, so that L1 is one group.
+fn l1_level(unit: usize, e: usize, ix: Index, parted: usize) -> Level
+    requires { ⌜ (unit ≤ 32) × (e < 6) × (ix .first ≤ 20000) ⌝ }
+    ensures { λ r. ⌜ r ≡ l1Level unit e (indexOf ix) parted ⌝ }
+{
+    Level {
+        start: parted,
+        in_ram: false,
         base: block_start(unit, ix.first),
-        step: sector,
-        w: sector,
+        exponent: e + 4,
         stride: 4 * (64 * unit),
-        size: 8,
     }
 }
 
-fn set_level(unit: usize, ix: Index, c: usize) -> Level
-    requires { ⌜ (unit ≤ 32) × (ix .first ≤ 20000) × (c ≤ 128) ⌝ }
-    ensures { λ r. ⌜ r ≡ setLevel unit (indexOf ix) c ⌝ }
+// The current set after c rounds.
+fn set_level(unit: usize, e: usize, ix: Index, c: usize, full: usize) -> Level
+    requires { ⌜ (unit ≤ 32) × (e < 6) × (ix .first ≤ 20000) × (0 < c) × (c ≤ 128) × (log2up c ≤ e + 2) ⌝ }
+    ensures { λ r. ⌜ r ≡ setLevel unit e (indexOf ix) c full ⌝ }
 {
     Level {
+        start: full,
+        in_ram: false,
         base: block_start(unit, sets::side_block(unit, ix, c)),
-        step: 0,
-        w: sets::set_width(unit, c),
+        exponent: e + 2 - exponent(c),
         stride: 64 * unit,
-        size: 128 * c,
     }
 }
 
-fn full_level(unit: usize, ix: Index) -> Level
-    requires { ⌜ (unit ≤ 32) × (ix .first ≤ 20000) ⌝ }
-    ensures { λ r. ⌜ r ≡ fullLevel unit (indexOf ix) ⌝ }
+// Full set k.
+fn full_level(unit: usize, ix: Index, k: usize) -> Level
+    requires { ⌜ (unit ≤ 32) × (ix .first ≤ 20000) × (k ≤ 2048) ⌝ }
+    ensures { λ r. ⌜ r ≡ fullLevel unit (indexOf ix) k ⌝ }
 {
+    let side = 4 * unit;
     Level {
-        base: block_start(unit, ix.first + 1 + 2 * (4 * unit)),
-        step: block_start(unit, 4 * unit),
-        w: 1,
+        start: k * (128 * side),
+        in_ram: false,
+        base: block_start(unit, ix.first + 1 + 2 * side + k * side),
+        exponent: 0,
         stride: 64 * unit,
-        size: 128 * (4 * unit),
     }
 }
 
-fn stage_of(unit: usize, filters: usize) -> Stage
-    requires { ⌜ (0 < unit) × (unit ≤ 32) × (filters ≤ 2 ^ 20) ⌝ }
+// ---- which of them has a filter
+
+fn stage_of(unit: usize, e: usize, filters: usize) -> Stage
+    requires { ⌜ UnitIs unit e × (filters ≤ 2 ^ 20) ⌝ }
     ensures { λ r. ⌜ r ≡ stageOf unit filters ⌝ }
 {
     let side = 4 * unit;
-    let flushes = filters / 8;
-    let all = flushes / 16;
-    let sets = all / side;
-    let rounds = all % side;
+    let all = filters / 8 / 16;
+    let sets = shifted(all, e + 2);
+    let rounds = all - sets * side;
     let full = sets * (128 * side);
-    let parted = full + 128 * rounds;
-    let flash = flushes * 8;
     Stage {
-        sets,
         rounds,
         full,
-        parted,
-        flash,
+        parted: full + 128 * rounds,
+        flash: filters / 8 * 8,
     }
 }
 
-// ---- filters wherever they lie
-
-// Has filter f on flash all three bits?
-fn has_on_flash(main: &[u8], unit: usize, ix: Index, st: Stage, f: usize, ps: [u32; 3]) -> bool
-    requires { ⌜ Staged unit (indexOf ix) st (length (now main)) × (f < st .flash) × Below (64 * unit) ps ⌝ }
-    ensures { λ r. ⌜ r ≡ allOf (λ x. bitAt (now (main .entry)) [] (flashPlace unit (indexOf ix) (st .sets) (st .rounds) f x)) ps ⌝ }
+// The level that has filter `below` - 1.
+fn level_below(unit: usize, e: usize, ix: Index, st: Stage, below: usize) -> Level
+    requires { ⌜ UnitIs unit e × (ix .first ≤ 20000) × (st .rounds < 4 * unit) × (st .parted ≡ st .full + 128 * st .rounds) × (0 < below) × (below ≤ 2 ^ 20) ⌝ }
+    ensures { λ r. ⌜ r ≡ levelBelow unit e (indexOf ix) st below ⌝ }
 {
-    if f < st.full {
-        return has_in(main, full_level(unit, ix), f, ps);
+    if below > st.flash {
+        return ska_level(unit, e, ix, st.flash);
     }
-    if f < st.parted {
-        let l = set_level(unit, ix, st.rounds);
-        return has_in(main, l, f - st.full, ps);
+    if below > st.parted {
+        return l1_level(unit, e, ix, st.parted);
     }
-    has_in(main, l1_level(unit, ix), f - st.parted, ps)
+    if below > st.full {
+        return set_level(unit, e, ix, st.rounds, st.full);
+    }
+    full_level(unit, ix, shifted(below - 1, e + 9))
 }
 
-// Has filter f, of so many filters, all three bits?
-pub fn has_all(
-    main: &[u8],
-    ram: &[u8],
-    unit: usize,
-    ix: Index,
-    filters: usize,
-    f: usize,
-    ps: [u32; 3],
-) -> bool
-    requires { ⌜ ((Z : ℕ) × (inFull unit filters ≤ Z) × Fits unit (indexOf ix) Z (now main) (now ram)) × (filters ≤ 2 ^ 20) × (f < filters) × Below (64 * unit) ps ⌝ }
-    ensures { λ r. ⌜ r ≡ allOf (filterBit unit (indexOf ix) (now (main .entry)) (now (ram .entry)) filters f) ps ⌝ }
+// ---- groups
+
+// The rows of `count` positions at a level.
+fn rows_of(l: Level, ps: [u32; 8], count: usize) -> Rows
+    requires { ⌜ (count ≤ 8) × (l .exponent < 10) × ((i : ℕ) → i < count → l .base + getD ps i 0 / 2 ^ l .exponent * l .stride < 2 ^ 63) ⌝ }
+    ensures { λ r. ⌜ RowsAt l ps count r ⌝ }
 {
-    let st = stage_of(unit, filters);
-    if f < st.flash {
-        return has_on_flash(main, unit, ix, st, f, ps);
+    let base = l.base;
+    let stride = l.stride;
+    let w = power(l.exponent);
+    let mut at = [0usize; 8];
+    let mut low = [0usize; 8];
+    let mut i = 0;
+    while i < count {
+        let x = wide(ps[i]);
+        at[i] = base + x / w * stride;
+        low[i] = x % w;
+        i += 1;
     }
-    has_in(ram, ska_level(unit, ix), f - st.flash, ps)
+    Rows { at, low, count, w }
 }
 
-// The newest filter of the sets below n that has all three bits, plus one; 0 if none has.
-fn newest_in_sets(main: &[u8], unit: usize, ix: Index, st: Stage, n: usize, ps: [u32; 3]) -> usize
-    requires { ⌜ Staged unit (indexOf ix) st (length (now main)) × (n ≤ st .parted) × Below (64 * unit) ps ⌝ }
-    ensures { λ r. ⌜ r ≡ candidate (λ f. allOf (λ x. bitAt (now (main .entry)) [] (flashPlace unit (indexOf ix) (st .sets) (st .rounds) f x)) ps) n ⌝ }
-{
-    let full = st.full;
-    if n <= full {
-        return newest(main, full_level(unit, ix), n, ps);
-    }
-    let l = set_level(unit, ix, st.rounds);
-    let r = newest(main, l, n - full, ps);
-    if r > 0 {
-        return full + r;
-    }
-    newest(main, full_level(unit, ix), full, ps)
-}
-
-// The same of all filters on flash.
-fn newest_on_flash(main: &[u8], unit: usize, ix: Index, st: Stage, n: usize, ps: [u32; 3]) -> usize
-    requires { ⌜ Staged unit (indexOf ix) st (length (now main)) × (n ≤ st .flash) × Below (64 * unit) ps ⌝ }
-    ensures { λ r. ⌜ r ≡ candidate (λ f. allOf (λ x. bitAt (now (main .entry)) [] (flashPlace unit (indexOf ix) (st .sets) (st .rounds) f x)) ps) n ⌝ }
-{
-    let parted = st.parted;
-    if n <= parted {
-        return newest_in_sets(main, unit, ix, st, n, ps);
-    }
-    let r = newest(main, l1_level(unit, ix), n - parted, ps);
-    if r > 0 {
-        return parted + r;
-    }
-    newest_in_sets(main, unit, ix, st, parted, ps)
-}
-
-// The newest filter below `below` that has all three bits, plus one; 0 if none has.
-pub fn next_candidate(
+// The group that has filter `below` - 1, of so many filters, for the first `count` positions.
+pub fn group_below(
     main: &[u8],
     ram: &[u8],
     unit: usize,
     ix: Index,
     filters: usize,
     below: usize,
-    ps: [u32; 3],
-) -> usize
-    requires { ⌜ ((Z : ℕ) × (inFull unit filters ≤ Z) × Fits unit (indexOf ix) Z (now main) (now ram)) × (filters ≤ 2 ^ 20) × (below ≤ filters) × Below (64 * unit) ps ⌝ }
-    ensures { λ r. ⌜ r ≡ candidate (λ f. allOf (filterBit unit (indexOf ix) (now (main .entry)) (now (ram .entry)) filters f) ps) below ⌝ }
+    ps: [u32; 8],
+    count: usize,
+) -> Group
+    requires { ⌜ ((Z : ℕ) × (inFull unit filters ≤ Z) × Fits unit (indexOf ix) Z (now main) (now ram)) × (filters ≤ 2 ^ 20) × (0 < below) × (below ≤ filters) ⌝ }
+    requires { ⌜ (1 ≤ count) × (count ≤ 8) × ((i : ℕ) → i < count → getD ps i 0 < 64 * unit) ⌝ }
+    ensures { λ r. ⌜ GroupAt unit (indexOf ix) (now (main .entry)) (now (ram .entry)) filters below (take count ps) r ⌝ }
 {
-    let st = stage_of(unit, filters);
-    let flash = st.flash;
-    if below <= flash {
-        return newest_on_flash(main, unit, ix, st, below, ps);
+    let e = exponent(unit);
+    let l = level_below(unit, e, ix, stage_of(unit, e, filters), below);
+    Group {
+        start: l.start,
+        in_ram: l.in_ram,
+        rows: rows_of(l, ps, count),
     }
-    let r = newest(ram, ska_level(unit, ix), below - flash, ps);
-    if r > 0 {
-        return flash + r;
+}
+
+// The newest of the group's first n filters that has all positions' bits, plus one; 0 if none has.
+pub fn newest_in(main: &[u8], ram: &[u8], g: Group, n: usize) -> usize
+    requires { ⌜ Within (g .rows) n (length (bytesOf g (now main) (now ram))) ⌝ }
+    ensures { λ r. ⌜ r ≡ candidate (allIn (bytesOf g (now (main .entry)) (now (ram .entry))) (g .rows .at) (g .rows .low) (g .rows .w) (g .rows .count)) n ⌝ }
+{
+    if g.in_ram {
+        return kernels::newest(ram, g.rows, n);
     }
-    newest_on_flash(main, unit, ix, st, flash, ps)
+    kernels::newest(main, g.rows, n)
 }

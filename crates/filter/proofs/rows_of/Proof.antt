@@ -1,63 +1,125 @@
--- A row for each position.
+-- A position more each turn.
+use native.Mathlib.Omega.{arith}
+use Prim.Native.Nat.{ℕ, _+_, _*_, _-_, _/_, _%_, _^_, _≤_, _<_}
+use mathlib.Core.Path.{_≡_, refl}
+use lib.ListN.{length, getD, length-set}
+use Rattle.filter.proofs.Rows.{Filled, filled-more}
 use borrow.Author.Needs.{needs}
 use Rattle.filter.proofs.rows_of.Statement.{statement}
 use Rattle.filter.proofs.rows_of.Tie as tie
+use Rattle.filter.proofs.rows_of.Reads as reads
+use Rattle.filter.proofs.rows_of.Lts as lts
+use Rattle.filter.proofs.power.Reads as power-reads
+use Rattle.filter.proofs.wide.Reads as wide-reads
 
-array-read-wide : tie.Need-array-read-wide
-array-read-wide c = search needs
+abbrev Inv-loop : tie.InvT-loop
+Inv-loop count ps base stride w at₀ low₀ i₀ at low i =
+    (i ≤ count) × Filled (λ j. base + getD ps j 0 / w * stride) i at × Filled (λ j. getD ps j 0 % w) i low
 
-wide-requires : tie.Need-wide-requires
+abbrev μ-loop : tie.MeasureT-loop
+μ-loop count ps base stride w at₀ low₀ i₀ at low i = count - i
+
+power-requires : tie.Need-power-requires Inv-loop μ-loop
+power-requires c κs = c .pre .1
+
+loop-holds : tie.Need-loop-holds Inv-loop μ-loop
+loop-holds c =
+    (omega arith, (refl, λ j h. absurd (omega arith)), (refl, λ j h. absurd (omega arith)))
+
+mul-wide : tie.Need-mul-wide Inv-loop μ-loop
+mul-wide c = omega arith
+
+array-read-wide : tie.Need-array-read-wide Inv-loop μ-loop
+array-read-wide c = omega arith
+
+wide-requires : tie.Need-wide-requires Inv-loop μ-loop
 wide-requires c κs = search needs
 
-array-read-wide-2 : tie.Need-array-read-wide-2
-array-read-wide-2 c = search needs
+div-at : tie.Need-div-at Inv-loop μ-loop
+div-at c = c .before .before .before .power .ensures .1
 
-wide-requires-2 : tie.Need-wide-requires-2
-wide-requires-2 c κs = search needs
+mul-at : tie.Need-mul-at Inv-loop μ-loop
+mul-at c =
+    let P = c .before .before .before in
+    let s = P .before .pre .2 (c .before .before .loop .i) (c .before .loop-test .taken) in
+    let f = rw (← P .power .ensures .0, ← c .wide .ensures) at s in
+    omega (arith, f)
 
-array-read-wide-3 : tie.Need-array-read-wide-3
-array-read-wide-3 c = search needs
+add-at : tie.Need-add-at Inv-loop μ-loop
+add-at c =
+    let P = c .before .before .before in
+    let s = P .before .pre .2 (c .before .before .loop .i) (c .before .loop-test .taken) in
+    let f = rw (← P .power .ensures .0, ← c .wide .ensures) at s in
+    omega (arith, f)
 
-wide-requires-3 : tie.Need-wide-requires-3
-wide-requires-3 c κs = search needs
+mul-at-2 : tie.Need-mul-at-2 Inv-loop μ-loop
+mul-at-2 c = omega arith
 
-row-of-requires : tie.Need-row-of-requires
-row-of-requires c κs = rw (c .before .before .wide .ensures) (c .before .before .before .pre .0, c .before .before .before .pre .1)
+array-write-at : tie.Need-array-write-at Inv-loop μ-loop
+array-write-at c = omega arith
 
-row-of-requires-2 : tie.Need-row-of-requires-2
-row-of-requires-2 c κs = rw (c .before .before .wide2 .ensures) (c .before .before .before .before .pre .0, c .before .before .before .before .pre .2)
+rem-low : tie.Need-rem-low Inv-loop μ-loop
+rem-low c = c .before .before .before .power .ensures .1
 
-row-of-requires-3 : tie.Need-row-of-requires-3
-row-of-requires-3 c κs = rw (c .before .before .wide3 .ensures) (c .before .before .before .before .before .pre .0, c .before .before .before .before .before .pre .3)
+mul-low : tie.Need-mul-low Inv-loop μ-loop
+mul-low c = omega arith
 
-rem-t19 : tie.Need-rem-t19
-rem-t19 c = search needs
+array-write-low : tie.Need-array-write-low Inv-loop μ-loop
+array-write-low c = omega arith
 
-rem-t20 : tie.Need-rem-t20
-rem-t20 c = search needs
+add-i : tie.Need-add-i Inv-loop μ-loop
+add-i c = omega arith
 
-rem-t21 : tie.Need-rem-t21
-rem-t21 c = search needs
+loop-less : tie.Need-loop-less Inv-loop μ-loop
+loop-less c = omega arith
 
-returns : tie.Need-returns
+loop-again : tie.Need-loop-again Inv-loop μ-loop
+loop-again c =
+    let l = c .before .before .loop in
+    let P = c .before .before .before in
+    let x = P .before .args in
+    let w = P .power .result in
+    let f : ℕ → ℕ = λ j. x .l .base + getD (x .t2) j 0 / w * x .l .stride in
+    let r : ℕ → ℕ = λ j. getD (x .t2) j 0 % w in (
+      omega arith,
+      (simp length-set (l .inv .1 .0), filled-more f (l .i) (x .l .base + c .wide .result / w * x .l .stride) (l .at) (l .inv .1) (omega arith) (rw (c .wide .ensures))),
+      (simp length-set (l .inv .2 .0), filled-more r (l .i) (c .wide .result % w) (l .low) (l .inv .2) (omega arith) (rw (c .wide .ensures))),
+    )
+
+returns : tie.Need-returns Inv-loop μ-loop
 returns c =
-    let w3 = c .before .before .before in
-    rw (c .before .before .row-of .ensures, c .before .row-of2 .ensures, c .row-of3 .ensures, w3 .before .before .wide .ensures, w3 .before .wide2 .ensures, w3 .wide3 .ensures)
+    let l = c .before .loop in
+    let P = c .before .before in
+    let x = P .before .args in
+    let e : l .i ≡ x .count = omega arith in
+    let w = P .power .ensures .0 in
+    record {
+      count-is = refl;
+      w-is = w;
+      at-is = λ i h. rw w at (l .inv .1 .1 i (omega arith));
+      low-is = λ i h. rw w at (l .inv .2 .1 i (omega arith));
+    }
 
 pub rows-of-spec : {M : Type 1} → statement M
 rows-of-spec =
     tie.close
     (tie.spec
+    Inv-loop
+    μ-loop
+    power-requires
+    loop-holds
+    mul-wide
     array-read-wide
     wide-requires
-    array-read-wide-2
-    wide-requires-2
-    array-read-wide-3
-    wide-requires-3
-    row-of-requires
-    row-of-requires-2
-    row-of-requires-3
-    rem-t19
-    rem-t20
-    rem-t21
+    div-at
+    mul-at
+    add-at
+    mul-at-2
+    array-write-at
+    rem-low
+    mul-low
+    array-write-low
+    add-i
+    loop-less
+    loop-again
     returns)

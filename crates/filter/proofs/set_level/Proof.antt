@@ -1,4 +1,4 @@
--- Address and width of the current set.
+-- The first byte and the width of the current set.
 use borrow.Author.Needs.{needs}
 use Rattle.filter.proofs.set_level.Statement.{statement}
 use Rattle.filter.proofs.set_level.Tie as tie
@@ -9,19 +9,29 @@ side-block-requires c κs = search needs
 block-start-requires : tie.Need-block-start-requires
 block-start-requires c κs = search needs
 
-set-width-requires : tie.Need-set-width-requires
-set-width-requires c κs = search needs
+add-t8 : tie.Need-add-t8
+add-t8 c = search needs
 
-mul-t7 : tie.Need-mul-t7
-mul-t7 c = search needs
+exponent-requires : tie.Need-exponent-requires
+exponent-requires c κs = search needs
 
-mul-t8 : tie.Need-mul-t8
-mul-t8 c = search needs
+sub-t10 : tie.Need-sub-t10
+sub-t10 c = search needs
+
+mul-t11 : tie.Need-mul-t11
+mul-t11 c = search needs
 
 returns : tie.Need-returns
-returns c = rw (c .set-width .ensures, c .before .block-start .ensures, c .before .before .side-block .ensures .0)
+returns c = rw (c .exponent .ensures .0, c .before .block-start .ensures, c .before .before .side-block .ensures .0)
 
 pub set-level-spec : {M : Type 1} → statement M
 set-level-spec =
     tie.close
-    (tie.spec side-block-requires block-start-requires set-width-requires mul-t7 mul-t8 returns)
+    (tie.spec
+    side-block-requires
+    block-start-requires
+    add-t8
+    exponent-requires
+    sub-t10
+    mul-t11
+    returns)

@@ -1,0 +1,232 @@
+-- Each level has the filters from its start on, where the layout puts their bits.
+use mathlib.Core.Path.{_≡_, refl, ap, sym, _∙_}
+use mathlib.Core.Bool.{Bool, cond}
+use mathlib.Core.List.{List}
+use Prim.Native.Nat.{ℕ, suc, _+_, _*_, _-_, _/_, _%_, _^_, _≤_, _<_}
+use native.Mathlib.Nat.{mul-le-mul-right, div-one}
+use native.Mathlib.Omega.{arith}
+use borrow.Author.Tests.{lt-ltb, le-ltb}
+use lib.Dec.{ltb}
+use lib.ListN.{length}
+use lib.Pow.{pow-pos, pow-lt, pow-mono, pow-add}
+use Rattle.memory.specs.Cases.{bool?, either, lt?, by-eq, by-lt}
+use Rattle.memory.specs.Numbers.{Euclid, euclid, div-of, mod-of, div-lt}
+use Rattle.memory.specs.Power.{log2up, log2up-enough, log2up-least, width}
+use Rattle.layout.specs.Index.{Index, bitAt, filterBit, setWidth, sideBlock, inFull, inSet}
+use Rattle.kernels.specs.Rows.{bitIn}
+use Rattle.filter.specs.Filter.{Fits}
+use Rattle.filter.specs.Groups.{UnitIs, stageOf, skaLevel, l1Level, setLevel, fullLevel, levelBelow}
+use Rattle.filter.specs.declared.Level.{Level}
+
+-- ---- what a level must be
+
+-- the bytes that a level lies in
+abbrev pub levelBytes : Level → List ℕ → List ℕ → List ℕ
+levelBytes l main ram = cond (l .«in_ram») ram main
+
+-- first byte of the row of position x
+abbrev pub rowAt : Level → ℕ → ℕ
+rowAt l x = l .base + x / 2 ^ l .exponent * l .stride
+
+-- the level has the filters from its start to `below` - 1, of F
+pub record LevelAt (u : ℕ) (ix : Index) (main ram : List ℕ) (F below : ℕ) (l : Level) : Type 0 where
+  pub start-lt : l .start < below
+  pub narrow : l .exponent < 10
+  pub small : (below - l .start) * 2 ^ l .exponent < 2 ^ 60
+  pub reach : (x : ℕ) → x < 64 * u → rowAt l x + ((below - l .start) * 2 ^ l .exponent + 63) / 64 * 8 ≤ length (levelBytes l main ram)
+  pub bit-is : (f x : ℕ) → l .start ≤ f → f < below
+      → filterBit u ix main ram F f x ≡ bitIn (levelBytes l main ram) (rowAt l x) ((f - l .start) * 2 ^ l .exponent + x % 2 ^ l .exponent)
+
+-- their addresses are numbers of the machine
+pub bytes-few : (l : Level) (main ram : List ℕ) → length main < 2 ^ 63 → length ram < 2 ^ 63 → length (levelBytes l main ram) < 2 ^ 63
+bytes-few l main ram m r = either (bool? (l .«in_ram»)) (λ t. rw t r) (λ t. rw t m)
+
+-- ---- powers
+
+module _ (u e : ℕ) (S : UnitIs u e) where
+  pub power-4 : 2 ^ (e + 4) ≡ 16 * u
+  power-4 = pow-add 2 e 4 ∙ omega (arith, S .power)
+
+  pub power-2 : 2 ^ (e + 2) ≡ 4 * u
+  power-2 = pow-add 2 e 2 ∙ omega (arith, S .power)
+
+  pub power-9 : 2 ^ (e + 9) ≡ 128 * (4 * u)
+  power-9 = pow-add 2 e 9 ∙ omega (arith, S .power)
+
+  -- pages and width of a set: their product is the filter's bits
+  pub record Set (c q w : ℕ) : Type 0 where
+    pub whole : 16 * q * w ≡ 64 * u
+    pub some : 0 < w
+    pub enough : c ≤ q
+    pub side : q ≤ 4 * u
+
+  pub exponent-le : (c : ℕ) → c < 4 * u → log2up c ≤ e + 2
+  exponent-le c h = log2up-least c (e + 2) (omega (arith, power-2))
+
+  pub set-of : (c : ℕ) → c < 4 * u → Set c (2 ^ log2up c) (2 ^ (e + 2 - log2up c))
+  set-of c h =
+      let W : 16 * 2 ^ log2up c * 2 ^ (e + 2 - log2up c) ≡ 64 * 2 ^ e = width e c (omega (arith, S .power)) in
+      let l : log2up c ≤ e + 2 = exponent-le c h in
+      record {
+        whole = omega (arith, S .power);
+        some = pow-pos (e + 2 - log2up c);
+        enough = log2up-enough c;
+        side = omega (arith, pow-mono l, power-2);
+      }
+
+  pub set-width : (c : ℕ) → c < 4 * u → setWidth u c ≡ 2 ^ (e + 2 - log2up c)
+  set-width c h =
+      let W = set-of c h in
+      div-of (64 * u) (16 * 2 ^ log2up c) (2 ^ (e + 2 - log2up c)) 0 (omega (arith, W .whole)) (omega (arith, pow-pos (log2up c)))
+
+-- the exponent of a power of two, found as that of the least power not below it
+pub small-of : (u Z r : ℕ) (ix : Index) (main ram : List ℕ) → Fits u ix Z main ram → r ≡ log2up u → UnitIs u r
+small-of u Z r ix main ram I is =
+    let p = I .power in
+    let e : ℕ = p .0 in
+    let l : log2up u ≤ e = log2up-least u e (omega (arith, p .2)) in
+    let g : e ≤ log2up u = either (lt? (log2up u) e) (λ h. absurd (omega (arith, pow-lt (h .1), log2up-enough u, p .2))) (λ h. h .1) in
+    let q : e ≡ r = omega arith in
+    record {
+      some = I .some;
+      few = I .few;
+      exponent = omega (arith, p .1);
+      power = rw q at (p .2);
+    }
+
+-- ---- the four levels
+
+side-le : (u : ℕ) (ix : Index) (c : ℕ) → sideBlock u ix c ≤ ix .first + 1 + 4 * u
+side-le u ix c = by-eq (λ t. cond t (ix .first + 1) (ix .first + 1 + 4 * u) ≤ ix .first + 1 + 4 * u) (c % 2) 1 (λ h. omega arith) (λ h. omega arith)
+
+module _ (u e : ℕ) (S : UnitIs u e) (ix : Index) (main ram : List ℕ) (F below : ℕ) (le : below ≤ F) where
+  pub ska-at : ix .ska + 64 * u ≤ length ram → F / 8 * 8 < below → LevelAt u ix main ram F below (skaLevel u e ix (F / 8 * 8))
+  unfolding filterBit bitAt
+  ska-at fits h =
+      let p : 2 ^ (e + 4) ≡ 16 * u = power-4 u e S in
+      let n : below - F / 8 * 8 ≤ 8 = omega arith in
+      let m = mul-le-mul-right (16 * u) n in
+      record {
+        start-lt = h;
+        narrow = omega (arith, S .exponent);
+        small = rw p (omega (arith, S .few));
+        reach = rw p (λ x l.
+            let q : x / (16 * u) < 4 = div-lt x (16 * u) 4 (omega (arith, S .some)) (omega arith) in
+            omega (arith, mul-le-mul-right (16 * u) q));
+        bit-is = rw p (λ f x a b. rw (le-ltb f (F / 8 * 8) a));
+      }
+
+  -- flush t = g / 8 of a round lies t sectors after the first
+  l1-byte : (b i r g : ℕ) → b * (1024 * u) + i * (4 * (64 * u)) + (g * (16 * u) + r) / 8
+      ≡ b * (1024 * u) + ((4 * i + g / 8 / 4) * (64 * u) + g / 8 % 4 * (16 * u)) + (g % 8 * (16 * u) + r) / 8
+  l1-byte b i r g =
+      let t : g / 8 ≡ g / 8 / 4 * 4 + g / 8 % 4 = omega arith in
+      let d : g ≡ g / 8 * 8 + g % 8 = omega arith in
+      omega (arith, ap (λ (n : ℕ). n * (16 * u)) t, ap (λ (n : ℕ). n * (2 * u)) d)
+
+  l1-bit : (r g : ℕ) → (g * (16 * u) + r) % 8 ≡ (g % 8 * (16 * u) + r) % 8
+  l1-bit r g = omega arith
+
+  module _ (st-le : F / 8 * 8 ≤ inFull u F * (128 * (4 * u)) + 128 * inSet u F + 128) where
+    pub l1-at : (ix .first + 1) * (1024 * u) ≤ length main → below ≤ F / 8 * 8 → inFull u F * (128 * (4 * u)) + 128 * inSet u F < below
+        → LevelAt u ix main ram F below (l1Level u e ix (inFull u F * (128 * (4 * u)) + 128 * inSet u F))
+    unfolding filterBit bitAt
+    l1-at fits top h =
+        let start : ℕ = inFull u F * (128 * (4 * u)) + 128 * inSet u F in
+        let p : 2 ^ (e + 4) ≡ 16 * u = power-4 u e S in
+        let n : below - start ≤ 128 = omega arith in
+        let m = mul-le-mul-right (16 * u) n in
+        record {
+          start-lt = h;
+          narrow = omega (arith, S .exponent);
+          small = rw p (omega (arith, S .few));
+          reach = rw p (λ x l.
+              let q : x / (16 * u) < 4 = div-lt x (16 * u) 4 (omega (arith, S .some)) (omega arith) in
+              omega (arith, mul-le-mul-right (4 * (64 * u)) q));
+          bit-is = rw p (λ f x a b.
+              rw (
+                lt-ltb f (F / 8 * 8) (omega arith),
+                le-ltb f (inFull u F * (128 * (4 * u))) (omega arith),
+                le-ltb f start a,
+                l1-byte (ix .first) (x / (16 * u)) (x % (16 * u)) (f - start),
+                l1-bit (x % (16 * u)) (f - start),
+              ));
+        }
+
+  module _ (rounds : inSet u F < 4 * u) where
+    pub set-at : (ix .first + 1 + 2 * (4 * u)) * (1024 * u) ≤ length main → below ≤ F / 8 * 8
+        → inFull u F * (128 * (4 * u)) < below → below ≤ inFull u F * (128 * (4 * u)) + 128 * inSet u F
+        → LevelAt u ix main ram F below (setLevel u e ix (inSet u F) (inFull u F * (128 * (4 * u))))
+    unfolding filterBit bitAt
+    set-at fits top h l =
+        let start : ℕ = inFull u F * (128 * (4 * u)) in
+        let w : ℕ = 2 ^ (e + 2 - log2up (inSet u F)) in
+        let Q = set-of u e S (inSet u F) rounds in
+        let n : below - start ≤ 128 * inSet u F = omega arith in
+        let m = mul-le-mul-right w n in
+        let c = mul-le-mul-right w (Q .enough) in
+        record {
+          start-lt = h;
+          narrow = omega (arith, S .exponent);
+          small = omega (arith, S .few, Q .whole);
+          reach = λ x b.
+              let r : x / w < 16 * 2 ^ log2up (inSet u F) = div-lt x w (16 * 2 ^ log2up (inSet u F)) (Q .some) (omega (arith, Q .whole)) in
+              omega (arith, Q .whole, mul-le-mul-right (64 * u) r, mul-le-mul-right (1024 * u) (side-le u ix (inSet u F)), mul-le-mul-right (1024 * u) (Q .side));
+          bit-is = λ f x a b.
+              rw (lt-ltb f (F / 8 * 8) (omega arith), le-ltb f start a, lt-ltb f (start + 128 * inSet u F) (omega arith), set-width u e S (inSet u F) rounds);
+        }
+
+  pub full-at : (k : ℕ) → k ≡ (below - 1) / (128 * (4 * u)) → (ix .first + 1 + 2 * (4 * u) + inFull u F * (4 * u)) * (1024 * u) ≤ length main
+      → 0 < below → below ≤ F / 8 * 8 → below ≤ inFull u F * (128 * (4 * u)) → LevelAt u ix main ram F below (fullLevel u ix k)
+  unfolding filterBit bitAt
+  full-at k is fits pos top l =
+      let E = euclid (below - 1) (128 * (4 * u)) (omega (arith, S .some)) in
+      let lo : k * (128 * (4 * u)) < below = rw is (omega (arith, E .whole)) in
+      let hi : below ≤ k * (128 * (4 * u)) + 128 * (4 * u) = rw is (omega (arith, E .whole, E .small)) in
+      let j : k < inFull u F = rw is (div-lt (below - 1) (128 * (4 * u)) (inFull u F) (omega (arith, S .some)) (omega arith)) in
+      record {
+        start-lt = lo;
+        narrow = omega arith;
+        small = omega (arith, S .few);
+        reach = λ x b.
+            let d : x / 1 ≡ x = div-one x in
+            rw d (omega (arith, mul-le-mul-right (4 * u * (1024 * u)) j, mul-le-mul-right (64 * u) b));
+        bit-is = λ f x a b.
+            let s : f ≡ k * (128 * (4 * u)) + (f - k * (128 * (4 * u))) = omega arith in
+            let r : f - k * (128 * (4 * u)) < 128 * (4 * u) = omega arith in
+            rw (
+              lt-ltb f (F / 8 * 8) (omega arith),
+              lt-ltb f (inFull u F * (128 * (4 * u))) (omega arith),
+              div-of f (128 * (4 * u)) k (f - k * (128 * (4 * u))) s r,
+              mod-of f (128 * (4 * u)) k (f - k * (128 * (4 * u))) s r,
+            );
+      }
+
+-- ---- the level that has filter `below` - 1
+
+module _ (u e F below Z : ℕ) (ix : Index) (main ram : List ℕ) (S : UnitIs u e) (I : Fits u ix Z main ram) (z : inFull u F ≤ Z) (pos : 0 < below) (le : below ≤ F) where
+  long : (ix .first + 1 + 2 * (4 * u) + inFull u F * (4 * u)) * (1024 * u) ≤ length main
+  long = omega (arith, I .on-flash, mul-le-mul-right (4 * u * (1024 * u)) z)
+
+  rounds : Euclid (F / 8 / 16) (4 * u)
+  rounds = euclid (F / 8 / 16) (4 * u) (omega (arith, S .some))
+
+  in-sets : below ≤ F / 8 * 8 → below ≤ inFull u F * (128 * (4 * u)) + 128 * inSet u F
+      → LevelAt u ix main ram F below
+      (cond (ltb (inFull u F * (128 * (4 * u))) below) (setLevel u e ix (inSet u F) (inFull u F * (128 * (4 * u)))) (fullLevel u ix ((below - 1) / 2 ^ (e + 9))))
+  in-sets top l =
+      by-lt (λ t. LevelAt u ix main ram F below (cond t (setLevel u e ix (inSet u F) (inFull u F * (128 * (4 * u)))) (fullLevel u ix ((below - 1) / 2 ^ (e + 9)))))
+      (inFull u F * (128 * (4 * u))) below
+      (λ h. set-at u e S ix main ram F below le (rounds .small) (omega (arith, long)) top h l)
+      (λ h. full-at u e S ix main ram F below le ((below - 1) / 2 ^ (e + 9)) (ap (λ (w : ℕ). (below - 1) / w) (power-9 u e S)) long pos top h)
+
+  pub level-at : LevelAt u ix main ram F below (levelBelow u e ix (stageOf u F) below)
+  level-at =
+      by-lt (λ t. LevelAt u ix main ram F below (cond t (skaLevel u e ix (F / 8 * 8)) (cond (ltb (inFull u F * (128 * (4 * u)) + 128 * inSet u F) below) (l1Level u e ix (inFull u F * (128 * (4 * u)) + 128 * inSet u F)) (cond (ltb (inFull u F * (128 * (4 * u))) below) (setLevel u e ix (inSet u F) (inFull u F * (128 * (4 * u)))) (fullLevel u ix ((below - 1) / 2 ^ (e + 9)))))))
+      (F / 8 * 8) below
+      (λ h. ska-at u e S ix main ram F below le (I .in-ram) h)
+      (λ top.
+      by-lt (λ t. LevelAt u ix main ram F below (cond t (l1Level u e ix (inFull u F * (128 * (4 * u)) + 128 * inSet u F)) (cond (ltb (inFull u F * (128 * (4 * u))) below) (setLevel u e ix (inSet u F) (inFull u F * (128 * (4 * u)))) (fullLevel u ix ((below - 1) / 2 ^ (e + 9))))))
+      (inFull u F * (128 * (4 * u)) + 128 * inSet u F) below
+      (λ h. l1-at u e S ix main ram F below le (omega (arith, rounds .whole)) (omega (arith, long)) top h)
+      (λ h. in-sets top h))
