@@ -1,9 +1,9 @@
--- Entries of a volume on flash and in RAM, its index as the filters' walk asks for it, and parts of a ready volume.
+-- Entries of a volume on flash and in RAM, its gates by groups of filters, and parts of a ready volume.
 use mathlib.Core.Path.{_≡_, refl, ap, _∙_}
 use mathlib.Core.Bool.{Bool}
 use mathlib.Core.Option.{Option}
 use mathlib.Core.List.{List}
-use Prim.Native.Nat.{ℕ, _+_, _*_, _/_, _%_, _^_, _≤_, _<_}
+use Prim.Native.Nat.{ℕ, _+_, _-_, _*_, _/_, _%_, _^_, _≤_, _<_}
 use native.Mathlib.Nat.{mul-le-mul-right}
 use native.Mathlib.Omega.{arith}
 use lib.ListN.{length}
@@ -21,8 +21,11 @@ use Rattle.geometry.specs.declared.Geometry.{Geometry}
 use Rattle.geometry.specs.Shape.{shape}
 use Rattle.geometry.specs.Bounds.{index-le, record-capacity-le}
 use Rattle.items.specs.Reading.{page-word, ram-word}
-use Rattle.kernels.specs.Candidate.{candidate}
+use Rattle.kernels.specs.Rows.{allIn, Within}
+use Rattle.kernels.specs.declared.Rows.{Rows}
 use Rattle.filter.specs.Filter.{Fits, fits-of}
+use Rattle.filter.specs.Groups.{bytesOf, GroupAt}
+use Rattle.filter.specs.declared.Group.{Group}
 use Rattle.search.specs.Find.{at as volumeAt, Ready}
 use Rattle.search.proofs.Entries.{Same}
 
@@ -33,6 +36,10 @@ perPage g = layout.entriesPerPage (g .unit)
 
 abbrev pub deletedOf : Geometry → ℕ → ℕ → List ℕ → List ℕ → ℕ → Bool
 deletedOf g n d main ram = isDeleted fnvFamily (shape g) (volumeAt n d main ram)
+
+-- which filters of a group have all bits of its positions
+abbrev pub levelOf : Group → List ℕ → List ℕ → ℕ → Bool
+levelOf grp main ram = allIn (bytesOf grp main ram) (grp .rows .at) (grp .rows .low) (grp .rows .w) (grp .rows .count)
 
 module _ (g : Geometry) (n d : ℕ) (main ram : List ℕ) (key : ℕ) where
   abbrev pub gateOf : ℕ → Bool
@@ -71,12 +78,15 @@ module _ (g : Geometry) (n d : ℕ) (main ram : List ℕ) (key : ℕ) where
             (ram-word (g .unit) (KA (shape g)) n main ram k 1 (omega arith) ∙ ap (λ (x : ℕ). word ram x) (omega arith));
       }
 
-  -- the filters do not depend on deletions, nor deletions on the count of records
-  pub next-is : (ps : List ℕ) (r below : ℕ) → ps ≡ keyPositions fnvFamily (shape g) key
-      → r ≡ candidate (maybeIn fnvFamily (shape g) (volumeAt n 0 main ram) ps) below → r ≡ candidate gateOf below
+  -- the rows of a group open the gates of its pages
+  pub group-same : (below : ℕ) (grp : Group) → GroupAt (g .unit) (keyIndex (shape g)) main ram (n / (perPage g)) below (keyPositions fnvFamily (shape g) key) grp
+      → (i : ℕ) → i < below - grp .start → gateOf (grp .start + i) ≡ levelOf grp main ram i
   unfolding maybeIn
-  next-is ps r below e h = rw (← e) h
+  group-same below grp G i h =
+      let e : grp .start + i - grp .start ≡ i = omega arith in
+      rw e at (G .all-is (grp .start + i) (omega arith) (omega arith))
 
+  -- deletions do not depend on the count of records
   pub deleted-is : (j : ℕ) → isDeleted fnvFamily (shape g) (volumeAt 0 d main ram) j ≡ deletedOf g n d main ram j
   unfolding isDeleted
   deleted-is j = refl
@@ -99,14 +109,17 @@ fewer-records g n d main ram R =
       d-cap = R .d-cap;
     }
 
-pub fewer-deletions : (g : Geometry) (n d : ℕ) (main ram : List ℕ) → Ready g n d main ram → Ready g n 0 main ram
-fewer-deletions g n d main ram R =
+-- fewer filters lie within reach too
+pub within-fewer : (k : Rows) (n m len : ℕ) → Within k n len → m ≤ n → Within k m len
+within-fewer k n m len W h =
+    let p = mul-le-mul-right (k .w) h in
     record {
-      sound = R .sound;
-      main-long = R .main-long;
-      ram-long = R .ram-long;
-      n-cap = R .n-cap;
-      d-cap = omega arith;
+      some = W .some;
+      few = W .few;
+      power = W .power;
+      low-lt = W .low-lt;
+      at-in = λ i l. omega (arith, W .at-in i l, p);
+      small = omega (arith, W .small, p);
     }
 
 module _ (g : Geometry) (n d : ℕ) (main ram : List ℕ) (R : Ready g n d main ram) where

@@ -2,13 +2,13 @@
 use mathlib.Core.Path.{_≡_, refl}
 use mathlib.Core.Option.{Option, none, some}
 use mathlib.Core.List.{List, []}
-use Prim.Native.Nat.{ℕ, _≤_}
+use Prim.Native.Nat.{ℕ, _+_, _≤_}
 use lib.ListN.{length}
 use Rattle.layout.specs.Geometry as layout
 use Rattle.layout.specs.Flash.{flashOf}
-use Rattle.layout.specs.Hash.{Family}
+use Rattle.layout.specs.Hash.{Family, fnvFamily}
 use Rattle.layout.specs.Search as find
-use Rattle.layout.specs.Calls.{Volume, isDeleted, tryAt, maybeIn, search}
+use Rattle.layout.specs.Calls.{Volume, keyPositions, isDeleted, tryAt, maybeIn, search}
 use Rattle.geometry.specs.declared.Geometry.{Geometry}
 use Rattle.geometry.specs.Shape.{shape, Sound}
 use Rattle.search.specs.declared.Stop.{Stop}
@@ -32,6 +32,16 @@ pub search-at : (h : Family) (g : layout.Geometry) (v : Volume) (key : ℕ)
     → search h g v key ≡ search h g (at (v .state .records) (v .state .deletions) (v .flash .main) (v .ram)) key
 unfolding search maybeIn tryAt isDeleted
 search-at h g v key = refl
+
+-- the search of the full pages below a number
+abbrev pub pagesBelow : Geometry → ℕ → ℕ → List ℕ → List ℕ → ℕ → ℕ → find.Found
+pagesBelow g n d main ram key below =
+    find.searchPages (maybeIn fnvFamily (shape g) (at n d main ram) (keyPositions fnvFamily (shape g) key)) (tryAt fnvFamily (shape g) (at n d main ram) key) (layout.entriesPerPage (g .unit)) below
+
+-- what is found in all by a search that ended so after k pages, if it ended nowhere with what the search of older pages finds
+abbrev pub onward : Option find.Stop → ℕ → find.Found → find.Found
+onward none k older = find.reply (older .stop) (k + older .opened)
+onward (some r) k older = find.reply (some r) k
 
 -- the lent bytes hold a volume of a sound geometry with n records and d deletions
 pub record Ready (g : Geometry) (n d : ℕ) (main ram : List ℕ) : Type 0 where

@@ -2,16 +2,16 @@
 // only if its filter has all three bits. Document 01, "Calls".
 ghost use mathlib.Core.Path.{_≡_};
 ghost use Prim.Native.Nat.{ℕ, _+_, _*_, _/_, _%_, _≤_, _<_};
-ghost use lib.ListN.{length};
-ghost use Rattle.memory.specs.Words.{word};
+ghost use lib.ListN.{length, getD, take};
+ghost use Rattle.memory.specs.Words.{word, bytes4};
 ghost use Rattle.layout.specs.Geometry.{page, block, entriesPerPage, recordCapacity, deletionCapacity, dataSize, ramSize, kaBlock};
-ghost use Rattle.layout.specs.Hash.{fnvFamily};
-ghost use Rattle.layout.specs.Calls.{keyPositions, isDeleted, tryAt, maybeIn, search};
-ghost use Rattle.layout.specs.Search.{scan, searchPages};
+ghost use Rattle.layout.specs.Hash.{fnvFamily, positions, positionCount};
+ghost use Rattle.layout.specs.Calls.{keyIndex, keyPositions, isDeleted, tryAt, search};
+ghost use Rattle.layout.specs.Search.{scan};
 ghost use Rattle.geometry.specs.Shape.{shape, Sound};
-ghost use Rattle.kernels.specs.Candidate.{candidate};
-ghost use Rattle.filter.specs.Filter.{Below};
-ghost use Rattle.search.specs.Find.{stopOf, foundOf, at, Ready};
+ghost use Rattle.filter.specs.Groups.{GroupAt};
+ghost use Rattle.search.specs.Find.{stopOf, foundOf, at, Ready, pagesBelow, onward};
+use filter::Group;
 use geometry::Geometry;
 use sets::Index;
 
@@ -86,51 +86,98 @@ fn page_start(g: Geometry, p: usize) -> usize
     geometry::block_address(g, g.ka_block()) + geometry::page_address(g, p)
 }
 
-// The newest full page below `below` whose filter has all three bits, plus one; 0 if none has.
-fn next_page(g: Geometry, main: &[u8], ram: &[u8], n: usize, below: usize, ps: [u32; 3]) -> usize
-    requires { ⌜ Ready g n 0 (now main) (now ram) ⌝ }
-    requires { ⌜ (below ≤ n / entriesPerPage (g .unit)) × Below (64 * g .unit) ps ⌝ }
-    ensures { λ r. ⌜ r ≡ candidate (maybeIn fnvFamily (shape g) (at n 0 (now (main .entry)) (now (ram .entry))) ps) below ⌝ }
-{
-    let ix = Index {
-        first: g.index_block(),
-        ska: g.ska_ram(),
-    };
-    let filters = n / g.entries_per_page();
-    filter::next_candidate(main, ram, g.unit, ix, filters, below, ps)
-}
-
-// Full pages, newest first, and the entries of each that is opened, newest first.
-fn in_pages(g: Geometry, main: &[u8], ram: &[u8], n: usize, d: usize, key: u32) -> Found
+// Full pages of a group of filters, newest first, and the entries of each that is opened, newest
+// first.
+fn in_group(
+    g: Geometry,
+    main: &[u8],
+    ram: &[u8],
+    n: usize,
+    d: usize,
+    key: u32,
+    grp: Group,
+    below: usize,
+) -> Found
     requires { ⌜ Ready g n d (now main) (now ram) ⌝ }
-    ensures { λ r. ⌜ foundOf r ≡ searchPages (maybeIn fnvFamily (shape g) (at n d (now (main .entry)) (now (ram .entry))) (keyPositions fnvFamily (shape g) key)) (tryAt fnvFamily (shape g) (at n d (now (main .entry)) (now (ram .entry))) key) (entriesPerPage (g .unit)) (n / entriesPerPage (g .unit)) ⌝ }
+    requires { ⌜ (below ≤ n / entriesPerPage (g .unit)) × GroupAt (g .unit) (keyIndex (shape g)) (now main) (now ram) (n / entriesPerPage (g .unit)) below (keyPositions fnvFamily (shape g) key) grp ⌝ }
+    ensures { λ r. ⌜ pagesBelow g n d (now (main .entry)) (now (ram .entry)) key below ≡ onward (stopOf (r .stop)) (r .opened) (pagesBelow g n d (now (main .entry)) (now (ram .entry)) key (grp .start)) ⌝ }
 {
     let per_page = g.entries_per_page();
-    let ps = fnv::positions(g.unit as u32, key);
+    let first = grp.start;
     let mut stop = Stop::Nothing;
     let mut opened: u32 = 0;
-    let mut c = next_page(g, main, ram, n, n / per_page, ps);
-    'pages: while c > 0 {
-        let p = c - 1;
+    let mut c = filter::newest_in(main, ram, grp, below - first);
+    'filters: while c > 0 {
+        let f = c - 1;
         opened += 1;
-        let start = page_start(g, p);
+        let start = page_start(g, first + f);
         let mut e = items::find_entry(main, start, per_page, key);
         'entries: while e > 0 {
             let k = e - 1;
             let j = number_at(main, start, k);
             if wide(j) >= n {
                 stop = Stop::Corrupt;
-                break 'pages;
+                break 'filters;
             }
             if !deleted(g, main, ram, d, j) {
                 stop = Stop::Found(j);
-                break 'pages;
+                break 'filters;
             }
             e = items::find_entry(main, start, k, key);
         }
-        c = next_page(g, main, ram, n, p, ps);
+        c = filter::newest_in(main, ram, grp, f);
     }
     Found { stop, opened }
+}
+
+// The positions of a key, as the filters take them.
+fn positions_of(unit: usize, key: u32) -> [u32; 8]
+    requires { ⌜ (0 < unit) × (unit ≤ 32) ⌝ }
+    ensures { λ r. ⌜ (take 3 r ≡ positions fnvFamily positionCount unit (bytes4 key)) × ((i : ℕ) → i < 3 → getD r i 0 < 64 * unit) ⌝ }
+{
+    let p = fnv::positions(unit as u32, key);
+    [p[0], p[1], p[2], 0, 0, 0, 0, 0]
+}
+
+// Full pages, a group of filters after another, the newest first.
+fn in_pages(g: Geometry, main: &[u8], ram: &[u8], n: usize, d: usize, key: u32) -> Found
+    requires { ⌜ Ready g n d (now main) (now ram) ⌝ }
+    ensures { λ r. ⌜ foundOf r ≡ pagesBelow g n d (now (main .entry)) (now (ram .entry)) key (n / entriesPerPage (g .unit)) ⌝ }
+{
+    let ps = positions_of(g.unit, key);
+    let ix = Index {
+        first: g.index_block(),
+        ska: g.ska_ram(),
+    };
+    let filters = n / g.entries_per_page();
+    let mut opened: u32 = 0;
+    let mut below = filters;
+    while below > 0 {
+        let grp = filter::group_below(main, ram, g.unit, ix, filters, below, ps, 3);
+        let r = in_group(g, main, ram, n, d, key, grp, below);
+        opened += r.opened;
+        let s = r.stop;
+        match s {
+            Stop::Nothing => {}
+            Stop::Found(j) => {
+                return Found {
+                    stop: Stop::Found(j),
+                    opened,
+                };
+            }
+            Stop::Corrupt => {
+                return Found {
+                    stop: Stop::Corrupt,
+                    opened,
+                };
+            }
+        }
+        below = grp.start;
+    }
+    Found {
+        stop: Stop::Nothing,
+        opened,
+    }
 }
 
 // ---- all of it

@@ -1,239 +1,167 @@
--- What is left of the search at each page that is opened, and of the scan of its entries at each with the key.
+-- What is left of the search at each group of filters.
 use native.Mathlib.Omega.{arith}
-use mathlib.Core.Path.{_≡_, refl, sym, _∙_}
-use Prim.Native.Nat.{_*_, _-_, _/_}
-use mathlib.Core.Option.{some}
-use Rattle.layout.specs.Search.{found, corrupt}
-use Rattle.items.specs.Scans.{not-true}
-use Rattle.search.specs.declared.Stop.the-variants.{Nothing}
-use Rattle.search.proofs.Entries.{Left, left-none, left-first, left-corrupt, left-found, left-next, left-less, not-false}
-use Rattle.search.proofs.Pages.{Pages, pages-first, pages-none, pages-some, pages-next, pages-less as page-less}
-use Rattle.search.proofs.Volume.{gateOf, tryOf, deletedOf, perPage, same-flash, next-is, deleted-is, fewer-records, fewer-deletions, pages-few, page-in}
+use mathlib.Core.Path.{_≡_, refl, sym, ap, _∙_}
+use mathlib.Core.Bool.{Bool}
+use mathlib.Core.Option.{Option, none, some}
+use Prim.Native.Nat.{ℕ, _+_, _*_, _-_, _/_, _≤_, _<_}
+use Rattle.layout.specs.Geometry.{fullSets}
+use Rattle.layout.specs.Hash.{fnvFamily}
+use Rattle.layout.specs.Search.{Stop, found, corrupt, searchPages}
+use Rattle.layout.specs.Calls.{keyIndex, keyPositions}
+use Rattle.geometry.specs.Shape.{shape}
+use Rattle.filter.specs.Groups.{GroupAt}
+use Rattle.search.specs.Find.{stopOf, onward, pagesBelow}
+use Rattle.search.proofs.Pages.{Groups, groups-first, groups-none, groups-some, groups-next, groups-few}
+use Rattle.search.proofs.Volume.{gateOf, tryOf, perPage, pages-few, sets-le, index-fits}
 use borrow.Author.Needs.{needs}
 use Rattle.search.proofs.in_pages.Statement.{statement}
 use Rattle.search.proofs.in_pages.Tie as tie
 
-abbrev Inv-entries : tie.InvT-entries
-Inv-entries g main ram n d key per-page ps stop₀ opened c p start e₀ stop e =
-    Left main start key (tryOf g n d main ram key) ((c - 1) * perPage g) (perPage g) e × (stop ≡ Nothing)
+abbrev Inv-loop : tie.InvT-loop
+Inv-loop g main ram n d key ps ix filters opened₀ below₀ opened below =
+    Groups (gateOf g n d main ram key) (tryOf g n d main ram key) (perPage g) (n / perPage g) opened below
 
-abbrev μ-entries : tie.MeasureT-entries
-μ-entries g main ram n d key per-page ps stop₀ opened c p start e₀ stop e =
-    e
+abbrev μ-loop : tie.MeasureT-loop
+μ-loop g main ram n d key ps ix filters opened₀ below₀ opened below = below
 
-abbrev Inv-pages : tie.InvT-pages
-Inv-pages g main ram n d key per-page ps stop₀ opened₀ c₀ stop opened c =
-    Pages (gateOf g n d main ram key) (tryOf g n d main ram key) (perPage g) (n / perPage g) opened c × (stop ≡ Nothing)
+-- ---- the search at hand
 
-abbrev μ-pages : tie.MeasureT-pages
-μ-pages g main ram n d key per-page ps stop₀ opened₀ c₀ stop opened c =
-    c
+abbrev Start : Type 0
+Start = tie.Start Inv-loop μ-loop
 
-entries-per-page-requires :
-    tie.Need-entries-per-page-requires Inv-entries μ-entries Inv-pages μ-pages
-entries-per-page-requires c κs =
-    c .before .before .pre .sound
+abbrev gate-at : Start → ℕ → Bool
+gate-at b = gateOf (b .args .g) (b .args .n) (b .args .d) (b .args .main .now) (b .args .ram .now) (b .args .key)
 
-cast-positions : tie.Need-cast-positions Inv-entries μ-entries Inv-pages μ-pages
-cast-positions c =
-    omega (arith, c .before .before .before .before .pre .sound .most)
+abbrev try-at : Start → ℕ → Option Stop
+try-at b = tryOf (b .args .g) (b .args .n) (b .args .d) (b .args .main .now) (b .args .ram .now) (b .args .key)
 
-positions-requires : tie.Need-positions-requires Inv-entries μ-entries Inv-pages μ-pages
-positions-requires c κs =
-    (c .before .before .before .before .pre .sound .some, c .before .before .before .before .pre .sound .most)
+positions-of-requires : tie.Need-positions-of-requires Inv-loop μ-loop
+positions-of-requires c κs =
+    (c .before .before .pre .sound .some, c .before .before .pre .sound .most)
 
-div-next-page : tie.Need-div-next-page Inv-entries μ-entries Inv-pages μ-pages
-div-next-page c =
-    omega (arith, c .before .before .entries-per-page .ensures, c .before .before .before .before .before .pre .sound .some)
+index-block-requires : tie.Need-index-block-requires Inv-loop μ-loop
+index-block-requires c κs = c .before .before .before .pre .sound
 
-next-page-requires : tie.Need-next-page-requires Inv-entries μ-entries Inv-pages μ-pages
-next-page-requires c κs =
-    let B = c .before .before .before .before .before in
-    let x = B .args in
-    (fewer-deletions (x .g) (x .n) (x .d) (x .main .now) (x .ram .now) (B .pre), rw (c .before .before .entries-per-page .ensures) (omega arith, c .positions .ensures .1))
+ska-ram-requires : tie.Need-ska-ram-requires Inv-loop μ-loop
+ska-ram-requires c κs = c .before .before .before .before .pre .sound
 
-pages-holds : tie.Need-pages-holds Inv-entries μ-entries Inv-pages μ-pages
-pages-holds c =
-    let B = c .before .before .before .before .before .before in
-    let x = B .args in
-    let q = rw (c .before .before .before .entries-per-page .ensures) at (c .next-page .ensures) in
-    (pages-first (gateOf (x .g) (x .n) (x .d) (x .main .now) (x .ram .now) (x .key)) (tryOf (x .g) (x .n) (x .d) (x .main .now) (x .ram .now) (x .key)) (perPage (x .g)) (x .n / perPage (x .g)) (c .next-page .result) (next-is (x .g) (x .n) (x .d) (x .main .now) (x .ram .now) (x .key) (c .before .positions .result) (c .next-page .result) (x .n / perPage (x .g)) (c .before .positions .ensures .0) q), refl)
+entries-per-page-requires : tie.Need-entries-per-page-requires Inv-loop μ-loop
+entries-per-page-requires c κs = c .before .before .before .before .before .pre .sound
 
-sub-p : tie.Need-sub-p Inv-entries μ-entries Inv-pages μ-pages
-sub-p c =
-    omega arith
+div-filters : tie.Need-div-filters Inv-loop μ-loop
+div-filters c =
+    omega (arith, c .entries-per-page .ensures, c .before .before .before .before .before .before .pre .sound .some)
 
-add-opened : tie.Need-add-opened Inv-entries μ-entries Inv-pages μ-pages
+loop-holds : tie.Need-loop-holds Inv-loop μ-loop
+loop-holds c =
+    let b = c .before .before .before .before .before .before in
+    rw (c .entries-per-page .ensures) (groups-first (gate-at b) (try-at b) (perPage (b .args .g)) (b .args .n / perPage (b .args .g)))
+
+group-below-requires : tie.Need-group-below-requires Inv-loop μ-loop
+group-below-requires c κs =
+    let l = c .before in
+    let E = l .before in
+    let P = E .before .before .before in
+    let b = P .before .before .before in
+    let x = b .args in
+    let R = b .pre in
+    rw (E .entries-per-page .ensures, E .before .ska-ram .ensures, E .before .before .index-block .ensures) (
+      (
+        (fullSets (shape (x .g)), sets-le (x .g) (x .n) (x .d) (x .main .now) (x .ram .now) R, index-fits (x .g) (x .n) (x .d) (x .main .now) (x .ram .now) R),
+        omega (arith, pages-few (x .g) (x .n) (x .d) (x .main .now) (x .ram .now) R),
+        omega arith,
+        l .loop .inv .low,
+      ),
+      (omega arith, omega arith, P .positions-of .ensures .1),
+    )
+
+-- the group, as the volume has it
+group-at : (c : tie.After-group-below Inv-loop μ-loop)
+    → let l = c .before .before in let x = l .before .before .before .before .before .before .before .args in
+    GroupAt (x .g .unit) (keyIndex (shape (x .g))) (x .main .now) (x .ram .now) (x .n / perPage (x .g)) (l .loop .below) (keyPositions fnvFamily (shape (x .g)) (x .key)) (c .group-below .result)
+group-at c =
+    let E = c .before .before .before in
+    rw (E .entries-per-page .ensures, E .before .ska-ram .ensures, E .before .before .index-block .ensures, E .before .before .before .positions-of .ensures .0) at (c .group-below .ensures)
+
+in-group-requires : tie.Need-in-group-requires Inv-loop μ-loop
+in-group-requires c κs =
+    let l = c .before .before in
+    (l .before .before .before .before .before .before .before .pre, (l .loop .inv .low, group-at c))
+
+add-opened : tie.Need-add-opened Inv-loop μ-loop
 add-opened c =
-    let B = c .before .before .before .before .before .before .before .before in
-    let x = B .args in
-    let R = B .pre in
-    let G = c .before .pages in
-    omega (arith, G .inv .0 .few, pages-few (x .g) (x .n) (x .d) (x .main .now) (x .ram .now) R)
+    let r = c .before in
+    let l = r .before .before .before in
+    let b = l .before .before .before .before .before .before .before in
+    let x = b .args in
+    omega (arith, groups-few (gate-at b) (try-at b) (perPage (x .g)) (x .n / perPage (x .g)) (l .loop .opened) (l .loop .below) (l .loop .inv) (r .before .group-below .result .start) (r .in-group .result .opened) (stopOf (r .in-group .result .stop)) (r .in-group .ensures), pages-few (x .g) (x .n) (x .d) (x .main .now) (x .ram .now) (b .pre))
 
-page-start-requires : tie.Need-page-start-requires Inv-entries μ-entries Inv-pages μ-pages
-page-start-requires c κs =
-    let B = c .before .before .before .before .before .before .before .before in
-    let x = B .args in
-    let R = B .pre in
-    let G = c .before .pages in
-    (R .sound, omega (arith, G .inv .0 .few, pages-few (x .g) (x .n) (x .d) (x .main .now) (x .ram .now) R))
+enum-told : tie.Need-enum-told Inv-loop μ-loop
+enum-told c = search needs
 
-find-entry-requires : tie.Need-find-entry-requires Inv-entries μ-entries Inv-pages μ-pages
-find-entry-requires c κs =
-    let B = c .before .before .before .before .before .before .before .before .before in
-    let x = B .args in
-    let R = B .pre in
-    let G = c .before .before .pages in
-    omega (arith, c .before .before .before .before .before .before .entries-per-page .ensures, c .page-start .ensures, page-in (x .g) (x .n) (x .d) (x .main .now) (x .ram .now) R (G .c - 1) (omega (arith, G .inv .0 .few)))
+enum-known-s : tie.Need-enum-known-s Inv-loop μ-loop
+enum-known-s c = search needs
 
-entries-holds : tie.Need-entries-holds Inv-entries μ-entries Inv-pages μ-pages
-entries-holds c =
-    let B = c .before .before .before .before .before .before .before .before .before .before in
-    let x = B .args in
-    let G = c .before .before .before .pages in
-    let Q = c .before .before .before .before .before .before .before .entries-per-page in
-    let T = c .before .page-start in
-    let S = same-flash (x .g) (x .n) (x .d) (x .main .now) (x .ram .now) (x .key) (G .c - 1) (T .result) (omega (arith, G .inv .0 .few)) (T .ensures) in
-    (left-first (x .main .now) (T .result) (perPage (x .g)) (x .n) (x .key) (deletedOf (x .g) (x .n) (x .d) (x .main .now) (x .ram .now)) (tryOf (x .g) (x .n) (x .d) (x .main .now) (x .ram .now) (x .key)) ((G .c - 1) * perPage (x .g)) S (c .find-entry .result) (rw (Q .ensures) at (c .find-entry .ensures)), G .inv .1)
-
-sub-k : tie.Need-sub-k Inv-entries μ-entries Inv-pages μ-pages
-sub-k c =
-    omega arith
-
-number-at-requires : tie.Need-number-at-requires Inv-entries μ-entries Inv-pages μ-pages
-number-at-requires c κs =
-    let B = c .before .before .before .before .before .before .before .before .before .before .before .before in
-    let x = B .args in
-    let R = B .pre in
-    let G = c .before .before .before .before .before .pages in
-    omega (arith, c .before .before .before .page-start .ensures, c .before .entries .inv .0 .le, page-in (x .g) (x .n) (x .d) (x .main .now) (x .ram .now) R (G .c - 1) (omega (arith, G .inv .0 .few)))
-
-wide-requires : tie.Need-wide-requires Inv-entries μ-entries Inv-pages μ-pages
-wide-requires c κs =
-    search needs
-
-deleted-requires : tie.Need-deleted-requires Inv-entries μ-entries Inv-pages μ-pages
-deleted-requires c κs =
-    let B = c .before .before .before .before .before .before .before .before .before .before .before .before .before .before .before in
-    let x = B .args in
-    fewer-records (x .g) (x .n) (x .d) (x .main .now) (x .ram .now) (B .pre)
-
-find-entry-requires-2 : tie.Need-find-entry-requires-2 Inv-entries μ-entries Inv-pages μ-pages
-find-entry-requires-2 c κs =
-    let B = c .before .before .before .before .before .before .before .before .before .before .before .before .before .before .before .before .before in
-    let x = B .args in
-    let R = B .pre in
-    let G = c .before .before .before .before .before .before .before .before .before .before .pages in
-    omega (arith, c .before .before .before .before .before .before .before .before .page-start .ensures, c .before .before .before .before .before .before .entries .inv .0 .le, page-in (x .g) (x .n) (x .d) (x .main .now) (x .ram .now) R (G .c - 1) (omega (arith, G .inv .0 .few)))
-
-entries-less : tie.Need-entries-less Inv-entries μ-entries Inv-pages μ-pages
-entries-less c =
-    let B = c .before .before .before .before .before .before .before .before .before .before .before .before .before .before .before .before .before .before in
-    let x = B .args in
-    let G = c .before .before .before .before .before .before .before .before .before .before .before .pages in
-    let T = c .before .before .before .before .before .before .before .before .before .page-start in
-    let S = same-flash (x .g) (x .n) (x .d) (x .main .now) (x .ram .now) (x .key) (G .c - 1) (T .result) (omega (arith, G .inv .0 .few)) (T .ensures) in
-    let l = c .before .before .before .before .before .before .before .entries in
-    let N = c .before .before .before .before .before .number-at in
-    left-less (x .main .now) (T .result) (perPage (x .g)) (x .n) (x .key) (deletedOf (x .g) (x .n) (x .d) (x .main .now) (x .ram .now)) (tryOf (x .g) (x .n) (x .d) (x .main .now) (x .ram .now) (x .key)) ((G .c - 1) * perPage (x .g)) S (l .e) (N .result) (l .inv .0) (omega arith) (N .ensures) (omega (arith, c .before .before .before .before .wide .ensures)) (c .find-entry2 .result) (c .find-entry2 .ensures)
-
-entries-again : tie.Need-entries-again Inv-entries μ-entries Inv-pages μ-pages
-entries-again c =
-    let B = c .before .before .before .before .before .before .before .before .before .before .before .before .before .before .before .before .before .before in
-    let x = B .args in
-    let G = c .before .before .before .before .before .before .before .before .before .before .before .pages in
-    let T = c .before .before .before .before .before .before .before .before .before .page-start in
-    let S = same-flash (x .g) (x .n) (x .d) (x .main .now) (x .ram .now) (x .key) (G .c - 1) (T .result) (omega (arith, G .inv .0 .few)) (T .ensures) in
-    let l = c .before .before .before .before .before .before .before .entries in
-    let N = c .before .before .before .before .before .number-at in
-    let D = c .before .before .deleted in
-    (left-next (x .main .now) (T .result) (perPage (x .g)) (x .n) (x .key) (deletedOf (x .g) (x .n) (x .d) (x .main .now) (x .ram .now)) (tryOf (x .g) (x .n) (x .d) (x .main .now) (x .ram .now) (x .key)) ((G .c - 1) * perPage (x .g)) S (l .e) (N .result) (l .inv .0) (omega arith) (N .ensures) (omega (arith, c .before .before .before .before .wide .ensures)) (c .find-entry2 .result) (sym (deleted-is (x .g) (x .n) (x .d) (x .main .now) (x .ram .now) (x .key) (N .result)) ∙ sym (D .ensures) ∙ not-false (D .result) (c .before .if2 .left)) (c .find-entry2 .ensures), l .inv .1)
-
-next-page-requires-2 : tie.Need-next-page-requires-2 Inv-entries μ-entries Inv-pages μ-pages
-next-page-requires-2 c κs =
-    let B = c .before .before .before .before .before .before .before .before .before .before .before .before in
-    let x = B .args in
-    let R = B .pre in
-    let G = c .before .before .before .before .before .pages in
-    (fewer-deletions (x .g) (x .n) (x .d) (x .main .now) (x .ram .now) R, (omega (arith, G .inv .0 .few), c .before .before .before .before .before .before .before .positions .ensures .1))
-
-pages-less : tie.Need-pages-less Inv-entries μ-entries Inv-pages μ-pages
-pages-less c =
-    let B = c .before .before .before .before .before .before .before .before .before .before .before .before .before in
-    let x = B .args in
-    let G = c .before .before .before .before .before .before .pages in
-    page-less (gateOf (x .g) (x .n) (x .d) (x .main .now) (x .ram .now) (x .key)) (tryOf (x .g) (x .n) (x .d) (x .main .now) (x .ram .now) (x .key)) (perPage (x .g)) (x .n / perPage (x .g)) (G .opened) (G .c) (G .inv .0) (omega arith) (c .next-page2 .result) (next-is (x .g) (x .n) (x .d) (x .main .now) (x .ram .now) (x .key) (c .before .before .before .before .before .before .before .before .positions .result) (c .next-page2 .result) (G .c - 1) (c .before .before .before .before .before .before .before .before .positions .ensures .0) (c .next-page2 .ensures))
-
-pages-again : tie.Need-pages-again Inv-entries μ-entries Inv-pages μ-pages
-pages-again c =
-    let B = c .before .before .before .before .before .before .before .before .before .before .before .before .before in
-    let x = B .args in
-    let G = c .before .before .before .before .before .before .pages in
-    let T = c .before .before .before .before .page-start in
-    let l = c .before .before .entries in
-    let z = left-none (x .main .now) (T .result) (x .key) (tryOf (x .g) (x .n) (x .d) (x .main .now) (x .ram .now) (x .key)) ((G .c - 1) * perPage (x .g)) (perPage (x .g)) (l .e) (l .inv .0) (omega arith) in
-    (pages-next (gateOf (x .g) (x .n) (x .d) (x .main .now) (x .ram .now) (x .key)) (tryOf (x .g) (x .n) (x .d) (x .main .now) (x .ram .now) (x .key)) (perPage (x .g)) (x .n / perPage (x .g)) (G .opened) (G .c) (G .inv .0) (omega arith) (c .next-page2 .result) z (next-is (x .g) (x .n) (x .d) (x .main .now) (x .ram .now) (x .key) (c .before .before .before .before .before .before .before .before .positions .result) (c .next-page2 .result) (G .c - 1) (c .before .before .before .before .before .before .before .before .positions .ensures .0) (c .next-page2 .ensures)), l .inv .1)
-
-returns : tie.Need-returns Inv-entries μ-entries Inv-pages μ-pages
+returns : tie.Need-returns Inv-loop μ-loop
 returns c =
-    let B = c .before .before .before .before .before .before .before .before in
-    let x = B .args in
-    let G = c .before .pages in
-    rw (G .inv .1) (sym (pages-none (gateOf (x .g) (x .n) (x .d) (x .main .now) (x .ram .now) (x .key)) (tryOf (x .g) (x .n) (x .d) (x .main .now) (x .ram .now) (x .key)) (perPage (x .g)) (x .n / perPage (x .g)) (G .opened) (G .c) (G .inv .0) (omega arith)))
+    let r = c .before .before .before .before in
+    let l = r .before .before .before in
+    let b = l .before .before .before .before .before .before .before in
+    let x = b .args in
+    let e = rw (c .before .s .given .1) at (r .in-group .ensures) in
+    sym (groups-some (gate-at b) (try-at b) (perPage (x .g)) (x .n / perPage (x .g)) (l .loop .opened) (l .loop .below) (l .loop .inv) (r .before .group-below .result .start) (r .in-group .result .opened) (found (c .before .s .given .0 .0)) e)
 
-returns-2 : tie.Need-returns-2 Inv-entries μ-entries Inv-pages μ-pages
+enum-told-2 : tie.Need-enum-told-2 Inv-loop μ-loop
+enum-told-2 c = search needs
+
+returns-2 : tie.Need-returns-2 Inv-loop μ-loop
 returns-2 c =
-    let B = c .before .before .before .before .before .before .before .before .before .before .before .before .before .before .before in
-    let x = B .args in
-    let G = c .before .before .before .before .before .before .before .before .pages in
-    let T = c .before .before .before .before .before .before .page-start in
-    let S = same-flash (x .g) (x .n) (x .d) (x .main .now) (x .ram .now) (x .key) (G .c - 1) (T .result) (omega (arith, G .inv .0 .few)) (T .ensures) in
-    let l = c .before .before .before .before .entries in
-    let N = c .before .before .number-at in
-    sym (pages-some (gateOf (x .g) (x .n) (x .d) (x .main .now) (x .ram .now) (x .key)) (tryOf (x .g) (x .n) (x .d) (x .main .now) (x .ram .now) (x .key)) (perPage (x .g)) (x .n / perPage (x .g)) (G .opened) (G .c) (G .inv .0) (omega arith) corrupt (left-corrupt (x .main .now) (T .result) (perPage (x .g)) (x .n) (x .key) (deletedOf (x .g) (x .n) (x .d) (x .main .now) (x .ram .now)) (tryOf (x .g) (x .n) (x .d) (x .main .now) (x .ram .now) (x .key)) ((G .c - 1) * perPage (x .g)) S (l .e) (N .result) (l .inv .0) (omega arith) (N .ensures) (omega (arith, c .before .wide .ensures))))
+    let r = c .before .before .before in
+    let l = r .before .before .before in
+    let b = l .before .before .before .before .before .before .before in
+    let x = b .args in
+    let e = rw (c .enum-told2 .given .1) at (r .in-group .ensures) in
+    sym (groups-some (gate-at b) (try-at b) (perPage (x .g)) (x .n / perPage (x .g)) (l .loop .opened) (l .loop .below) (l .loop .inv) (r .before .group-below .result .start) (r .in-group .result .opened) corrupt e)
 
-returns-3 : tie.Need-returns-3 Inv-entries μ-entries Inv-pages μ-pages
+loop-less : tie.Need-loop-less Inv-loop μ-loop
+loop-less c = (c .before .before .before .before .group-below .ensures .start-lt)
+
+loop-again : tie.Need-loop-again Inv-loop μ-loop
+loop-again c =
+    let r = c .before .before .before in
+    let l = r .before .before .before in
+    let b = l .before .before .before .before .before .before .before in
+    let x = b .args in
+    let e = rw (c .enum-told .given .1) at (r .in-group .ensures) in
+    groups-next (gate-at b) (try-at b) (perPage (x .g)) (x .n / perPage (x .g)) (l .loop .opened) (l .loop .below) (l .loop .inv) (r .before .group-below .result .start) (r .in-group .result .opened) e (r .before .group-below .ensures .start-lt)
+
+returns-3 : tie.Need-returns-3 Inv-loop μ-loop
 returns-3 c =
-    let B = c .before .before .before .before .before .before .before .before .before .before .before .before .before .before .before .before .before in
-    let x = B .args in
-    let G = c .before .before .before .before .before .before .before .before .before .before .pages in
-    let T = c .before .before .before .before .before .before .before .before .page-start in
-    let S = same-flash (x .g) (x .n) (x .d) (x .main .now) (x .ram .now) (x .key) (G .c - 1) (T .result) (omega (arith, G .inv .0 .few)) (T .ensures) in
-    let l = c .before .before .before .before .before .before .entries in
-    let N = c .before .before .before .before .number-at in
-    let D = c .before .deleted in
-    sym (pages-some (gateOf (x .g) (x .n) (x .d) (x .main .now) (x .ram .now) (x .key)) (tryOf (x .g) (x .n) (x .d) (x .main .now) (x .ram .now) (x .key)) (perPage (x .g)) (x .n / perPage (x .g)) (G .opened) (G .c) (G .inv .0) (c .before .before .before .before .before .before .before .before .before .pages-test .taken) (found (N .result)) (left-found (x .main .now) (T .result) (perPage (x .g)) (x .n) (x .key) (deletedOf (x .g) (x .n) (x .d) (x .main .now) (x .ram .now)) (tryOf (x .g) (x .n) (x .d) (x .main .now) (x .ram .now) (x .key)) ((G .c - 1) * perPage (x .g)) S (l .e) (N .result) (l .inv .0) (omega arith) (N .ensures) (omega (arith, c .before .before .before .wide .ensures)) (sym (deleted-is (x .g) (x .n) (x .d) (x .main .now) (x .ram .now) (x .key) (N .result)) ∙ sym (D .ensures) ∙ not-true (D .result) (c .if2 .taken))))
+    let l = c .before in
+    let b = l .before .before .before .before .before .before .before in
+    let x = b .args in
+    sym (groups-none (gate-at b) (try-at b) (perPage (x .g)) (x .n / perPage (x .g)) (l .loop .opened) (l .loop .below) (l .loop .inv) (omega arith))
 
 pub in-pages-spec : {M : Type 1} → statement M
 in-pages-spec =
     tie.close
     (tie.spec
-    Inv-entries
-    μ-entries
-    Inv-pages
-    μ-pages
+    Inv-loop
+    μ-loop
+    positions-of-requires
+    index-block-requires
+    ska-ram-requires
     entries-per-page-requires
-    cast-positions
-    positions-requires
-    div-next-page
-    next-page-requires
-    pages-holds
-    sub-p
+    div-filters
+    loop-holds
+    group-below-requires
+    in-group-requires
     add-opened
-    page-start-requires
-    find-entry-requires
-    entries-holds
-    sub-k
-    number-at-requires
-    wide-requires
-    deleted-requires
-    find-entry-requires-2
-    entries-less
-    entries-again
-    next-page-requires-2
-    pages-less
-    pages-again
+    enum-told
+    enum-known-s
     returns
+    enum-told-2
     returns-2
+    loop-less
+    loop-again
     returns-3)
