@@ -1,15 +1,15 @@
 -- Numbers that the code computes: pages, widths and places of sets.
-use mathlib.Core.Path.{_≡_, refl, sym, ap, _∙_}
-use Prim.Native.Nat.{ℕ, zero, suc, _+_, _-_, _*_, _/_, _%_, _^_, _≤_, _<_}
+use mathlib.Core.Path.{_≡_, refl}
+use Prim.Native.Nat.{ℕ, zero, suc, _+_, _-_, _*_, _/_, _%_, _≤_, _<_}
 use native.Mathlib.Nat.{mul-le-mul-right, mul-le-mul-left, div-mul-le-self, le-div-iff-mul-le}
 use native.Mathlib.Omega.{arith}
-use lib.Pow.{pow-pos, pow-mono}
+use lib.Pow.{pow-mono}
 use Rattle.memory.specs.Power.{log2up}
 use Rattle.memory.specs.Numbers.{euclid}
 use Rattle.layout.specs.Index.{Index, setPages, setWidth, sideBlock}
 use Rattle.partition.specs.Indexes.{Unit?}
 use Rattle.partition.specs.Sources.{sourceOf, rowOf}
-use Rattle.partition.specs.declared.Source.{Source}
+use Rattle.fields.specs.declared.Source.{Source}
 use Rattle.partition.specs.declared.Row.{Row}
 use Rattle.partition.specs.Widths.{unit-pos, width-is, width-pos, blocks-fit, old-whole, sector-whole}
 use Rattle.partition.specs.Reach.{unit-small}

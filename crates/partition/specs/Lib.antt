@@ -5,4 +5,3 @@ pub mod Apart
 pub mod Sources
 pub mod Reach
 pub mod Programs
-pub mod Halves

@@ -8,29 +8,12 @@ use Rattle.memory.specs.Cases.{lt?, either}
 use Rattle.memory.specs.Numbers.{div-lt}
 use Rattle.memory.specs.Power.{log2up}
 use Rattle.layout.specs.Geometry.{block}
-use Rattle.layout.specs.Index.{Index, setPages, setWidth, sideBlock, fullBlock}
-use Rattle.partition.specs.declared.Source.{Source}
+use Rattle.layout.specs.Index.{Index, setPages, setWidth, fullBlock}
+use Rattle.fields.specs.Sources.{Aligned, Reaches}
 use Rattle.partition.specs.declared.Row.{Row}
 use Rattle.partition.specs.Widths.{unit-pos, width-is, width-pos, set-whole, blocks-fit, filters-fit, old-whole, sector-whole}
 use Rattle.partition.specs.Apart.{side-range}
 use Rattle.partition.specs.Sources.{oldOf, l1Of, rowOf, pages-pos, field-room}
-
--- fields are whole multiples of w, a power of two, and so are their first bits
-pub record Aligned (s : Source) (w : ℕ) : Type 0 where
-  pub k : ℕ
-  pub small : k < 8
-  pub w-is : w ≡ 2 ^ k
-  pub steps : ℕ
-  pub step-is : s .step ≡ steps * w
-  pub lows : ℕ
-  pub low-is : s .low ≡ lows * w
-  pub room : s .low + w ≤ s .step
-
--- the last bit of byte y is there
-pub record Reaches (len : ℕ) (s : Source) (w y : ℕ) : Type 0 where
-  pub short : y < 2048
-  pub few : (y * 8 + 7) / w * s .step + (s .low + w) ≤ 65536
-  pub inside : s .at * 8 + ((y * 8 + 7) / w * s .step + (s .low + w)) ≤ len * 8
 
 pub record RowFits (len : ℕ) (r : Row) : Type 0 where
   pub order : r .split ≤ r .end

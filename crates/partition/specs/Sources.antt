@@ -1,6 +1,6 @@
 -- A page of the next set by its bytes: fields of bits out of the old set, then out of L1, then zeros.
-use mathlib.Core.Path.{_≡_, refl, sym, ap, _∙_}
-use mathlib.Core.Bool.{Bool, true, false, _&&_, cond}
+use mathlib.Core.Path.{_≡_, refl, ap, _∙_}
+use mathlib.Core.Bool.{Bool, false, cond}
 use mathlib.Core.List.{List, []}
 use Prim.Native.Nat.{ℕ, zero, suc, _+_, _-_, _*_, _/_, _%_, _^_, _≤_, _<_}
 use native.Mathlib.Nat.{mul-le-mul-right, mod-lt, le-div-iff-mul-le}
@@ -13,19 +13,12 @@ use Rattle.memory.specs.Numbers.{euclid, div-of, mod-of, div-lt}
 use Rattle.memory.specs.Bits.{bit, pack}
 use Rattle.layout.specs.Geometry.{sector, page, block}
 use Rattle.layout.specs.Index.{Index, rowBit, rowByte, bitAt, setWidth, fullFilters, sideBlock, flashPlace, setByte}
-use Rattle.partition.specs.declared.Source.{Source}
+use Rattle.fields.specs.declared.Source.{Source}
+use Rattle.fields.specs.Laws.{pack-ext}
+use Rattle.fields.specs.Sources.{bitFrom, fieldByte}
 use Rattle.partition.specs.declared.Row.{Row}
-use Rattle.partition.specs.Rows.{pack-ext}
 use Rattle.partition.specs.Widths.{unit-pos, width-pos, old-whole, sector-whole}
 use Rattle.partition.specs.Apart.{place-old, place-new}
-
--- bit q of the row from byte `at` on
-abbrev pub bitFrom : List ℕ → ℕ → ℕ → Bool
-bitFrom main at q = bit (getD main (at + q / 8) 0) (q % 8)
-
--- byte y of a row that takes w bits of each field of a source, one field after another
-unfoldable pub fieldByte : List ℕ → Source → ℕ → ℕ → ℕ
-fieldByte main s w y = pack 8 (λ b. bitFrom main (s .at) ((y * 8 + b) / w * s .step + (s .low + (y * 8 + b) % w)))
 
 -- byte y of a page
 unfoldable pub pageByte : List ℕ → Row → ℕ → ℕ

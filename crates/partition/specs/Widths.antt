@@ -1,20 +1,13 @@
 -- Pages and widths of partition sets, all powers of two.
-use mathlib.Core.Path.{_≡_, sym, ap, _∙_}
-use Prim.Native.Nat.{ℕ, _+_, _-_, _*_, _/_, _%_, _^_, _≤_, _<_}
+use mathlib.Core.Path.{_≡_, sym, _∙_}
+use Prim.Native.Nat.{ℕ, _+_, _-_, _*_, _/_, _^_, _≤_, _<_}
 use native.Mathlib.Nat.{mul-le-mul-right}
 use native.Mathlib.Omega.{arith}
 use lib.Pow.{pow-pos, pow-add}
-use Rattle.memory.specs.Numbers.{euclid, div-of, div-lt}
+use Rattle.memory.specs.Numbers.{div-of}
 use Rattle.memory.specs.Power.{log2up, log2up-enough, log2up-least, width}
 use Rattle.layout.specs.Index.{setPages, setWidth}
-
--- a power of two is a multiple of a smaller one
-pub pow-whole : (a b : ℕ) → b ≤ a → 2 ^ a / 2 ^ b * 2 ^ b ≡ 2 ^ a
-pow-whole a b h =
-    let s : a - b + b ≡ a = omega arith in
-    let p : 2 ^ a ≡ 2 ^ (a - b) * 2 ^ b = ap (λ (n : ℕ). 2 ^ n) (sym s) ∙ pow-add 2 (a - b) b in
-    let d : 2 ^ a / 2 ^ b ≡ 2 ^ (a - b) = div-of (2 ^ a) (2 ^ b) (2 ^ (a - b)) 0 (omega arith) (pow-pos b) in
-    rw d (sym p)
+use Rattle.fields.specs.Laws.{pow-whole}
 
 -- more rounds want no smaller power of two
 pub log2up-next : (c : ℕ) → log2up c ≤ log2up (c + 1)
@@ -23,11 +16,6 @@ log2up-next c = log2up-least c (log2up (c + 1)) (omega (arith, log2up-enough (c 
 module _ (u e : ℕ) (pow : u ≡ 2 ^ e) where
   pub unit-pos : 0 < u
   unit-pos = rw pow (pow-pos e)
-
-  pub log-fits : (c : ℕ) → c ≤ 4 * u → log2up c ≤ e + 2
-  log-fits c h =
-      let four : 2 ^ (e + 2) ≡ 4 * 2 ^ e = pow-add 2 e 2 ∙ omega arith in
-      log2up-least c (e + 2) (omega arith)
 
   pub width-is : (c : ℕ) → c ≤ 4 * u → setWidth u c ≡ 2 ^ (e + 2 - log2up c)
   width-is c h =

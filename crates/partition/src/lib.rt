@@ -1,6 +1,6 @@
 // Partition sets: the next set out of L1 and the set before it. Document 01, "Filters".
 ghost use mathlib.Core.Path.{_≡_};
-ghost use Prim.Native.Nat.{ℕ, _+_, _*_, _<_, _≤_};
+ghost use Prim.Native.Nat.{ℕ, _+_, _-_, _*_, _<_, _≤_, min};
 ghost use lib.ListN.{length};
 ghost use Rattle.memory.specs.Lists.{tab};
 ghost use Rattle.layout.specs.Geometry.{sector, block};
@@ -8,18 +8,10 @@ ghost use Rattle.layout.specs.Flash.{flashOf, applyAll, programs};
 ghost use Rattle.layout.specs.Index.{setPages, fullBlock, setByte, setBlock};
 ghost use Rattle.sets.specs.Indexes.{indexOf};
 ghost use Rattle.partition.specs.Indexes.{Unit?, SetFits};
-ghost use Rattle.partition.specs.Sources.{fieldByte, pageByte, sourceOf, rowOf};
-ghost use Rattle.partition.specs.Halves.{Narrow, Half};
-ghost use Rattle.partition.specs.Reach.{Aligned, Reaches, RowFits};
+ghost use Rattle.partition.specs.Sources.{pageByte, sourceOf, rowOf};
+ghost use Rattle.partition.specs.Reach.{RowFits};
+use fields::Source;
 use sets::Index;
-
-// Fields of bits in a row of flash: the row's first byte, bits from a field to the next, first bit
-// taken of each.
-pub struct Source {
-    pub at: usize,
-    pub step: usize,
-    pub low: usize,
-}
 
 // What a page of the next set is made of: w bits of each filter, below byte `split` of the old
 // set, from there to `end` of L1.
@@ -29,12 +21,6 @@ pub struct Row {
     pub end: usize,
     pub old: Source,
     pub l1: Source,
-}
-
-fn wide(x: u8) -> u32
-    ensures { λ r. ⌜ (r ≡ x) × (r < 256) ⌝ }
-{
-    x as u32
 }
 
 // Where page p takes its w bits of a field from: fields of v bits, in rows `gap` bytes apart from
@@ -71,130 +57,45 @@ fn row_of(unit: usize, ix: Index, c: usize, p: usize) -> Row
     }
 }
 
-// Byte y where a field has whole bytes: it is one of them.
-fn wide_byte(main: &[u8], s: Source, w: usize, y: usize) -> u8
-    requires { ⌜ Aligned s w × Reaches (length (now main)) s w y × (8 ≤ w) ⌝ }
-    ensures { λ r. ⌜ r ≡ fieldByte (now (main .entry)) s w y ⌝ }
+// How many of n bytes from byte y on lie below byte e.
+fn below(e: usize, y: usize, n: usize) -> usize
+    ensures { λ r. ⌜ r ≡ min n (e - y) ⌝ }
 {
-    let n = w / 8;
-    let a = s.at + (y / n * (s.step / 8) + (s.low / 8 + y % n));
-    main[a]
+    if e <= y {
+        return 0;
+    }
+    if e - y < n {
+        return e - y;
+    }
+    n
 }
 
-// Byte y where a byte has whole fields: they are put together, the last one first.
-fn narrow_byte(main: &[u8], s: Source, w: usize, y: usize) -> u8
-    requires { ⌜ Aligned s w × Reaches (length (now main)) s w y × (w < 8) ⌝ }
-    ensures { λ r. ⌜ r ≡ fieldByte (now (main .entry)) s w y ⌝ }
+// How far byte y lies behind byte e; 0 where it lies before it.
+fn behind(y: usize, e: usize) -> usize
+    ensures { λ r. ⌜ r ≡ y - e ⌝ }
 {
-    let at = s.at;
-    let step = s.step;
-    let low = s.low;
-    let per = 8 / w;
-    let m = (1u32 << w) - 1;
-    let mut acc: u32 = 0;
-    let mut k = per;
-    while k > 0 {
-        k -= 1;
-        let q = (y * per + k) * step + low;
-        let a = at + q / 8;
-        let x = (wide(main[a]) >> (q % 8)) & m;
-        acc = (acc << w) + x;
+    if y <= e {
+        return 0;
     }
-    acc as u8
+    y - e
 }
 
-// The even fields of w bits of a byte, put together.
-fn even_fields(x: u8, w: usize) -> u8
-    requires { ⌜ Narrow w ⌝ }
-    ensures { λ r. ⌜ Half w x r ⌝ }
-{
-    if w == 1 {
-        let a = x & 0x55;
-        let b = (a | (a >> 1)) & 0x33;
-        return (b | (b >> 2)) & 0x0f;
-    }
-    if w == 2 {
-        let a = x & 0x33;
-        return (a | (a >> 2)) & 0x0f;
-    }
-    x & 0x0f
-}
-
-// Byte y where every other field is taken and a byte has whole fields: two bytes make one.
-fn halved_byte(main: &[u8], s: Source, w: usize, y: usize) -> u8
-    requires { ⌜ Aligned s w × Reaches (length (now main)) s w y × (w < 8) × (s .step ≡ 2 * w) ⌝ }
-    ensures { λ r. ⌜ r ≡ fieldByte (now (main .entry)) s w y ⌝ }
-{
-    let a = s.at + 2 * y;
-    let low = s.low;
-    let lo = even_fields(main[a] >> low, w);
-    let hi = even_fields(main[a + 1] >> low, w);
-    hi * 16 + lo
-}
-
-// Byte y of the fields of a source.
-fn field_byte(main: &[u8], s: Source, w: usize, y: usize) -> u8
-    requires { ⌜ Aligned s w × Reaches (length (now main)) s w y ⌝ }
-    ensures { λ r. ⌜ r ≡ fieldByte (now (main .entry)) s w y ⌝ }
-{
-    if s.step == w {
-        let a = s.at + y;
-        return main[a];
-    }
-    if w >= 8 {
-        return wide_byte(main, s, w, y);
-    }
-    if s.step == 2 * w {
-        return halved_byte(main, s, w, y);
-    }
-    narrow_byte(main, s, w, y)
-}
-
-// Byte y of a page of the next set.
-fn page_byte(main: &[u8], r: Row, y: usize) -> u8
-    requires { ⌜ RowFits (length (now main)) r ⌝ }
-    ensures { λ b. ⌜ b ≡ pageByte (now (main .entry)) r y ⌝ }
-{
-    let w = r.w;
-    let split = r.split;
-    if y < split {
-        let old = r.old;
-        return field_byte(main, old, w, y);
-    }
-    if y < r.end {
-        let l1 = r.l1;
-        return field_byte(main, l1, w, y - split);
-    }
-    0
-}
-
-// Bytes of a page of the next set from byte y on: zeros behind the filters, the old set's bytes
-// where its fields are as wide, else byte by byte.
+// Bytes of a page of the next set from byte y on: the old set's, then L1's, then zeros behind the
+// filters.
 fn page_bytes(main: &[u8], r: Row, y: usize, out: &mut [u8])
     requires { ⌜ RowFits (length (now main)) r × (y ≤ 2048) × (0 < length (now out)) × (length (now out) ≤ 2048) ⌝ }
     ensures { λ _. ⌜ now (out .exit) ≡ tab (length (now (out .entry))) (λ (i : ℕ). pageByte (now (main .entry)) r (y + i)) ⌝ }
 {
-    let end = r.end;
-    if y >= end {
-        words::fill(out, 0);
-        return;
-    }
-    let split = r.split;
+    let w = r.w;
     let old = r.old;
-    let e = y + out.len();
-    if old.step == r.w {
-        if e <= split {
-            let a = old.at + y;
-            let b = a + out.len();
-            words::copy(out, &main[a..b]);
-            return;
-        }
-    }
-    let mut i = 0;
-    while i < out.len() {
-        out[i] = page_byte(main, r, y + i);
-        i += 1;
-    }
+    let l1 = r.l1;
+    let n = out.len();
+    let a = below(r.split, y, n);
+    let b = below(r.end, y, n);
+    let from = behind(y, r.split);
+    fields::field_run(main, old, w, y, &mut out[0..a]);
+    fields::field_run(main, l1, w, from, &mut out[a..b]);
+    words::fill(&mut out[b..n], 0);
 }
 
 // Sector j of the set that c rounds and L1 make, with z full sets.

@@ -1,154 +1,119 @@
-use Prim.Native.Nat.{ℕ, _+_, _-_, _≤_, _<_}
-use mathlib.Core.Path.{_≡_, refl, ap, sym, _∙_}
-use lib.ListN.{length, length-set, length-replicate, length-take, length-drop, getD}
 use native.Mathlib.Omega.{arith}
-use Prim.Native.Nat.{ℕ, _+_, _-_, _≤_}
-use mathlib.Core.Path.{_≡_, refl, _∙_}
-use lib.ListN.{length, length-set}
+use Prim.Native.Nat.{_-_}
+use mathlib.Core.Path.{refl}
+use lib.ListN.{length}
+use Rattle.fields.specs.Lists.{take-lt}
+use Rattle.partition.proofs.Pages.{Cuts, order, old-run, l1-run, made}
 use borrow.Author.Needs.{needs}
-use Rattle.partition.specs.Sources.{pageByte}
-use Rattle.partition.proofs.Pages.{zeros, copy-inside, copies, Done, done-more, done-all}
 use Rattle.partition.proofs.page_bytes.Statement.{statement}
 use Rattle.partition.proofs.page_bytes.Tie as tie
 use Rattle.partition.proofs.page_bytes.Reads as reads
 use Rattle.partition.proofs.page_bytes.Lts as lts
-use Rattle.partition.proofs.page_byte.Reads as page-byte-reads
-use Rattle.words.proofs.copy.Reads as copy-reads
+use Rattle.fields.proofs.field_run.Reads as field-run-reads
+use Rattle.partition.proofs.behind.Reads as behind-reads
+use Rattle.partition.proofs.below.Reads as below-reads
 use Rattle.words.proofs.fill.Reads as fill-reads
 
-abbrev Inv-loop : tie.InvT-loop
-Inv-loop main r y out₀ end split e i₀ out i = (i ≤ length out₀) × (length out ≡ length out₀) × Done (λ (k : ℕ). pageByte main r (y + k)) out i
+cuts : (c : tie.After-behind)
+    → Cuts (c .before .before .before .before .before .before .before .args .r) (c .before .before .before .before .before .before .before .args .y) (length (c .before .before .before .before .before .before .before .args .out .now))
+    (c .before .before .below .result) (c .before .below2 .result) (c .behind .result)
+cuts c = record { a-is = c .before .before .below .ensures; b-is = c .before .below2 .ensures; from-is = c .behind .ensures }
 
-abbrev μ-loop : tie.MeasureT-loop
-μ-loop main r y out₀ end split e i₀ out i = length out₀ - i
+below-requires : tie.Need-below-requires
+below-requires c κs = search needs
 
-fill-requires : tie.Need-fill-requires Inv-loop μ-loop
+below-requires-2 : tie.Need-below-requires-2
+below-requires-2 c κs = search needs
+
+behind-requires : tie.Need-behind-requires
+behind-requires c κs = search needs
+
+sub-field-run : tie.Need-sub-field-run
+sub-field-run c = search needs
+
+part-field-run-start : tie.Need-part-field-run-start
+part-field-run-start c = search needs
+
+part-field-run-end : tie.Need-part-field-run-end
+part-field-run-end c = search needs
+
+field-run-requires : tie.Need-field-run-requires
+field-run-requires c κs =
+    let b = c .before in
+    let x = b .before .before .before .before .before .before .before in (
+      x .pre .0 .old-aligned,
+      λ i h.
+          old-run (x .args .main .now) (x .args .r) (x .args .y) (length (x .args .out .now)) (b .before .before .below .result) (b .before .below2 .result) (b .behind .result) (x .pre .0) (cuts b) i
+          (let t = take-lt (x .args .out .now) (b .before .before .below .result - 0) i h in omega arith),
+    )
+
+sub-field-run-2 : tie.Need-sub-field-run-2
+sub-field-run-2 c = search needs
+
+part-field-run-start-2 : tie.Need-part-field-run-start-2
+part-field-run-start-2 c = search needs
+
+part-field-run-end-2 : tie.Need-part-field-run-end-2
+part-field-run-end-2 c = search needs
+
+field-run-requires-2 : tie.Need-field-run-requires-2
+field-run-requires-2 c κs =
+    let b = c .before .before .before .before .before in
+    let x = b .before .before .before .before .before .before .before in (
+      x .pre .0 .l1-aligned,
+      λ i h.
+          l1-run (x .args .main .now) (x .args .r) (x .args .y) (length (x .args .out .now)) (b .before .before .below .result) (b .before .below2 .result) (b .behind .result) (x .pre .0) (cuts b) i
+          (take-lt _ (b .before .below2 .result - b .before .before .below .result) i h),
+    )
+
+sub-fill : tie.Need-sub-fill
+sub-fill c =
+    let b = c .before .before .before .before .before .before .before .before in
+    let x = b .before .before .before .before .before .before .before in
+    order (x .args .main .now) (x .args .r) (x .args .y) (length (x .args .out .now)) (b .before .before .below .result) (b .before .below2 .result) (b .behind .result) (x .pre .0) (cuts b) .1
+
+part-fill-start : tie.Need-part-fill-start
+part-fill-start c =
+    let b = c .before .before .before .before .before .before .before .before in
+    let x = b .before .before .before .before .before .before .before in
+    let o = order (x .args .main .now) (x .args .r) (x .args .y) (length (x .args .out .now)) (b .before .before .below .result) (b .before .below2 .result) (b .behind .result) (x .pre .0) (cuts b) .1 in
+    omega (arith, o)
+
+part-fill-end : tie.Need-part-fill-end
+part-fill-end c = search needs
+
+fill-requires : tie.Need-fill-requires
 fill-requires c κs = search needs
 
-same-length : tie.Need-same-length Inv-loop μ-loop
+same-length : tie.Need-same-length
 same-length c = search needs
 
-returns : tie.Need-returns Inv-loop μ-loop
+returns : tie.Need-returns
 returns c =
-    let x = c .before .before .before .before .before .before .before in
-    c .before .before .fill .ensures ∙ zeros (x .args .main .now) (x .args .r) (x .args .y) (x .pre .0) (length (x .args .out .now)) (omega arith)
-
-add-e : tie.Need-add-e Inv-loop μ-loop
-add-e c = omega arith
-
-add-a : tie.Need-add-a Inv-loop μ-loop
-add-a c =
-    let x = c .before .before .before .before .before .before .before .before .before in
-    let n = length (x .args .out .now) in
-    let same : x .args .r .old .step ≡ x .args .r .w = omega arith in
-    let inside = copy-inside (x .args .main .now) (x .args .r) (x .args .y) (x .pre .0) n same (omega arith) (x .pre .2) in
-    omega (arith, inside)
-
-add-b : tie.Need-add-b Inv-loop μ-loop
-add-b c =
-    let x = c .before .before .before .before .before .before .before .before .before in
-    let n = length (x .args .out .now) in
-    let same : x .args .r .old .step ≡ x .args .r .w = omega arith in
-    let inside = copy-inside (x .args .main .now) (x .args .r) (x .args .y) (x .pre .0) n same (omega arith) (x .pre .2) in
-    omega (arith, inside)
-
-sub-copy : tie.Need-sub-copy Inv-loop μ-loop
-sub-copy c = omega arith
-
-part-copy-start : tie.Need-part-copy-start Inv-loop μ-loop
-part-copy-start c =
-    let x = c .before .before .before .before .before .before .before .before .before .before in
-    let n = length (x .args .out .now) in
-    let same : x .args .r .old .step ≡ x .args .r .w = omega arith in
-    let inside = copy-inside (x .args .main .now) (x .args .r) (x .args .y) (x .pre .0) n same (omega arith) (x .pre .2) in
-    omega (arith, inside)
-
-part-copy-end : tie.Need-part-copy-end Inv-loop μ-loop
-part-copy-end c =
-    let x = c .before .before .before .before .before .before .before .before .before .before in
-    let n = length (x .args .out .now) in
-    let same : x .args .r .old .step ≡ x .args .r .w = omega arith in
-    let inside = copy-inside (x .args .main .now) (x .args .r) (x .args .y) (x .pre .0) n same (omega arith) (x .pre .2) in
-    omega (arith, inside)
-
-copy-requires : tie.Need-copy-requires Inv-loop μ-loop
-copy-requires c κs =
-    let x = c .before .before .before .before .before .before .before .before .before .before .before in
-    let n = length (x .args .out .now) in
-    let same : x .args .r .old .step ≡ x .args .r .w = omega arith in
-    let inside = copy-inside (x .args .main .now) (x .args .r) (x .args .y) (x .pre .0) n same (omega arith) (x .pre .2) in
-    simp (length-take, length-drop) (omega (arith, inside))
-
-same-length-2 : tie.Need-same-length-2 Inv-loop μ-loop
-same-length-2 c = search needs
-
-returns-2 : tie.Need-returns-2 Inv-loop μ-loop
-returns-2 c =
-    let x = c .before .before .before .before .before .before .before .before .before .before .before .before .before .before in
-    let n = length (x .args .out .now) in
-    let same : x .args .r .old .step ≡ x .args .r .w = omega arith in
-    let small : (i : ℕ) → getD (x .args .main .now) i 0 < 256 = λ i. omega (arith, c .before .before .before .before .before .before .before .before .before .before .before .before .before .shared-slice-known .given i) in
-    c .before .before .copy .ensures ∙ copies (x .args .main .now) (x .args .r) (x .args .y) (x .pre .0) n same (omega arith) (x .pre .2) small
-
-loop-holds : tie.Need-loop-holds Inv-loop μ-loop
-loop-holds c = (omega arith, refl, λ k h. absurd (omega arith))
-
-add-page-byte : tie.Need-add-page-byte Inv-loop μ-loop
-add-page-byte c = omega arith
-
-page-byte-requires : tie.Need-page-byte-requires Inv-loop μ-loop
-page-byte-requires c κs = c .before .before .before .before .before .before .before .before .before .pre .0
-
-slice-write-out : tie.Need-slice-write-out Inv-loop μ-loop
-slice-write-out c = omega arith
-
-add-i : tie.Need-add-i Inv-loop μ-loop
-add-i c = omega arith
-
-loop-less : tie.Need-loop-less Inv-loop μ-loop
-loop-less c = omega arith
-
-loop-again : tie.Need-loop-again Inv-loop μ-loop
-loop-again c =
-    let x = c .before .before .before .before .before .before .before .before .before .before in
-    let l = c .before .before .loop in
-    let f : ℕ → ℕ = λ k. pageByte (x .args .main .now) (x .args .r) (x .args .y + k) in
-    (omega arith, simp length-set (l .inv .1), done-more f (l .out) (l .i) (c .page-byte .result) (omega arith) (l .inv .2) (c .page-byte .ensures))
-
-same-length-3 : tie.Need-same-length-3 Inv-loop μ-loop
-same-length-3 c = omega arith
-
-returns-3 : tie.Need-returns-3 Inv-loop μ-loop
-returns-3 c =
-    let x = c .before .before .before .before .before .before .before .before .before in
-    let l = c .before .loop in
-    let f : ℕ → ℕ = λ k. pageByte (x .args .main .now) (x .args .r) (x .args .y + k) in
-    done-all f (l .out) (length (x .args .out .now)) (l .i) (l .inv .1) (omega arith) (l .inv .2)
+    let b = c .before .before .before .before .before .before .before .before .before .before .before .before in
+    let x = b .before .before .before .before .before .before .before in
+    made (x .args .main .now) (x .args .r) (x .args .y) (length (x .args .out .now)) (b .before .before .below .result) (b .before .below2 .result) (b .behind .result) (x .pre .0) (cuts b)
+    (x .args .out .now) (c .before .before .before .before .before .before .before .before .before .before .field-run .last .1 .1 .1 .1 .0) (c .before .before .before .before .before .before .field-run2 .last .1 .1 .1 .1 .0) (c .before .before .fill .last .0) refl
+    (c .before .before .before .before .before .before .before .before .before .before .field-run .ensures) (c .before .before .before .before .before .before .field-run2 .ensures) (c .before .before .fill .ensures)
 
 pub page-bytes-spec : {M : Type 1} → statement M
 page-bytes-spec =
     tie.close
     (tie.spec
-    Inv-loop
-    μ-loop
+    below-requires
+    below-requires-2
+    behind-requires
+    sub-field-run
+    part-field-run-start
+    part-field-run-end
+    field-run-requires
+    sub-field-run-2
+    part-field-run-start-2
+    part-field-run-end-2
+    field-run-requires-2
+    sub-fill
+    part-fill-start
+    part-fill-end
     fill-requires
     same-length
-    returns
-    add-e
-    add-a
-    add-b
-    sub-copy
-    part-copy-start
-    part-copy-end
-    copy-requires
-    same-length-2
-    returns-2
-    loop-holds
-    add-page-byte
-    page-byte-requires
-    slice-write-out
-    add-i
-    loop-less
-    loop-again
-    same-length-3
-    returns-3)
+    returns)

@@ -1,12 +1,11 @@
 use native.Mathlib.Omega.{arith}
 use mathlib.Core.Path.{_≡_}
-use mathlib.Core.Logic.{_⊎_}
 use Rattle.memory.specs.Cases.{either}
-use Rattle.partition.proofs.Halving.{half1, half2, half4}
-use Rattle.partition.proofs.even_fields.Statement.{statement}
-use Rattle.partition.proofs.even_fields.Tie as tie
-use Rattle.partition.proofs.even_fields.Reads as reads
-use Rattle.partition.proofs.even_fields.Lts as lts
+use Rattle.fields.proofs.Halving.{half1, half2, half4}
+use Rattle.fields.proofs.even_fields.Statement.{statement}
+use Rattle.fields.proofs.even_fields.Tie as tie
+use Rattle.fields.proofs.even_fields.Reads as reads
+use Rattle.fields.proofs.even_fields.Lts as lts
 
 returns : tie.Need-returns
 returns c = rw (c .if1 .taken) (half1 (c .before .args .x) (omega arith))

@@ -1,12 +1,12 @@
 use native.Mathlib.Omega.{arith}
 use lib.ListN.{length}
-use Rattle.partition.proofs.Halving.{narrow, low-le, both-inside, halved-is}
+use Rattle.fields.proofs.Halving.{narrow, both-inside, halved-is}
 use borrow.Author.Needs.{needs}
-use Rattle.partition.proofs.halved_byte.Statement.{statement}
-use Rattle.partition.proofs.halved_byte.Tie as tie
-use Rattle.partition.proofs.halved_byte.Reads as reads
-use Rattle.partition.proofs.halved_byte.Lts as lts
-use Rattle.partition.proofs.even_fields.Reads as even-fields-reads
+use Rattle.fields.proofs.halved_byte.Statement.{statement}
+use Rattle.fields.proofs.halved_byte.Tie as tie
+use Rattle.fields.proofs.halved_byte.Reads as reads
+use Rattle.fields.proofs.halved_byte.Lts as lts
+use Rattle.fields.proofs.even_fields.Reads as even-fields-reads
 
 mul-a : tie.Need-mul-a
 mul-a c = search needs
@@ -17,7 +17,7 @@ add-a c = search needs
 shared-slice-read-even-fields : tie.Need-shared-slice-read-even-fields
 shared-slice-read-even-fields c =
     let x = c .before .before .before in
-    omega (arith, both-inside (x .args .main .now) (x .args .s) (x .args .w) (x .args .y) (x .pre .0) (x .pre .2) (x .pre .3) (length (x .args .main .now)) (x .pre .1))
+    omega (arith, both-inside (x .args .bytes .now) (x .args .s) (x .args .w) (x .args .y) (x .pre .0) (x .pre .2) (x .pre .3) (length (x .args .bytes .now)) (x .pre .1))
 
 cast-even-fields : tie.Need-cast-even-fields
 cast-even-fields c = search needs
@@ -28,7 +28,7 @@ shr-even-fields c = search needs
 even-fields-requires : tie.Need-even-fields-requires
 even-fields-requires c κs =
     let x = c .before .before .before in
-    narrow (x .args .main .now) (x .args .s) (x .args .w) (x .args .y) (x .pre .0) (x .pre .2) (x .pre .3)
+    narrow (x .args .bytes .now) (x .args .s) (x .args .w) (x .args .y) (x .pre .0) (x .pre .2) (x .pre .3)
 
 add-even-fields : tie.Need-add-even-fields
 add-even-fields c = search needs
@@ -36,7 +36,7 @@ add-even-fields c = search needs
 shared-slice-read-even-fields-2 : tie.Need-shared-slice-read-even-fields-2
 shared-slice-read-even-fields-2 c =
     let x = c .before .before .before .before .before in
-    both-inside (x .args .main .now) (x .args .s) (x .args .w) (x .args .y) (x .pre .0) (x .pre .2) (x .pre .3) (length (x .args .main .now)) (x .pre .1)
+    both-inside (x .args .bytes .now) (x .args .s) (x .args .w) (x .args .y) (x .pre .0) (x .pre .2) (x .pre .3) (length (x .args .bytes .now)) (x .pre .1)
 
 cast-even-fields-2 : tie.Need-cast-even-fields-2
 cast-even-fields-2 c = search needs
@@ -47,7 +47,7 @@ shr-even-fields-2 c = search needs
 even-fields-requires-2 : tie.Need-even-fields-requires-2
 even-fields-requires-2 c κs =
     let x = c .before .before .before .before .before in
-    narrow (x .args .main .now) (x .args .s) (x .args .w) (x .args .y) (x .pre .0) (x .pre .2) (x .pre .3)
+    narrow (x .args .bytes .now) (x .args .s) (x .args .w) (x .args .y) (x .pre .0) (x .pre .2) (x .pre .3)
 
 mul-result : tie.Need-mul-result
 mul-result c = search needs
@@ -58,7 +58,7 @@ add-result c = search needs
 returns : tie.Need-returns
 returns c =
     let x = c .before .before .before .before .before .before in
-    halved-is (x .args .main .now) (x .args .s) (x .args .w) (x .args .y) (x .pre .0) (x .pre .2) (x .pre .3) (c .before .before .even-fields .result) (c .even-fields2 .result) (c .before .before .even-fields .ensures) (c .even-fields2 .ensures)
+    halved-is (x .args .bytes .now) (x .args .s) (x .args .w) (x .args .y) (x .pre .0) (x .pre .2) (x .pre .3) (c .before .before .even-fields .result) (c .even-fields2 .result) (c .before .before .even-fields .ensures) (c .even-fields2 .ensures)
 
 pub halved-byte-spec : {M : Type 1} → statement M
 halved-byte-spec =

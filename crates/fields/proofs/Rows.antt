@@ -1,5 +1,5 @@
 -- A byte of a row of fields: a byte of the source where the fields have whole bytes, or put together out of fields.
-use mathlib.Core.Path.{_≡_, refl, sym, ap, _∙_}
+use mathlib.Core.Path.{_≡_, sym, ap, _∙_}
 use mathlib.Core.Bool.{Bool}
 use mathlib.Core.List.{List}
 use Prim.Native.Nat.{ℕ, zero, suc, _+_, _-_, _*_, _/_, _%_, _^_, _≤_, _<_}
@@ -8,19 +8,17 @@ use native.Mathlib.Omega.{arith}
 use lib.Bits.{bitAnd, and-mask}
 use lib.ListN.{getD}
 use lib.Pow.{pow-pos, pow-add, pow-mono}
-use Rattle.memory.specs.Bits.{bit, pack}
+use Rattle.memory.specs.Bits.{bit}
 use Rattle.memory.specs.Cases.{lt?, either}
 use Rattle.memory.specs.Numbers.{euclid, div-of, mod-of}
-use Rattle.partition.specs.declared.Source.{Source}
-use Rattle.partition.specs.Rows.{pack-byte}
-use Rattle.partition.specs.Widths.{pow-whole}
-use Rattle.partition.specs.Sources.{bitFrom, fieldByte}
-use Rattle.partition.specs.Reach.{Aligned, Reaches}
-use Rattle.partition.proofs.Bits.{bit-low, bit-high, bit-mod, bit-shr}
+use Rattle.fields.specs.declared.Source.{Source}
+use Rattle.fields.specs.Laws.{pack-byte, pow-whole}
+use Rattle.fields.specs.Sources.{bitFrom, fieldByte, runByte, Aligned, Reaches}
+use Rattle.fields.proofs.Bits.{bit-low, bit-high, bit-mod, bit-shr}
 
 -- ---- fields next to one another: the source's own bytes
 
-module _ (main : List ℕ) (s : Source) (w y : ℕ) (A : Aligned s w) (same : s .step ≡ w) where
+module _ (bytes : List ℕ) (s : Source) (w y : ℕ) (A : Aligned s w) (same : s .step ≡ w) where
   w-pos : 0 < w
   w-pos = rw (A .w-is) (pow-pos (A .k))
 
@@ -29,11 +27,11 @@ module _ (main : List ℕ) (s : Source) (w y : ℕ) (A : Aligned s w) (same : s 
       let E = euclid (y * 8 + 7) w w-pos in
       omega (arith, R .inside, ap (λ (n : ℕ). (y * 8 + 7) / w * n) same)
 
-  pub same-byte : getD main (s .at + y) 0 < 256 → getD main (s .at + y) 0 ≡ fieldByte main s w y
+  pub same-byte : getD bytes (s .at + y) 0 < 256 → getD bytes (s .at + y) 0 ≡ fieldByte bytes s w y
   unfolding fieldByte
-  same-byte small = sym (pack-byte _ (getD main (s .at + y) 0) small one)
+  same-byte small = sym (pack-byte _ (getD bytes (s .at + y) 0) small one)
     where
-      one : (b : ℕ) → b < 8 → bitFrom main (s .at) ((y * 8 + b) / w * s .step + (s .low + (y * 8 + b) % w)) ≡ bit (getD main (s .at + y) 0) b
+      one : (b : ℕ) → b < 8 → bitFrom bytes (s .at) ((y * 8 + b) / w * s .step + (s .low + (y * 8 + b) % w)) ≡ bit (getD bytes (s .at + y) 0) b
       one b h =
           let E = euclid (y * 8 + b) w w-pos in
           let z : s .low ≡ 0 = omega (arith, A .room) in
@@ -44,7 +42,7 @@ module _ (main : List ℕ) (s : Source) (w y : ℕ) (A : Aligned s w) (same : s 
 
 -- ---- fields of whole bytes
 
-module _ (main : List ℕ) (s : Source) (w y : ℕ) (A : Aligned s w) (big : 8 ≤ w) where
+module _ (bytes : List ℕ) (s : Source) (w y : ℕ) (A : Aligned s w) (big : 8 ≤ w) where
   bytes-whole : w / 8 * 8 ≡ w
   bytes-whole =
       let k3 : 3 ≤ A .k = either (lt? (A .k) 3) (λ a. let l : A .k ≤ 2 = omega arith in absurd (omega (arith, pow-mono l, A .w-is))) (λ a. a .1) in
@@ -76,27 +74,23 @@ module _ (main : List ℕ) (s : Source) (w y : ℕ) (A : Aligned s w) (big : 8 �
       let E = euclid y n n-pos in
       mod-of (y * 8 + b) w (y / n) (y % n * 8 + b) (omega (arith, ap (λ (x : ℕ). y / n * x) bytes-whole)) (omega (arith, bytes-whole))
 
-  -- what the code adds to the row's first byte, and what of it is small
-  abbrev pub offset : ℕ
-  offset = y / n * (s .step / 8) + (s .low / 8 + y % n)
-
-  pub offset-in : (len : ℕ) → Reaches len s w y → (s .at + offset < len) × (offset < 65536)
-  offset-in len R =
+  -- a field's bytes are a run
+  pub run-in : (len : ℕ) → Reaches len s w y → s .at + s .low / 8 + (y / n * (s .step / 8) + y % n) < len
+  run-in len R =
       let E = euclid y n n-pos in
-      let f = field 7 (omega arith) in
-      let i : s .at * 8 + (y / n * s .step + (s .low + w)) ≤ len * 8 = rw f at (R .inside) in
-      let g : y / n * s .step + (s .low + w) ≤ 65536 = rw f at (R .few) in
+      let i : s .at * 8 + (y / n * s .step + (s .low + w)) ≤ len * 8 = rw (field 7 (omega arith)) at (R .inside) in
       let t = ap (λ (x : ℕ). y / n * x) step-whole in
-      (omega (arith, bytes-whole, low-whole), omega (arith, bytes-whole, low-whole))
+      omega (arith, bytes-whole, low-whole)
 
-  pub wide-is : getD main (s .at + offset) 0 < 256 → getD main (s .at + offset) 0 ≡ fieldByte main s w y
+  pub run-is : runByte bytes (s .at + s .low / 8) (s .step / 8) n y < 256 → runByte bytes (s .at + s .low / 8) (s .step / 8) n y ≡ fieldByte bytes s w y
   unfolding fieldByte
-  wide-is small = sym (pack-byte _ (getD main (s .at + offset) 0) small one)
+  run-is small = sym (pack-byte _ (runByte bytes (s .at + s .low / 8) (s .step / 8) n y) small one)
     where
-      one : (b : ℕ) → b < 8 → bitFrom main (s .at) ((y * 8 + b) / w * s .step + (s .low + (y * 8 + b) % w)) ≡ bit (getD main (s .at + offset) 0) b
+      one : (b : ℕ) → b < 8
+          → bitFrom bytes (s .at) ((y * 8 + b) / w * s .step + (s .low + (y * 8 + b) % w)) ≡ bit (runByte bytes (s .at + s .low / 8) (s .step / 8) n y) b
       one b h =
           let t = ap (λ (x : ℕ). y / n * x) step-whole in
-          let d : (y / n * s .step + (s .low + (y % n * 8 + b))) / 8 ≡ offset = omega (arith, low-whole) in
+          let d : s .at + (y / n * s .step + (s .low + (y % n * 8 + b))) / 8 ≡ s .at + s .low / 8 + (y / n * (s .step / 8) + y % n) = omega (arith, low-whole) in
           let m : (y / n * s .step + (s .low + (y % n * 8 + b))) % 8 ≡ b = omega (arith, low-whole) in
           rw (field b h, place b h, d, m)
 
@@ -104,12 +98,12 @@ module _ (main : List ℕ) (s : Source) (w y : ℕ) (A : Aligned s w) (big : 8 �
 
 -- bit b of byte y, and a number that has the fields of it from field k on
 abbrev bitOf : List ℕ → Source → ℕ → ℕ → ℕ → Bool
-bitOf main s w y b = bitFrom main (s .at) ((y * 8 + b) / w * s .step + (s .low + (y * 8 + b) % w))
+bitOf bytes s w y b = bitFrom bytes (s .at) ((y * 8 + b) / w * s .step + (s .low + (y * 8 + b) % w))
 
 abbrev pub From : List ℕ → Source → ℕ → ℕ → ℕ → ℕ → Type 0
-From main s w y acc k = (acc < 2 ^ ((8 / w - k) * w)) × ((b : ℕ) → b < (8 / w - k) * w → bit acc b ≡ bitOf main s w y (k * w + b))
+From bytes s w y acc k = (acc < 2 ^ ((8 / w - k) * w)) × ((b : ℕ) → b < (8 / w - k) * w → bit acc b ≡ bitOf bytes s w y (k * w + b))
 
-module _ (main : List ℕ) (s : Source) (w y : ℕ) (A : Aligned s w) (narrow : w < 8) where
+module _ (bytes : List ℕ) (s : Source) (w y : ℕ) (A : Aligned s w) (narrow : w < 8) where
   pub small-pos : 0 < w
   small-pos = rw (A .w-is) (pow-pos (A .k))
 
@@ -163,17 +157,17 @@ module _ (main : List ℕ) (s : Source) (w y : ℕ) (A : Aligned s w) (narrow : 
       let p8 : per ≤ 8 = omega (arith, per-whole, mul-le-mul-left per small-pos) in
       (omega (arith, R .inside, field-in k h, small-pos), omega (arith, R .few, field-in k h), omega (arith, mul-le-mul-right per (R .short)))
 
-  pub from-none : From main s w y 0 per
+  pub from-none : From bytes s w y 0 per
   from-none =
       let z : per - per ≡ 0 = omega arith in
       rw z (omega (arith, pow-pos (0 * w)), λ b h. absurd (omega arith))
 
   -- a field more
-  pub from-more : (acc k x : ℕ) → k < per → x ≡ getD main (s .at + fieldAt k / 8) 0 / 2 ^ (fieldAt k % 8) % 2 ^ w → From main s w y acc (k + 1) → From main s w y (acc * 2 ^ w + x) k
+  pub from-more : (acc k x : ℕ) → k < per → x ≡ getD bytes (s .at + fieldAt k / 8) 0 / 2 ^ (fieldAt k % 8) % 2 ^ w → From bytes s w y acc (k + 1) → From bytes s w y (acc * 2 ^ w + x) k
   from-more acc k x h e U = (bound, bits)
     where
       x-lt : x < 2 ^ w
-      x-lt = rw e (mod-lt (getD main (s .at + fieldAt k / 8) 0 / 2 ^ (fieldAt k % 8)) (pow-pos w))
+      x-lt = rw e (mod-lt (getD bytes (s .at + fieldAt k / 8) 0 / 2 ^ (fieldAt k % 8)) (pow-pos w))
 
       size : (per - k) * w ≡ (per - (k + 1)) * w + w
       size = let t : per - k ≡ suc (per - (k + 1)) = omega arith in rw t (omega arith)
@@ -181,7 +175,7 @@ module _ (main : List ℕ) (s : Source) (w y : ℕ) (A : Aligned s w) (narrow : 
       bound : acc * 2 ^ w + x < 2 ^ ((per - k) * w)
       bound = rw (size, pow-add) (omega (arith, x-lt, mul-le-mul-right (2 ^ w) (U .0)))
 
-      low : (b : ℕ) → b < w → bit x b ≡ bitOf main s w y (k * w + b)
+      low : (b : ℕ) → b < w → bit x b ≡ bitOf bytes s w y (k * w + b)
       low b l =
           let v : y * 8 + (k * w + b) ≡ (y * per + k) * w + b = omega (arith, ap (λ (n : ℕ). y * n) per-whole) in
           let d : (y * 8 + (k * w + b)) / w ≡ y * per + k = div-of (y * 8 + (k * w + b)) w (y * per + k) b v l in
@@ -190,21 +184,21 @@ module _ (main : List ℕ) (s : Source) (w y : ℕ) (A : Aligned s w) (narrow : 
           let a : ((y * per + k) * s .step + (s .low + b)) / 8 ≡ fieldAt k / 8 = omega arith in
           let f : ((y * per + k) * s .step + (s .low + b)) % 8 ≡ fieldAt k % 8 + b = omega arith in
           rw (d, m, a, f, e)
-          (bit-mod (getD main (s .at + fieldAt k / 8) 0 / 2 ^ (fieldAt k % 8)) w b l ∙ bit-shr (getD main (s .at + fieldAt k / 8) 0) (fieldAt k % 8) b)
+          (bit-mod (getD bytes (s .at + fieldAt k / 8) 0 / 2 ^ (fieldAt k % 8)) w b l ∙ bit-shr (getD bytes (s .at + fieldAt k / 8) 0) (fieldAt k % 8) b)
 
-      bits : (b : ℕ) → b < (per - k) * w → bit (acc * 2 ^ w + x) b ≡ bitOf main s w y (k * w + b)
+      bits : (b : ℕ) → b < (per - k) * w → bit (acc * 2 ^ w + x) b ≡ bitOf bytes s w y (k * w + b)
       bits b l =
           either (lt? b w)
           (λ a. bit-low w acc x b (a .1) ∙ low b (a .1))
           (λ a.
           let f : b ≡ w + (b - w) = omega arith in
           let g : (k + 1) * w + (b - w) ≡ k * w + b = omega arith in
-          ap (λ (n : ℕ). bit (acc * 2 ^ w + x) n) f ∙ (bit-high w acc x (b - w) x-lt ∙ (U .1 (b - w) (omega (arith, size)) ∙ ap (bitOf main s w y) g)))
+          ap (λ (n : ℕ). bit (acc * 2 ^ w + x) n) f ∙ (bit-high w acc x (b - w) x-lt ∙ (U .1 (b - w) (omega (arith, size)) ∙ ap (bitOf bytes s w y) g)))
 
   -- the number that the code computes
-  pub narrow-step : (acc k x : ℕ) → k < per → x ≡ getD main (s .at + fieldAt k / 8) 0 → From main s w y acc (k + 1)
+  pub narrow-step : (acc k x : ℕ) → k < per → x ≡ getD bytes (s .at + fieldAt k / 8) 0 → From bytes s w y acc (k + 1)
       → (acc * 2 ^ w % 2 ^ 32 + bitAnd (x / 2 ^ (fieldAt k % 8)) (1 * 2 ^ w % 2 ^ 32 - 1) < 2 ^ 32)
-      × From main s w y (acc * 2 ^ w % 2 ^ 32 + bitAnd (x / 2 ^ (fieldAt k % 8)) (1 * 2 ^ w % 2 ^ 32 - 1)) k
+      × From bytes s w y (acc * 2 ^ w % 2 ^ 32 + bitAnd (x / 2 ^ (fieldAt k % 8)) (1 * 2 ^ w % 2 ^ 32 - 1)) k
   narrow-step acc k x h e U =
       let w8 : w ≤ 8 = omega arith in
       let p = pow-mono w8 in
@@ -219,9 +213,9 @@ module _ (main : List ℕ) (s : Source) (w y : ℕ) (A : Aligned s w) (narrow : 
         from-more acc k (x / 2 ^ (fieldAt k % 8) % 2 ^ w) h (ap (λ (n : ℕ). n / 2 ^ (fieldAt k % 8) % 2 ^ w) e) U,
       )
 
-  pub from-all : (acc : ℕ) → From main s w y acc 0 → (acc < 256) × (acc ≡ fieldByte main s w y)
+  pub from-all : (acc : ℕ) → From bytes s w y acc 0 → (acc < 256) × (acc ≡ fieldByte bytes s w y)
   unfolding fieldByte
   from-all acc U =
       let z : (per - 0) * w ≡ 8 = let t : per - 0 ≡ per = omega arith in rw t per-whole in
       let l : acc < 256 = rw z at (U .0) in
-      (l, sym (pack-byte _ acc l (λ b h. let g : 0 * w + b ≡ b = omega arith in sym (U .1 b (omega arith) ∙ ap (bitOf main s w y) g))))
+      (l, sym (pack-byte _ acc l (λ b h. let g : 0 * w + b ≡ b = omega arith in sym (U .1 b (omega arith) ∙ ap (bitOf bytes s w y) g))))

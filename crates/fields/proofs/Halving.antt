@@ -1,24 +1,23 @@
 -- Every other field of a byte by masks and shifts, for each of its 256 values; and a byte made of two.
-use mathlib.Core.Path.{_≡_, refl, sym, ap, _∙_}
-use mathlib.Core.Logic.{_⊎_, inl, inr}
+use mathlib.Core.Path.{_≡_, refl, sym, _∙_}
+use mathlib.Core.Logic.{inl, inr}
 use mathlib.Core.Bool.{Bool, true, false, _&&_}
 use mathlib.Core.List.{List}
 use Prim.Native.Nat.{ℕ, zero, suc, _+_, _-_, _*_, _/_, _%_, _^_, _≤_, _<_}
 use native.Mathlib.Nat.{not-suc-le-zero}
 use native.Mathlib.Omega.{arith}
-use lib.Bits.{bitAnd, bitOr, and-mask}
-use lib.Dec.{eqb, ltb}
+use lib.Bits.{bitAnd, bitOr}
+use lib.Dec.{ltb}
 use lib.ListN.{getD}
-use lib.Pow.{pow-pos, pow-mono}
+use lib.Pow.{pow-pos}
 use borrow.Author.Tests.{ltb-true}
 use Rattle.memory.specs.Bits.{bit}
 use Rattle.memory.specs.Cases.{lt?, either}
-use Rattle.partition.specs.declared.Source.{Source}
-use Rattle.partition.specs.Rows.{pack-byte}
-use Rattle.partition.specs.Sources.{bitFrom, fieldByte}
-use Rattle.partition.specs.Reach.{Aligned, Reaches}
-use Rattle.partition.specs.Halves.{Narrow, Half}
-use Rattle.partition.proofs.Bits.{bit-low, bit-high, bit-mod, bit-shr}
+use Rattle.fields.specs.declared.Source.{Source}
+use Rattle.fields.specs.Laws.{pack-byte}
+use Rattle.fields.specs.Sources.{bitFrom, fieldByte, Aligned, Reaches}
+use Rattle.fields.specs.Halves.{Narrow, Half}
+use Rattle.fields.proofs.Bits.{bit-low, bit-high, bit-shr}
 
 -- ---- a law of every byte, computed
 
@@ -90,7 +89,7 @@ half4 = half-by even4 4 refl
 
 -- ---- two bytes to one
 
-module _ (main : List ℕ) (s : Source) (w y : ℕ) (A : Aligned s w) (small : w < 8) (twice : s .step ≡ 2 * w) where
+module _ (bytes : List ℕ) (s : Source) (w y : ℕ) (A : Aligned s w) (small : w < 8) (twice : s .step ≡ 2 * w) where
   pub narrow : Narrow w
   narrow = go (A .k) (A .w-is)
     where
@@ -133,19 +132,19 @@ module _ (main : List ℕ) (s : Source) (w y : ℕ) (A : Aligned s w) (small : w
       go (inr (inl e)) l = let l2 : s .low ≤ 2 = omega arith in rw e (omega arith, omega arith)
       go (inr (inr e)) l = let l4 : s .low ≤ 4 = omega arith in rw e (omega arith, omega arith)
 
-  pub halved-is : (lo hi : ℕ) → Half w (getD main (s .at + 2 * y) 0 / 2 ^ s .low) lo → Half w (getD main (s .at + 2 * y + 1) 0 / 2 ^ s .low) hi → hi * 16 + lo ≡ fieldByte main s w y
+  pub halved-is : (lo hi : ℕ) → Half w (getD bytes (s .at + 2 * y) 0 / 2 ^ s .low) lo → Half w (getD bytes (s .at + 2 * y + 1) 0 / 2 ^ s .low) hi → hi * 16 + lo ≡ fieldByte bytes s w y
   unfolding fieldByte
   halved-is lo hi L H = sym (pack-byte _ (hi * 16 + lo) (omega (arith, L .small, H .small)) one)
     where
-      one : (b : ℕ) → b < 8 → bitFrom main (s .at) ((y * 8 + b) / w * s .step + (s .low + (y * 8 + b) % w)) ≡ bit (hi * 16 + lo) b
+      one : (b : ℕ) → b < 8 → bitFrom bytes (s .at) ((y * 8 + b) / w * s .step + (s .low + (y * 8 + b) % w)) ≡ bit (hi * 16 + lo) b
       one b h =
           rw twice (either (lt? b 4)
           (λ a.
           let p = low-place b (a .1) in
-          rw (p .0, p .1) (sym (bit-low 4 hi lo b (a .1) ∙ (L .bits b (a .1) ∙ bit-shr (getD main (s .at + 2 * y) 0) (s .low) (b / w * (2 * w) + b % w)))))
+          rw (p .0, p .1) (sym (bit-low 4 hi lo b (a .1) ∙ (L .bits b (a .1) ∙ bit-shr (getD bytes (s .at + 2 * y) 0) (s .low) (b / w * (2 * w) + b % w)))))
           (λ a.
           let e : b ≡ 4 + (b - 4) = omega arith in
           let p = high-place (b - 4) (omega arith) in
           let q : s .at + (2 * y + 1) ≡ s .at + 2 * y + 1 = omega arith in
           rw (e, p .0, p .1, q)
-          (sym (bit-high 4 hi lo (b - 4) (L .small) ∙ (H .bits (b - 4) (omega arith) ∙ bit-shr (getD main (s .at + 2 * y + 1) 0) (s .low) ((b - 4) / w * (2 * w) + (b - 4) % w))))))
+          (sym (bit-high 4 hi lo (b - 4) (L .small) ∙ (H .bits (b - 4) (omega arith) ∙ bit-shr (getD bytes (s .at + 2 * y + 1) 0) (s .low) ((b - 4) / w * (2 * w) + (b - 4) % w))))))

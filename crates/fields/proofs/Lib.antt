@@ -1,0 +1,5 @@
+pub mod Bits
+pub mod Rows
+pub mod Halving
+pub mod Strides
+pub mod Copies

@@ -1,0 +1,31 @@
+use native.Mathlib.Omega.{arith}
+use lib.ListN.{length}
+use Rattle.fields.proofs.Copies.{runs-in, runs-are}
+use borrow.Author.Needs.{needs}
+use Rattle.fields.proofs.wide_run.Statement.{statement}
+use Rattle.fields.proofs.wide_run.Tie as tie
+use Rattle.fields.proofs.wide_run.Reads as reads
+use Rattle.fields.proofs.wide_run.Lts as lts
+use Rattle.fields.proofs.copy_runs.Reads as copy-runs-reads
+
+add-at : tie.Need-add-at
+add-at c =
+    let x = c .before .before .before .before in
+    omega (arith, runs-in (x .args .bytes .now) (x .args .s) (x .args .w) (x .args .y) (length (x .args .out .now)) (x .pre .0) (x .pre .1) (x .pre .3) 0 (x .pre .2))
+
+copy-runs-requires : tie.Need-copy-runs-requires
+copy-runs-requires c κs =
+    let x = c .before .before .before .before .before .before in
+    (omega arith, omega arith, x .pre .2, runs-in (x .args .bytes .now) (x .args .s) (x .args .w) (x .args .y) (length (x .args .out .now)) (x .pre .0) (x .pre .1) (x .pre .3))
+
+same-length : tie.Need-same-length
+same-length c = search needs
+
+returns : tie.Need-returns
+returns c =
+    let x = c .before .before .before .before .before .before .before .before .before in
+    runs-are (x .args .bytes .now) (x .args .s) (x .args .w) (x .args .y) (length (x .args .out .now)) (x .pre .0) (x .pre .1) _
+    (λ i. omega (arith, c .before .before .before .before .before .before .before .before .shared-slice-known .given i)) (c .before .before .copy-runs .ensures)
+
+pub wide-run-spec : {M : Type 1} → statement M
+wide-run-spec = tie.close (tie.spec add-at copy-runs-requires same-length returns)

@@ -1,0 +1,4 @@
+pub mod Laws
+pub mod Sources
+pub mod Halves
+pub mod Lists
