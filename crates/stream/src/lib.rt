@@ -24,11 +24,11 @@ fn add_byte(line: &mut [u8], fill: usize, c: u8) -> usize
     ensures { λ r. ⌜ (r ≡ cond (ltb fill (length (now (line .entry)))) (fill + 1) fill) × (now (line .exit) ≡ write (now (line .entry)) fill (c ∷ [])) ⌝ }
     ensures { λ r. ⌜ r ≤ length (now (line .entry)) ⌝ }
 {
-    if fill < line.len() {
-        line[fill] = c;
-        return fill + 1;
+    if fill >= line.len() {
+        return fill;
     }
-    fill
+    line[fill] = c;
+    fill + 1
 }
 
 // A line's end: the line is answered behind what was printed.

@@ -10,6 +10,11 @@ use Rattle.stream.specs.Buffers.{write-past}
 use Rattle.stream.proofs.add_byte.Statement.{statement}
 use Rattle.stream.proofs.add_byte.Tie as tie
 
+returns : tie.Need-returns
+returns c =
+    let x = c .before .args in
+    ((rw (le-ltb (x .fill) (length (x .line .now)) (c .if1 .taken)), sym (write-past (x .line .now) (x .fill) (x .c ∷ []) (c .if1 .taken))), omega arith)
+
 slice-write-line : tie.Need-slice-write-line
 slice-write-line c = search needs
 
@@ -19,15 +24,10 @@ add-result c = search needs
 same-length : tie.Need-same-length
 same-length c = search needs
 
-returns : tie.Need-returns
-returns c =
-    let x = c .before .args in
-    ((rw (lt-ltb (x .fill) (length (x .line .now)) (c .if1 .taken)), write-byte (x .line .now) (x .fill) (x .c)), omega arith)
-
 returns-2 : tie.Need-returns-2
 returns-2 c =
     let x = c .before .args in
-    ((rw (le-ltb (x .fill) (length (x .line .now)) (omega arith)), sym (write-past (x .line .now) (x .fill) (x .c ∷ []) (omega arith))), omega arith)
+    ((rw (lt-ltb (x .fill) (length (x .line .now)) (omega arith)), write-byte (x .line .now) (x .fill) (x .c)), omega arith)
 
 pub add-byte-spec : {M : Type 1} → statement M
-add-byte-spec = tie.close (tie.spec slice-write-line add-result same-length returns returns-2)
+add-byte-spec = tie.close (tie.spec returns slice-write-line add-result same-length returns-2)

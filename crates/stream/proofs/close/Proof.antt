@@ -1,13 +1,10 @@
 -- Nothing is left, or a line that is answered.
 use borrow.Author.Needs.{needs}
-use native.Mathlib.Omega.{arith}
 use borrow.Author.Tests.{eq-eqb, ne-eqb}
+use native.Mathlib.Omega.{arith}
 use Rattle.stream.specs.Kept.{keptClose}
 use Rattle.stream.proofs.close.Statement.{statement}
 use Rattle.stream.proofs.close.Tie as tie
-use Rattle.stream.proofs.close.Reads as reads
-use Rattle.stream.proofs.close.Lts as lts
-use Rattle.stream.proofs.end_line.Reads as end-line-reads
 
 returns : tie.Need-returns
 unfolding keptClose

@@ -10,9 +10,6 @@ use Rattle.stream.specs.Contract.{kept}
 use Rattle.stream.proofs.Laws.{line-short, line-ends}
 use Rattle.stream.proofs.end_line.Statement.{statement}
 use Rattle.stream.proofs.end_line.Tie as tie
-use Rattle.stream.proofs.end_line.Reads as reads
-use Rattle.stream.proofs.end_line.Lts as lts
-use Rattle.volume.proofs.answer_next.Reads as answer-next-reads
 
 add-end : tie.Need-add-end
 add-end c = search needs

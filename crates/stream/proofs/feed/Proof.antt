@@ -8,9 +8,6 @@ use Rattle.stream.specs.Contract.{kept}
 use Rattle.stream.proofs.Laws.{feed-more, feed-end}
 use Rattle.stream.proofs.feed.Statement.{statement}
 use Rattle.stream.proofs.feed.Tie as tie
-use Rattle.stream.proofs.feed.Reads as reads
-use Rattle.stream.proofs.feed.Lts as lts
-use Rattle.stream.proofs.next_byte.Reads as next-byte-reads
 
 abbrev Inv-loop : tie.InvT-loop
 Inv-loop chunk line₀ main₀ spare₀ ram₀ out₀ q₀ i₀ line main spare ram out q i =
@@ -74,7 +71,8 @@ returns : tie.Need-returns Inv-loop μ-loop
 returns c =
     let l = c .before in
     let x = l .before .before .before .before .before .before .before .args in
-    (sym (l .loop .inv .8 ∙ feed-end (kept (l .loop .q) (l .loop .line) (l .loop .main) (l .loop .spare) (l .loop .ram) (l .loop .out)) (x .chunk .now) (l .loop .i) (omega arith)), (omega arith, omega arith))
+    let k = kept (l .loop .q) (l .loop .line) (l .loop .main) (l .loop .spare) (l .loop .ram) (l .loop .out) in
+    (sym (l .loop .inv .8 ∙ feed-end k (x .chunk .now) (l .loop .i) (omega arith)), (omega arith, omega arith))
 
 pub feed-spec : {M : Type 1} → statement M
 feed-spec =

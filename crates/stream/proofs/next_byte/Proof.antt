@@ -7,10 +7,6 @@ use Rattle.stream.specs.Contract.{kept}
 use Rattle.stream.proofs.Laws.{add-kept}
 use Rattle.stream.proofs.next_byte.Statement.{statement}
 use Rattle.stream.proofs.next_byte.Tie as tie
-use Rattle.stream.proofs.next_byte.Reads as reads
-use Rattle.stream.proofs.next_byte.Lts as lts
-use Rattle.stream.proofs.add_byte.Reads as add-byte-reads
-use Rattle.stream.proofs.end_line.Reads as end-line-reads
 
 end-line-requires : tie.Need-end-line-requires
 end-line-requires c κs = search needs
