@@ -1,12 +1,11 @@
 -- Each level has the filters from its start on, where the layout puts their bits.
-use mathlib.Core.Path.{_≡_, refl, ap, sym, _∙_}
-use mathlib.Core.Bool.{Bool, cond}
+use mathlib.Core.Path.{_≡_, ap, _∙_}
+use mathlib.Core.Bool.{cond}
 use mathlib.Core.List.{List}
-use Prim.Native.Nat.{ℕ, suc, _+_, _*_, _-_, _/_, _%_, _^_, _≤_, _<_}
+use Prim.Native.Nat.{ℕ, _+_, _*_, _-_, _/_, _%_, _^_, _≤_, _<_}
 use native.Mathlib.Nat.{mul-le-mul-right, div-one}
 use native.Mathlib.Omega.{arith}
 use borrow.Author.Tests.{lt-ltb, le-ltb}
-use lib.Dec.{ltb}
 use lib.ListN.{length}
 use lib.Pow.{pow-pos, pow-lt, pow-mono, pow-add}
 use Rattle.memory.specs.Cases.{bool?, either, lt?, by-eq, by-lt}
@@ -15,7 +14,7 @@ use Rattle.memory.specs.Power.{log2up, log2up-enough, log2up-least, width}
 use Rattle.layout.specs.Index.{Index, bitAt, filterBit, setWidth, sideBlock, inFull, inSet}
 use Rattle.kernels.specs.Rows.{bitIn}
 use Rattle.filter.specs.Filter.{Fits}
-use Rattle.filter.specs.Groups.{UnitIs, stageOf, skaLevel, l1Level, setLevel, fullLevel, levelBelow}
+use Rattle.filter.specs.Groups.{UnitIs, stageOf, skaLevel, l1Level, setLevel, fullLevel, levelInSets, levelOnFlash, levelBelow}
 use Rattle.filter.specs.declared.Level.{Level}
 
 -- ---- what a level must be
@@ -80,8 +79,8 @@ module _ (u e : ℕ) (S : UnitIs u e) where
       div-of (64 * u) (16 * 2 ^ log2up c) (2 ^ (e + 2 - log2up c)) 0 (omega (arith, W .whole)) (omega (arith, pow-pos (log2up c)))
 
 -- the exponent of a power of two, found as that of the least power not below it
-pub small-of : (u Z r : ℕ) (ix : Index) (main ram : List ℕ) → Fits u ix Z main ram → r ≡ log2up u → UnitIs u r
-small-of u Z r ix main ram I is =
+pub unit-is : (u Z r : ℕ) (ix : Index) (main ram : List ℕ) → Fits u ix Z main ram → r ≡ log2up u → UnitIs u r
+unit-is u Z r ix main ram I is =
     let p = I .power in
     let e : ℕ = p .0 in
     let l : log2up u ≤ e = log2up-least u e (omega (arith, p .2)) in
@@ -127,7 +126,7 @@ module _ (u e : ℕ) (S : UnitIs u e) (ix : Index) (main ram : List ℕ) (F belo
   l1-bit : (r g : ℕ) → (g * (16 * u) + r) % 8 ≡ (g % 8 * (16 * u) + r) % 8
   l1-bit r g = omega arith
 
-  module _ (st-le : F / 8 * 8 ≤ inFull u F * (128 * (4 * u)) + 128 * inSet u F + 128) where
+  module _ (near : F / 8 * 8 ≤ inFull u F * (128 * (4 * u)) + 128 * inSet u F + 128) where
     pub l1-at : (ix .first + 1) * (1024 * u) ≤ length main → below ≤ F / 8 * 8 → inFull u F * (128 * (4 * u)) + 128 * inSet u F < below
         → LevelAt u ix main ram F below (l1Level u e ix (inFull u F * (128 * (4 * u)) + 128 * inSet u F))
     unfolding filterBit bitAt
@@ -153,7 +152,7 @@ module _ (u e : ℕ) (S : UnitIs u e) (ix : Index) (main ram : List ℕ) (F belo
               ));
         }
 
-  module _ (rounds : inSet u F < 4 * u) where
+  module _ (few : inSet u F < 4 * u) where
     pub set-at : (ix .first + 1 + 2 * (4 * u)) * (1024 * u) ≤ length main → below ≤ F / 8 * 8
         → inFull u F * (128 * (4 * u)) < below → below ≤ inFull u F * (128 * (4 * u)) + 128 * inSet u F
         → LevelAt u ix main ram F below (setLevel u e ix (inSet u F) (inFull u F * (128 * (4 * u))))
@@ -161,7 +160,7 @@ module _ (u e : ℕ) (S : UnitIs u e) (ix : Index) (main ram : List ℕ) (F belo
     set-at fits top h l =
         let start : ℕ = inFull u F * (128 * (4 * u)) in
         let w : ℕ = 2 ^ (e + 2 - log2up (inSet u F)) in
-        let Q = set-of u e S (inSet u F) rounds in
+        let Q = set-of u e S (inSet u F) few in
         let n : below - start ≤ 128 * inSet u F = omega arith in
         let m = mul-le-mul-right w n in
         let c = mul-le-mul-right w (Q .enough) in
@@ -173,7 +172,7 @@ module _ (u e : ℕ) (S : UnitIs u e) (ix : Index) (main ram : List ℕ) (F belo
               let r : x / w < 16 * 2 ^ log2up (inSet u F) = div-lt x w (16 * 2 ^ log2up (inSet u F)) (Q .some) (omega (arith, Q .whole)) in
               omega (arith, Q .whole, mul-le-mul-right (64 * u) r, mul-le-mul-right (1024 * u) (side-le u ix (inSet u F)), mul-le-mul-right (1024 * u) (Q .side));
           bit-is = λ f x a b.
-              rw (lt-ltb f (F / 8 * 8) (omega arith), le-ltb f start a, lt-ltb f (start + 128 * inSet u F) (omega arith), set-width u e S (inSet u F) rounds);
+              rw (lt-ltb f (F / 8 * 8) (omega arith), le-ltb f start a, lt-ltb f (start + 128 * inSet u F) (omega arith), set-width u e S (inSet u F) few);
         }
 
   pub full-at : (k : ℕ) → k ≡ (below - 1) / (128 * (4 * u)) → (ix .first + 1 + 2 * (4 * u) + inFull u F * (4 * u)) * (1024 * u) ≤ length main
@@ -211,22 +210,26 @@ module _ (u e F below Z : ℕ) (ix : Index) (main ram : List ℕ) (S : UnitIs u 
   rounds : Euclid (F / 8 / 16) (4 * u)
   rounds = euclid (F / 8 / 16) (4 * u) (omega (arith, S .some))
 
-  in-sets : below ≤ F / 8 * 8 → below ≤ inFull u F * (128 * (4 * u)) + 128 * inSet u F
-      → LevelAt u ix main ram F below
-      (cond (ltb (inFull u F * (128 * (4 * u))) below) (setLevel u e ix (inSet u F) (inFull u F * (128 * (4 * u)))) (fullLevel u ix ((below - 1) / 2 ^ (e + 9))))
+  in-sets : below ≤ stageOf u F .flash → below ≤ stageOf u F .parted → LevelAt u ix main ram F below (levelInSets u e ix (stageOf u F) below)
   in-sets top l =
-      by-lt (λ t. LevelAt u ix main ram F below (cond t (setLevel u e ix (inSet u F) (inFull u F * (128 * (4 * u)))) (fullLevel u ix ((below - 1) / 2 ^ (e + 9)))))
-      (inFull u F * (128 * (4 * u))) below
+      by-lt
+      (λ t. LevelAt u ix main ram F below (cond t (setLevel u e ix (inSet u F) (stageOf u F .full)) (fullLevel u ix ((below - 1) / 2 ^ (e + 9)))))
+      (stageOf u F .full) below
       (λ h. set-at u e S ix main ram F below le (rounds .small) (omega (arith, long)) top h l)
       (λ h. full-at u e S ix main ram F below le ((below - 1) / 2 ^ (e + 9)) (ap (λ (w : ℕ). (below - 1) / w) (power-9 u e S)) long pos top h)
 
+  on-flash : below ≤ stageOf u F .flash → LevelAt u ix main ram F below (levelOnFlash u e ix (stageOf u F) below)
+  on-flash top =
+      by-lt
+      (λ t. LevelAt u ix main ram F below (cond t (l1Level u e ix (stageOf u F .parted)) (levelInSets u e ix (stageOf u F) below)))
+      (stageOf u F .parted) below
+      (λ h. l1-at u e S ix main ram F below le (omega (arith, rounds .whole)) (omega (arith, long)) top h)
+      (λ h. in-sets top h)
+
   pub level-at : LevelAt u ix main ram F below (levelBelow u e ix (stageOf u F) below)
   level-at =
-      by-lt (λ t. LevelAt u ix main ram F below (cond t (skaLevel u e ix (F / 8 * 8)) (cond (ltb (inFull u F * (128 * (4 * u)) + 128 * inSet u F) below) (l1Level u e ix (inFull u F * (128 * (4 * u)) + 128 * inSet u F)) (cond (ltb (inFull u F * (128 * (4 * u))) below) (setLevel u e ix (inSet u F) (inFull u F * (128 * (4 * u)))) (fullLevel u ix ((below - 1) / 2 ^ (e + 9)))))))
-      (F / 8 * 8) below
+      by-lt
+      (λ t. LevelAt u ix main ram F below (cond t (skaLevel u e ix (stageOf u F .flash)) (levelOnFlash u e ix (stageOf u F) below)))
+      (stageOf u F .flash) below
       (λ h. ska-at u e S ix main ram F below le (I .in-ram) h)
-      (λ top.
-      by-lt (λ t. LevelAt u ix main ram F below (cond t (l1Level u e ix (inFull u F * (128 * (4 * u)) + 128 * inSet u F)) (cond (ltb (inFull u F * (128 * (4 * u))) below) (setLevel u e ix (inSet u F) (inFull u F * (128 * (4 * u)))) (fullLevel u ix ((below - 1) / 2 ^ (e + 9))))))
-      (inFull u F * (128 * (4 * u)) + 128 * inSet u F) below
-      (λ h. l1-at u e S ix main ram F below le (omega (arith, rounds .whole)) (omega (arith, long)) top h)
-      (λ h. in-sets top h))
+      (λ h. on-flash h)

@@ -1,8 +1,8 @@
 -- Rows of several positions, one after another: filled in, within reach, and the test of all bits.
-use mathlib.Core.Path.{_≡_, refl, sym, ap, _∙_}
+use mathlib.Core.Path.{_≡_, refl, ap, _∙_}
 use mathlib.Core.Bool.{Bool, true, false, _&&_}
 use mathlib.Core.List.{List, [], _∷_}
-use Prim.Native.Nat.{ℕ, zero, suc, _+_, _*_, _-_, _/_, _%_, _^_, _≤_, _<_}
+use Prim.Native.Nat.{ℕ, zero, suc, _+_, _*_, _-_, _^_, _≤_, _<_}
 use native.Mathlib.Omega.{arith}
 use lib.ListN.{length, getD, take, set}
 use lib.Pow.{pow-pos}
@@ -13,9 +13,9 @@ use Rattle.memory.specs.Ranges.{allOf}
 use Rattle.layout.specs.Index.{Index, filterBit}
 use Rattle.kernels.specs.declared.Rows.{Rows}
 use Rattle.kernels.specs.Rows.{bitIn, allIn, Within}
-use Rattle.filter.specs.Groups.{RowsAt, GroupAt}
+use Rattle.filter.specs.Groups.{RowsAt}
 use Rattle.filter.specs.declared.Level.{Level}
-use Rattle.filter.proofs.Levels.{levelBytes, rowAt, LevelAt}
+use Rattle.filter.proofs.Levels.{levelBytes, LevelAt}
 
 -- ---- an element more of an array that is filled from its start on
 

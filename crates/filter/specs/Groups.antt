@@ -1,6 +1,6 @@
 -- Groups of filters whose bits lie in the same rows: the SKA page, L1, the current set, and each full set.
 use mathlib.Core.Path.{_≡_}
-use mathlib.Core.Bool.{true, false, cond}
+use mathlib.Core.Bool.{Bool, true, false, cond}
 use mathlib.Core.List.{List}
 use Prim.Native.Nat.{ℕ, _+_, _-_, _*_, _/_, _%_, _^_, _≤_, _<_}
 use lib.Dec.{ltb}
@@ -51,13 +51,16 @@ stageOf u F =
       flash = F / 8 * 8;
     }
 
--- the level that has filter `below` - 1
-abbrev pub levelBelow : ℕ → ℕ → Index → Stage → ℕ → Level
-levelBelow u e ix st below =
-    cond (ltb (st .flash) below) (skaLevel u e ix (st .flash))
-    (cond (ltb (st .parted) below) (l1Level u e ix (st .parted))
-    (cond (ltb (st .full) below) (setLevel u e ix (st .rounds) (st .full))
-    (fullLevel u ix ((below - 1) / 2 ^ (e + 9)))))
+-- the level that has filter `below` - 1, which is in a set, on flash, anywhere
+module _ (u e : ℕ) (ix : Index) (st : Stage) (below : ℕ) where
+  abbrev pub levelInSets : Level
+  levelInSets = cond (ltb (st .full) below) (setLevel u e ix (st .rounds) (st .full)) (fullLevel u ix ((below - 1) / 2 ^ (e + 9)))
+
+  abbrev pub levelOnFlash : Level
+  levelOnFlash = cond (ltb (st .parted) below) (l1Level u e ix (st .parted)) levelInSets
+
+  abbrev pub levelBelow : Level
+  levelBelow = cond (ltb (st .flash) below) (skaLevel u e ix (st .flash)) levelOnFlash
 
 -- ---- groups
 
@@ -72,9 +75,12 @@ pub record RowsAt (l : Level) (ps : List ℕ) (count : ℕ) (k : Rows) : Type 0 
 abbrev pub bytesOf : Group → List ℕ → List ℕ → List ℕ
 bytesOf g main ram = cond (g .«in_ram») ram main
 
+-- has filter f of a group all bits of its positions
+abbrev pub groupHas : Group → List ℕ → List ℕ → ℕ → Bool
+groupHas g main ram = allIn (bytesOf g main ram) (g .rows .at) (g .rows .low) (g .rows .w) (g .rows .count)
+
 -- the group has the filters from its start to `below` - 1, of F: which of them have all bits of the positions is read from its rows
 pub record GroupAt (u : ℕ) (ix : Index) (main ram : List ℕ) (F below : ℕ) (ps : List ℕ) (g : Group) : Type 0 where
   pub start-lt : g .start < below
   pub within : Within (g .rows) (below - g .start) (length (bytesOf g main ram))
-  pub all-is : (f : ℕ) → g .start ≤ f → f < below
-      → allOf (filterBit u ix main ram F f) ps ≡ allIn (bytesOf g main ram) (g .rows .at) (g .rows .low) (g .rows .w) (g .rows .count) (f - g .start)
+  pub all-is : (f : ℕ) → g .start ≤ f → f < below → allOf (filterBit u ix main ram F f) ps ≡ groupHas g main ram (f - g .start)

@@ -1,7 +1,7 @@
 // Bloom filters of an index: a page's filter, its place in the SKA page, and groups of filters whose
 // bits lie in the same rows. Document 01, "Filters".
 ghost use mathlib.Core.Path.{_≡_};
-ghost use mathlib.Core.Bool.{_||_, cond};
+ghost use mathlib.Core.Bool.{_||_};
 ghost use Prim.Native.Nat.{ℕ, _+_, _*_, _/_, _%_, _^_, _<_, _≤_};
 ghost use lib.Dec.{eqb};
 ghost use lib.ListN.{length, getD, take, replicate};
@@ -13,11 +13,11 @@ ghost use Rattle.layout.specs.Geometry.{page};
 ghost use Rattle.layout.specs.Hash.{fnvFamily, positions, positionCount};
 ghost use Rattle.layout.specs.Index.{withFilter, inFull};
 ghost use Rattle.kernels.specs.Candidate.{candidate};
-ghost use Rattle.kernels.specs.Rows.{allIn, Within};
+ghost use Rattle.kernels.specs.Rows.{Within};
 ghost use Rattle.sets.specs.Indexes.{indexOf};
 ghost use Rattle.filter.specs.Filter.{arrayBit, Below, Fits};
 ghost use Rattle.filter.specs.Pieces.{fourthOf};
-ghost use Rattle.filter.specs.Groups.{UnitIs, stageOf, skaLevel, l1Level, setLevel, fullLevel, levelBelow, RowsAt, bytesOf, GroupAt};
+ghost use Rattle.filter.specs.Groups.{UnitIs, stageOf, skaLevel, l1Level, setLevel, fullLevel, levelBelow, RowsAt, bytesOf, groupHas, GroupAt};
 use kernels::Rows;
 use sets::Index;
 
@@ -308,7 +308,7 @@ pub fn group_below(
 // The newest of the group's first n filters that has all positions' bits, plus one; 0 if none has.
 pub fn newest_in(main: &[u8], ram: &[u8], g: Group, n: usize) -> usize
     requires { ⌜ Within (g .rows) n (length (bytesOf g (now main) (now ram))) ⌝ }
-    ensures { λ r. ⌜ r ≡ candidate (allIn (bytesOf g (now (main .entry)) (now (ram .entry))) (g .rows .at) (g .rows .low) (g .rows .w) (g .rows .count)) n ⌝ }
+    ensures { λ r. ⌜ r ≡ candidate (groupHas g (now (main .entry)) (now (ram .entry))) n ⌝ }
 {
     if g.in_ram {
         return kernels::newest(ram, g.rows, n);

@@ -54,31 +54,31 @@ module _ (gate : ℕ → Bool) (try : ℕ → Option Stop) (q : ℕ) where
       pages-some r e = here (some r) e
 
   -- the group's rows open the gates of its pages
-  module _ (level : ℕ → Bool) (start n : ℕ) (same : (i : ℕ) → i < n → gate (start + i) ≡ level i) where
+  module _ (has : ℕ → Bool) (start n : ℕ) (same : (i : ℕ) → i < n → gate (start + i) ≡ has i) where
     -- a search may begin at the newest page whose gate is open
-    pages-from : (m : ℕ) → m ≤ n → searchPages gate try q (start + m) ≡ searchPages gate try q (start + candidate level m)
+    pages-from : (m : ℕ) → m ≤ n → searchPages gate try q (start + m) ≡ searchPages gate try q (start + candidate has m)
     unfolding candidate
     pages-from zero h = refl
     pages-from (suc m) h =
         let s : start + suc m ≡ suc (start + m) = omega arith in
-        either (bool? (level m))
+        either (bool? (has m))
         (λ t. rw t)
         (λ t. rw t (ap (searchPages gate try q) s ∙ pages-shut (start + m) (same m (omega arith) ∙ t) ∙ pages-from m (omega arith)))
 
-    opens-at : (m : ℕ) → m ≤ n → 0 < candidate level m → gate (start + (candidate level m - 1)) ≡ true
-    opens-at m h p = same (candidate level m - 1) (omega (arith, candidate-le level m)) ∙ candidate-opens level m p
+    opens-at : (m : ℕ) → m ≤ n → 0 < candidate has m → gate (start + (candidate has m - 1)) ≡ true
+    opens-at m h p = same (candidate has m - 1) (omega (arith, candidate-le has m)) ∙ candidate-opens has m p
 
-    pub pages-first : (c : ℕ) → c ≡ candidate level n → Pages start n 0 c
+    pub pages-first : (c : ℕ) → c ≡ candidate has n → Pages start n 0 c
     pages-first c is =
-        let f : Found = searchPages gate try q (start + candidate level n) in
+        let f : Found = searchPages gate try q (start + candidate has n) in
         let z : 0 + f .opened ≡ f .opened = omega arith in
         record {
           opens = rw is (opens-at n (omega arith));
-          few = omega (arith, candidate-le level n);
+          few = omega (arith, candidate-le has n);
           rest = rw is (pages-from n (omega arith) ∙ sym (ap (reply (f .stop)) z));
         }
 
-    module _ (opened c : ℕ) (P : Pages start n opened c) (some-left : 0 < c) (b : ℕ) (is : b ≡ candidate level (c - 1)) where
+    module _ (opened c : ℕ) (P : Pages start n opened c) (some-left : 0 < c) (b : ℕ) (is : b ≡ candidate has (c - 1)) where
       pub pages-next : scan try ((start + (c - 1)) * q) q ≡ none → Pages start n (opened + 1) b
       pages-next e =
           let f : Found = searchPages gate try q (start + (c - 1)) in
@@ -87,12 +87,12 @@ module _ (gate : ℕ → Bool) (try : ℕ → Option Stop) (q : ℕ) where
           let w : searchPages gate try q (start + n) ≡ after (opened + 1) f = here start n opened c P some-left none e ∙ ap (reply (f .stop)) s in
           record {
             opens = rw is (opens-at (c - 1) l);
-            few = omega (arith, candidate-le level (c - 1), P .few);
+            few = omega (arith, candidate-le has (c - 1), P .few);
             rest = rw is (w ∙ ap (after (opened + 1)) (pages-from (c - 1) l));
           }
 
       pub pages-less : b < c
-      pages-less = omega (arith, candidate-le level (c - 1))
+      pages-less = omega (arith, candidate-le has (c - 1))
 
   -- ---- groups one after another
 

@@ -19,12 +19,12 @@ use Rattle.layout.specs.Search.{Stop, ramFirst, scan, searchPages, tryEntry}
 use Rattle.layout.specs.Calls.{keyIndex, keyPositions, isDeleted, tryAt, maybeIn, search as searchOf}
 use Rattle.geometry.specs.declared.Geometry.{Geometry}
 use Rattle.geometry.specs.Shape.{shape}
-use Rattle.geometry.specs.Bounds.{index-le, record-capacity-le}
+use Rattle.geometry.specs.Bounds.{index-le}
 use Rattle.items.specs.Reading.{page-word, ram-word}
-use Rattle.kernels.specs.Rows.{allIn, Within}
+use Rattle.kernels.specs.Rows.{Within}
 use Rattle.kernels.specs.declared.Rows.{Rows}
 use Rattle.filter.specs.Filter.{Fits, fits-of}
-use Rattle.filter.specs.Groups.{bytesOf, GroupAt}
+use Rattle.filter.specs.Groups.{groupHas, GroupAt}
 use Rattle.filter.specs.declared.Group.{Group}
 use Rattle.search.specs.Find.{at as volumeAt, Ready}
 use Rattle.search.proofs.Entries.{Same}
@@ -36,10 +36,6 @@ perPage g = layout.entriesPerPage (g .unit)
 
 abbrev pub deletedOf : Geometry → ℕ → ℕ → List ℕ → List ℕ → ℕ → Bool
 deletedOf g n d main ram = isDeleted fnvFamily (shape g) (volumeAt n d main ram)
-
--- which filters of a group have all bits of its positions
-abbrev pub levelOf : Group → List ℕ → List ℕ → ℕ → Bool
-levelOf grp main ram = allIn (bytesOf grp main ram) (grp .rows .at) (grp .rows .low) (grp .rows .w) (grp .rows .count)
 
 module _ (g : Geometry) (n d : ℕ) (main ram : List ℕ) (key : ℕ) where
   abbrev pub gateOf : ℕ → Bool
@@ -80,7 +76,7 @@ module _ (g : Geometry) (n d : ℕ) (main ram : List ℕ) (key : ℕ) where
 
   -- the rows of a group open the gates of its pages
   pub group-same : (below : ℕ) (grp : Group) → GroupAt (g .unit) (keyIndex (shape g)) main ram (n / (perPage g)) below (keyPositions fnvFamily (shape g) key) grp
-      → (i : ℕ) → i < below - grp .start → gateOf (grp .start + i) ≡ levelOf grp main ram i
+      → (i : ℕ) → i < below - grp .start → gateOf (grp .start + i) ≡ groupHas grp main ram i
   unfolding maybeIn
   group-same below grp G i h =
       let e : grp .start + i - grp .start ≡ i = omega arith in
@@ -131,9 +127,6 @@ module _ (g : Geometry) (n d : ℕ) (main ram : List ℕ) (R : Ready g n d main 
 
   pub pages-few : n / layout.entriesPerPage (g .unit) ≤ 32768
   pages-few = omega (arith, pages-le, R .sound .ra-most)
-
-  pub records-few : n ≤ 8388608
-  records-few = omega (arith, R .n-cap, record-capacity-le g (R .sound))
 
   -- a full page lies within the flash
   pub page-in : (p : ℕ) → p < n / layout.entriesPerPage (g .unit)

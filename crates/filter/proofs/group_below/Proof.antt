@@ -1,13 +1,13 @@
 -- The level is that of the filter, and its rows are those of the positions.
 use borrow.Author.Needs.{needs}
 use native.Mathlib.Omega.{arith}
-use Prim.Native.Nat.{_+_, _*_, _/_, _^_, _≤_, _<_}
+use Prim.Native.Nat.{_*_, _/_, _^_, _<_}
 use lib.ListN.{length, getD}
 use mathlib.Core.Path.{_≡_}
 use Rattle.memory.specs.Numbers.{euclid}
 use Rattle.sets.specs.Indexes.{indexOf}
 use Rattle.filter.specs.Groups.{UnitIs}
-use Rattle.filter.proofs.Levels.{LevelAt, bytes-few, small-of, level-at}
+use Rattle.filter.proofs.Levels.{LevelAt, bytes-few, unit-is, level-at}
 use Rattle.filter.proofs.Rows.{rows-within, rows-all}
 use Rattle.filter.proofs.group_below.Statement.{statement}
 use Rattle.filter.proofs.group_below.Tie as tie
@@ -20,7 +20,7 @@ unit-of : (c : tie.After-exponent) → UnitIs (c .before .before .before .args .
 unit-of c =
     let b = c .before .before .before in
     let x = b .args in
-    small-of (x .unit) (b .pre .0 .0 .0) (c .exponent .result) (indexOf (x .ix)) (x .main .now) (x .ram .now) (b .pre .0 .0 .2) (c .exponent .ensures .0)
+    unit-is (x .unit) (b .pre .0 .0 .0) (c .exponent .result) (indexOf (x .ix)) (x .main .now) (x .ram .now) (b .pre .0 .0 .2) (c .exponent .ensures .0)
 
 -- the level
 level-of : (c : tie.After-level-below)

@@ -2,8 +2,7 @@
 use borrow.Author.Needs.{needs}
 use borrow.Author.Tests.{lt-ltb, le-ltb}
 use native.Mathlib.Omega.{arith}
-use Prim.Native.Nat.{_+_, _*_, _-_, _/_, _^_, _≤_, _<_}
-use mathlib.Core.Path.{_≡_}
+use Prim.Native.Nat.{_+_, _*_, _-_, _/_, _^_, _<_}
 use Rattle.memory.specs.Numbers.{div-lt}
 use Rattle.filter.proofs.Levels.{power-9, exponent-le}
 use Rattle.filter.proofs.level_below.Statement.{statement}

@@ -1,16 +1,12 @@
 -- A position more each turn.
 use native.Mathlib.Omega.{arith}
-use Prim.Native.Nat.{ℕ, _+_, _*_, _-_, _/_, _%_, _^_, _≤_, _<_}
+use Prim.Native.Nat.{ℕ, _+_, _*_, _-_, _/_, _%_, _≤_}
 use mathlib.Core.Path.{_≡_, refl}
-use lib.ListN.{length, getD, length-set}
+use lib.ListN.{getD, length-set}
 use Rattle.filter.proofs.Rows.{Filled, filled-more}
 use borrow.Author.Needs.{needs}
 use Rattle.filter.proofs.rows_of.Statement.{statement}
 use Rattle.filter.proofs.rows_of.Tie as tie
-use Rattle.filter.proofs.rows_of.Reads as reads
-use Rattle.filter.proofs.rows_of.Lts as lts
-use Rattle.filter.proofs.power.Reads as power-reads
-use Rattle.filter.proofs.wide.Reads as wide-reads
 
 abbrev Inv-loop : tie.InvT-loop
 Inv-loop count ps base stride w at₀ low₀ i₀ at low i =

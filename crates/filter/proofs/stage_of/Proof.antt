@@ -1,7 +1,7 @@
 -- Quotient and remainder make up the number again, so that no product exceeds it.
 use borrow.Author.Needs.{needs}
 use native.Mathlib.Omega.{arith}
-use Prim.Native.Nat.{ℕ, _+_, _*_, _-_, _/_, _%_, _^_}
+use Prim.Native.Nat.{ℕ, _*_, _-_, _/_, _%_}
 use mathlib.Core.Path.{_≡_, ap, _∙_}
 use Rattle.memory.specs.Numbers.{euclid}
 use Rattle.filter.proofs.Levels.{power-2}

@@ -2,18 +2,18 @@
 use native.Mathlib.Omega.{arith}
 use mathlib.Core.Path.{_≡_, refl, sym, ap, _∙_}
 use mathlib.Core.Bool.{Bool}
-use mathlib.Core.Option.{Option, some}
+use mathlib.Core.Option.{Option}
 use Prim.Native.Nat.{ℕ, _+_, _*_, _-_, _/_, _≤_, _<_}
 use lib.ListN.{length}
 use Rattle.layout.specs.Geometry.{kaBlock, page, block}
-use Rattle.layout.specs.Search.{Stop, found, corrupt, scan, searchPages}
+use Rattle.layout.specs.Search.{Stop, found, corrupt, searchPages}
 use Rattle.geometry.specs.Shape.{shape}
 use Rattle.items.specs.Scans.{not-true}
-use Rattle.filter.specs.Groups.{bytesOf}
+use Rattle.filter.specs.Groups.{bytesOf, groupHas}
 use Rattle.search.specs.declared.Stop.the-variants.{Nothing}
 use Rattle.search.proofs.Entries.{Same, Left, left-none, left-first, left-corrupt, left-found, left-next, left-less, not-false}
 use Rattle.search.proofs.Pages.{Pages, pages-first, pages-none, pages-some, pages-next, pages-less}
-use Rattle.search.proofs.Volume.{gateOf, tryOf, deletedOf, levelOf, perPage, same-flash, group-same, deleted-is, fewer-records, within-fewer, pages-few, page-in}
+use Rattle.search.proofs.Volume.{gateOf, tryOf, deletedOf, perPage, same-flash, group-same, deleted-is, fewer-records, within-fewer, pages-few, page-in}
 use borrow.Author.Needs.{needs}
 use Rattle.search.proofs.in_group.Statement.{statement}
 use Rattle.search.proofs.in_group.Tie as tie
@@ -48,11 +48,11 @@ try-at b = tryOf (b .args .g) (b .args .n) (b .args .d) (b .args .main .now) (b 
 abbrev deleted-at : Start → ℕ → Bool
 deleted-at b = deletedOf (b .args .g) (b .args .n) (b .args .d) (b .args .main .now) (b .args .ram .now)
 
-abbrev level-at : Start → ℕ → Bool
-level-at b = levelOf (b .args .grp) (b .args .main .now) (b .args .ram .now)
+abbrev has-at : Start → ℕ → Bool
+has-at b = groupHas (b .args .grp) (b .args .main .now) (b .args .ram .now)
 
 -- the rows open the gates
-same-gates : (b : Start) (i : ℕ) → i < b .args .below - b .args .grp .start → gate-at b (b .args .grp .start + i) ≡ level-at b i
+same-gates : (b : Start) (i : ℕ) → i < b .args .below - b .args .grp .start → gate-at b (b .args .grp .start + i) ≡ has-at b i
 same-gates b =
     let x = b .args in
     group-same (x .g) (x .n) (x .d) (x .main .now) (x .ram .now) (x .key) (x .below) (x .grp) (b .pre .1 .1)
@@ -95,7 +95,7 @@ filters-holds : tie.Need-filters-holds Inv-entries μ-entries Inv-filters μ-fil
 filters-holds c =
     let b = c .before .before .before .before in
     let x = b .args in
-    (pages-first (gate-at b) (try-at b) (perPage (x .g)) (level-at b) (x .grp .start) (x .below - x .grp .start) (same-gates b) (c .newest-in .result) (c .newest-in .ensures), refl)
+    (pages-first (gate-at b) (try-at b) (perPage (x .g)) (has-at b) (x .grp .start) (x .below - x .grp .start) (same-gates b) (c .newest-in .result) (c .newest-in .ensures), refl)
 
 -- ---- a page
 
@@ -204,7 +204,7 @@ filters-less c =
     let G = c .before .before .before .before .before .before in
     let b = G .before .before .before .before .before in
     let x = b .args in
-    pages-less (gate-at b) (try-at b) (perPage (x .g)) (level-at b) (x .grp .start) (x .below - x .grp .start) (same-gates b) (G .filters .opened) (G .filters .c) (G .filters .inv .0) (omega arith) (c .newest-in2 .result) (c .newest-in2 .ensures)
+    pages-less (gate-at b) (try-at b) (perPage (x .g)) (has-at b) (x .grp .start) (x .below - x .grp .start) (same-gates b) (G .filters .opened) (G .filters .c) (G .filters .inv .0) (omega arith) (c .newest-in2 .result) (c .newest-in2 .ensures)
 
 filters-again : tie.Need-filters-again Inv-entries μ-entries Inv-filters μ-filters
 filters-again c =
@@ -214,7 +214,7 @@ filters-again c =
     let b = G .before .before .before .before .before in
     let x = b .args in
     let z = left-none (x .main .now) (T .page-start .result) (x .key) (try-at b) ((x .grp .start + (G .filters .c - 1)) * perPage (x .g)) (perPage (x .g)) (E .entries .e) (E .entries .inv .0) (omega arith) in
-    (pages-next (gate-at b) (try-at b) (perPage (x .g)) (level-at b) (x .grp .start) (x .below - x .grp .start) (same-gates b) (G .filters .opened) (G .filters .c) (G .filters .inv .0) (omega arith) (c .newest-in2 .result) (c .newest-in2 .ensures) z, E .entries .inv .1)
+    (pages-next (gate-at b) (try-at b) (perPage (x .g)) (has-at b) (x .grp .start) (x .below - x .grp .start) (same-gates b) (G .filters .opened) (G .filters .c) (G .filters .inv .0) (omega arith) (c .newest-in2 .result) (c .newest-in2 .ensures) z, E .entries .inv .1)
 
 -- ---- the three ways out
 

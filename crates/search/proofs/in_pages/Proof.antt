@@ -1,16 +1,16 @@
 -- What is left of the search at each group of filters.
 use native.Mathlib.Omega.{arith}
-use mathlib.Core.Path.{_≡_, refl, sym, ap, _∙_}
+use mathlib.Core.Path.{sym}
 use mathlib.Core.Bool.{Bool}
-use mathlib.Core.Option.{Option, none, some}
-use Prim.Native.Nat.{ℕ, _+_, _*_, _-_, _/_, _≤_, _<_}
+use mathlib.Core.Option.{Option, some}
+use Prim.Native.Nat.{ℕ, _/_}
 use Rattle.layout.specs.Geometry.{fullSets}
 use Rattle.layout.specs.Hash.{fnvFamily}
-use Rattle.layout.specs.Search.{Stop, found, corrupt, searchPages}
+use Rattle.layout.specs.Search.{Stop, found, corrupt}
 use Rattle.layout.specs.Calls.{keyIndex, keyPositions}
 use Rattle.geometry.specs.Shape.{shape}
 use Rattle.filter.specs.Groups.{GroupAt}
-use Rattle.search.specs.Find.{stopOf, onward, pagesBelow}
+use Rattle.search.specs.Find.{stopOf}
 use Rattle.search.proofs.Pages.{Groups, groups-first, groups-none, groups-some, groups-next, groups-few}
 use Rattle.search.proofs.Volume.{gateOf, tryOf, perPage, pages-few, sets-le, index-fits}
 use borrow.Author.Needs.{needs}
