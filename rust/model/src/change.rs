@@ -74,6 +74,29 @@ impl Plan {
         }
         sectors
     }
+
+    /// "Last the erases, L1, then the blocks of set i−1. Set 2 has no earlier set."
+    fn erased_blocks(&self, geometry: Geometry) -> Vec<usize> {
+        let Some(set) = self.set else {
+            return Vec::new();
+        };
+        let mut blocks = vec![geometry.l1_block()];
+        if set.number > 2 {
+            let earlier = Set {
+                number: set.number - 1,
+                full_sets: set.full_sets,
+            };
+            let first = earlier.first_block(geometry);
+            blocks.extend(first..first + earlier.block_count());
+        }
+        blocks
+    }
+}
+
+/// How many sectors an accepted change programs and how many blocks it erases.
+pub fn operations(geometry: Geometry, state: State, deletes: bool, inserts: bool) -> (usize, usize) {
+    let plan = Plan::new(geometry, state, deletes, inserts);
+    (plan.sectors(geometry).len(), plan.erased_blocks(geometry).len())
 }
 
 /// Appends a deletion (of a record number), a record or both. Returns the new state, or
@@ -147,18 +170,9 @@ pub fn change(
     }
     if let Some(set) = plan.set {
         build_set(geometry, set, data, spare, ram);
-        // "Last the erases, L1, then the blocks of set i−1. Set 2 has no earlier set."
-        erase_block(data, spare, geometry.sector_size(), geometry.l1_block());
-        if set.number > 2 {
-            let earlier = Set {
-                number: set.number - 1,
-                full_sets: set.full_sets,
-            };
-            let first = earlier.first_block(geometry);
-            for block in first..first + earlier.block_count() {
-                erase_block(data, spare, geometry.sector_size(), block);
-            }
-        }
+    }
+    for block in plan.erased_blocks(geometry) {
+        erase_block(data, spare, geometry.sector_size(), block);
     }
     // "Zeroes each desk page it has programmed and the work page, and keeps all other desk bytes."
     zero_ram_page(geometry, RamPage::Work, ram);

@@ -16,6 +16,7 @@ mod hash;
 mod search;
 
 pub use calls::{delete, format, insert, lookup, update};
+pub use change::operations;
 pub use filter::{set_page_count, Set};
 pub use geometry::{Geometry, SECTOR_SIZES};
 pub use hash::{fnv1a, positions};

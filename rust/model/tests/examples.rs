@@ -1,6 +1,6 @@
 //! The examples of document 01 and the published hash vectors.
 
-use model::{delete, fnv1a, format, insert, set_page_count, Geometry, State};
+use model::{delete, fnv1a, format, insert, operations, set_page_count, Geometry, State};
 
 #[test]
 fn published_hash_vectors() {
@@ -216,5 +216,28 @@ fn wild_states_are_refused() {
                 assert_eq!(change.state, old);
             }
         }
+    }
+}
+
+/// The counted operations are those that the spare bytes show.
+#[test]
+fn operations_of_inserts() {
+    const BLOCK: usize = 64;
+    let mut volume = Volume::new(16, 80, 1);
+    let geometry = Geometry::new(16, 80, 1).expect("allowed");
+    for key in 0..4 * 1024 {
+        let (sectors, blocks) = operations(geometry, volume.state, false, true);
+        let before = volume.spare.clone();
+        assert_eq!(volume.insert(key), 0);
+        let changes = before.iter().zip(&volume.spare);
+        let programmed = changes.filter(|&(&old, &new)| old == 0xFF && new == 0x00).count();
+        let erased = before
+            .chunks(BLOCK)
+            .zip(volume.spare.chunks(BLOCK))
+            .filter(|(old, new)| old.contains(&0x00) && !new.contains(&0x00))
+            .count();
+        // The last flush of a round is programmed, and erased in the same call.
+        let gone = if blocks > 0 { 4 } else { 0 };
+        assert_eq!((sectors, blocks), (programmed + gone, erased), "insert {key}");
     }
 }
