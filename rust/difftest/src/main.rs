@@ -1,23 +1,26 @@
-//! `difftest [--long] [--seconds N] [--only NAME] [--round N]`: the proved store against the model.
+//! `difftest [--store NAME] [--long] [--seconds N] [--only NAME] [--round N]`: a store against the model.
 
 use difftest::pair::Counts;
 use difftest::scenarios;
 use std::env;
 use std::process::ExitCode;
 use std::time::{Duration, Instant};
-use store::{ModelStore, Store};
+use store::ModelStore;
 
-const USAGE: &str = "usage: difftest [--long] [--seconds N] [--only NAME] [--round N]
+const USAGE: &str = "usage: difftest [--store NAME] [--long] [--seconds N] [--only NAME] [--round N]
+The store is proved with the feature proved, otherwise the model itself; --store names another (fast).
 Round 0 runs every scenario; more rounds, with other seeds, follow until the time is over
 (120 seconds, with --long 1800 and more scenarios). --only takes the scenarios whose name
 begins with NAME; --round starts with that round.";
 
-#[cfg(feature = "proved")]
-const SUBJECT: &dyn Store = &store::ProvedStore;
-#[cfg(not(feature = "proved"))]
-const SUBJECT: &dyn Store = &ModelStore;
+const SUBJECT: &str = if cfg!(feature = "proved") {
+    "proved"
+} else {
+    "model"
+};
 
 fn main() -> ExitCode {
+    let mut name = SUBJECT.to_string();
     let mut long = false;
     let mut seconds = None;
     let mut only = String::new();
@@ -26,6 +29,10 @@ fn main() -> ExitCode {
     while let Some(argument) = arguments.next() {
         let mut number = || arguments.next().and_then(|text| text.parse::<u64>().ok());
         match argument.as_str() {
+            "--store" => match arguments.next() {
+                Some(value) => name = value,
+                None => return usage("--store needs a name"),
+            },
             "--long" => long = true,
             "--seconds" => match number() {
                 Some(value) => seconds = Some(value),
@@ -51,8 +58,11 @@ fn main() -> ExitCode {
         return usage(&format!("no scenario {only}"));
     }
 
-    println!("store {} against store model", SUBJECT.name());
-    if !cfg!(feature = "proved") {
+    let Some(subject) = store::by_name(&name) else {
+        return usage(&format!("no store {name}"));
+    };
+    println!("store {name} against store model");
+    if name == "model" {
         println!("(the feature proved is off: the model is compared with itself)");
     }
     let start = Instant::now();
@@ -66,7 +76,7 @@ fn main() -> ExitCode {
                 break 'rounds;
             }
             let scenario_start = Instant::now();
-            match scenario.run(&ModelStore, SUBJECT, seed(&scenario.name, round)) {
+            match scenario.run(&ModelStore, &*subject, seed(&scenario.name, round)) {
                 Ok(counts) => {
                     if round == first_round {
                         println!(

@@ -1,9 +1,11 @@
 //! The five calls as a trait, so that tests and benchmarks can run any implementation.
 
+mod fast_store;
 mod model_store;
 #[cfg(feature = "proved")]
 mod proved_store;
 
+pub use fast_store::FastStore;
 pub use model::{Change, Geometry, LookupResult, State, SECTOR_SIZES};
 pub use model_store::ModelStore;
 #[cfg(feature = "proved")]
@@ -53,10 +55,11 @@ pub trait Store {
     fn lookup(&self, state: State, key: u32, data: &[u8], spare: &[u8], ram: &[u8]) -> LookupResult;
 }
 
-/// The store of a name: `model`, and `proved` with the feature.
+/// The store of a name: `model`, `fast`, and `proved` with the feature.
 pub fn by_name(name: &str) -> Option<Box<dyn Store>> {
     match name {
         "model" => Some(Box::new(ModelStore)),
+        "fast" => Some(Box::new(FastStore)),
         #[cfg(feature = "proved")]
         "proved" => Some(Box::new(ProvedStore)),
         _ => None,

@@ -6,7 +6,7 @@ use std::process::ExitCode;
 use std::time::Instant;
 use vectors::{run_replays, run_traces, Failure, Summary};
 
-const USAGE: &str = "usage: vectors [--store model|proved] [FOLDER]
+const USAGE: &str = "usage: vectors [--store model|fast|proved] [FOLDER]
 FOLDER (tests/vectors if not given) holds trace/ and replay/; it is looked for
 from the current folder upwards. The store proved needs the feature proved.";
 

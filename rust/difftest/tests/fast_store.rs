@@ -1,0 +1,85 @@
+//! The store for speed against the model.
+
+use difftest::pair::{Call, Difference, Pair};
+use difftest::random::Random;
+use difftest::scenarios;
+use store::{FastStore, Geometry, ModelStore, State};
+
+/// The scenarios but those whose volumes take long to compare; the next test has their sets.
+#[test]
+fn scenarios_agree() {
+    let slow = [
+        "-256-1",
+        "-512-1",
+        "-512-2048",
+        "lengths-256",
+        "lengths-512",
+        "full-sets-32",
+    ];
+    for scenario in scenarios::all() {
+        if scenario.long || slow.iter().any(|part| scenario.name.contains(part)) {
+            continue;
+        }
+        if let Err(difference) = scenario.run(&ModelStore, &FastStore, 0xFA57) {
+            panic!("{}: {difference}", scenario.name);
+        }
+    }
+}
+
+/// Sets of every S before and after each doubling of their pages, full ones too, out of random bits.
+#[test]
+fn sets_of_every_width() {
+    for sector_size in store::SECTOR_SIZES {
+        let last = sector_size / 4 + 1;
+        let doublings = (1..8).map(|k| 1 << k).flat_map(|power| [power, power + 1]);
+        let numbers = doublings.map(|rounds| rounds + 1).filter(|&number| number < last);
+        for number in [2].into_iter().chain(numbers).chain([last]) {
+            // A fraction of a second each, bit by bit in the model.
+            if sector_size == 512 && (33..66).contains(&number) {
+                continue;
+            }
+            if let Err(difference) = set(sector_size, number) {
+                panic!("S = {sector_size}, set {number}: {difference}");
+            }
+        }
+    }
+}
+
+/// The insert that builds the set, and lookups before and after it.
+fn set(sector_size: u32, number: u32) -> Result<(), Difference> {
+    let (ra_blocks, da_blocks) = (16 * (number - 1), 1);
+    let geometry = Geometry::new(sector_size, ra_blocks, da_blocks).expect("allowed");
+    let mut random = Random::new(u64::from(sector_size + number));
+    let mut pair = Pair::new(&ModelStore, &FastStore);
+    pair.lend_for(geometry, 3, 5);
+    pair.fill(|data, spare, ram| {
+        random.fill(data);
+        random.fill(ram);
+        spare.fill(0xFF);
+    });
+    pair.state = State {
+        sector_size,
+        ra_blocks,
+        da_blocks,
+        records: 64 * sector_size * (number - 1) - 1,
+        deletions: sector_size + 3,
+    };
+    lookups(&mut pair, &mut random)?;
+    let answer = pair.call(Call::Insert {
+        key: random.next_u32(),
+        moves: 1,
+        goal: 2,
+        word: 3,
+    })?;
+    assert!(answer.accepted());
+    lookups(&mut pair, &mut random)
+}
+
+fn lookups(pair: &mut Pair, random: &mut Random) -> Result<(), Difference> {
+    for _ in 0..3 {
+        pair.call(Call::Lookup {
+            key: random.next_u32(),
+        })?;
+    }
+    Ok(())
+}

@@ -1,0 +1,27 @@
+//! The level store for speed: the same answers and bytes as crate `model`, from the same state and slices.
+//!
+//! Nothing is kept between calls. What is done for speed:
+//!
+//! - every call is compiled for each of the six sector sizes, so that products and quotients with S are shifts
+//!   and a page has a length that the compiler knows;
+//! - filters are walked place by place (RAM page, L1, current set, full sets), up to 64 filters a word, see `walk`;
+//! - deletions and keys are compared without an exit inside a block, which the compiler turns into vector code, see `scan`;
+//! - a set is rebuilt by copies of bytes and merges of words, straight from flash to flash, see `rebuild`.
+//!
+//! No `unsafe`: slices are cut before a loop, so that no test of a bound is left inside. The one that is left for
+//! each page opened was measured against `get_unchecked`: no difference beyond that of two runs.
+
+#![forbid(unsafe_code)]
+
+mod bits;
+mod calls;
+mod change;
+mod hash;
+mod layout;
+mod rebuild;
+mod scan;
+mod search;
+mod walk;
+
+pub use calls::{append, delete, format, insert, lookup, update};
+pub use model::{Change, LookupResult, State};
