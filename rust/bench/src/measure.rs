@@ -1,0 +1,191 @@
+//! The same calls by all stores, in turns.
+
+use crate::volume::{Volume, ROOM};
+use difftest::random::Random;
+use std::time::{Duration, Instant};
+use store::{FastStore, LookupResult, ModelStore, Store};
+
+#[cfg(feature = "proved")]
+const SUBJECT: &dyn Store = &store::ProvedStore;
+#[cfg(not(feature = "proved"))]
+const SUBJECT: &dyn Store = &ModelStore;
+
+/// The stores, in the order of all columns.
+pub const STORES: [&dyn Store; 3] = [SUBJECT, &ModelStore, &FastStore];
+
+/// How many rounds at least, and how long: short rounds are repeated, so that one of them is undisturbed.
+#[derive(Clone, Copy)]
+pub struct Effort {
+    pub rounds: usize,
+    pub time: Duration,
+}
+
+impl Effort {
+    pub const TIMED: Effort = Effort {
+        rounds: 5,
+        time: Duration::from_millis(100),
+    };
+
+    pub const fn rounds(rounds: usize) -> Effort {
+        Effort {
+            rounds,
+            time: Duration::ZERO,
+        }
+    }
+
+    fn run(self, mut round: impl FnMut()) {
+        let start = Instant::now();
+        let mut done = 0;
+        while done < self.rounds || start.elapsed() < self.time {
+            round();
+            done += 1;
+        }
+    }
+}
+
+#[derive(Clone, Copy, PartialEq, Eq)]
+pub enum Call {
+    Hit,
+    Miss,
+    Insert,
+    Update,
+}
+
+impl Call {
+    pub const ALL: [Call; 4] = [Call::Hit, Call::Miss, Call::Insert, Call::Update];
+
+    pub fn name(self) -> &'static str {
+        match self {
+            Call::Hit => "lookup hit",
+            Call::Miss => "lookup miss",
+            Call::Insert => "insert",
+            Call::Update => "update",
+        }
+    }
+}
+
+/// Seconds of each store for each part of a round, in the round that was fastest there. In parts, because on a
+/// busy machine a whole round is rarely undisturbed.
+struct Best {
+    calls_of_part: usize,
+    parts: Vec<[f64; 3]>,
+}
+
+impl Best {
+    fn new(calls: usize) -> Best {
+        let calls_of_part = calls.div_ceil(16).max(4);
+        Best {
+            calls_of_part,
+            parts: vec![[f64::INFINITY; 3]; calls.div_ceil(calls_of_part)],
+        }
+    }
+
+    fn time(&mut self, which: usize, keys: &[u32], mut run: impl FnMut(&[u32])) {
+        for (best, keys) in self.parts.iter_mut().zip(keys.chunks(self.calls_of_part)) {
+            let start = Instant::now();
+            run(keys);
+            best[which] = best[which].min(start.elapsed().as_secs_f64());
+        }
+    }
+
+    /// Microseconds a call.
+    fn micros(&self, calls: usize) -> [f64; 3] {
+        [0, 1, 2].map(|which| {
+            let seconds: f64 = self.parts.iter().map(|part| part[which]).sum();
+            seconds * 1e6 / calls as f64
+        })
+    }
+}
+
+/// Microseconds a call of each store.
+pub fn measure(volume: &Volume, call: Call) -> [f64; 3] {
+    match call {
+        Call::Hit | Call::Miss => lookups(volume, call, Effort::TIMED).0,
+        Call::Insert | Call::Update => changes(volume, call, ROOM, Effort::TIMED),
+    }
+}
+
+/// Microseconds a lookup of each store, and pages opened by one. All stores read the same bytes.
+pub fn lookups(volume: &Volume, call: Call, effort: Effort) -> ([f64; 3], f64) {
+    // Short ones need many calls to be timed.
+    let count = ROOM * (100_000 / volume.state.records as usize).max(1);
+    let keys = keys(volume, call, count);
+    let mut best = Best::new(count);
+    let mut answers = STORES.map(|_| Vec::with_capacity(count));
+    effort.run(|| {
+        for (which, store) in STORES.into_iter().enumerate() {
+            answers[which].clear();
+            best.time(which, &keys, |keys| {
+                look_up(store, volume, keys, &mut answers[which])
+            });
+        }
+        let [first, others @ ..] = &answers;
+        assert!(others.iter().all(|other| first == other), "the answers differ");
+        let found = u32::from(call == Call::Hit);
+        assert!(first.iter().all(|one| one.refusal == 0 && one.found == found));
+    });
+    let opened: u64 = answers[0].iter().map(|one| u64::from(one.count)).sum();
+    (best.micros(count), opened as f64 / count as f64)
+}
+
+/// Microseconds a change of each store, each on its own copy of the bytes.
+pub fn changes(volume: &Volume, call: Call, count: usize, effort: Effort) -> [f64; 3] {
+    let keys = keys(volume, call, count);
+    let mut best = Best::new(count);
+    let mut copies = STORES.map(|_| volume.copy());
+    effort.run(|| {
+        for (which, store) in STORES.into_iter().enumerate() {
+            let copy = &mut copies[which];
+            copy.restore(volume);
+            best.time(which, &keys, |keys| change(store, copy, keys, call));
+        }
+        let [first, others @ ..] = &copies;
+        assert!(others.iter().all(|other| first.same(other)), "the bytes differ");
+    });
+    best.micros(count)
+}
+
+/// A key for each call, other ones all the time, lest the processor learns them.
+fn keys(volume: &Volume, call: Call, count: usize) -> Vec<u32> {
+    let mut random = Random::new(0xBE9C);
+    let live = volume.live();
+    (0..count)
+        .map(|i| match call {
+            Call::Hit => volume.keys.key(random.below(live)),
+            // None twice.
+            Call::Update => volume.keys.key(random.below(live / count) * count + i),
+            Call::Miss | Call::Insert => volume.keys.key(live + i),
+        })
+        .collect()
+}
+
+fn look_up(store: &dyn Store, volume: &Volume, keys: &[u32], answers: &mut Vec<LookupResult>) {
+    let Volume {
+        state,
+        data,
+        spare,
+        ram,
+        ..
+    } = volume;
+    for &key in keys {
+        answers.push(store.lookup(*state, key, data, spare, ram));
+    }
+}
+
+fn change(store: &dyn Store, volume: &mut Volume, keys: &[u32], call: Call) {
+    let Volume {
+        state,
+        data,
+        spare,
+        ram,
+        ..
+    } = volume;
+    for &key in keys {
+        let change = match call {
+            Call::Update => store.update(*state, key, 7, 8, 9, data, spare, ram),
+            _ => store.insert(*state, key, 7, 8, 9, data, spare, ram),
+        };
+        assert_eq!(change.refusal, 0, "key {key}");
+        *state = change.state;
+    }
+}

@@ -1,0 +1,174 @@
+//! Volumes with a known history: every tenth record is an update, so that d = n/10.
+
+use difftest::random::Random;
+use store::{FastStore, Geometry, State, Store};
+
+/// Changes in a round, and room for them in a volume.
+pub const ROOM: usize = 64;
+
+/// Which keys are inserted.
+#[derive(Clone, Copy, Debug, PartialEq, Eq)]
+pub enum Keys {
+    Random,
+    /// 1, 2, 3 and so on.
+    InOrder,
+}
+
+impl Keys {
+    /// Key number `i`; all differ.
+    pub fn key(self, i: usize) -> u32 {
+        match self {
+            Keys::Random => mixed(i as u32),
+            Keys::InOrder => i as u32 + 1,
+        }
+    }
+}
+
+/// A permutation of the numbers of 32 bits without a visible order.
+fn mixed(i: u32) -> u32 {
+    let mut x = i ^ 0x5EED;
+    x = (x ^ x >> 16).wrapping_mul(0x7FEB_352D);
+    x = (x ^ x >> 15).wrapping_mul(0x846C_A68B);
+    x ^ x >> 16
+}
+
+/// A state with the bytes that it needs, and the keys in it.
+pub struct Volume {
+    pub state: State,
+    pub data: Vec<u8>,
+    pub spare: Vec<u8>,
+    pub ram: Vec<u8>,
+    pub keys: Keys,
+    /// Record number of each key; key number i is live if i is below the length.
+    newest: Vec<u32>,
+}
+
+/// Blocks of RA and DA for `n` records and so many changes more; nothing if they are too many.
+pub fn geometry(sector_size: u32, n: usize, room: usize) -> Option<(u32, u32)> {
+    let s = sector_size as usize;
+    let ra_blocks = (n + room).div_ceil(4 * s) as u32;
+    let da_blocks = (n / 10 + room).div_ceil(16 * s).max(1) as u32;
+    Geometry::new(sector_size, ra_blocks, da_blocks).map(|_| (ra_blocks, da_blocks))
+}
+
+impl Volume {
+    /// A volume with `n` records. The history is known to be accepted, so its changes need no search.
+    pub fn filled(sector_size: u32, n: usize, room: usize, keys: Keys) -> Option<Volume> {
+        let mut volume = Volume::formatted(sector_size, n, room, keys)?;
+        let mut random = Random::new(0xF111);
+        for number in 0..n as u32 {
+            let (i, deleted) = volume.next_record(number, &mut random);
+            let record = [keys.key(i), number, 1, 0];
+            let Volume {
+                state,
+                data,
+                spare,
+                ram,
+                ..
+            } = &mut volume;
+            let change = fast::append(*state, deleted, record, data, spare, ram);
+            assert_eq!(change.refusal, 0, "record {number}");
+            *state = change.state;
+        }
+        Some(volume)
+    }
+
+    fn formatted(sector_size: u32, n: usize, room: usize, keys: Keys) -> Option<Volume> {
+        let (r, d) = geometry(sector_size, n, room)?;
+        let geometry = Geometry::new(sector_size, r, d)?;
+        let mut data = vec![0; geometry.data_bytes()];
+        let mut spare = vec![0; geometry.spare_bytes()];
+        let mut ram = vec![0; geometry.ram_bytes()];
+        let old = State::default();
+        let change = FastStore.format(old, sector_size, r, d, &mut data, &mut spare, &mut ram);
+        assert_eq!(change.refusal, 0, "format");
+        Some(Volume {
+            state: change.state,
+            data,
+            spare,
+            ram,
+            keys,
+            newest: Vec::new(),
+        })
+    }
+
+    /// The key's number of the next record, and the record that it deletes.
+    fn next_record(&mut self, number: u32, random: &mut Random) -> (usize, Option<u32>) {
+        if number % 10 == 9 {
+            let i = random.below(self.newest.len());
+            (i, Some(std::mem::replace(&mut self.newest[i], number)))
+        } else {
+            self.newest.push(number);
+            (self.newest.len() - 1, None)
+        }
+    }
+
+    /// Keys 0 to this, not included, are live.
+    pub fn live(&self) -> usize {
+        self.newest.len()
+    }
+
+    /// Takes over state and bytes of another volume of the same size, in the memory that is there.
+    pub fn restore(&mut self, from: &Volume) {
+        self.state = from.state;
+        self.data.copy_from_slice(&from.data);
+        self.spare.copy_from_slice(&from.spare);
+        self.ram.copy_from_slice(&from.ram);
+    }
+
+    pub fn copy(&self) -> Volume {
+        Volume {
+            state: self.state,
+            data: self.data.clone(),
+            spare: self.spare.clone(),
+            ram: self.ram.clone(),
+            keys: self.keys,
+            newest: Vec::new(),
+        }
+    }
+
+    pub fn same(&self, other: &Volume) -> bool {
+        self.state == other.state
+            && self.data == other.data
+            && self.spare == other.spare
+            && self.ram == other.ram
+    }
+}
+
+#[cfg(test)]
+mod tests {
+    use super::*;
+    use store::ModelStore;
+
+    /// The same history by calls of the model.
+    fn by_calls(sector_size: u32, n: usize, keys: Keys) -> Volume {
+        let mut volume = Volume::formatted(sector_size, n, 0, keys).expect("allowed");
+        let mut random = Random::new(0xF111);
+        for number in 0..n as u32 {
+            let (i, deleted) = volume.next_record(number, &mut random);
+            let (key, state) = (keys.key(i), volume.state);
+            let Volume { data, spare, ram, .. } = &mut volume;
+            let change = match deleted {
+                None => ModelStore.insert(state, key, number, 1, 0, data, spare, ram),
+                Some(_) => ModelStore.update(state, key, number, 1, 0, data, spare, ram),
+            };
+            assert_eq!(change.refusal, 0, "record {number}");
+            volume.state = change.state;
+        }
+        volume
+    }
+
+    #[test]
+    fn volumes_of_the_calls() {
+        for (sector_size, n, keys) in [
+            (16, 5000, Keys::Random),
+            (16, 5000, Keys::InOrder),
+            (64, 8300, Keys::Random),
+            (512, 2500, Keys::Random),
+        ] {
+            let filled = Volume::filled(sector_size, n, 0, keys).expect("allowed");
+            assert_eq!(filled.state.deletions as usize, n / 10);
+            assert!(filled.same(&by_calls(sector_size, n, keys)), "S = {sector_size}");
+        }
+    }
+}
