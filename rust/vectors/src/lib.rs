@@ -118,7 +118,7 @@ pub fn run_replay(store: &dyn Store, file: &Path) -> Result<usize, Failure> {
     let input = bytes(file)?;
     let out_file = file.with_extension("out");
     let expected = bytes(&out_file)?;
-    let got = replay::replay(store, &input);
+    let got = replay::replay(store, &input, replay::LENT);
     if got == expected {
         return Ok(got.iter().filter(|&&byte| byte == b'\n').count());
     }

@@ -3,19 +3,22 @@
 use store::{State, Store};
 
 /// "It lends 59,392 cells, 3,712 marks and a desk of 640 bytes."
-const DATA_BYTES: usize = 59_392;
-const SPARE_BYTES: usize = 3_712;
-const RAM_BYTES: usize = 640;
+pub const LENT: [usize; 3] = [59_392, 3_712, 640];
 
-/// The output for a whole input: an answer a line, each ended by a line feed.
-pub fn replay(store: &dyn Store, input: &[u8]) -> Vec<u8> {
+/// What the program `replay_sets` lends: enough for full sets at S = 16 and for sets at S = 64.
+pub const LENT_FOR_SETS: [usize; 3] = [335_872, 10_176, 1_280];
+
+/// The output for a whole input: an answer a line, each ended by a line feed. So many bytes of cells, marks
+/// and desk are lent.
+pub fn replay(store: &dyn Store, input: &[u8], lent: [usize; 3]) -> Vec<u8> {
+    let [data, spare, ram] = lent;
     let mut volume = Volume {
         store,
         // "Before any format the state is all zero."
         state: State::default(),
-        data: vec![0; DATA_BYTES],
-        spare: vec![0; SPARE_BYTES],
-        ram: vec![0; RAM_BYTES],
+        data: vec![0; data],
+        spare: vec![0; spare],
+        ram: vec![0; ram],
     };
     let mut output = Vec::new();
     // The last line feed may be missing; a line feed opens no line.
@@ -121,7 +124,7 @@ mod tests {
     use store::ModelStore;
 
     fn run(input: &[u8]) -> String {
-        String::from_utf8(replay(&ModelStore, input)).expect("plain text")
+        String::from_utf8(replay(&ModelStore, input, LENT)).expect("plain text")
     }
 
     #[test]

@@ -1,0 +1,61 @@
+//! Writes the script of the program `replay_sets` and the model's answers to it:
+//! `cargo run --release -p vectors --example replay_sets -- ../crates/replay_sets`.
+//!
+//! At S = 16 the script fills sets 2 to 5, the last a full one, and set 2 of the second cycle; at S = 64
+//! it fills set 2.
+
+use std::fmt::Write as _;
+use std::{env, fs, io, path::Path};
+use store::ModelStore;
+use vectors::replay::{replay, LENT_FOR_SETS};
+
+/// From one key to the next: an odd step visits every key once.
+const STEP: u32 = 2_654_435_769;
+
+fn main() -> io::Result<()> {
+    let folder = env::args().nth(1).expect("the folder to write to");
+    let folder = Path::new(&folder);
+    let mut script = String::new();
+    season(&mut script, "f 16 96 2", 5_200);
+    season(&mut script, "f 64 32 1", 4_200);
+    fs::write(folder.join("stdin"), &script)?;
+    fs::write(
+        folder.join("stdout"),
+        replay(&ModelStore, script.as_bytes(), LENT_FOR_SETS),
+    )
+}
+
+/// A format, so many records of which some are updates, and a lookup after every twentieth; at the end
+/// lookups of levels old and new, present and absent.
+fn season(script: &mut String, format: &str, records: u32) {
+    let mut line = |text: std::fmt::Arguments| {
+        script
+            .write_fmt(text)
+            .and_then(|()| script.write_char('\n'))
+            .expect("a string takes all")
+    };
+    line(format_args!("{format}"));
+    let mut key: u32 = 0;
+    for record in 0..records {
+        key = key.wrapping_add(STEP);
+        match record % 16 {
+            15 => line(format_args!("u {} {record}", key.wrapping_sub(STEP))),
+            _ => line(format_args!("i {key} {record}")),
+        }
+        match record % 40 {
+            19 => line(format_args!("l {}", key.wrapping_sub(STEP.wrapping_mul(3)))),
+            39 => line(format_args!("l {record}")),
+            _ => {}
+        }
+        if record % 64 == 50 {
+            line(format_args!("d {key}"));
+        }
+    }
+    let mut old: u32 = 0;
+    for _ in 0..records / 50 {
+        for _ in 0..49 {
+            old = old.wrapping_add(STEP);
+        }
+        line(format_args!("l {old}"));
+    }
+}
