@@ -16,7 +16,14 @@ use Rattle.layout.specs.Index.{rowBit, rowByte, bitAt, filterBit, setByte, flus
 use Rattle.layout.specs.Items.{recordBytes, entryBytes, deletionBytes, itemWord, put}
 use Rattle.layout.specs.Search.{scan, searchPages}
 use Rattle.layout.specs.Calls.{Volume, Call, insert, update, delete, lookup, Outcome, accepted, hit, miss, refused, Result, badState, tooShort, judged, formatted, format, isDeleted, tryAt, maybeIn, search, deletion, pageFilter, summary, insertion, commit, insertAfter, updateAfter, deleteAfter, lookupAfter, call}
-use Rattle.layout.specs.Histories.{Line, ok, here, none, no, run, lent}
+use Rattle.script.specs.Answers.{Answer, ok, no}
+use Rattle.script.specs.Script.{said}
+use Rattle.script.specs.Example.{lent}
+
+-- the answers of calls one after another
+abbrev run : Volume → List Call → List Answer
+run v [] = []
+run v (c ∷ cs) = let r : Result = call fnvFamily v c in said r (r .outcome) ∷ run (r .volume) cs
 
 abbrev end : Volume → List Call → Volume
 end v [] = v

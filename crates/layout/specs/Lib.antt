@@ -8,4 +8,3 @@ pub mod Calls
 pub mod FiniteMap
 pub mod Examples
 pub mod Pins
-pub mod Histories
