@@ -57,8 +57,8 @@ module _ (bytes at low : List ℕ) (lo i : ℕ) where
   unfolding allIn
   rows-more k x y v r = rw add-one (bit-and x y i ∙ (and-comm (bit x i) (bit y i) ∙ rw (r, v)))
 
-  pub rows-three : (k x y z : ℕ) → k ≡ 3 → InRow 0 x → InRow 1 y → InRow 2 z → bit (bitAnd (bitAnd x y) z) i ≡ allIn bytes at low 1 k lo
-  rows-three k x y z e rx ry rz = rw e (rows-more 2 (bitAnd x y) z (rows-more 1 x y (rows-one x rx) ry) rz)
+  pub rows-three : (x y z : ℕ) → InRow 0 x → InRow 1 y → InRow 2 z → bit (bitAnd (bitAnd x y) z) i ≡ allIn bytes at low 1 3 lo
+  rows-three x y z rx ry rz = rows-more 2 (bitAnd x y) z (rows-more 1 x y (rows-one x rx) ry) rz
 
 -- ---- bytes of the rows
 
@@ -100,6 +100,6 @@ module _ (bytes at low : List ℕ) (q : ℕ) where
   unfolding Words
   words-more k x y v r i h = rows-more bytes at low (q * 64 + i) i k x y (v i (λ j m. h j (omega arith))) (r i (h k (omega arith)))
 
-  pub words-three : (k x y z : ℕ) → k ≡ 3 → Row bytes at low q 0 x → Row bytes at low q 1 y → Row bytes at low q 2 z
-      → Words bytes at low k q (bitAnd (bitAnd x y) z)
-  words-three k x y z e rx ry rz = rw e (words-more 2 (bitAnd x y) z (words-more 1 x y (words-one x rx) ry) rz)
+  pub words-three : (x y z : ℕ) → Row bytes at low q 0 x → Row bytes at low q 1 y → Row bytes at low q 2 z
+      → Words bytes at low 3 q (bitAnd (bitAnd x y) z)
+  words-three x y z rx ry rz = words-more 2 (bitAnd x y) z (words-more 1 x y (words-one x rx) ry) rz

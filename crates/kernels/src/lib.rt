@@ -27,7 +27,7 @@ fn wide(x: u32) -> u64
 }
 
 // The eight bytes from `at` on, the lowest first: one load.
-fn get64(s: &[u8], at: usize) -> u64
+pub fn get64(s: &[u8], at: usize) -> u64
     requires { ⌜ at + 8 ≤ length (now s) ⌝ }
     ensures { λ r. ⌜ Word (now (s .entry)) at r ⌝ }
 {
@@ -35,23 +35,19 @@ fn get64(s: &[u8], at: usize) -> u64
 }
 
 // The zero bits above the highest set bit.
-fn zeros(y: u64) -> usize
+pub fn zeros(y: u64) -> usize
     ensures { λ r. ⌜ r ≡ leadingZeros 64 y ⌝ }
 {
     u64::leading_zeros(y) as usize
 }
 
-// Word q of all rows. Three rows have no inner loop.
+// Word q of all rows.
 fn and_words(bytes: &[u8], at: [usize; 8], count: usize, q: usize) -> u64
     requires { ⌜ WordIn at count q (length (now bytes)) ⌝ }
     ensures { λ r. ⌜ Words (now (bytes .entry)) at [] count q r ⌝ }
 {
     let o = q * 8;
-    let x = get64(bytes, at[0] + o);
-    if count == 3 {
-        return x & get64(bytes, at[1] + o) & get64(bytes, at[2] + o);
-    }
-    let mut r = x;
+    let mut r = get64(bytes, at[0] + o);
     let mut i = 1;
     while i < count {
         r = r & get64(bytes, at[i] + o);
@@ -83,15 +79,15 @@ fn last_and(bytes: &[u8], at: [usize; 8], count: usize, n: usize) -> usize
 
 // A filter has w = 2^lw bits in a row; a word has the bits of per = 2^lp filters, and `mask` the
 // lowest bit of each.
-struct Width {
-    lw: u32,
-    lp: u32,
-    w: usize,
-    per: usize,
-    mask: u64,
+pub struct Width {
+    pub lw: u32,
+    pub lp: u32,
+    pub w: usize,
+    pub per: usize,
+    pub mask: u64,
 }
 
-fn width_of(w: usize) -> Width
+pub fn width_of(w: usize) -> Width
     requires { ⌜ ((e : ℕ) × (0 < e) × (e < 5) × (w ≡ 2 ^ e)) ⌝ }
     ensures { λ r. ⌜ IsWidth r × (r .w ≡ w) ⌝ }
 {
@@ -132,24 +128,20 @@ fn width_of(w: usize) -> Width
 }
 
 // x / w by a shift.
-fn down(x: usize, l: u32, w: usize) -> usize
+pub fn down(x: usize, l: u32, w: usize) -> usize
     requires { ⌜ (l ≤ 6) × (w ≡ 2 ^ l) ⌝ }
     ensures { λ r. ⌜ r ≡ x / w ⌝ }
 {
     x >> l
 }
 
-// Word q of all rows, each moved down by its `low`. Three rows have no inner loop.
+// Word q of all rows, each moved down by its `low`.
 fn field_words(bytes: &[u8], at: [usize; 8], low: [usize; 8], count: usize, q: usize) -> u64
     requires { ⌜ WordIn at count q (length (now bytes)) × ((i : ℕ) → i < count → getD low i 0 < 64) ⌝ }
     ensures { λ r. ⌜ Words (now (bytes .entry)) at low count q r ⌝ }
 {
     let o = q * 8;
-    let x = get64(bytes, at[0] + o) >> low[0];
-    if count == 3 {
-        return x & (get64(bytes, at[1] + o) >> low[1]) & (get64(bytes, at[2] + o) >> low[2]);
-    }
-    let mut r = x;
+    let mut r = get64(bytes, at[0] + o) >> low[0];
     let mut i = 1;
     while i < count {
         r = r & (get64(bytes, at[i] + o) >> low[i]);
@@ -199,26 +191,19 @@ fn bit_place(x: usize) -> usize
 }
 
 // The byte that has bit x of the row from byte `row` on, moved down so that this bit is its lowest.
-fn byte_of(bytes: &[u8], row: usize, x: usize) -> u8
+pub fn byte_of(bytes: &[u8], row: usize, x: usize) -> u8
     requires { ⌜ row + x / 8 < length (now bytes) ⌝ }
     ensures { λ r. ⌜ bit r 0 ≡ bitIn (now (bytes .entry)) row x ⌝ }
 {
     bytes[row + x / 8] >> bit_place(x)
 }
 
-// Has the filter whose bits begin o bytes after each row all of its bits? Three rows have no inner
-// loop.
+// Has the filter whose bits begin o bytes after each row all of its bits?
 fn all_at(bytes: &[u8], at: [usize; 8], low: [usize; 8], count: usize, o: usize) -> bool
     requires { ⌜ BytesIn at low count o (length (now bytes)) ⌝ }
     ensures { λ r. ⌜ r ≡ allIn (now (bytes .entry)) at low 1 count (o * 8) ⌝ }
 {
-    let x = byte_of(bytes, at[0] + o, low[0]);
-    if count == 3 {
-        let y = byte_of(bytes, at[1] + o, low[1]);
-        let z = byte_of(bytes, at[2] + o, low[2]);
-        return (x & y & z) % 2 == 1;
-    }
-    let mut r = x;
+    let mut r = byte_of(bytes, at[0] + o, low[0]);
     let mut i = 1;
     while i < count {
         r = r & byte_of(bytes, at[i] + o, low[i]);
