@@ -20,6 +20,7 @@ ghost use Rattle.filter.specs.Pieces.{fourthOf};
 ghost use Rattle.filter.specs.Groups.{UnitIs, stageOf, skaLevel, l1Level, setLevel, fullLevel, levelBelow, RowsAt, bytesOf, groupHas, GroupAt};
 use kernels::Rows;
 use sets::Index;
+use triples::Triple;
 
 // A group of filters whose bits lie in the same rows: its first filter, whether it lies in RAM, and
 // its rows.
@@ -305,13 +306,34 @@ pub fn group_below(
     }
 }
 
+// The newest of n filters that has all bits of its rows, plus one; 0 if none has. Three rows, as a
+// key's positions have, go by plain numbers.
+fn newest_of(bytes: &[u8], k: Rows, n: usize) -> usize
+    requires { ⌜ Within k n (length (now bytes)) ⌝ }
+    ensures { λ r. ⌜ r ≡ candidate (allIn (now (bytes .entry)) (k .at) (k .low) (k .w) (k .count)) n ⌝ }
+{
+    if k.count != 3 {
+        return kernels::newest(bytes, k, n);
+    }
+    let t = Triple {
+        a: k.at[0],
+        b: k.at[1],
+        c: k.at[2],
+        la: k.low[0],
+        lb: k.low[1],
+        lc: k.low[2],
+        w: k.w,
+    };
+    triples::newest(bytes, t, n)
+}
+
 // The newest of the group's first n filters that has all positions' bits, plus one; 0 if none has.
 pub fn newest_in(main: &[u8], ram: &[u8], g: Group, n: usize) -> usize
     requires { ⌜ Within (g .rows) n (length (bytesOf g (now main) (now ram))) ⌝ }
     ensures { λ r. ⌜ r ≡ candidate (groupHas g (now (main .entry)) (now (ram .entry))) n ⌝ }
 {
     if g.in_ram {
-        return kernels::newest(ram, g.rows, n);
+        return newest_of(ram, g.rows, n);
     }
-    kernels::newest(main, g.rows, n)
+    newest_of(main, g.rows, n)
 }

@@ -2,17 +2,17 @@
 use Rattle.filter.proofs.newest_in.Statement.{statement}
 use Rattle.filter.proofs.newest_in.Tie as tie
 
-newest-requires : tie.Need-newest-requires
-newest-requires c κs = rw (c .if1 .taken) at (c .before .before .before .pre)
+newest-of-requires : tie.Need-newest-of-requires
+newest-of-requires c κs = rw (c .if1 .taken) at (c .before .before .before .pre)
 
 returns : tie.Need-returns
-returns c = rw (c .before .if1 .taken) (c .newest .ensures)
+returns c = rw (c .before .if1 .taken) (c .newest-of .ensures)
 
-newest-requires-2 : tie.Need-newest-requires-2
-newest-requires-2 c κs = rw (c .if1 .left) at (c .before .before .before .pre)
+newest-of-requires-2 : tie.Need-newest-of-requires-2
+newest-of-requires-2 c κs = rw (c .if1 .left) at (c .before .before .before .pre)
 
 returns-2 : tie.Need-returns-2
-returns-2 c = rw (c .before .if1 .left) (c .newest2 .ensures)
+returns-2 c = rw (c .before .if1 .left) (c .newest-of2 .ensures)
 
 pub newest-in-spec : {M : Type 1} → statement M
-newest-in-spec = tie.close (tie.spec newest-requires returns newest-requires-2 returns-2)
+newest-in-spec = tie.close (tie.spec newest-of-requires returns newest-of-requires-2 returns-2)
