@@ -1,15 +1,13 @@
 //! The five calls as a trait, so that tests and benchmarks can run any implementation.
 
-mod fast_store;
-mod model_store;
 #[cfg(feature = "proved")]
 mod proved_store;
+mod rust_stores;
 
-pub use fast_store::FastStore;
 pub use model::{Change, Geometry, LookupResult, State, SECTOR_SIZES};
-pub use model_store::ModelStore;
 #[cfg(feature = "proved")]
 pub use proved_store::ProvedStore;
+pub use rust_stores::{FastStore, ModelStore};
 
 /// A level store: `data`, `spare` and `ram` are document 01's cells, marks and desk.
 pub trait Store {

@@ -1,0 +1,76 @@
+//! The stores in Rust: each call is the function of that name of a crate.
+
+use crate::{Change, LookupResult, State, Store};
+
+macro_rules! store_over {
+    ($(#[$about:meta])* $store:ident, $calls:ident) => {
+        $(#[$about])*
+        pub struct $store;
+
+        impl Store for $store {
+            fn name(&self) -> &'static str {
+                stringify!($calls)
+            }
+
+            fn format(
+                &self,
+                old: State,
+                sector_size: u32,
+                ra_blocks: u32,
+                da_blocks: u32,
+                data: &mut [u8],
+                spare: &mut [u8],
+                ram: &mut [u8],
+            ) -> Change {
+                $calls::format(old, sector_size, ra_blocks, da_blocks, data, spare, ram)
+            }
+
+            fn insert(
+                &self,
+                state: State,
+                key: u32,
+                moves: u32,
+                goal: u32,
+                word: u32,
+                data: &mut [u8],
+                spare: &mut [u8],
+                ram: &mut [u8],
+            ) -> Change {
+                $calls::insert(state, key, moves, goal, word, data, spare, ram)
+            }
+
+            fn update(
+                &self,
+                state: State,
+                key: u32,
+                moves: u32,
+                goal: u32,
+                word: u32,
+                data: &mut [u8],
+                spare: &mut [u8],
+                ram: &mut [u8],
+            ) -> Change {
+                $calls::update(state, key, moves, goal, word, data, spare, ram)
+            }
+
+            fn delete(&self, state: State, key: u32, data: &mut [u8], spare: &mut [u8], ram: &mut [u8]) -> Change {
+                $calls::delete(state, key, data, spare, ram)
+            }
+
+            fn lookup(&self, state: State, key: u32, data: &[u8], spare: &[u8], ram: &[u8]) -> LookupResult {
+                $calls::lookup(state, key, data, spare, ram)
+            }
+        }
+    };
+}
+
+store_over!(
+    /// The plain model.
+    ModelStore,
+    model
+);
+store_over!(
+    /// The store for speed.
+    FastStore,
+    fast
+);
