@@ -21,15 +21,15 @@ fn main() {
     let mut input = chunk();
     let mut output = answers();
     let mut line = [0u8; 64];
-    let mut cells = [0u8; 59392];
-    let mut marks = [0u8; 3712];
-    let mut desk = [0u8; 640];
+    let mut main_area = [0u8; 59392];
+    let mut spare = [0u8; 3712];
+    let mut ram = [0u8; 640];
     console::run(
         &mut input,
         &mut line,
-        &mut cells,
-        &mut marks,
-        &mut desk,
+        &mut main_area,
+        &mut spare,
+        &mut ram,
         &mut output,
     );
 }

@@ -20,15 +20,15 @@ fn main() {
     let mut input = chunk();
     let mut output = answers();
     let mut line = [0u8; 64];
-    let mut cells = [0u8; 335872];
-    let mut marks = [0u8; 10176];
-    let mut desk = [0u8; 1280];
+    let mut main_area = [0u8; 335872];
+    let mut spare = [0u8; 10176];
+    let mut ram = [0u8; 1280];
     console::run(
         &mut input,
         &mut line,
-        &mut cells,
-        &mut marks,
-        &mut desk,
+        &mut main_area,
+        &mut spare,
+        &mut ram,
         &mut output,
     );
 }
