@@ -11,7 +11,6 @@ use Rattle.layout.specs.Geometry.{sector, page, block}
 use Rattle.layout.specs.Index.{Index, sideBlock, fullBlock, fullFilters, inSet, inFull, filterBit}
 use Rattle.kernels.specs.declared.Rows.{Rows}
 use Rattle.kernels.specs.Rows.{allIn, Within}
-use Rattle.triples.specs.declared.Triple.{Triple}
 use Rattle.filter.specs.declared.Group.{Group}
 use Rattle.filter.specs.declared.Level.{Level}
 use Rattle.filter.specs.declared.Stage.{Stage}
@@ -71,19 +70,6 @@ pub record RowsAt (l : Level) (ps : List ℕ) (count : ℕ) (k : Rows) : Type 0 
   pub w-is : k .w ≡ 2 ^ l .exponent
   pub at-is : (i : ℕ) → i < count → getD (k .at) i 0 ≡ l .base + getD ps i 0 / 2 ^ l .exponent * l .stride
   pub low-is : (i : ℕ) → i < count → getD (k .low) i 0 ≡ getD ps i 0 % 2 ^ l .exponent
-
--- the first three rows
-abbrev pub tripleOf : Rows → Triple
-tripleOf k =
-    record {
-      a = getD (k .at) 0 0;
-      b = getD (k .at) 1 0;
-      c = getD (k .at) 2 0;
-      la = getD (k .low) 0 0;
-      lb = getD (k .low) 1 0;
-      lc = getD (k .low) 2 0;
-      w = k .w;
-    }
 
 -- the bytes that a group lies in
 abbrev pub bytesOf : Group → List ℕ → List ℕ → List ℕ

@@ -17,7 +17,7 @@ ghost use Rattle.kernels.specs.Rows.{Within, allIn};
 ghost use Rattle.sets.specs.Indexes.{indexOf};
 ghost use Rattle.filter.specs.Filter.{arrayBit, Below, Fits};
 ghost use Rattle.filter.specs.Pieces.{fourthOf};
-ghost use Rattle.filter.specs.Groups.{UnitIs, stageOf, skaLevel, l1Level, setLevel, fullLevel, levelBelow, RowsAt, bytesOf, groupHas, GroupAt, tripleOf};
+ghost use Rattle.filter.specs.Groups.{UnitIs, stageOf, skaLevel, l1Level, setLevel, fullLevel, levelBelow, RowsAt, bytesOf, groupHas, GroupAt};
 use kernels::Rows;
 use sets::Index;
 use triples::Triple;
@@ -306,11 +306,16 @@ pub fn group_below(
     }
 }
 
-// The first three rows as plain numbers.
-fn triple_of(k: Rows) -> Triple
-    ensures { λ r. ⌜ r ≡ tripleOf k ⌝ }
+// The newest of n filters that has all bits of its rows, plus one; 0 if none has. Three rows, as a
+// key's positions have, go by plain numbers.
+fn newest_of(bytes: &[u8], k: Rows, n: usize) -> usize
+    requires { ⌜ Within k n (length (now bytes)) ⌝ }
+    ensures { λ r. ⌜ r ≡ candidate (allIn (now (bytes .entry)) (k .at) (k .low) (k .w) (k .count)) n ⌝ }
 {
-    Triple {
+    if k.count != 3 {
+        return kernels::newest(bytes, k, n);
+    }
+    let t = Triple {
         a: k.at[0],
         b: k.at[1],
         c: k.at[2],
@@ -318,24 +323,17 @@ fn triple_of(k: Rows) -> Triple
         lb: k.low[1],
         lc: k.low[2],
         w: k.w,
-    }
+    };
+    triples::newest(bytes, t, n)
 }
 
 // The newest of the group's first n filters that has all positions' bits, plus one; 0 if none has.
-// Each pass is called at two places, so that it is not inlined and this function is.
 pub fn newest_in(main: &[u8], ram: &[u8], g: Group, n: usize) -> usize
     requires { ⌜ Within (g .rows) n (length (bytesOf g (now main) (now ram))) ⌝ }
     ensures { λ r. ⌜ r ≡ candidate (groupHas g (now (main .entry)) (now (ram .entry))) n ⌝ }
 {
-    if g.rows.count == 3 {
-        let t = triple_of(g.rows);
-        if g.in_ram {
-            return triples::newest(ram, t, n);
-        }
-        return triples::newest(main, t, n);
-    }
     if g.in_ram {
-        return kernels::newest(ram, g.rows, n);
+        return newest_of(ram, g.rows, n);
     }
-    kernels::newest(main, g.rows, n)
+    newest_of(main, g.rows, n)
 }
