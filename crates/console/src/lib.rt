@@ -1,8 +1,13 @@
 // A script from standard input, its answers to standard output. What matters is proved of `stream`; here
 // bytes are moved, in chunks, and nothing else.
 ghost use mathlib.Core.Path.{_≡_};
+ghost use mathlib.Core.Bool.{false};
 ghost use Prim.Native.Nat.{_*_, _≤_, _<_};
-ghost use lib.ListN.{length};
+ghost use lib.ListN.{length, take};
+ghost use Rattle.layout.specs.Flash.{flashOf};
+ghost use Rattle.stream.specs.Kept.{keptFeed, keptClose};
+ghost use Rattle.stream.specs.Contract.{kept};
+ghost use Rattle.console.specs.Turns.{turned, fed};
 use libc::STDERR_FILENO;
 use libc::STDIN_FILENO;
 use libc::STDOUT_FILENO;
@@ -47,7 +52,7 @@ fn turns_left(turns: u64, more: bool) -> u64
 
 // Between two chunks: the state and the bytes of an unfinished line; nothing is left to be written.
 fn between(state: State, fill: usize, more: bool) -> Turn
-    ensures { λ r. ⌜ (r .progress .fill ≡ fill) × (r .progress .printed ≡ 0) ⌝ }
+    ensures { λ r. ⌜ (r .more ≡ more) × (r .progress .state ≡ state) × (r .progress .fill ≡ fill) × (r .progress .printed ≡ 0) ⌝ }
 {
     let progress = Progress {
         state,
@@ -59,7 +64,7 @@ fn between(state: State, fill: usize, more: bool) -> Turn
 
 // After a byte could not be read or written: the reason is told, and an unfinished line is not answered.
 fn fail(state: State, reason: &[u8]) -> Turn
-    ensures { λ r. ⌜ (r .progress .fill ≡ 0) × (r .progress .printed ≡ 0) ⌝ }
+    ensures { λ r. ⌜ (r .more ≡ false) × (r .progress .state ≡ state) × (r .progress .fill ≡ 0) × (r .progress .printed ≡ 0) ⌝ }
 {
     io::write_all(STDERR_FILENO, reason);
     between(state, 0, false)
@@ -78,6 +83,7 @@ fn answer_chunk(
 ) -> Turn
     requires { ⌜ (p .fill ≤ length (now line)) × (p .printed ≡ 0) × (n ≤ length (now chunk)) × (length (now chunk) * 32 ≤ length (now out)) ⌝ }
     ensures { λ r. ⌜ (r .progress .fill ≤ length (now (line .entry))) × (r .progress .printed ≡ 0) ⌝ }
+    ensures { λ r. ⌜ turned r (now (line .exit)) (now (main .exit)) (now (spare .exit)) (now (ram .exit)) (now (out .exit)) ≡ fed (r .more) (keptFeed (kept p (now (line .entry)) (now (main .entry)) (now (spare .entry)) (now (ram .entry)) (now (out .entry))) (take n (now (chunk .entry)))) ⌝ }
 {
     let q = stream::feed(p, &chunk[0..n], line, main, spare, ram, out);
     let printed = q.printed;
@@ -123,6 +129,7 @@ fn finish(
     out: &mut [u8],
 )
     requires { ⌜ (p .fill ≤ length (now line)) × (p .printed ≡ 0) × (32 ≤ length (now out)) ⌝ }
+    ensures { λ _. ⌜ (flashOf (now (main .exit)) (now (spare .exit)) ≡ keptClose (kept p (now (line .entry)) (now (main .entry)) (now (spare .entry)) (now (ram .entry)) (now (out .entry))) .volume .flash) × (now (ram .exit) ≡ keptClose (kept p (now (line .entry)) (now (main .entry)) (now (spare .entry)) (now (ram .entry)) (now (out .entry))) .volume .ram) × (now (out .exit) ≡ keptClose (kept p (now (line .entry)) (now (main .entry)) (now (spare .entry)) (now (ram .entry)) (now (out .entry))) .out) ⌝ }
 {
     let q = stream::close(p, line, main, spare, ram, out);
     let printed = q.printed;
