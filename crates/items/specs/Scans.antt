@@ -99,6 +99,28 @@ pub key-no : (s : List ℕ) (at key i r : ℕ) → r ≡ word s (at + i * 8) →
 unfolding hasKey
 key-no s at key i r e h = ne-eqb _ _ (λ q. h (e ∙ q))
 
+-- an entry's key is the first of its two words
+key-word : (s : List ℕ) (at key i : ℕ) → hasKey s at key i ≡ isWord s at key (i * 2)
+unfolding hasKey isWord
+key-word s at key i =
+    let e : at + i * 8 ≡ at + i * 2 * 4 = omega arith in
+    rw e
+
+-- no word of n entries is the number, so none has it as its key
+pub no-word : (s : List ℕ) (at key n : ℕ) → hasWord s at (n * 2) key ≡ false → any (hasKey s at key) n ≡ false
+unfolding any
+no-word s at key zero t = refl
+no-word s at key (suc n) t =
+    let e : suc n * 2 ≡ suc (suc (n * 2)) = omega arith in
+    let u : (isWord s at key (suc (n * 2)) || (isWord s at key (n * 2) || hasWord s at (n * 2) key)) ≡ false = rw e at t in
+    let q : hasKey s at key n ≡ isWord s at key (n * 2) = key-word s at key n in
+    either (bool? (isWord s at key (suc (n * 2))))
+    (λ h. let z : true ≡ false = rw h at u in cc)
+    (λ h. let v : (isWord s at key (n * 2) || hasWord s at (n * 2) key) ≡ false = rw h at u in
+    either (bool? (isWord s at key (n * 2)))
+    (λ g. let z : true ≡ false = rw g at v in cc)
+    (λ g. let w : hasWord s at (n * 2) key ≡ false = rw g at v in rw (q, g) (no-word s at key n w)))
+
 -- entries counted from a later one
 pub key-later : (s : List ℕ) (at key m i : ℕ) → hasKey s at key (m + i) ≡ hasKey s (at + m * 8) key i
 unfolding hasKey

@@ -127,22 +127,6 @@ pub fn is_deleted(main: &[u8], ram: &[u8], unit: usize, a: Area, d: usize, j: u3
 
 // ---- entries with a key
 
-// Has one of the n entries from byte `at` on the key. No exit before the end.
-fn has_key(s: &[u8], at: usize, n: usize, key: u32) -> bool
-    requires { ⌜ at + n * 8 ≤ length (now s) ⌝ }
-    ensures { λ r. ⌜ r ≡ any (hasKey (now (s .entry)) at key) n ⌝ }
-{
-    let mut found = false;
-    let mut i = 0;
-    while i < n {
-        if words::get32(s, at + i * 8) == key {
-            found = true;
-        }
-        i += 1;
-    }
-    found
-}
-
 // The newest of the n entries with the key, plus one, an entry at a time; 0 if there is none.
 fn last_key(s: &[u8], at: usize, n: usize, key: u32) -> usize
     requires { ⌜ at + n * 8 ≤ length (now s) ⌝ }
@@ -159,15 +143,14 @@ fn last_key(s: &[u8], at: usize, n: usize, key: u32) -> usize
     0
 }
 
-// The same: a pass without exit comes first where there are many entries, and nearly always ends it.
+// The same, after a pass over all words of the entries: it takes their numbers for keys too, but it has no
+// exit and reads without a gap, and nearly always it finds none.
 fn find_few(s: &[u8], at: usize, count: usize, key: u32) -> usize
     requires { ⌜ at + count * 8 ≤ length (now s) ⌝ }
     ensures { λ r. ⌜ r ≡ lastEntry (now (s .entry)) at count key ⌝ }
 {
-    if count > 8 {
-        if !has_key(s, at, count, key) {
-            return 0;
-        }
+    if !has_word(s, at, count * 2, key) {
+        return 0;
     }
     last_key(s, at, count, key)
 }
