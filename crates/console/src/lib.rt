@@ -1,13 +1,14 @@
 // A script from standard input, its answers to standard output. What matters is proved of `stream`; here
 // bytes are moved, in chunks, and nothing else.
 ghost use mathlib.Core.Path.{_≡_};
-ghost use mathlib.Core.Bool.{false};
-ghost use Prim.Native.Nat.{_*_, _≤_, _<_};
+ghost use mathlib.Core.Bool.{Bool, false, cond};
+ghost use mathlib.Core.List.{List};
+ghost use Prim.Native.Nat.{ℕ, _*_, _-_, _≤_, _<_};
 ghost use lib.ListN.{length, take};
 ghost use Rattle.layout.specs.Flash.{flashOf};
 ghost use Rattle.stream.specs.Kept.{keptFeed, keptClose};
 ghost use Rattle.stream.specs.Contract.{kept};
-ghost use Rattle.console.specs.Turns.{turned, fed};
+ghost use Rattle.console.specs.Turns.{turned, fed, Took, first, turns, ends, Short, Leaves};
 use libc::STDERR_FILENO;
 use libc::STDIN_FILENO;
 use libc::STDOUT_FILENO;
@@ -43,6 +44,7 @@ fn begin() -> Progress
 fn turns_left(turns: u64, more: bool) -> u64
     requires { ⌜ 0 < turns ⌝ }
     ensures { λ r. ⌜ r < turns ⌝ }
+    ensures { λ r. ⌜ r ≡ cond more (turns - 1) 0 ⌝ }
 {
     if more {
         return turns - 1;
@@ -106,6 +108,7 @@ fn take_turn(
 ) -> Turn
     requires { ⌜ (p .fill ≤ length (now line)) × (p .printed ≡ 0) × (length (now chunk) * 32 ≤ length (now out)) ⌝ }
     ensures { λ r. ⌜ (r .progress .fill ≤ length (now (line .entry))) × (r .progress .printed ≡ 0) ⌝ }
+    ensures { λ r. ⌜ Took r (kept p (now (line .entry)) (now (main .entry)) (now (spare .entry)) (now (ram .entry)) (now (out .entry))) (now (chunk .exit)) (turned r (now (line .exit)) (now (main .exit)) (now (spare .exit)) (now (ram .exit)) (now (out .exit))) ⌝ }
 {
     let got = libc::read(STDIN_FILENO, chunk);
     let state = p.state;
@@ -146,6 +149,7 @@ pub fn run(
     out: &mut [u8],
 )
     requires { ⌜ (length (now chunk) * 32 ≤ length (now out)) × (32 ≤ length (now out)) ⌝ }
+    ensures { λ _. ⌜ ((chunks : List (List ℕ)) × (whole : Bool) × Short (length (now (chunk .entry))) chunks × Leaves (ends whole (turns (first (now (line .entry)) (now (main .entry)) (now (spare .entry)) (now (ram .entry)) (now (out .entry))) chunks)) (now (line .exit)) (now (main .exit)) (now (spare .exit)) (now (ram .exit)) (now (out .exit))) ⌝ }
 {
     let mut p = begin();
     let mut turns = u64::MAX;

@@ -1,9 +1,11 @@
--- An unfinished line stays in its buffer, and the buffers keep their lengths.
+-- Before each turn stands what the chunks so far make of the lent bytes; the buffers keep their lengths.
 use borrow.Author.Needs.{needs}
 use native.Mathlib.Omega.{arith}
-use Prim.Native.Nat.{_≤_}
-use mathlib.Core.Path.{_≡_}
+use Prim.Native.Nat.{_≤_, _<_}
+use mathlib.Core.Path.{_≡_, refl}
 use lib.ListN.{length}
+use Rattle.stream.specs.Contract.{kept}
+use Rattle.console.specs.Turns.{turned, Held, held-first, held-more, held-ends}
 use Rattle.console.proofs.run.Statement.{statement}
 use Rattle.console.proofs.run.Tie as tie
 
@@ -11,6 +13,7 @@ abbrev Inv-loop : tie.InvT-loop
 Inv-loop chunk₀ line₀ main₀ spare₀ ram₀ out₀ p₀ turns₀ chunk line main spare ram out p turns =
     (p .fill ≤ length line) × (p .printed ≡ 0) × (length chunk ≡ length chunk₀) × (length line ≡ length line₀) × (length main ≡ length main₀)
     × (length spare ≡ length spare₀) × (length ram ≡ length ram₀) × (length out ≡ length out₀)
+    × Held (kept p₀ line₀ main₀ spare₀ ram₀ out₀) (length chunk₀) turns (kept p line main spare ram out)
 
 abbrev μ-loop : tie.MeasureT-loop
 μ-loop chunk₀ line₀ main₀ spare₀ ram₀ out₀ p₀ turns₀ chunk line main spare ram out p turns = turns
@@ -19,7 +22,18 @@ begin-requires : tie.Need-begin-requires Inv-loop μ-loop
 begin-requires c κs = search needs
 
 loop-holds : tie.Need-loop-holds Inv-loop μ-loop
-loop-holds c = omega (arith, c .begin .ensures .1)
+loop-holds c =
+    let x = c .before .before .before .before .before .before .before .args in (
+      omega (arith, c .begin .ensures .1),
+      c .begin .ensures .1 .1,
+      refl,
+      refl,
+      refl,
+      refl,
+      refl,
+      refl,
+      held-first (kept (c .begin .result) (x .line .now) (x .main .now) (x .spare .now) (x .ram .now) (x .out .now)) (length (x .chunk .now)) _,
+    )
 
 take-turn-requires : tie.Need-take-turn-requires Inv-loop μ-loop
 take-turn-requires c κs = omega arith
@@ -30,8 +44,39 @@ turns-left-requires c κs = search needs
 loop-less : tie.Need-loop-less Inv-loop μ-loop
 loop-less c = omega arith
 
+-- one turn more
+again : (c : tie.After-turns-left Inv-loop μ-loop)
+    → let t = c .before .before .before .before .before .before .before .before .before .before .before .before .before .before in
+    let b = t .before .before .before .before .before .before .before .before .before in
+    let x = b .before .before .before .before .before .before .before .args in
+    let k = t .take-turn in
+    Held (kept (b .begin .result) (x .line .now) (x .main .now) (x .spare .now) (x .ram .now) (x .out .now)) (length (x .chunk .now)) (c .turns-left .result)
+    (kept (k .result .progress) (k .last .1 .1 .0) (k .last .1 .1 .1 .0) (k .last .1 .1 .1 .1 .0) (k .last .1 .1 .1 .1 .1 .0) (k .last .1 .1 .1 .1 .1 .1 .0))
+again c =
+    let full : length (c .before .before .before .before .before .before .before .before .before .before .before .before .before .before .take-turn .last .1 .0) ≡ length (c .before .before .before .before .before .before .before .before .before .before .before .before .before .before .before .before .before .before .before .before .before .before .before .before .before .before .before .before .before .before .args .chunk .now) = omega arith in
+    let pos : 0 < c .before .before .before .before .before .before .before .before .before .before .before .before .before .before .before .before .before .before .before .before .before .before .loop .turns = omega arith in
+    let t = c .before .before .before .before .before .before .before .before .before .before .before .before .before .before in
+    let l = t .before .before .before .before .before .before .before .before in
+    let b = l .before in
+    let x = b .before .before .before .before .before .before .before .args in
+    let k = t .take-turn in
+    held-more (kept (b .begin .result) (x .line .now) (x .main .now) (x .spare .now) (x .ram .now) (x .out .now)) (kept (l .loop .p) (l .loop .line) (l .loop .main) (l .loop .spare) (l .loop .ram) (l .loop .out))
+    (length (x .chunk .now)) (l .loop .turns) (c .turns-left .result) (k .result) (k .last .1 .0)
+    (turned (k .result) (k .last .1 .1 .0) (k .last .1 .1 .1 .0) (k .last .1 .1 .1 .1 .0) (k .last .1 .1 .1 .1 .1 .0) (k .last .1 .1 .1 .1 .1 .1 .0)) (k .result .progress .printed)
+    (l .loop .inv .8) pos (k .ensures .1) full (k .ensures .0 .1) (c .turns-left .ensures .1)
+
 loop-again : tie.Need-loop-again Inv-loop μ-loop
-loop-again c = omega arith
+loop-again c = (
+  omega (arith, c .before .before .before .before .before .before .before .before .before .before .before .before .before .before .take-turn .ensures .0),
+  c .before .before .before .before .before .before .before .before .before .before .before .before .before .before .take-turn .ensures .0 .1,
+  omega arith,
+  omega arith,
+  omega arith,
+  omega arith,
+  omega arith,
+  omega arith,
+  again c,
+)
 
 finish-requires : tie.Need-finish-requires Inv-loop μ-loop
 finish-requires c κs = search needs
@@ -55,7 +100,15 @@ same-length-6 : tie.Need-same-length-6 Inv-loop μ-loop
 same-length-6 c = omega arith
 
 returns : tie.Need-returns Inv-loop μ-loop
-returns c = search needs
+returns c =
+    let f = c .before .before .before .before .before .before .before .before in
+    let l = f .before .before .before .before .before .before .before in
+    let b = l .before in
+    let x = b .before .before .before .before .before .before .before .args in
+    let k = f .finish in
+    rw (c .before .before .before .before .before .before .before .before .before .before .before .before .before .before .before .before .begin .ensures .0) at
+    (held-ends (kept (b .begin .result) (x .line .now) (x .main .now) (x .spare .now) (x .ram .now) (x .out .now)) (kept (l .loop .p) (l .loop .line) (l .loop .main) (l .loop .spare) (l .loop .ram) (l .loop .out))
+    (length (x .chunk .now)) (l .loop .turns) (k .last .1 .1 .0) (k .last .1 .1 .1 .0) (k .last .1 .1 .1 .1 .0) (k .last .1 .1 .1 .1 .1 .0) (l .loop .inv .8) (k .ensures))
 
 pub run-spec : {M : Type 1} → statement M
 run-spec =

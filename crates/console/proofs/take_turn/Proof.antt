@@ -1,0 +1,104 @@
+-- What was read is answered; nothing was read at the input's end and where the read failed.
+use borrow.Author.Needs.{needs}
+use native.Mathlib.Omega.{arith}
+use mathlib.Core.Bool.{true, false}
+use Rattle.stream.specs.Contract.{kept}
+use Rattle.console.specs.Turns.{turned, took-none, took-some}
+use Rattle.console.proofs.take_turn.Statement.{statement}
+use Rattle.console.proofs.take_turn.Tie as tie
+use Rattle.console.proofs.take_turn.Reads as reads
+use Rattle.console.proofs.take_turn.Lts as lts
+use Rattle.console.proofs.answer_chunk.Reads as answer-chunk-reads
+use Rattle.console.proofs.between.Reads as between-reads
+use Rattle.console.proofs.fail.Reads as fail-reads
+use Rattle.io.proofs.count.Reads as count-reads
+use Rattle.libc.proofs.read.Reads as read-reads
+
+read-requires : tie.Need-read-requires
+read-requires c κs = search needs
+
+slice-aggregate-fail : tie.Need-slice-aggregate-fail
+slice-aggregate-fail c = search needs
+
+fail-requires : tie.Need-fail-requires
+fail-requires c κs = search needs
+
+same-length : tie.Need-same-length
+same-length c = search needs
+
+returns : tie.Need-returns
+returns c =
+    let g = c .before .before .before .before .before .before in
+    let x = g .before .before .before .before .before .before .before .before .args in
+    let e = c .fail .ensures in
+    ((omega (arith, e), e .3), took-none (c .fail .result) (x .p) (g .read .last .1 .0) (x .line .now) (x .main .now) (x .spare .now) (x .ram .now) (x .out .now) false (e .0) (e .1) (e .2))
+
+count-requires : tie.Need-count-requires
+count-requires c κs = search needs
+
+between-requires : tie.Need-between-requires
+between-requires c κs = search needs
+
+same-length-2 : tie.Need-same-length-2
+same-length-2 c = search needs
+
+returns-2 : tie.Need-returns-2
+returns-2 c =
+    let g = c .before .before .before .before .before .before .before .before in
+    let x = g .before .before .before .before .before .before .before .before .args in
+    let e = c .between .ensures in
+    ((omega (arith, e), e .3), took-none (c .between .result) (x .p) (g .read .last .1 .0) (x .line .now) (x .main .now) (x .spare .now) (x .ram .now) (x .out .now) true (e .0) (e .1) (e .2))
+
+answer-chunk-requires : tie.Need-answer-chunk-requires
+answer-chunk-requires c κs = search needs
+
+same-length-3 : tie.Need-same-length-3
+same-length-3 c = search needs
+
+same-length-4 : tie.Need-same-length-4
+same-length-4 c = search needs
+
+same-length-5 : tie.Need-same-length-5
+same-length-5 c = search needs
+
+same-length-6 : tie.Need-same-length-6
+same-length-6 c = search needs
+
+same-length-7 : tie.Need-same-length-7
+same-length-7 c = search needs
+
+same-length-8 : tie.Need-same-length-8
+same-length-8 c = search needs
+
+returns-3 : tie.Need-returns-3
+returns-3 c =
+    let a = c .before .before .before .before .before .before .before .before .before .before in
+    let g = a .before .before .before .before .before .before .before .before .before .before .before .before .before .before in
+    let x = g .before .before .before .before .before .before .before .before .args in
+    let k = a .answer-chunk in (
+      k .ensures .0,
+      took-some (k .result) (kept (x .p) (x .line .now) (x .main .now) (x .spare .now) (x .ram .now) (x .out .now)) (g .read .last .1 .0) (a .before .before .before .before .before .before .before .before .count .result)
+          (turned (k .result) (k .last .1 .1 .1 .0) (k .last .1 .1 .1 .1 .0) (k .last .1 .1 .1 .1 .1 .0) (k .last .1 .1 .1 .1 .1 .1 .0) (k .last .1 .1 .1 .1 .1 .1 .1 .0)) (omega (arith, a .before .before .before .before .before .before .before .before .count .ensures .0)) (k .ensures .1),
+    )
+
+pub take-turn-spec : {M : Type 1} → statement M
+take-turn-spec =
+    tie.close
+    (tie.spec
+    read-requires
+    slice-aggregate-fail
+    fail-requires
+    same-length
+    returns
+    count-requires
+    between-requires
+    same-length-2
+    returns-2
+    answer-chunk-requires
+    same-length-3
+    same-length-4
+    same-length-5
+    same-length-6
+    same-length-7
+    same-length-8
+    returns-3)
