@@ -39,7 +39,7 @@ turned-is r q K line main spare ram out e s f = rw (← e, s, f)
 
 -- a turn: first bytes of the chunk as it was read are fed; after a failure, which no turn follows, an unfinished line is dropped
 abbrev pub Took : Turn → Kept → List ℕ → Left → Type 0
-Took r k chunk l = (n : ℕ) × (whole : Bool) × (n ≤ length chunk) × (r .more ≡ true → whole ≡ true) × (l ≡ fed whole (keptFeed k (take n chunk)))
+Took r k chunk l = (n : ℕ) × (n ≤ length chunk) × (r .more ≡ true → r .whole ≡ true) × (l ≡ fed (r .whole) (keptFeed k (take n chunk)))
 
 -- ---- a run
 
@@ -75,26 +75,26 @@ Leaves k line main spare ram out = (flashOf main spare ≡ k .volume .flash) × 
 -- ---- laws
 
 -- a turn that feeds nothing: the input's end, or a failure
-pub took-none : (r : Turn) (p : Progress) (chunk line main spare ram out : List ℕ) (whole : Bool)
-    → r .more ≡ false → r .progress .state ≡ p .state → r .progress .fill ≡ cond whole (p .fill) 0 → Took r (kept p line main spare ram out) chunk (turned r line main spare ram out)
+pub took-none : (r : Turn) (p : Progress) (chunk line main spare ram out : List ℕ)
+    → r .more ≡ false → r .progress .state ≡ p .state → r .progress .fill ≡ cond (r .whole) (p .fill) 0 → Took r (kept p line main spare ram out) chunk (turned r line main spare ram out)
 unfolding keptFeed
-took-none r p chunk line main spare ram out whole m s f = (0, whole, omega arith, λ t. let z : false ≡ true = sym m ∙ t in cc, rw (s, f))
+took-none r p chunk line main spare ram out m s f = (0, omega arith, λ t. let z : false ≡ true = sym m ∙ t in cc, rw (s, f))
 
 -- a turn that feeds the chunk's first n bytes
-pub took-some : (r : Turn) (k : Kept) (chunk : List ℕ) (n : ℕ) (l : Left) → n ≤ length chunk → l ≡ fed (r .more) (keptFeed k (take n chunk)) → Took r k chunk l
-took-some r k chunk n l h e = (n, r .more, h, λ t. t, e)
+pub took-some : (r : Turn) (k : Kept) (chunk : List ℕ) (n : ℕ) (l : Left) → n ≤ length chunk → l ≡ fed (r .more) (keptFeed k (take n chunk)) → r .whole ≡ r .more → Took r k chunk l
+took-some r k chunk n l h e w = (n, h, λ t. w ∙ t, rw w e)
 
 -- what is kept after a turn, and after a failure nothing of a line
 abbrev stopped : Bool → Kept → Kept
 stopped whole k = record { volume = k .volume; buffer = k .buffer; fill = cond whole (k .fill) 0; out = k .out; printed = k .printed }
 
 -- before each turn and after the last one: what the chunks so far make of k; a turn follows only where nothing failed
-abbrev pub Held : Kept → ℕ → ℕ → Kept → Type 0
-Held k most rest m = (chunks : List (List ℕ)) × (whole : Bool) × Short most chunks × (0 < rest → whole ≡ true) × (m ≡ stopped whole (turns k chunks))
+abbrev pub Held : Kept → ℕ → ℕ → Bool → Kept → Type 0
+Held k most rest whole m = (chunks : List (List ℕ)) × Short most chunks × (0 < rest → whole ≡ true) × (m ≡ stopped whole (turns k chunks))
 
-pub held-first : (k : Kept) (most rest : ℕ) → Held k most rest k
+pub held-first : (k : Kept) (most rest : ℕ) → Held k most rest true k
 unfolding turns
-held-first k most rest = ([], true, tt, λ _. refl, refl)
+held-first k most rest = ([], tt, λ _. refl, refl)
 
 turns-last : (k : Kept) (chunks : List (List ℕ)) (chunk : List ℕ) → turns k (chunks ++ (chunk ∷ [])) ≡ (let n : Kept = keptFeed (turns k chunks) chunk in into n (n .out))
 unfolding turns
@@ -115,17 +115,16 @@ follows true rest next e h = refl
 follows false rest next e h = absurd (let z : 0 < 0 = rw e at h in omega arith)
 
 -- one turn more
-pub held-more : (k m : Kept) (most rest next : ℕ) (r : Turn) (chunk : List ℕ) (l : Left) (printed : ℕ) → Held k most rest m → 0 < rest → Took r m chunk l
+pub held-more : (k m : Kept) (most rest next : ℕ) (whole : Bool) (r : Turn) (chunk : List ℕ) (l : Left) (printed : ℕ) → Held k most rest whole m → 0 < rest → Took r m chunk l
     → length chunk ≡ most → printed ≡ 0 → next ≡ cond (r .more) (rest - 1) 0
-    → Held k most next (record { volume = l .volume; buffer = l .buffer; fill = l .fill; out = l .out; printed = printed })
-held-more k m most rest next r chunk l printed h pos t full z e =
+    → Held k most next (r .whole) (record { volume = l .volume; buffer = l .buffer; fill = l .fill; out = l .out; printed = printed })
+held-more k m most rest next whole r chunk l printed h pos t full z e =
     let bytes = take (t .0) chunk in
-    let size : length bytes ≡ t .0 = length-take-le (t .0) chunk (t .2) in (
+    let size : length bytes ≡ t .0 = length-take-le (t .0) chunk (t .1) in (
       h .0 ++ (bytes ∷ []),
-      t .1,
-      short-last most (h .0) bytes (h .2) (omega (arith, t .2)),
-      λ p. t .3 (follows (r .more) rest next e p),
-      turn-last k m (h .0) bytes l printed (h .1) (t .1) (h .3 pos) (h .4) (t .4) z,
+      short-last most (h .0) bytes (h .1) (omega (arith, t .1)),
+      λ p. t .2 (follows (r .more) rest next e p),
+      turn-last k m (h .0) bytes l printed whole (r .whole) (h .2 pos) (h .3) (t .3) z,
     )
 
 close-keeps : (empty : Bool) (k : Kept) → cond empty k (endKept k) .buffer ≡ k .buffer
@@ -139,9 +138,9 @@ close-ends false k m e = rw e (refl, refl, refl)
 close-ends true k m e = rw e (refl, sym (close-keeps (eqb (k .fill) 0) k), refl)
 
 -- the end after the last turn
-pub held-ends : (k m : Kept) (most rest : ℕ) (main spare ram out : List ℕ) → Held k most rest m
+pub held-ends : (k m : Kept) (most rest : ℕ) (whole : Bool) (main spare ram out : List ℕ) → Held k most rest whole m
     → (flashOf main spare ≡ keptClose m .volume .flash) × (ram ≡ keptClose m .volume .ram) × (out ≡ keptClose m .out)
-    → (chunks : List (List ℕ)) × (whole : Bool) × Short most chunks × Leaves (ends whole (turns k chunks)) (m .buffer) main spare ram out
-held-ends k m most rest main spare ram out h f =
-    let e = close-ends (h .1) (turns k (h .0)) m (h .4) in
-    (h .0, h .1, h .2, (f .0 ∙ ap (λ (v : Volume). v .flash) (e .0), f .1 ∙ ap (λ (v : Volume). v .ram) (e .0), e .1, f .2 ∙ e .2))
+    → (chunks : List (List ℕ)) × Short most chunks × Leaves (ends whole (turns k chunks)) (m .buffer) main spare ram out
+held-ends k m most rest whole main spare ram out h f =
+    let e = close-ends whole (turns k (h .0)) m (h .3) in
+    (h .0, h .1, (f .0 ∙ ap (λ (v : Volume). v .flash) (e .0), f .1 ∙ ap (λ (v : Volume). v .ram) (e .0), e .1, f .2 ∙ e .2))

@@ -1,7 +1,7 @@
 // A script from standard input, its answers to standard output. What matters is proved of `stream`; here
 // bytes are moved, in chunks, and nothing else.
 ghost use mathlib.Core.Path.{_≡_};
-ghost use mathlib.Core.Bool.{Bool, false, cond};
+ghost use mathlib.Core.Bool.{true, false, cond};
 ghost use mathlib.Core.List.{List};
 ghost use Prim.Native.Nat.{ℕ, _*_, _-_, _≤_, _<_};
 ghost use lib.ListN.{length, take};
@@ -15,10 +15,11 @@ use libc::STDOUT_FILENO;
 use state::State;
 use stream::Progress;
 
-// What a turn leaves, and whether more may come.
+// What a turn leaves, whether more may come, and whether nothing failed.
 struct Turn {
     progress: Progress,
     more: bool,
+    whole: bool,
 }
 
 // "Before any format the state is all zero."
@@ -54,22 +55,35 @@ fn turns_left(turns: u64, more: bool) -> u64
 
 // Between two chunks: the state and the bytes of an unfinished line; nothing is left to be written.
 fn between(state: State, fill: usize, more: bool) -> Turn
-    ensures { λ r. ⌜ (r .more ≡ more) × (r .progress .state ≡ state) × (r .progress .fill ≡ fill) × (r .progress .printed ≡ 0) ⌝ }
+    ensures { λ r. ⌜ (r .more ≡ more) × (r .progress .state ≡ state) × (r .progress .fill ≡ fill) × (r .progress .printed ≡ 0) × (r .whole ≡ true) ⌝ }
 {
     let progress = Progress {
         state,
         fill,
         printed: 0,
     };
-    Turn { progress, more }
+    Turn {
+        progress,
+        more,
+        whole: true,
+    }
 }
 
 // After a byte could not be read or written: the reason is told, and an unfinished line is not answered.
 fn fail(state: State, reason: &[u8]) -> Turn
-    ensures { λ r. ⌜ (r .more ≡ false) × (r .progress .state ≡ state) × (r .progress .fill ≡ 0) × (r .progress .printed ≡ 0) ⌝ }
+    ensures { λ r. ⌜ (r .more ≡ false) × (r .progress .state ≡ state) × (r .progress .fill ≡ 0) × (r .progress .printed ≡ 0) × (r .whole ≡ false) ⌝ }
 {
     io::write_all(STDERR_FILENO, reason);
-    between(state, 0, false)
+    let progress = Progress {
+        state,
+        fill: 0,
+        printed: 0,
+    };
+    Turn {
+        progress,
+        more: false,
+        whole: false,
+    }
 }
 
 // The lines that end in the first n bytes of a chunk are answered, and the answers are written.
@@ -86,6 +100,7 @@ fn answer_chunk(
     requires { ⌜ (p .fill ≤ length (now line)) × (p .printed ≡ 0) × (n ≤ length (now chunk)) × (length (now chunk) * 32 ≤ length (now out)) ⌝ }
     ensures { λ r. ⌜ (r .progress .fill ≤ length (now (line .entry))) × (r .progress .printed ≡ 0) ⌝ }
     ensures { λ r. ⌜ turned r (now (line .exit)) (now (main .exit)) (now (spare .exit)) (now (ram .exit)) (now (out .exit)) ≡ fed (r .more) (keptFeed (kept p (now (line .entry)) (now (main .entry)) (now (spare .entry)) (now (ram .entry)) (now (out .entry))) (take n (now (chunk .entry)))) ⌝ }
+    ensures { λ r. ⌜ r .whole ≡ r .more ⌝ }
 {
     let q = stream::feed(p, &chunk[0..n], line, main, spare, ram, out);
     let printed = q.printed;
@@ -139,7 +154,8 @@ fn finish(
     io::write_all(STDOUT_FILENO, &out[0..printed]);
 }
 
-// The whole input. A proved loop ends, so it counts its turns down from a number that no run uses up.
+// The whole input; the answer is whether its end was reached. A proved loop ends, so it counts its turns down from a number that no run
+// uses up.
 pub fn run(
     chunk: &mut [u8],
     line: &mut [u8],
@@ -147,16 +163,19 @@ pub fn run(
     spare: &mut [u8],
     ram: &mut [u8],
     out: &mut [u8],
-)
+) -> bool
     requires { ⌜ (length (now chunk) * 32 ≤ length (now out)) × (32 ≤ length (now out)) ⌝ }
-    ensures { λ _. ⌜ ((chunks : List (List ℕ)) × (whole : Bool) × Short (length (now (chunk .entry))) chunks × Leaves (ends whole (turns (first (now (line .entry)) (now (main .entry)) (now (spare .entry)) (now (ram .entry)) (now (out .entry))) chunks)) (now (line .exit)) (now (main .exit)) (now (spare .exit)) (now (ram .exit)) (now (out .exit))) ⌝ }
+    ensures { λ r. ⌜ ((chunks : List (List ℕ)) × Short (length (now (chunk .entry))) chunks × Leaves (ends r (turns (first (now (line .entry)) (now (main .entry)) (now (spare .entry)) (now (ram .entry)) (now (out .entry))) chunks)) (now (line .exit)) (now (main .exit)) (now (spare .exit)) (now (ram .exit)) (now (out .exit))) ⌝ }
 {
     let mut p = begin();
     let mut turns = u64::MAX;
+    let mut whole = true;
     while turns > 0 {
         let t = take_turn(p, chunk, line, main, spare, ram, out);
         p = t.progress;
+        whole = t.whole;
         turns = turns_left(turns, t.more);
     }
     finish(p, line, main, spare, ram, out);
+    whole
 }

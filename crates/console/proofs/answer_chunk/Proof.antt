@@ -69,7 +69,7 @@ returns c =
     let e = c .fail .ensures in
     let z : x .n - 0 ≡ x .n = omega arith in
     let k : kept q (g .feed .last .1 .1 .0) (g .feed .last .1 .1 .1 .0) (g .feed .last .1 .1 .1 .1 .0) (g .feed .last .1 .1 .1 .1 .1 .0) (g .feed .last .1 .1 .1 .1 .1 .1 .0) ≡ keptFeed (kept (x .p) (x .line .now) (x .main .now) (x .spare .now) (x .ram .now) (x .out .now)) (take (x .n) (x .chunk .now)) = rw z at (g .feed .ensures .0) in
-    ((omega (arith, e, g .feed .ensures .1), e .3), turned-is (c .fail .result) q (keptFeed (kept (x .p) (x .line .now) (x .main .now) (x .spare .now) (x .ram .now) (x .out .now)) (take (x .n) (x .chunk .now))) (g .feed .last .1 .1 .0) (g .feed .last .1 .1 .1 .0) (g .feed .last .1 .1 .1 .1 .0) (g .feed .last .1 .1 .1 .1 .1 .0) (g .feed .last .1 .1 .1 .1 .1 .1 .0) k (e .1) (rw (e .0) (e .2)))
+    ((omega (arith, e, g .feed .ensures .1), e .3), (turned-is (c .fail .result) q (keptFeed (kept (x .p) (x .line .now) (x .main .now) (x .spare .now) (x .ram .now) (x .out .now)) (take (x .n) (x .chunk .now))) (g .feed .last .1 .1 .0) (g .feed .last .1 .1 .1 .0) (g .feed .last .1 .1 .1 .1 .0) (g .feed .last .1 .1 .1 .1 .1 .0) (g .feed .last .1 .1 .1 .1 .1 .1 .0) k (e .1) (rw (e .0) (e .2)), rw (e .0) (e .4)))
 
 between-requires : tie.Need-between-requires
 between-requires c κs = search needs
@@ -97,7 +97,7 @@ returns-2 c =
     let e = c .between .ensures in
     let z : x .n - 0 ≡ x .n = omega arith in
     let k : kept q (g .feed .last .1 .1 .0) (g .feed .last .1 .1 .1 .0) (g .feed .last .1 .1 .1 .1 .0) (g .feed .last .1 .1 .1 .1 .1 .0) (g .feed .last .1 .1 .1 .1 .1 .1 .0) ≡ keptFeed (kept (x .p) (x .line .now) (x .main .now) (x .spare .now) (x .ram .now) (x .out .now)) (take (x .n) (x .chunk .now)) = rw z at (g .feed .ensures .0) in
-    ((omega (arith, e, g .feed .ensures .1), e .3), turned-is (c .between .result) q (keptFeed (kept (x .p) (x .line .now) (x .main .now) (x .spare .now) (x .ram .now) (x .out .now)) (take (x .n) (x .chunk .now))) (g .feed .last .1 .1 .0) (g .feed .last .1 .1 .1 .0) (g .feed .last .1 .1 .1 .1 .0) (g .feed .last .1 .1 .1 .1 .1 .0) (g .feed .last .1 .1 .1 .1 .1 .1 .0) k (e .1) (rw (e .0) (e .2)))
+    ((omega (arith, e, g .feed .ensures .1), e .3), (turned-is (c .between .result) q (keptFeed (kept (x .p) (x .line .now) (x .main .now) (x .spare .now) (x .ram .now) (x .out .now)) (take (x .n) (x .chunk .now))) (g .feed .last .1 .1 .0) (g .feed .last .1 .1 .1 .0) (g .feed .last .1 .1 .1 .1 .0) (g .feed .last .1 .1 .1 .1 .1 .0) (g .feed .last .1 .1 .1 .1 .1 .1 .0) k (e .1) (rw (e .0) (e .2)), rw (e .0) (e .4)))
 
 pub answer-chunk-spec : {M : Type 1} → statement M
 answer-chunk-spec =

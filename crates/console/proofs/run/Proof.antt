@@ -10,13 +10,13 @@ use Rattle.console.proofs.run.Statement.{statement}
 use Rattle.console.proofs.run.Tie as tie
 
 abbrev Inv-loop : tie.InvT-loop
-Inv-loop chunk₀ line₀ main₀ spare₀ ram₀ out₀ p₀ turns₀ chunk line main spare ram out p turns =
+Inv-loop chunk₀ line₀ main₀ spare₀ ram₀ out₀ p₀ turns₀ whole₀ chunk line main spare ram out p turns whole =
     (p .fill ≤ length line) × (p .printed ≡ 0) × (length chunk ≡ length chunk₀) × (length line ≡ length line₀) × (length main ≡ length main₀)
     × (length spare ≡ length spare₀) × (length ram ≡ length ram₀) × (length out ≡ length out₀)
-    × Held (kept p₀ line₀ main₀ spare₀ ram₀ out₀) (length chunk₀) turns (kept p line main spare ram out)
+    × Held (kept p₀ line₀ main₀ spare₀ ram₀ out₀) (length chunk₀) turns whole (kept p line main spare ram out)
 
 abbrev μ-loop : tie.MeasureT-loop
-μ-loop chunk₀ line₀ main₀ spare₀ ram₀ out₀ p₀ turns₀ chunk line main spare ram out p turns = turns
+μ-loop chunk₀ line₀ main₀ spare₀ ram₀ out₀ p₀ turns₀ whole₀ chunk line main spare ram out p turns whole = turns
 
 begin-requires : tie.Need-begin-requires Inv-loop μ-loop
 begin-requires c κs = search needs
@@ -50,7 +50,7 @@ again : (c : tie.After-turns-left Inv-loop μ-loop)
     let b = t .before .before .before .before .before .before .before .before .before in
     let x = b .before .before .before .before .before .before .before .args in
     let k = t .take-turn in
-    Held (kept (b .begin .result) (x .line .now) (x .main .now) (x .spare .now) (x .ram .now) (x .out .now)) (length (x .chunk .now)) (c .turns-left .result)
+    Held (kept (b .begin .result) (x .line .now) (x .main .now) (x .spare .now) (x .ram .now) (x .out .now)) (length (x .chunk .now)) (c .turns-left .result) (k .result .whole)
     (kept (k .result .progress) (k .last .1 .1 .0) (k .last .1 .1 .1 .0) (k .last .1 .1 .1 .1 .0) (k .last .1 .1 .1 .1 .1 .0) (k .last .1 .1 .1 .1 .1 .1 .0))
 again c =
     let full : length (c .before .before .before .before .before .before .before .before .before .before .before .before .before .before .take-turn .last .1 .0) ≡ length (c .before .before .before .before .before .before .before .before .before .before .before .before .before .before .before .before .before .before .before .before .before .before .before .before .before .before .before .before .before .before .args .chunk .now) = omega arith in
@@ -61,7 +61,7 @@ again c =
     let x = b .before .before .before .before .before .before .before .args in
     let k = t .take-turn in
     held-more (kept (b .begin .result) (x .line .now) (x .main .now) (x .spare .now) (x .ram .now) (x .out .now)) (kept (l .loop .p) (l .loop .line) (l .loop .main) (l .loop .spare) (l .loop .ram) (l .loop .out))
-    (length (x .chunk .now)) (l .loop .turns) (c .turns-left .result) (k .result) (k .last .1 .0)
+    (length (x .chunk .now)) (l .loop .turns) (c .turns-left .result) (l .loop .whole) (k .result) (k .last .1 .0)
     (turned (k .result) (k .last .1 .1 .0) (k .last .1 .1 .1 .0) (k .last .1 .1 .1 .1 .0) (k .last .1 .1 .1 .1 .1 .0) (k .last .1 .1 .1 .1 .1 .1 .0)) (k .result .progress .printed)
     (l .loop .inv .8) pos (k .ensures .1) full (k .ensures .0 .1) (c .turns-left .ensures .1)
 
@@ -108,7 +108,7 @@ returns c =
     let k = f .finish in
     rw (c .before .before .before .before .before .before .before .before .before .before .before .before .before .before .before .before .begin .ensures .0) at
     (held-ends (kept (b .begin .result) (x .line .now) (x .main .now) (x .spare .now) (x .ram .now) (x .out .now)) (kept (l .loop .p) (l .loop .line) (l .loop .main) (l .loop .spare) (l .loop .ram) (l .loop .out))
-    (length (x .chunk .now)) (l .loop .turns) (k .last .1 .1 .0) (k .last .1 .1 .1 .0) (k .last .1 .1 .1 .1 .0) (k .last .1 .1 .1 .1 .1 .0) (l .loop .inv .8) (k .ensures))
+    (length (x .chunk .now)) (l .loop .turns) (l .loop .whole) (k .last .1 .1 .0) (k .last .1 .1 .1 .0) (k .last .1 .1 .1 .1 .0) (k .last .1 .1 .1 .1 .1 .0) (l .loop .inv .8) (k .ensures))
 
 pub run-spec : {M : Type 1} → statement M
 run-spec =

@@ -1,7 +1,6 @@
 -- What was read is answered; nothing was read at the input's end and where the read failed.
 use borrow.Author.Needs.{needs}
 use native.Mathlib.Omega.{arith}
-use mathlib.Core.Bool.{true, false}
 use Rattle.stream.specs.Contract.{kept}
 use Rattle.console.specs.Turns.{turned, took-none, took-some}
 use Rattle.console.proofs.take_turn.Statement.{statement}
@@ -31,7 +30,7 @@ returns c =
     let g = c .before .before .before .before .before .before in
     let x = g .before .before .before .before .before .before .before .before .args in
     let e = c .fail .ensures in
-    ((omega (arith, e), e .3), took-none (c .fail .result) (x .p) (g .read .last .1 .0) (x .line .now) (x .main .now) (x .spare .now) (x .ram .now) (x .out .now) false (e .0) (e .1) (e .2))
+    ((omega (arith, e), e .3), took-none (c .fail .result) (x .p) (g .read .last .1 .0) (x .line .now) (x .main .now) (x .spare .now) (x .ram .now) (x .out .now) (e .0) (e .1) (rw (e .4) (e .2)))
 
 count-requires : tie.Need-count-requires
 count-requires c κs = search needs
@@ -47,7 +46,7 @@ returns-2 c =
     let g = c .before .before .before .before .before .before .before .before in
     let x = g .before .before .before .before .before .before .before .before .args in
     let e = c .between .ensures in
-    ((omega (arith, e), e .3), took-none (c .between .result) (x .p) (g .read .last .1 .0) (x .line .now) (x .main .now) (x .spare .now) (x .ram .now) (x .out .now) true (e .0) (e .1) (e .2))
+    ((omega (arith, e), e .3), took-none (c .between .result) (x .p) (g .read .last .1 .0) (x .line .now) (x .main .now) (x .spare .now) (x .ram .now) (x .out .now) (e .0) (e .1) (rw (e .4) (e .2)))
 
 answer-chunk-requires : tie.Need-answer-chunk-requires
 answer-chunk-requires c κs = search needs
@@ -78,7 +77,7 @@ returns-3 c =
     let k = a .answer-chunk in (
       k .ensures .0,
       took-some (k .result) (kept (x .p) (x .line .now) (x .main .now) (x .spare .now) (x .ram .now) (x .out .now)) (g .read .last .1 .0) (a .before .before .before .before .before .before .before .before .count .result)
-          (turned (k .result) (k .last .1 .1 .1 .0) (k .last .1 .1 .1 .1 .0) (k .last .1 .1 .1 .1 .1 .0) (k .last .1 .1 .1 .1 .1 .1 .0) (k .last .1 .1 .1 .1 .1 .1 .1 .0)) (omega (arith, a .before .before .before .before .before .before .before .before .count .ensures .0)) (k .ensures .1),
+          (turned (k .result) (k .last .1 .1 .1 .0) (k .last .1 .1 .1 .1 .0) (k .last .1 .1 .1 .1 .1 .0) (k .last .1 .1 .1 .1 .1 .1 .0) (k .last .1 .1 .1 .1 .1 .1 .1 .0)) (omega (arith, a .before .before .before .before .before .before .before .before .count .ensures .0)) (k .ensures .1 .0) (k .ensures .1 .1),
     )
 
 pub take-turn-spec : {M : Type 1} → statement M
