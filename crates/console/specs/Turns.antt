@@ -44,15 +44,12 @@ Took r k chunk l = (n : ℕ) × (n ≤ length chunk) × (r .more ≡ true → r 
 -- ---- a run
 
 -- "Before any format the state is all zero"
+abbrev pub blank : List ℕ → List ℕ → List ℕ → Volume
+blank main spare ram = record { state = record { sectorSize = 0; raBlocks = 0; daBlocks = 0; records = 0; deletions = 0 }; flash = flashOf main spare; ram = ram }
+
+-- before the first chunk
 abbrev pub first : List ℕ → List ℕ → List ℕ → List ℕ → List ℕ → Kept
-first line main spare ram out =
-    record {
-      volume = record { state = record { sectorSize = 0; raBlocks = 0; daBlocks = 0; records = 0; deletions = 0 }; flash = flashOf main spare; ram = ram };
-      buffer = line;
-      fill = 0;
-      out = out;
-      printed = 0;
-    }
+first line main spare ram out = record { volume = blank main spare ram; buffer = line; fill = 0; out = out; printed = 0 }
 
 -- the chunks one after the other; the answers to each are written before the next is read, so the output's buffer is used from its start again
 unfoldable pub turns : Kept → List (List ℕ) → Kept

@@ -8,7 +8,8 @@ ghost use lib.ListN.{length, take};
 ghost use Rattle.layout.specs.Flash.{flashOf};
 ghost use Rattle.stream.specs.Kept.{keptFeed, keptClose};
 ghost use Rattle.stream.specs.Contract.{kept};
-ghost use Rattle.console.specs.Turns.{turned, fed, Took, first, turns, ends, Short, Leaves};
+ghost use Rattle.stream.specs.Stream.{leaves};
+ghost use Rattle.console.specs.Turns.{turned, fed, Took, blank, first, turns, ends, Short, Leaves};
 use libc::STDERR_FILENO;
 use libc::STDIN_FILENO;
 use libc::STDOUT_FILENO;
@@ -166,6 +167,7 @@ pub fn run(
 ) -> bool
     requires { ⌜ (length (now chunk) * 32 ≤ length (now out)) × (32 ≤ length (now out)) ⌝ }
     ensures { λ r. ⌜ ((chunks : List (List ℕ)) × Short (length (now (chunk .entry))) chunks × Leaves (ends r (turns (first (now (line .entry)) (now (main .entry)) (now (spare .entry)) (now (ram .entry)) (now (out .entry))) chunks)) (now (line .exit)) (now (main .exit)) (now (spare .exit)) (now (ram .exit)) (now (out .exit))) ⌝ }
+    ensures { λ r. ⌜ (length (now (line .entry)) ≡ 64 → ((input : List ℕ) × (flashOf (now (main .exit)) (now (spare .exit)) ≡ leaves r (blank (now (main .entry)) (now (spare .entry)) (now (ram .entry))) input .flash) × (now (ram .exit) ≡ leaves r (blank (now (main .entry)) (now (spare .entry)) (now (ram .entry))) input .ram))) ⌝ }
 {
     let mut p = begin();
     let mut turns = u64::MAX;

@@ -1,6 +1,8 @@
--- Chunks do not matter, nor does the cut of long lines: what is printed for an input that comes in chunks, through a line's buffer of 64 bytes, is what the script's definitions print for it.
+-- Chunks do not matter, nor does the cut of long lines: what is printed for an input that comes in chunks, through a line's buffer of 64 bytes, is what the script's definitions print for it;
+-- and the volume is the one that they leave.
 use mathlib.Core.Path.{_≡_, refl, sym, ap, _∙_}
 use mathlib.Core.Logic.{_≢_}
+use mathlib.Core.Bool.{Bool, true, false, cond}
 use mathlib.Core.List.{List, [], _∷_, _++_, append-assoc, append-nil}
 use Prim.Native.Nat.{ℕ, suc, _+_, _*_, _≤_, min}
 use native.Mathlib.Omega.{arith}
@@ -178,3 +180,30 @@ unfolding prints
 stream-prints v buffer ts room h r l =
     sym (outputs-print ts room (start v buffer) (record { line = []; volume = v; printed = [] })
     (record { volume-is = refl; buffer-length = h; line-is = refl; fill-is = refl }) r l)
+
+-- ---- the volume
+
+-- the volume that the script's definitions leave for an input; where its end was not reached, an unfinished line is not answered
+abbrev pub leaves : Bool → Volume → List ℕ → Volume
+leaves ended v bytes = let p : Progress = feed (record { line = []; volume = v; printed = [] }) bytes in cond ended (close p (p .line)) p .volume
+
+close-leaves : (l : List ℕ) (k : Kept) (p : Progress) → l ≡ p .line → Holds k p → keptClose k .volume ≡ close p l .volume
+unfolding keptClose
+close-leaves [] k p q H =
+    let z : k .fill ≡ 0 = omega (arith, ap length q, H .fill-is) in
+    rw z (H .volume-is)
+close-leaves (c ∷ cs) k p q H =
+    let z : k .fill ≢ 0 = λ w. omega (arith, ap length q, H .fill-is, w) in
+    rw (ne-eqb (k .fill) 0 z) (end-holds k p H .volume-is)
+
+pub stream-leaves : (v : Volume) (buffer bytes : List ℕ) (ended : Bool) → length buffer ≡ 64
+    → let k : Kept = keptFeed (start v buffer) bytes in cond ended (keptClose k) k .volume ≡ leaves ended v bytes
+stream-leaves v buffer bytes ended h = go ended (feed-holds bytes (start v buffer) p₀ (record { volume-is = refl; buffer-length = h; line-is = refl; fill-is = refl }))
+  where
+    p₀ : Progress
+    p₀ = record { line = []; volume = v; printed = [] }
+
+    go : (b : Bool) → Holds (keptFeed (start v buffer) bytes) (feed p₀ bytes)
+        → cond b (keptClose (keptFeed (start v buffer) bytes)) (keptFeed (start v buffer) bytes) .volume ≡ cond b (close (feed p₀ bytes) (feed p₀ bytes .line)) (feed p₀ bytes) .volume
+    go true H = close-leaves (feed p₀ bytes .line) (keptFeed (start v buffer) bytes) (feed p₀ bytes) refl H
+    go false H = H .volume-is

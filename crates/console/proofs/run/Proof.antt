@@ -1,11 +1,13 @@
 -- Before each turn stands what the chunks so far make of the lent bytes; the buffers keep their lengths.
 use borrow.Author.Needs.{needs}
 use native.Mathlib.Omega.{arith}
-use Prim.Native.Nat.{_≤_, _<_}
+use Prim.Native.Nat.{ℕ, _≤_, _<_}
 use mathlib.Core.Path.{_≡_, refl}
+use mathlib.Core.List.{List}
 use lib.ListN.{length}
 use Rattle.stream.specs.Contract.{kept}
-use Rattle.console.specs.Turns.{turned, Held, held-first, held-more, held-ends}
+use Rattle.console.specs.Turns.{turned, first, turns, ends, Short, Leaves, Held, held-first, held-more, held-ends}
+use Rattle.console.specs.Whole.{run-leaves}
 use Rattle.console.proofs.run.Statement.{statement}
 use Rattle.console.proofs.run.Tie as tie
 
@@ -106,9 +108,11 @@ returns c =
     let b = l .before in
     let x = b .before .before .before .before .before .before .before .args in
     let k = f .finish in
-    rw (c .before .before .before .before .before .before .before .before .before .before .before .before .before .before .before .before .begin .ensures .0) at
+    let h : (chunks : List (List ℕ)) × Short (length (x .chunk .now)) chunks × Leaves (ends (l .loop .whole) (turns (first (x .line .now) (x .main .now) (x .spare .now) (x .ram .now) (x .out .now)) chunks)) (l .loop .line) (k .last .1 .1 .0) (k .last .1 .1 .1 .0) (k .last .1 .1 .1 .1 .0) (k .last .1 .1 .1 .1 .1 .0) =
+    rw (b .begin .ensures .0) at
     (held-ends (kept (b .begin .result) (x .line .now) (x .main .now) (x .spare .now) (x .ram .now) (x .out .now)) (kept (l .loop .p) (l .loop .line) (l .loop .main) (l .loop .spare) (l .loop .ram) (l .loop .out))
-    (length (x .chunk .now)) (l .loop .turns) (l .loop .whole) (k .last .1 .1 .0) (k .last .1 .1 .1 .0) (k .last .1 .1 .1 .1 .0) (k .last .1 .1 .1 .1 .1 .0) (l .loop .inv .8) (k .ensures))
+    (length (x .chunk .now)) (l .loop .turns) (l .loop .whole) (k .last .1 .1 .0) (k .last .1 .1 .1 .0) (k .last .1 .1 .1 .1 .0) (k .last .1 .1 .1 .1 .1 .0) (l .loop .inv .8) (k .ensures)) in
+    (h, λ e. run-leaves (x .line .now) (x .main .now) (x .spare .now) (x .ram .now) (x .out .now) (l .loop .line) (k .last .1 .1 .0) (k .last .1 .1 .1 .0) (k .last .1 .1 .1 .1 .0) (k .last .1 .1 .1 .1 .1 .0) (length (x .chunk .now)) (l .loop .whole) e h)
 
 pub run-spec : {M : Type 1} → statement M
 run-spec =
