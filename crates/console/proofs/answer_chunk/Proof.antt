@@ -6,7 +6,7 @@ use mathlib.Core.Path.{_≡_}
 use lib.ListN.{take}
 use Rattle.stream.specs.Kept.{keptFeed}
 use Rattle.stream.specs.Contract.{kept}
-use Rattle.console.specs.Turns.{turned-is}
+use Rattle.console.proofs.Laws.{turned-is}
 use Rattle.console.proofs.answer_chunk.Statement.{statement}
 use Rattle.console.proofs.answer_chunk.Tie as tie
 use Rattle.console.proofs.answer_chunk.Reads as reads

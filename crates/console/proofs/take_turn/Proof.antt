@@ -2,7 +2,8 @@
 use borrow.Author.Needs.{needs}
 use native.Mathlib.Omega.{arith}
 use Rattle.stream.specs.Contract.{kept}
-use Rattle.console.specs.Turns.{turned, took-none, took-some}
+use Rattle.console.specs.Turns.{turned}
+use Rattle.console.proofs.Laws.{took-none, took-some}
 use Rattle.console.proofs.take_turn.Statement.{statement}
 use Rattle.console.proofs.take_turn.Tie as tie
 use Rattle.console.proofs.take_turn.Reads as reads
