@@ -1,14 +1,20 @@
--- However the input is cut into chunks: the volume that a run leaves is the one that the script's definitions leave for all its bytes.
+-- However the input is cut into chunks: the volume that a run leaves is the one that the script's definitions leave for all its bytes, and what stands in the output's
+-- buffer at its writes is what they print.
 use mathlib.Core.Path.{_≡_, refl, sym, ap, _∙_}
 use mathlib.Core.Bool.{Bool, true, false, cond}
 use mathlib.Core.List.{List, [], _∷_, _++_}
-use Prim.Native.Nat.{ℕ}
+use Prim.Native.Nat.{ℕ, _*_, _≤_}
+use native.Mathlib.Omega.{arith}
 use lib.Dec.{eqb}
-use lib.ListN.{length}
+use lib.ListN.{length, take}
+use Rattle.memory.specs.Lists.{length-write}
 use Rattle.layout.specs.Flash.{flashOf}
 use Rattle.layout.specs.Calls.{Volume}
+use Rattle.script.specs.Lines.{request}
+use Rattle.script.specs.Answers.{text}
+use Rattle.script.specs.Script.{perform, prints}
 use Rattle.stream.specs.Kept.{Kept, endKept, addKept, keptByte, keptFeed, keptClose}
-use Rattle.stream.specs.Stream.{into, leaves, stream-leaves}
+use Rattle.stream.specs.Stream.{Turn, Roomy, input, start, into, output, outputs, stream-prints, leaves, stream-leaves}
 use Rattle.console.specs.Turns.{blank, first, turns, ends, Short, Leaves}
 
 -- all chunks in one
@@ -69,3 +75,60 @@ pub run-leaves : (line main spare ram out line′ main′ spare′ ram′ out′
 run-leaves line main spare ram out line′ main′ spare′ ram′ out′ most ended h l =
     let e = turns-leaves line main spare ram out (l .0) ended h in
     (joined (l .0), l .2 .0 ∙ ap (λ (v : Volume). v .flash) e, l .2 .1 ∙ ap (λ (v : Volume). v .ram) e)
+
+-- ---- what is written
+
+-- what stands in the output's buffer at each write, one after the other: after each chunk, and at the input's end
+unfoldable pub writes : Kept → List (List ℕ) → List ℕ
+writes k [] = output (keptClose k)
+writes k (chunk ∷ chunks) = let n : Kept = keptFeed k chunk in output n ++ writes (into n (n .out)) chunks
+
+-- the same chunks, each with the buffer that its answers go into
+unfoldable cuts : Kept → List (List ℕ) → List Turn
+cuts k [] = []
+cuts k (chunk ∷ chunks) = let n : Kept = keptFeed k chunk in record { chunk = chunk; room = k .out } ∷ cuts (into n (n .out)) chunks
+
+cuts-input : (chunks : List (List ℕ)) (k : Kept) → input (cuts k chunks) ≡ joined chunks
+unfolding input cuts joined
+cuts-input [] k = refl
+cuts-input (chunk ∷ chunks) k = ap (λ (l : List ℕ). chunk ++ l) (cuts-input chunks (into (keptFeed k chunk) (keptFeed k chunk .out)))
+
+byte-room : (k : Kept) (c : ℕ) → length (keptByte k c .out) ≡ length (k .out)
+unfolding keptByte endKept addKept
+byte-room k c = go (eqb c 10)
+  where
+    go : (b : Bool) → length (cond b (endKept k) (addKept k c) .out) ≡ length (k .out)
+    go true = length-write (k .out) (k .printed) (text (perform (k .volume) (request (take (k .fill) (k .buffer))) .answer))
+    go false = refl
+
+feed-room : (cs : List ℕ) (k : Kept) → length (keptFeed k cs .out) ≡ length (k .out)
+unfolding keptFeed
+feed-room [] k = refl
+feed-room (c ∷ cs) k = feed-room cs (keptByte k c) ∙ byte-room k c
+
+turns-room : (chunks : List (List ℕ)) (k : Kept) → length (turns k chunks .out) ≡ length (k .out)
+unfolding turns
+turns-room [] k = refl
+turns-room (chunk ∷ chunks) k = turns-room chunks (into (keptFeed k chunk) (keptFeed k chunk .out)) ∙ feed-room chunk k
+
+cuts-roomy : (chunks : List (List ℕ)) (k : Kept) (most : ℕ) → Short most chunks → most * 32 ≤ length (k .out) → Roomy (cuts k chunks)
+unfolding cuts
+cuts-roomy [] k most s h = tt
+cuts-roomy (chunk ∷ chunks) k most s h =
+    (omega (arith, s .0), cuts-roomy chunks (into (keptFeed k chunk) (keptFeed k chunk .out)) most (s .1) (omega (arith, feed-room chunk k)))
+
+writes-outputs : (chunks : List (List ℕ)) (k : Kept) (out : List ℕ) → writes (into k out) chunks ≡ outputs k (cuts (into k out) chunks) (turns (into k out) chunks .out)
+unfolding writes outputs cuts turns
+writes-outputs [] k out = refl
+writes-outputs (chunk ∷ chunks) k out =
+    let n : Kept = keptFeed (into k out) chunk in
+    ap (λ (l : List ℕ). output n ++ l) (writes-outputs chunks n (n .out))
+
+-- with room for an answer to each byte of a chunk
+pub turns-print : (line main spare ram out : List ℕ) (chunks : List (List ℕ)) (most : ℕ) → length line ≡ 64 → Short most chunks → most * 32 ≤ length out → 32 ≤ length out
+    → writes (first line main spare ram out) chunks ≡ prints (blank main spare ram) (joined chunks)
+turns-print line main spare ram out chunks most h s r l =
+    let k : Kept = first line main spare ram out in
+    writes-outputs chunks (start (blank main spare ram) line) out
+    ∙ stream-prints (blank main spare ram) line (cuts k chunks) (turns k chunks .out) h (cuts-roomy chunks k most s r) (omega (arith, turns-room chunks k))
+    ∙ ap (prints (blank main spare ram)) (cuts-input chunks k)
