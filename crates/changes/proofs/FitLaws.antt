@@ -1,19 +1,18 @@
 -- The index over the entries fits a volume that is long enough, for the filter of every page.
-use mathlib.Core.Path.{_≡_, refl, sym, ap, _∙_}
+use mathlib.Core.Path.{_≡_, sym, ap, _∙_}
 use mathlib.Core.Logic.{_≢_}
 use mathlib.Core.Bool.{Bool, true, false, not}
 use mathlib.Core.List.{List}
-use borrow.Author.Tests.{eq-eqb, ne-eqb}
+use borrow.Author.Tests.{eq-eqb, ne-eqb, not-true, not-false}
 use Prim.Native.Nat.{ℕ, _+_, _*_, _/_, _%_, _^_, _≤_, _<_}
-use native.Mathlib.Nat.{mul-le-mul-right, div-le-self}
+use native.Mathlib.Nat.{mul-le-mul-right}
 use native.Mathlib.Omega.{arith}
-use lib.ListN.{length}
-use lib.Pow.{pow-lt, pow-mono}
+use lib.Pow.{pow-mono}
 use Rattle.memory.specs.Cases.{either, lt?}
 use Rattle.memory.specs.Numbers.{carry, euclid}
 use Rattle.layout.specs.Geometry as layout
 use Rattle.layout.specs.Items.{Area, RA, KA}
-use Rattle.layout.specs.Index.{Index, inFull, fullBlock}
+use Rattle.layout.specs.Index.{Index, inFull}
 use Rattle.layout.specs.Calls.{keyIndex, keyFilters}
 use Rattle.history.specs.Parts.{places-suffice}
 use Rattle.geometry.specs.Shape.{shape, Sound}
@@ -86,36 +85,28 @@ module _ (g : Geometry) (ok : Sound g) where
 
 -- ---- freshness, by the tests that the code makes
 
-no : (b : Bool) → not b ≡ true → b ≡ false
-no true e = cc
-no false e = refl
-
-yes : (b : Bool) → not b ≡ false → b ≡ true
-yes true e = refl
-yes false e = cc
-
 module _ (spare : List ℕ) (g : layout.Geometry) (n : ℕ) (a : Area) (r : Bool) (p : a ≡ RA g) (e : r ≡ itemFresh spare a n) where
   ra-is : r ≡ itemFresh spare (RA g) n
   ra-is = e ∙ ap (λ (b : Area). itemFresh spare b n) p
 
   pub fresh-record : not r ≡ true → false ≡ insertFresh spare g n
   unfolding insertFresh
-  fresh-record q = let f : itemFresh spare (RA g) n ≡ false = sym ra-is ∙ no r q in rw f
+  fresh-record q = let f : itemFresh spare (RA g) n ≡ false = sym ra-is ∙ not-true r q in rw f
 
   module _ (q : not r ≡ false) (b : Area) (s : Bool) (p′ : b ≡ KA g) (e′ : s ≡ itemFresh spare b n) where
     ra-fresh : itemFresh spare (RA g) n ≡ true
-    ra-fresh = sym ra-is ∙ yes r q
+    ra-fresh = sym ra-is ∙ not-false r q
 
     ka-is : s ≡ itemFresh spare (KA g) n
     ka-is = e′ ∙ ap (λ (x : Area). itemFresh spare x n) p′
 
     pub fresh-entry : not s ≡ true → false ≡ insertFresh spare g n
     unfolding insertFresh
-    fresh-entry t = let f : itemFresh spare (KA g) n ≡ false = sym ka-is ∙ no s t in rw (ra-fresh, f)
+    fresh-entry t = let f : itemFresh spare (KA g) n ≡ false = sym ka-is ∙ not-true s t in rw (ra-fresh, f)
 
     module _ (t : not s ≡ false) where
       ka-fresh : itemFresh spare (KA g) n ≡ true
-      ka-fresh = sym ka-is ∙ yes s t
+      ka-fresh = sym ka-is ∙ not-false s t
 
       pub fresh-part : n % (8 * g .u) + 1 ≢ 8 * g .u → true ≡ insertFresh spare g n
       unfolding insertFresh

@@ -1,11 +1,11 @@
 -- An insertion by itself and after a deletion; a page of entries that is read before it is programmed.
 use mathlib.Core.Path.{_≡_, refl, sym, ap, _∙_}
 use mathlib.Core.Bool.{Bool, true, false, _&&_, cond}
-use mathlib.Core.List.{List, [], _∷_, _++_}
-use Prim.Native.Nat.{ℕ, _+_, _*_, _/_, _%_, _≤_, _<_}
-use native.Mathlib.Omega.{arith}
+use mathlib.Core.List.{List, [], _++_}
+use Prim.Native.Nat.{ℕ, _+_, _*_, _%_, _<_}
 use lib.ListN.{length, getD}
 use lib.Seq.{ext-getD}
+use Rattle.memory.specs.Booleans.{cond-pos, cond-neg}
 use Rattle.memory.specs.Cases.{either, bool?, lt?}
 use Rattle.memory.specs.Lists.{write, length-write, getD-write-before, getD-write-in, getD-write-after}
 use Rattle.layout.specs.Geometry.{Geometry, kaRam as kaPage}
@@ -23,14 +23,6 @@ use Rattle.flash.specs.Fresh.{fresh-append}
 use Rattle.changes.specs.Inserted.{raOps, raRam, kaOps, kaRam, filterIn, entered, indexOps, lastFlash, lastRam, insertedFlash, insertedRam, insertFresh}
 use Rattle.items.specs.Fresh.{itemFresh, item-fresh}
 use Rattle.index.specs.Fresh.{indexFresh, index-fresh}
-
-cond-yes : {A : Type 0} (b : Bool) (x y : A) → b ≡ true → cond b x y ≡ x
-cond-yes true x y q = refl
-cond-yes false x y q = cc
-
-cond-no : {A : Type 0} (b : Bool) (x y : A) → b ≡ false → cond b x y ≡ y
-cond-no true x y q = cc
-cond-no false x y q = refl
 
 -- writing the same bytes to the same place twice
 pub write-twice : (l : List ℕ) (at : ℕ) (s : List ℕ) → write (write l at s) at s ≡ write l at s
@@ -67,14 +59,14 @@ module _ (h : Family) (g : Geometry) (flash : Flash) (n key : ℕ) (bytes : List
 
   part-is : fills (KA g) n ≡ false → insertion h g flash n key bytes t ≡ record { ops = ops₂; ram = kaRam h g n key (raRam h g n key bytes (t .ram)) }
   unfolding insertion
-  part-is q = cond-no (fills (KA g) n) _ _ q
+  part-is q = cond-neg (fills (KA g) n) _ _ q
 
   full-is : fills (KA g) n ≡ true
       → insertion h g flash n key bytes t
       ≡ record { ops = ops₂ ++ indexOps h g n key (raRam h g n key bytes (t .ram)) C₁; ram = filterRam (g .u) (keyIndex g) (keyFilters g n) (filterIn h g n key (raRam h g n key bytes (t .ram))) }
   unfolding insertion summary
   full-is q =
-      cond-yes (fills (KA g) n) _ _ q
+      cond-pos (fills (KA g) n) _ _ q
       ∙ ap (λ (c : Flash). record { ops = ops₂ ++ filterOps (g .u) (keyIndex g) c (keyFilters g n) (filterIn h g n key (raRam h g n key bytes (t .ram))); ram = filterRam (g .u) (keyIndex g) (keyFilters g n) (filterIn h g n key (raRam h g n key bytes (t .ram))) }) done₂
 
   -- the flash after the operations of an insertion is that of its steps
@@ -86,15 +78,15 @@ module _ (h : Family) (g : Geometry) (flash : Flash) (n key : ℕ) (bytes : List
       ap (λ (T : Draft). applyAll (g .u) (T .ops) flash) (full-is q)
       ∙ apply-append (g .u) ops₂ (indexOps h g n key (raRam h g n key bytes (t .ram)) C₁) flash
       ∙ ap (applyAll (g .u) (indexOps h g n key (raRam h g n key bytes (t .ram)) C₁)) done₂
-      ∙ sym (cond-yes (fills (KA g) n) _ _ q))
-      (λ q. ap (λ (T : Draft). applyAll (g .u) (T .ops) flash) (part-is q) ∙ done₂ ∙ sym (cond-no (fills (KA g) n) _ _ q))
+      ∙ sym (cond-pos (fills (KA g) n) _ _ q))
+      (λ q. ap (λ (T : Draft). applyAll (g .u) (T .ops) flash) (part-is q) ∙ done₂ ∙ sym (cond-neg (fills (KA g) n) _ _ q))
 
   pub insertion-ram : insertion h g flash n key bytes t .ram ≡ insertedRam h g n key bytes (t .ram)
   unfolding insertedRam lastRam
   insertion-ram =
       either (bool? (fills (KA g) n))
-      (λ q. ap (λ (T : Draft). T .ram) (full-is q) ∙ sym (cond-yes (fills (KA g) n) _ _ q))
-      (λ q. ap (λ (T : Draft). T .ram) (part-is q) ∙ sym (cond-no (fills (KA g) n) _ _ q))
+      (λ q. ap (λ (T : Draft). T .ram) (full-is q) ∙ sym (cond-pos (fills (KA g) n) _ _ q))
+      (λ q. ap (λ (T : Draft). T .ram) (part-is q) ∙ sym (cond-neg (fills (KA g) n) _ _ q))
 
   -- its sectors are fresh where those of each step are
   pub insertion-fresh : (spare : List ℕ) → allFresh spare (insertion h g flash n key bytes t .ops) ≡ (allFresh spare (t .ops) && insertFresh spare g n)
@@ -107,11 +99,11 @@ module _ (h : Family) (g : Geometry) (flash : Flash) (n key : ℕ) (bytes : List
       ∙ ap (λ (b : Bool). b && allFresh spare (indexOps h g n key (raRam h g n key bytes (t .ram)) C₁)) two
       ∙ ap (λ (b : Bool). ((allFresh spare (t .ops) && itemFresh spare (RA g) n) && itemFresh spare (KA g) n) && b) (index-fresh spare (g .u) (keyIndex g) (entered h g n key (raRam h g n key bytes (t .ram)) C₁) (keyFilters g n) (filterIn h g n key (raRam h g n key bytes (t .ram))))
       ∙ three (allFresh spare (t .ops)) (itemFresh spare (RA g) n) (itemFresh spare (KA g) n) (indexFresh spare (g .u) (keyIndex g) (keyFilters g n))
-      ∙ ap (λ (b : Bool). allFresh spare (t .ops) && (itemFresh spare (RA g) n && (itemFresh spare (KA g) n && b))) (sym (cond-yes (fills (KA g) n) _ _ q)))
+      ∙ ap (λ (b : Bool). allFresh spare (t .ops) && (itemFresh spare (RA g) n && (itemFresh spare (KA g) n && b))) (sym (cond-pos (fills (KA g) n) _ _ q)))
       (λ q.
       ap (λ (T : Draft). allFresh spare (T .ops)) (part-is q) ∙ two
       ∙ two-one (allFresh spare (t .ops)) (itemFresh spare (RA g) n) (itemFresh spare (KA g) n)
-      ∙ ap (λ (b : Bool). allFresh spare (t .ops) && (itemFresh spare (RA g) n && (itemFresh spare (KA g) n && b))) (sym (cond-no (fills (KA g) n) _ _ q)))
+      ∙ ap (λ (b : Bool). allFresh spare (t .ops) && (itemFresh spare (RA g) n && (itemFresh spare (KA g) n && b))) (sym (cond-neg (fills (KA g) n) _ _ q)))
     where
       two : allFresh spare ops₂ ≡ ((allFresh spare (t .ops) && itemFresh spare (RA g) n) && itemFresh spare (KA g) n)
       two =
@@ -158,7 +150,7 @@ module _ (h : Family) (g : Geometry) (n key : ℕ) (bytes ram : List ℕ) (C : F
       → (C₂ ≡ insertedFlash h g n key bytes ram C) × (r₂ ≡ insertedRam h g n key bytes ram)
   unfolding insertedFlash insertedRam
   inserted-part q a b item entry r₁ r₂ C₁ C₂ pa pb pi pe c₁ e₁ c₂ e₂ =
-      (rw (c₂, e₁, c₁, pa, pb, pi, pe) (sym (cond-no (fills (KA g) n) _ _ q)), rw (e₂, e₁, pa, pb, pi, pe) (sym (cond-no (fills (KA g) n) _ _ q)))
+      (rw (c₂, e₁, c₁, pa, pb, pi, pe) (sym (cond-neg (fills (KA g) n) _ _ q)), rw (e₂, e₁, pa, pb, pi, pe) (sym (cond-neg (fills (KA g) n) _ _ q)))
 
   pub inserted-full : fills (KA g) n ≡ true → (a : Area) (item r₁ r₂ : List ℕ) (C₁ C₂ : Flash)
       → a ≡ RA g → item ≡ bytes
@@ -167,7 +159,7 @@ module _ (h : Family) (g : Geometry) (n key : ℕ) (bytes ram : List ℕ) (C : F
       → (C₂ ≡ insertedFlash h g n key bytes ram C) × (r₂ ≡ insertedRam h g n key bytes ram)
   unfolding insertedFlash insertedRam
   inserted-full q a item r₁ r₂ C₁ C₂ pa pi c₁ e₁ c₂ e₂ =
-      (rw (c₂, e₁, c₁, pa, pi) (sym (cond-yes (fills (KA g) n) _ _ q)), rw (e₂, e₁, pa, pi) (sym (cond-yes (fills (KA g) n) _ _ q)))
+      (rw (c₂, e₁, c₁, pa, pi) (sym (cond-pos (fills (KA g) n) _ _ q)), rw (e₂, e₁, pa, pi) (sym (cond-pos (fills (KA g) n) _ _ q)))
 
   -- the entry that fills its page, put into the RAM page before its filter is taken
   pub last-is : (b : Area) (entry r₁ r₂ r₃ : List ℕ) (new : ℕ → Bool) (ix : Index) (F : ℕ) (C₁ C₂ : Flash)

@@ -1,7 +1,7 @@
 -- Every other field of a byte by masks and shifts, for each of its 256 values; and a byte made of two.
 use mathlib.Core.Path.{_≡_, refl, sym, _∙_}
 use mathlib.Core.Logic.{inl, inr}
-use mathlib.Core.Bool.{Bool, true, false, _&&_}
+use mathlib.Core.Bool.{Bool, true, _&&_, Bool·beq, and-eq-true-iff}
 use mathlib.Core.List.{List}
 use Prim.Native.Nat.{ℕ, zero, suc, _+_, _-_, _*_, _/_, _%_, _^_, _≤_, _<_}
 use native.Mathlib.Nat.{not-suc-le-zero}
@@ -11,30 +11,15 @@ use lib.Dec.{ltb}
 use lib.ListN.{getD}
 use lib.Pow.{pow-pos}
 use borrow.Author.Tests.{ltb-true}
-use Rattle.memory.specs.Bits.{bit}
+use Rattle.memory.specs.Bits.{bit, bit-low, bit-high, bit-shr}
+use Rattle.memory.specs.Booleans.{eq-of-beq}
 use Rattle.memory.specs.Cases.{lt?, either}
 use Rattle.fields.specs.declared.Source.{Source}
 use Rattle.fields.specs.Laws.{pack-byte}
 use Rattle.fields.specs.Sources.{bitFrom, fieldByte, Aligned, Reaches}
 use Rattle.fields.specs.Halves.{Narrow, Half}
-use Rattle.fields.proofs.Bits.{bit-low, bit-high, bit-shr}
 
 -- ---- a law of every byte, computed
-
-abbrev same : Bool → Bool → Bool
-same true b = b
-same false true = false
-same false false = true
-
-same-eq : (a b : Bool) → same a b ≡ true → a ≡ b
-same-eq true true e = refl
-same-eq true false e = sym e
-same-eq false true e = e
-same-eq false false e = refl
-
-both : (a b : Bool) → (a && b) ≡ true → (a ≡ true) × (b ≡ true)
-both true b e = (refl, e)
-both false b e = let z : false ≡ true = e in (e, cc)
 
 unfoldable all : (ℕ → Bool) → ℕ → Bool
 all f zero = true
@@ -44,19 +29,19 @@ all-at : (f : ℕ → Bool) (n i : ℕ) → all f n ≡ true → i < n → f i �
 unfolding all
 all-at f zero i e h = absurd (not-suc-le-zero h)
 all-at f (suc n) i e h =
-    let p = both (f n) (all f n) e in
+    let p = and-eq-true-iff (f n) (all f n) .0 e in
     either (lt? i n) (λ l. all-at f n i (p .1) (l .1)) (λ l. let q : i ≡ n = omega arith in rw q (p .0))
 
 -- does g take the even fields of w bits of x
 abbrev halves : (ℕ → ℕ) → ℕ → ℕ → Bool
-halves g w x = ltb (g x) 16 && all (λ (i : ℕ). same (bit (g x) i) (bit x (i / w * (2 * w) + i % w))) 4
+halves g w x = ltb (g x) 16 && all (λ (i : ℕ). Bool·beq (bit (g x) i) (bit x (i / w * (2 * w) + i % w))) 4
 
 half-by : (g : ℕ → ℕ) (w : ℕ) → all (halves g w) 256 ≡ true → (x : ℕ) → x < 256 → Half w x (g x)
 half-by g w e x h =
-    let p = both (ltb (g x) 16) (all (λ (i : ℕ). same (bit (g x) i) (bit x (i / w * (2 * w) + i % w))) 4) (all-at (halves g w) 256 x e h) in
+    let p = and-eq-true-iff (ltb (g x) 16) (all (λ (i : ℕ). Bool·beq (bit (g x) i) (bit x (i / w * (2 * w) + i % w))) 4) .0 (all-at (halves g w) 256 x e h) in
     record {
       small = ltb-true (g x) 16 (p .0);
-      bits = λ i l. same-eq (bit (g x) i) (bit x (i / w * (2 * w) + i % w)) (all-at (λ (i : ℕ). same (bit (g x) i) (bit x (i / w * (2 * w) + i % w))) 4 i (p .1) l);
+      bits = λ i l. eq-of-beq (bit (g x) i) (bit x (i / w * (2 * w) + i % w)) (all-at (λ (i : ℕ). Bool·beq (bit (g x) i) (bit x (i / w * (2 * w) + i % w))) 4 i (p .1) l);
     }
 
 -- the code's expressions

@@ -1,4 +1,3 @@
-pub mod Bits
 pub mod Rows
 pub mod Halving
 pub mod Strides

@@ -8,13 +8,12 @@ use native.Mathlib.Omega.{arith}
 use lib.Bits.{bitAnd, and-mask}
 use lib.ListN.{getD}
 use lib.Pow.{pow-pos, pow-add, pow-mono}
-use Rattle.memory.specs.Bits.{bit}
+use Rattle.memory.specs.Bits.{bit, bit-low, bit-high, bit-mod, bit-shr}
 use Rattle.memory.specs.Cases.{lt?, either}
 use Rattle.memory.specs.Numbers.{euclid, div-of, mod-of}
 use Rattle.fields.specs.declared.Source.{Source}
 use Rattle.fields.specs.Laws.{pack-byte, pow-whole}
 use Rattle.fields.specs.Sources.{bitFrom, fieldByte, runByte, Aligned, Reaches}
-use Rattle.fields.proofs.Bits.{bit-low, bit-high, bit-mod, bit-shr}
 
 -- ---- fields next to one another: the source's own bytes
 

@@ -1,18 +1,11 @@
 -- Bytes by their bits, and powers of two that divide one another.
-use mathlib.Core.Path.{_≡_, refl, sym, ap, ap₂, _∙_}
+use mathlib.Core.Path.{_≡_, sym, ap, _∙_}
 use mathlib.Core.Bool.{Bool}
-use Prim.Native.Nat.{ℕ, zero, suc, _+_, _-_, _*_, _/_, _^_, _≤_, _<_}
+use Prim.Native.Nat.{ℕ, _+_, _-_, _*_, _/_, _^_, _≤_, _<_}
 use native.Mathlib.Omega.{arith}
 use lib.Pow.{pow-pos, pow-add}
-use Rattle.memory.specs.Bits.{bit, pack, num, pack-bit}
+use Rattle.memory.specs.Bits.{bit, pack, pack-ext, pack-bit}
 use Rattle.memory.specs.Numbers.{div-of}
-
--- equal bits make equal numbers
-pub pack-ext : (k : ℕ) (f g : ℕ → Bool) → ((i : ℕ) → i < k → f i ≡ g i) → pack k f ≡ pack k g
-unfolding pack
-pack-ext zero f g h = refl
-pack-ext (suc k) f g h =
-    ap₂ (λ (x : ℕ) (y : Bool). x * 2 + num y) (pack-ext k (λ i. f (suc i)) (λ i. g (suc i)) (λ i l. h (suc i) (omega arith))) (h zero (omega arith))
 
 -- eight bits that are those of a byte make the byte
 pub pack-byte : (f : ℕ → Bool) (v : ℕ) → v < 256 → ((i : ℕ) → i < 8 → f i ≡ bit v i) → pack 8 f ≡ v

@@ -13,15 +13,10 @@ use lib.ListN.{length, getD, set, replicate, getD-replicate}
 use lib.Pow.{pow-lt}
 use lib.Seq.{getD-set-same, getD-set-other}
 use borrow.Author.Tests.{eq-eqb, ne-eqb}
-use Rattle.memory.specs.Bits.{bit}
+use Rattle.memory.specs.Bits.{bit, bit-zero}
 use Rattle.memory.specs.Cases.{either, eq?}
 use Rattle.memory.specs.Ranges.{memb, any}
 use Rattle.filter.specs.Filter.{arrayBit}
-
-pub bit-zero : (i : ℕ) → bit 0 i ≡ false
-unfolding bit
-bit-zero zero = refl
-bit-zero (suc i) = bit-zero i
 
 eqb-suc : (a b : ℕ) → eqb (suc a) (suc b) ≡ eqb a b
 eqb-suc a b =

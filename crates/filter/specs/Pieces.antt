@@ -8,18 +8,13 @@ use native.Mathlib.Omega.{arith}
 use lib.ListN.{length, getD, take, drop, length-take, length-drop}
 use lib.Seq.{ext-getD, getD-take, getD-drop}
 use Rattle.memory.specs.Lists.{pieces, write, tab, tab-ext, length-tab, getD-tab}
-use Rattle.memory.specs.Bits.{bit, pack, pack-bit}
+use Rattle.memory.specs.Bits.{bit, pack, pack-ext, pack-bit}
 use Rattle.layout.specs.Index.{Index, withFilter}
 use Rattle.filter.specs.Filter.{arrayBit}
 
 -- the i-th fourth of a filter as bytes
 abbrev pub fourthOf : ℕ → (ℕ → Bool) → ℕ → List ℕ
 fourthOf u f i = tab (2 * u) (λ y. pack 8 (λ b. f (i * (16 * u) + (y * 8 + b))))
-
-pub pack-ext : (k : ℕ) (f g : ℕ → Bool) → ((i : ℕ) → i < k → f i ≡ g i) → pack k f ≡ pack k g
-unfolding pack
-pack-ext zero f g h = refl
-pack-ext (suc k) f g h = rw (pack-ext k (λ i. f (suc i)) (λ i. g (suc i)) (λ i l. h (suc i) (omega arith)), h zero (omega arith))
 
 pub pieces-ext : {A : Type 0} (L d at k : ℕ) (f g : ℕ → ℕ → A) (l : List A) → ((j y : ℕ) → j < k → y < L → f j y ≡ g j y)
     → pieces L d at k f l ≡ pieces L d at k g l

@@ -1,7 +1,7 @@
 -- Which sector sizes, and counts of blocks, are allowed: by the table, and that what is allowed is sound.
 use Prim.Native.Nat.{ℕ, zero, suc, _+_, _*_, _/_, _^_, _<_, _≤_}
 use mathlib.Core.Path.{_≡_, refl}
-use mathlib.Core.Bool.{Bool, true, false, _&&_}
+use mathlib.Core.Bool.{Bool, true, false, _&&_, and-eq-true-iff}
 use mathlib.Core.List.{List, [], _∷_}
 use native.Mathlib.Numerals.{add-one}
 use native.Mathlib.Omega.{arith}
@@ -16,7 +16,7 @@ use Rattle.memory.specs.Ranges.{memb}
 use Rattle.layout.specs.Geometry as layout
 use Rattle.geometry.specs.declared.Row.{Row}
 use Rattle.geometry.specs.declared.Shaped.the-variants.{Bad}
-use Rattle.geometry.specs.Rows.{row, rows, rowOf, rule, and-left, and-right}
+use Rattle.geometry.specs.Rows.{row, rows, rowOf, rule}
 use Rattle.geometry.specs.Shape.{Sound, geometryFor, answer, shapedOf, GoodSound}
 
 -- ---- looking a sector size up
@@ -28,10 +28,6 @@ sectorsOf (r ∷ rs) = r .sector ∷ sectorsOf rs
 -- is S the sector size of row i or of a later one
 abbrev pub fromRow : ℕ → ℕ → Bool
 fromRow S i = memb S (sectorsOf (drop i rows))
-
--- the rows are those that the layout allows
-pub from-first : (S : ℕ) → fromRow S 0 ≡ memb S layout.sectorSizes
-from-first S = refl
 
 pub from-hit : (S i : ℕ) → i < 6 → rowOf i .sector ≡ S → fromRow S i ≡ true
 unfolding memb
@@ -76,25 +72,25 @@ module _ (S R D : ℕ) (e : layout.allowed S R D ≡ true) where
   parts : (fromRow S 0 ≡ true) × (layout.blocksAllowed R ≡ true) × (layout.blocksAllowed D ≡ true)
   unfolding layout.allowed
   parts =
-      let b = and-right (fromRow S 0) (layout.blocksAllowed R && layout.blocksAllowed D) e in (
-        and-left (fromRow S 0) (layout.blocksAllowed R && layout.blocksAllowed D) e,
-        and-left (layout.blocksAllowed R) (layout.blocksAllowed D) b,
-        and-right (layout.blocksAllowed R) (layout.blocksAllowed D) b,
-      )
+      let a = and-eq-true-iff (fromRow S 0) (layout.blocksAllowed R && layout.blocksAllowed D) .0 e in
+      let b = and-eq-true-iff (layout.blocksAllowed R) (layout.blocksAllowed D) .0 (a .1) in
+      (a .0, b .0, b .1)
 
   pub allowed-sound : Sound (geometryFor S R D)
   allowed-sound =
       let r = sector-rule S (parts .0) in
       let p : 0 < 2 ^ log2up (S / 16) = pow-pos (log2up (S / 16)) in
       let q : S / 16 ≡ 2 ^ log2up (S / 16) = omega arith in
+      let ra = and-eq-true-iff (leb 1 R) (leb R 4096) .0 (parts .1) in
+      let da = and-eq-true-iff (leb 1 D) (leb D 4096) .0 (parts .2) in
       record {
         some = omega arith;
         most = omega arith;
         power = (log2up (S / 16), q);
-        ra-some = leb-true _ _ (and-left (leb 1 R) (leb R 4096) (parts .1));
-        ra-most = leb-true _ _ (and-right (leb 1 R) (leb R 4096) (parts .1));
-        da-some = leb-true _ _ (and-left (leb 1 D) (leb D 4096) (parts .2));
-        da-most = leb-true _ _ (and-right (leb 1 D) (leb D 4096) (parts .2));
+        ra-some = leb-true _ _ (ra .0);
+        ra-most = leb-true _ _ (ra .1);
+        da-some = leb-true _ _ (da .0);
+        da-most = leb-true _ _ (da .1);
       }
 
 -- a geometry that is answered is sound

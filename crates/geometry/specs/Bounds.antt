@@ -1,12 +1,9 @@
 -- Bounds of a sound geometry's sizes, and of a partition set's exponent.
-use Prim.Native.Nat.{ℕ, zero, suc, _*_, _/_, _^_, _≤_}
-use mathlib.Core.Path.{_≡_, refl}
+use Prim.Native.Nat.{ℕ, _*_, _/_, _≤_}
 use native.Mathlib.Nat.{mul-le-mul-right, mul-le-mul-left, le-trans, div-mul-le-self}
 use native.Mathlib.Omega.{arith}
-use lib.Pow.{pow-mono}
 use Rattle.memory.specs.Power.{log2up, log2up-least}
 use Rattle.layout.specs.Geometry as layout
-use Rattle.layout.specs.Index.{setBlocks}
 use Rattle.geometry.specs.declared.Geometry.{Geometry}
 use Rattle.geometry.specs.Shape.{shape, Sound}
 
@@ -38,18 +35,7 @@ module _ (g : Geometry) (s : Sound g) where
   pub deletion-capacity-le : layout.deletionCapacity (shape g) ≤ 33554432
   deletion-capacity-le = omega (arith, product-le (g .da) (g .unit) 4096 32 (s .da-most) (s .most))
 
-  pub data-size-le : layout.dataSize (shape g) ≤ 352354304
-  data-size-le = product-le (layout.blocks (shape g)) (layout.block (g .unit)) 10753 32768 blocks-le (omega arith)
-
 -- ---- an exponent of a partition set
 
 pub exponent-le : (c : ℕ) → c ≤ 128 → log2up c ≤ 7
 exponent-le c h = log2up-least c 7 h
-
-pub power-le : (c : ℕ) → c ≤ 128 → 2 ^ log2up c ≤ 128
-power-le c h = pow-mono (exponent-le c h)
-
--- blocks of a set of some rounds
-pub set-blocks : (c : ℕ) → (c ≡ 0 → ⊥) → 2 ^ log2up c ≡ setBlocks 1 c
-set-blocks zero h = absurd (h refl)
-set-blocks (suc c) h = refl

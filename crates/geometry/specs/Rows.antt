@@ -1,7 +1,7 @@
 -- The table of sector sizes as the contracts have it, and its rules, computed over all rows.
 use Prim.Native.Nat.{ℕ, zero, suc, _*_, _/_, _^_, _<_, _≤_}
 use mathlib.Core.Path.{_≡_, refl}
-use mathlib.Core.Bool.{Bool, true, false, _&&_}
+use mathlib.Core.Bool.{Bool, true, _&&_, and-eq-true-iff}
 use mathlib.Core.List.{List, [], _∷_}
 use native.Mathlib.Nat.{le-of-suc-le-suc, not-suc-le-zero}
 use borrow.Author.Tests.{leb-true, eqb-true}
@@ -55,23 +55,15 @@ test r =
     && (eqb (r .entries) (entriesOf (r .sector))
     && (eqb (r .bits) (bitsOf (r .sector)) && (eqb (r .sector) (powerOf (r .sector)) && leb (r .sector) 512)))
 
--- both halves of a test
-pub and-left : (a b : Bool) → (a && b) ≡ true → a ≡ true
-and-left true b e = refl
-and-left false b e = e
-
-pub and-right : (a b : Bool) → (a && b) ≡ true → b ≡ true
-and-right true b e = e
-and-right false b e = cc
-
 -- what a test of five parts says
 module _ (a b c d e : Bool) (t : (a && (b && (c && (d && e)))) ≡ true) where
   five : (a ≡ true) × (b ≡ true) × (c ≡ true) × (d ≡ true) × (e ≡ true)
   five =
-      let t1 = and-right a (b && (c && (d && e))) t in
-      let t2 = and-right b (c && (d && e)) t1 in
-      let t3 = and-right c (d && e) t2 in
-      (and-left a (b && (c && (d && e))) t, and-left b (c && (d && e)) t1, and-left c (d && e) t2, and-left d e t3, and-right d e t3)
+      let t1 = and-eq-true-iff a (b && (c && (d && e))) .0 t in
+      let t2 = and-eq-true-iff b (c && (d && e)) .0 (t1 .1) in
+      let t3 = and-eq-true-iff c (d && e) .0 (t2 .1) in
+      let t4 = and-eq-true-iff d e .0 (t3 .1) in
+      (t1 .0, t2 .0, t3 .0, t4 .0, t4 .1)
 
 -- a test passes at each row
 abbrev every : (Row → Bool) → List Row → Bool
@@ -80,8 +72,8 @@ every f (x ∷ xs) = f x && every f xs
 
 at : (f : Row → Bool) (d : Row) (xs : List Row) → every f xs ≡ true → (k : ℕ) → k < length xs → f (getD xs k d) ≡ true
 at f d [] e k h = absurd (not-suc-le-zero h)
-at f d (x ∷ xs) e zero h = and-left (f x) (every f xs) e
-at f d (x ∷ xs) e (suc k) h = at f d xs (and-right (f x) (every f xs) e) k (le-of-suc-le-suc h)
+at f d (x ∷ xs) e zero h = and-eq-true-iff (f x) (every f xs) .0 e .0
+at f d (x ∷ xs) e (suc k) h = at f d xs (and-eq-true-iff (f x) (every f xs) .0 e .1) k (le-of-suc-le-suc h)
 
 -- the one computed test
 all-pass : every test rows ≡ true

@@ -1,9 +1,9 @@
 -- An area that grows at its end (records, entries, deletions): its image is kept, read and extended by one item.
-use mathlib.Core.Path.{_≡_, refl, sym, ap, _∙_}
+use mathlib.Core.Path.{_≡_, sym, ap, _∙_}
 use mathlib.Core.Logic.{_⊎_, inl, inr}
 use mathlib.Core.Bool.{true, false, cond}
 use mathlib.Core.List.{List}
-use Prim.Native.Nat.{ℕ, zero, suc, _+_, _-_, _*_, _/_, _%_, _^_, _≤_, _<_}
+use Prim.Native.Nat.{ℕ, _+_, _-_, _*_, _/_, _%_, _^_, _≤_, _<_}
 use native.Mathlib.Nat.{mul-le-mul-right}
 use native.Mathlib.Omega.{arith}
 use lib.ListN.{length, getD, replicate, length-replicate, getD-replicate}
@@ -14,22 +14,11 @@ use Rattle.memory.specs.Lists.{write, length-write, getD-write-before, getD-wri
 use Rattle.memory.specs.Numbers.{euclid, div-of, mod-of, carry}
 use Rattle.memory.specs.Words.{word, byteOf, bytes-word}
 use Rattle.layout.specs.Geometry.{sector, page, block}
-use Rattle.layout.specs.Flash.{Flash, Op, applyAll, programs, fresh, allFresh}
+use Rattle.layout.specs.Flash.{Flash, Op, applyAll, allFresh}
 use Rattle.layout.specs.Items.{Area, itemPlace, source, bytesAt, itemWord, put, fills, pageOps, itemOps, itemRam}
-use Rattle.history.specs.FlashLaws.{AllAllowed, programs-main-length, programs-spare-length, programs-spare-out, programs-spare-in, programs-allowed, range-out, row-main}
+use Rattle.history.specs.FlashLaws.{fresh-programs, AllAllowed, programs-spare-out, programs-spare-in, programs-allowed, range-out, row-main}
 use Rattle.history.specs.Image.{AreaIs, areaByte, areaRamByte, areaSpareByte}
 use Rattle.history.specs.AreaNumbers.{start, room-left, in-page, flat, flat-at, flat-ext, flat-new}
-
--- sectors whose spare bytes are FF before the first operation are fresh
-pub programs-fresh : (u d s k : ℕ) (f : ℕ → ℕ → ℕ) (spare : List ℕ) → ((j : ℕ) → j < k → getD spare (s + j * d) 0 ≡ 255)
-    → allFresh spare (programs u d s k f) ≡ true
-unfolding allFresh fresh
-programs-fresh u d s zero f spare h = refl
-programs-fresh u d s (suc k) f spare h =
-    let z : s + 0 * d ≡ s = omega arith in
-    let first : getD spare s 0 ≡ 255 = rw z at (h 0 (omega arith)) in
-    rw first (programs-fresh u d (s + d) k (λ j. f (suc j)) spare (λ j l.
-    let up : s + suc j * d ≡ s + d + j * d = omega arith in rw up at (h (suc j) (omega arith))))
 
 -- an area whose pages are full of items
 module _ (u : ℕ) (pu : 0 < u) (a : Area) (blocks : ℕ) (whole : a .perPage * a .size ≡ page u) (pq : 0 < a .perPage) (ps : 0 < a .size) where
@@ -285,7 +274,7 @@ module _ (u : ℕ) (pu : 0 < u) (a : Area) (blocks : ℕ) (whole : a .perPage * 
     unfolding allFresh
     area-fresh spare same =
         either (bool? (fills a n))
-        (λ c. rw c (programs-fresh u 1 firstSector 4 bytes spare (λ j l. same (firstSector + j * 1) (omega arith) (omega arith) ∙ page-fresh j l)))
+        (λ c. rw c (fresh-programs u 1 firstSector 4 bytes spare (λ j l. same (firstSector + j * 1) (omega arith) (omega arith) ∙ page-fresh j l)))
         (λ c. rw c)
 
     -- what lies outside the area is kept
@@ -314,12 +303,6 @@ module _ (u : ℕ) (pu : 0 < u) (a : Area) (blocks : ℕ) (whole : a .perPage * 
         either (bool? (fills a n))
         (λ c. rw c (either o (λ b. getD-write-before (put a n item ram) (a .ram) _ x 0 b) (λ b. getD-write-after (put a n item ram) (a .ram) _ x 0 (omega arith)) ∙ put-out x o))
         (λ c. rw c (put-out x o))
-
-    pub area-main-length : length (applyAll u ops C .main) ≡ length (C .main)
-    area-main-length = either (bool? (fills a n)) (λ c. rw c (programs-main-length u 1 firstSector 4 bytes C)) (λ c. rw c)
-
-    pub area-spare-length : length (applyAll u ops C .spare) ≡ length (C .spare)
-    area-spare-length = either (bool? (fills a n)) (λ c. rw c (programs-spare-length u 1 firstSector 4 bytes C)) (λ c. rw c)
 
     pub area-ram-length : length (itemRam u a n item ram) ≡ length ram
     area-ram-length = either (bool? (fills a n)) (λ c. rw c (length-write (put a n item ram) (a .ram) _ ∙ length-put)) (λ c. rw c length-put)

@@ -1,41 +1,33 @@
 -- What an accepted deletion and an accepted insertion leave: the parts of the longer history.
 use mathlib.Core.Path.{_≡_, refl, sym, ap, _∙_}
 use mathlib.Core.Logic.{_≢_, _⊎_, inl, inr}
-use mathlib.Core.Bool.{Bool, true, false, cond}
+use mathlib.Core.Bool.{true}
 use mathlib.Core.List.{List, [], _∷_, _++_}
 use Prim.Native.Nat.{ℕ, _+_, _*_, _/_, _%_, _^_, _≤_, _<_}
 use native.Mathlib.Nat.{mul-le-mul-right}
 use native.Mathlib.Omega.{arith}
 use lib.ListN.{length, getD, List·getD-append}
 use lib.Seq.{getD-append-seam}
-use lib.Dec.{eqb}
 use borrow.Author.Tests.{eq-eqb, ne-eqb}
+use Rattle.memory.specs.Booleans.{cond-pos, cond-neg}
 use Rattle.memory.specs.Cases.{either, lt?, eq?}
 use Rattle.memory.specs.Numbers.{carry, euclid}
-use Rattle.memory.specs.Ranges.{any, any-ext, memb}
+use Rattle.memory.specs.Ranges.{any-ext, memb}
 use Rattle.memory.specs.Words.{word}
-use Rattle.layout.specs.Geometry.{Geometry, page, block, filterBits, entriesPerPage, blocks, kaBlocks, indexBlock, fullSets, recordCapacity, deletionCapacity, spareSize, kaRam, ramSize}
+use Rattle.layout.specs.Geometry.{Geometry, filterBits, kaBlocks, indexBlock, fullSets, recordCapacity, deletionCapacity, spareSize, kaRam}
 use Rattle.layout.specs.Flash.{Flash, Op, applyAll, allFresh}
 use Rattle.layout.specs.Hash.{Family}
 use Rattle.layout.specs.Items.{RA, KA, DA, entryBytes, deletionBytes, itemOps, itemRam, put, fills}
 use Rattle.layout.specs.Index.{inSka, inFull, fullBlock, withFilter, filterOps, filterRam}
 use Rattle.layout.specs.Calls.{Draft, keyIndex, keyFilters, keyPositions, pageFilter, deletion, summary, insertion}
-use Rattle.history.specs.FlashLaws.{AllAllowed, apply-append, allowed-append}
+use Rattle.history.specs.FlashLaws.{fresh-append, AllAllowed, apply-append, allowed-append}
 use Rattle.history.specs.Image.{Record, History, recordAt, bytesOf, raItem, kaItem, daItem, keyFilter}
 use Rattle.history.specs.Live.{withRecord, withDeletion}
 use Rattle.history.specs.AreaLaws.{area-ext, put-word}
 use Rattle.history.specs.IndexLaws.{index-ext}
 use Rattle.history.specs.ItemLaws.{length-record, length-entry, length-deletion, entry-key}
 use Rattle.history.specs.Parts as parts
-use Rattle.history.specs.Parts.{Parts, Did, Beyond, beyond-then, frame-beyond, fresh-append, places-suffice}
-
-cond-yes : {A : Type 0} (b : Bool) (x y : A) → b ≡ true → cond b x y ≡ x
-cond-yes true x y q = refl
-cond-yes false x y q = cc
-
-cond-no : {A : Type 0} (b : Bool) (x y : A) → b ≡ false → cond b x y ≡ y
-cond-no true x y q = cc
-cond-no false x y q = refl
+use Rattle.history.specs.Parts.{Parts, Did, Beyond, beyond-then, frame-beyond, places-suffice}
 
 module _ (h : Family) (g : Geometry) (e : ℕ) (pow : g .u ≡ 2 ^ e) where
   abbrev u : ℕ
@@ -255,7 +247,7 @@ module _ (h : Family) (g : Geometry) (e : ℕ) (pow : g .u ≡ 2 ^ e) where
     -- no page of entries is full
     drafted-part : length (H .records) % (8 * g .u) + 1 ≢ 8 * g .u → insertion h g flash n (r .key) (bytesOf r) t ≡ record { ops = ops₂; ram = ram₂ }
     unfolding insertion
-    drafted-part part = cond-no (fills (KA g) n) _ _ (ne-eqb (length (H .records) % (8 * g .u) + 1) (8 * g .u) part)
+    drafted-part part = cond-neg (fills (KA g) n) _ _ (ne-eqb (length (H .records) % (8 * g .u) + 1) (8 * g .u) part)
 
     changed-part : length (H .records) % (8 * g .u) + 1 ≢ 8 * g .u → Changed H′ (n + 1) d flash t (insertion h g flash n (r .key) (bytesOf r) t)
     changed-part part =
@@ -283,7 +275,7 @@ module _ (h : Family) (g : Geometry) (e : ℕ) (pow : g .u ≡ 2 ^ e) where
       drafted-full : insertion h g flash n (r .key) (bytesOf r) t ≡ record { ops = ops₂ ++ ixOps; ram = ram₃ }
       unfolding insertion summary
       drafted-full =
-          cond-yes (fills (KA g) n) _ _ (eq-eqb (length (H .records) % (8 * g .u) + 1) (8 * g .u) full)
+          cond-pos (fills (KA g) n) _ _ (eq-eqb (length (H .records) % (8 * g .u) + 1) (8 * g .u) full)
           ∙ ap (λ (c : Flash). record { ops = ops₂ ++ filterOps (g .u) (keyIndex g) c N (filterIn full); ram = filterRam (g .u) (keyIndex g) N (filterIn full) }) done₂
 
       done₃ : applyAll (g .u) (ops₂ ++ ixOps) flash ≡ C₃

@@ -1,27 +1,27 @@
 -- The clauses of demands 2 and 3, from the run over the calls.
-use mathlib.Core.Path.{_≡_, refl, sym, ap, _∙_}
+use mathlib.Core.Path.{_≡_, refl, ap, _∙_}
 use mathlib.Core.Bool.{Bool, true, false, cond}
 use mathlib.Core.Option.{Option, none, some}
-use mathlib.Core.List.{List, [], _∷_, _++_}
-use Prim.Native.Nat.{ℕ, _+_, _*_, _/_, _≤_, _<_, _^_}
+use mathlib.Core.List.{List, _++_}
+use Prim.Native.Nat.{ℕ, _+_, _/_, _≤_, _<_, _^_}
 use native.Mathlib.Omega.{arith}
 use lib.ListN.{length, getD}
 use Rattle.layout.specs.Geometry.{Geometry, geometry, allowed, blocks, recordCapacity, deletionCapacity, spareSize}
-use Rattle.layout.specs.Flash.{Flash, Op, applyAll, erases}
+use Rattle.layout.specs.Flash.{Op, applyAll}
 use Rattle.layout.specs.Hash.{Family}
-use Rattle.layout.specs.Calls.{Volume, Call, lookup, Outcome, accepted, tooShort, format, formatted, call}
-use Rattle.layout.specs.FiniteMap.{Map, emptyMap, Reply}
-use Rattle.history.specs.FlashLaws.{AllAllowed, apply-append, erases-spare-length}
-use Rattle.history.specs.Image.{History, recordAt, bytesOf}
-use Rattle.history.specs.Live.{emptyHistory, live-start, findLive, lookupHistory, stepHistory}
+use Rattle.layout.specs.Calls.{Volume, Call, lookup, accepted, tooShort, format, formatted, call}
+use Rattle.layout.specs.FiniteMap.{emptyMap}
+use Rattle.history.specs.FlashLaws.{apply-append}
+use Rattle.history.specs.Image.{History}
+use Rattle.history.specs.Live.{emptyHistory, live-start, findLive, lookupHistory}
 use Rattle.history.specs.Parts.{Beyond, beyond-then}
 use Rattle.history.specs.ByAddress.{main-by-address, spare-by-address, ram-by-address}
 use Rattle.history.specs.Season.{KeyWords, after, opsOf, Disciplined, stateOf, EachAgrees, historyOf, ImageOf, shown, liveReply}
 use Rattle.history.specs.Discipline.{disciplined, erases-disciplined, erased, erased-in}
 use Rattle.history.specs.Volumes as volumes
-use Rattle.history.specs.Volumes.{Sound, sound, Holds, volumeOf}
-use Rattle.history.specs.Steps.{Done, call-done}
-use Rattle.history.specs.SeasonLaws.{Ran, run, less, format-is, start-holds, start-beyond, start-spare}
+use Rattle.history.specs.Volumes.{Sound, sound, volumeOf}
+use Rattle.history.specs.Steps.{call-done}
+use Rattle.history.specs.SeasonLaws.{Ran, run, format-is, start-holds, start-beyond, start-spare}
 
 module _ (h : Family) (v : Volume) (S R D : ℕ) (calls : List Call) (can : allowed S R D ≡ true)
     (long : tooShort (geometry S R D) (v .flash) (v .ram) ≡ false) (words : KeyWords calls) where

@@ -1,16 +1,16 @@
 -- From marks to the operations' own bookkeeping: what is allowed by the marks is disciplined by the operations.
-use mathlib.Core.Path.{_≡_, refl, sym, _∙_}
-use mathlib.Core.Bool.{Bool, true, false, _&&_, cond}
+use mathlib.Core.Path.{_≡_, refl, _∙_}
+use mathlib.Core.Bool.{Bool, true, false, cond, and-eq-true-iff}
 use mathlib.Core.List.{List, [], _∷_, _++_}
 use Prim.Native.Nat.{ℕ, zero, suc, _+_, _-_, _*_, _/_, _≤_, _<_}
 use native.Mathlib.Omega.{arith}
-use lib.ListN.{length, getD, take, set, replicate, length-set, length-take, length-replicate, getD-replicate}
+use lib.ListN.{length, getD, take, replicate, length-set, length-take, length-replicate, getD-replicate}
 use lib.Seq.{getD-take, getD-set-same, getD-set-other}
 use lib.Dec.{eqb}
 use borrow.Author.Tests.{eqb-true, ne-eqb}
-use Rattle.memory.specs.Cases.{either, bool?, eq?, lt?}
-use Rattle.memory.specs.Lists.{write, length-write, getD-write-before, getD-write-in, getD-write-after}
-use Rattle.layout.specs.Flash.{Flash, Op, program, erase, apply, applyAll, fresh, allFresh, erases}
+use Rattle.memory.specs.Cases.{either, eq?, lt?}
+use Rattle.memory.specs.Lists.{length-write, getD-write-before, getD-write-in, getD-write-after}
+use Rattle.layout.specs.Flash.{Flash, Op, program, erase, apply, fresh, allFresh, erases}
 use Rattle.history.specs.FlashLaws.{AllAllowed}
 use Rattle.history.specs.Season.{programmed, Disciplined}
 
@@ -32,23 +32,16 @@ below-take N l x h = getD-take N l x 0 h
 pub fresh-below : (N : ℕ) (spare : List ℕ) (ops : List Op) → allFresh (take N spare) ops ≡ true → Below N ops
 unfolding allFresh fresh
 fresh-below N spare [] q = tt
-fresh-below N spare (program s bytes ∷ os) q = (
-  either (lt? s N)
-      (λ a. a .1)
-      (λ a.
-      let past : getD (take N spare) s 0 ≡ 0 = getD-past (take N spare) s (omega (arith, length-take N spare)) in
-      let e : getD (take N spare) s 0 ≡ 255 = eqb-true (getD (take N spare) s 0) 255 (left (eqb (getD (take N spare) s 0) 255) _ q) in
-      absurd (omega (arith, past, e))),
-  fresh-below N spare os (right (eqb (getD (take N spare) s 0) 255) _ q),
-)
-  where
-    left : (a b : Bool) → (a && b) ≡ true → a ≡ true
-    left true b e = refl
-    left false b e = e
-
-    right : (a b : Bool) → (a && b) ≡ true → b ≡ true
-    right true b e = e
-    right false b e = cc
+fresh-below N spare (program s bytes ∷ os) q =
+    let p = and-eq-true-iff (eqb (getD (take N spare) s 0) 255) (allFresh (take N spare) os) .0 q in (
+      either (lt? s N)
+          (λ a. a .1)
+          (λ a.
+          let past : getD (take N spare) s 0 ≡ 0 = getD-past (take N spare) s (omega (arith, length-take N spare)) in
+          let e : getD (take N spare) s 0 ≡ 255 = eqb-true (getD (take N spare) s 0) 255 (p .0) in
+          absurd (omega (arith, past, e))),
+      fresh-below N spare os (p .1),
+    )
 fresh-below N spare (erase b ∷ os) q = fresh-below N spare os q
 
 -- the marks of the first N sectors say what the operations say

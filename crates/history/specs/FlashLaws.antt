@@ -1,18 +1,41 @@
--- What lists of operations do to the flash: each byte and mark inside and outside the sectors and blocks named.
+-- Which sectors lists of operations ask to be fresh, and what they do to the flash: each byte and mark inside and outside the sectors and blocks named.
 use mathlib.Core.Path.{_≡_, refl, sym, ap, _∙_}
 use mathlib.Core.Logic.{_≢_, _⊎_, inl, inr}
-use mathlib.Core.Bool.{Bool, true, false, cond}
+use mathlib.Core.Bool.{true, false, and-eq-true-iff}
 use mathlib.Core.List.{List, [], _∷_, _++_}
 use Prim.Native.Nat.{ℕ, zero, suc, _+_, _-_, _*_, _/_, _%_, _≤_, _<_}
 use native.Mathlib.Nat.{not-suc-le-zero, mul-le-mul-right}
 use native.Mathlib.Omega.{arith}
-use lib.ListN.{length, getD, set, replicate, length-set, length-replicate, getD-replicate}
+use lib.ListN.{length, getD, replicate, length-set, length-replicate, getD-replicate}
 use lib.Seq.{ext-getD, getD-set-same, getD-set-other}
 use lib.Dec.{eqb}
-use Rattle.memory.specs.Lists.{write, length-write, getD-write-before, getD-write-in, getD-write-after, tab, length-tab, getD-tab, tab-ext}
+use Rattle.memory.specs.Lists.{write, length-write, getD-write-before, getD-write-in, getD-write-after, tab, length-tab, getD-tab}
 use Rattle.memory.specs.Numbers.{euclid, div-lt}
 use Rattle.memory.specs.Cases.{lt?, eq?, either}
-use Rattle.layout.specs.Flash.{Op, program, erase, Flash, apply, applyAll, programs, erases}
+use Rattle.layout.specs.Flash.{Op, program, erase, Flash, apply, applyAll, programs, erases, fresh, allFresh}
+
+-- ---- refusal 7: the sectors to be programmed are fresh, by the marks before the first operation
+
+pub fresh-append : (spare : List ℕ) (xs ys : List Op) → allFresh spare xs ≡ true → allFresh spare ys ≡ true → allFresh spare (xs ++ ys) ≡ true
+unfolding allFresh
+fresh-append spare [] ys a b = b
+fresh-append spare (program s bytes ∷ os) ys a b =
+    let p = and-eq-true-iff (fresh (getD spare s 0)) (allFresh spare os) .0 a in
+    rw (p .0) (fresh-append spare os ys (p .1) b)
+fresh-append spare (erase k ∷ os) ys a b = fresh-append spare os ys a b
+
+pub fresh-programs : (u d s k : ℕ) (f : ℕ → ℕ → ℕ) (spare : List ℕ) → ((j : ℕ) → j < k → getD spare (s + j * d) 0 ≡ 255) → allFresh spare (programs u d s k f) ≡ true
+unfolding allFresh fresh
+fresh-programs u d s zero f spare h = refl
+fresh-programs u d s (suc k) f spare h =
+    let e : s + 0 * d ≡ s = omega arith in
+    let h0 : getD spare s 0 ≡ 255 = rw e at (h 0 (omega arith)) in
+    rw h0 (fresh-programs u d (s + d) k (λ j. f (suc j)) spare (λ j l. let up : s + suc j * d ≡ s + d + j * d = omega arith in rw up at (h (suc j) (omega arith))))
+
+pub fresh-erases : (spare : List ℕ) (b k : ℕ) → allFresh spare (erases b k) ≡ true
+unfolding allFresh
+fresh-erases spare b zero = refl
+fresh-erases spare b (suc k) = fresh-erases spare (suc b) k
 
 module _ (u : ℕ) where
   -- a program: the sector is fresh, and the sectors before it in its page are not
@@ -32,16 +55,18 @@ module _ (u : ℕ) where
   allowed-append [] ys c a b = b
   allowed-append (o ∷ os) ys c a b = (a .0, allowed-append os ys (apply u o c) (a .1) b)
 
+  -- operations keep the lengths of both areas
+  pub apply-main-length : (os : List Op) (c : Flash) → length (applyAll u os c .main) ≡ length (c .main)
+  apply-main-length [] c = refl
+  apply-main-length (program s bytes ∷ os) c = apply-main-length os (apply u (program s bytes) c) ∙ length-write (c .main) (s * (16 * u)) bytes
+  apply-main-length (erase b ∷ os) c = apply-main-length os (apply u (erase b) c) ∙ length-write (c .main) (b * (1024 * u)) (replicate (1024 * u) 255)
+
+  pub apply-spare-length : (os : List Op) (c : Flash) → length (applyAll u os c .spare) ≡ length (c .spare)
+  apply-spare-length [] c = refl
+  apply-spare-length (program s bytes ∷ os) c = apply-spare-length os (apply u (program s bytes) c) ∙ length-set (c .spare) s 0
+  apply-spare-length (erase b ∷ os) c = apply-spare-length os (apply u (erase b) c) ∙ length-write (c .spare) (b * 64) (replicate 64 255)
+
   -- ---- k sectors, the j-th being s + j * d; byte y of the j-th is f j y
-
-  pub programs-spare-length : (d s k : ℕ) (f : ℕ → ℕ → ℕ) (c : Flash) → length (applyAll u (programs u d s k f) c .spare) ≡ length (c .spare)
-  programs-spare-length d s zero f c = refl
-  programs-spare-length d s (suc k) f c = programs-spare-length d (s + d) k (λ j. f (suc j)) (apply u (program s (tab (16 * u) (f zero))) c) ∙ length-set (c .spare) s 0
-
-  pub programs-main-length : (d s k : ℕ) (f : ℕ → ℕ → ℕ) (c : Flash) → length (applyAll u (programs u d s k f) c .main) ≡ length (c .main)
-  programs-main-length d s zero f c = refl
-  programs-main-length d s (suc k) f c =
-      programs-main-length d (s + d) k (λ j. f (suc j)) (apply u (program s (tab (16 * u) (f zero))) c) ∙ length-write (c .main) (s * (16 * u)) (tab (16 * u) (f zero))
 
   -- a sector that is none of them keeps its mark, and its cells
   pub programs-spare-out : (d s k : ℕ) (f : ℕ → ℕ → ℕ) (c : Flash) (x : ℕ) → ((j : ℕ) → j < k → x ≢ s + j * d)
@@ -124,15 +149,6 @@ module _ (u : ℕ) where
           go zero a b = absurd (e .1 (omega arith))
           go (suc i) a b = (i, omega arith, omega arith)
 
-  -- the same sectors with the same bytes
-  pub programs-ext : (d s k : ℕ) (f g : ℕ → ℕ → ℕ) → ((j y : ℕ) → j < k → y < (16 * u) → f j y ≡ g j y) → programs u d s k f ≡ programs u d s k g
-  programs-ext d s zero f g h = refl
-  programs-ext d s (suc k) f g h =
-      let t : tab (16 * u) (f zero) ≡ tab (16 * u) (g zero) = tab-ext (16 * u) (f zero) (g zero) (λ y l. h zero y (omega arith) l) in
-      let r : programs u d (s + d) k (λ j. f (suc j)) ≡ programs u d (s + d) k (λ j. g (suc j))
-      = programs-ext d (s + d) k (λ j. f (suc j)) (λ j. g (suc j)) (λ j y l m. h (suc j) y (omega arith) m) in
-      λ i. program s (t i) ∷ r i
-
   -- sectors between lo and hi leave what is before and after
   pub range-out : (d s k lo hi : ℕ) (f : ℕ → ℕ → ℕ) (c : Flash) (a : ℕ) → 0 < (16 * u) → ((j : ℕ) → j < k → (lo ≤ s + j * d) × (s + j * d < hi))
       → (a < lo * (16 * u)) ⊎ (hi * (16 * u) ≤ a) → getD (applyAll u (programs u d s k f) c .main) a 0 ≡ getD (c .main) a 0
@@ -189,23 +205,14 @@ module _ (u : ℕ) where
       ∙ getD-replicate 64 (x - b * 64) 255 0 (omega arith))
       (λ a. erases-spare-in (suc b) k (apply u (erase b) c) x (rw (length-write (c .spare) (b * 64) (replicate 64 255)) (omega arith)) (a .1) (omega arith))
 
-  pub erases-main-length : (b k : ℕ) (c : Flash) → length (applyAll u (erases b k) c .main) ≡ length (c .main)
-  erases-main-length b zero c = refl
-  erases-main-length b (suc k) c =
-      erases-main-length (suc b) k (apply u (erase b) c) ∙ length-write (c .main) (b * (1024 * u)) (replicate (1024 * u) 255)
-
-  pub erases-spare-length : (b k : ℕ) (c : Flash) → length (applyAll u (erases b k) c .spare) ≡ length (c .spare)
-  erases-spare-length b zero c = refl
-  erases-spare-length b (suc k) c = erases-spare-length (suc b) k (apply u (erase b) c) ∙ length-write (c .spare) (b * 64) (replicate 64 255)
-
-  -- ---- sectors in a row are one write of cells and one of marks
+  -- ---- sectors in a row are one write of cells
 
   pub row-main : (s k : ℕ) (f : ℕ → ℕ → ℕ) (c : Flash) → 0 < (16 * u) → (s + k) * (16 * u) ≤ length (c .main)
       → applyAll u (programs u 1 s k f) c .main ≡ write (c .main) (s * (16 * u)) (tab (k * (16 * u)) (λ i. f (i / (16 * u)) (i % (16 * u))))
   row-main s k f c pS fits =
       ext-getD 0 (applyAll u (programs u 1 s k f) c .main) (write (c .main) (s * (16 * u)) (tab (k * (16 * u)) (λ i. f (i / (16 * u)) (i % (16 * u)))))
-      (programs-main-length 1 s k f c ∙ sym (length-write (c .main) (s * (16 * u)) _))
-      (λ a h. at a (rw (programs-main-length 1 s k f c) at h))
+      (apply-main-length (programs u 1 s k f) c ∙ sym (length-write (c .main) (s * (16 * u)) _))
+      (λ a h. at a (rw (apply-main-length (programs u 1 s k f) c) at h))
     where
       at : (a : ℕ) → a < length (c .main)
           → getD (applyAll u (programs u 1 s k f) c .main) a 0 ≡ getD (write (c .main) (s * (16 * u)) (tab (k * (16 * u)) (λ i. f (i / (16 * u)) (i % (16 * u))))) a 0
@@ -226,21 +233,3 @@ module _ (u : ℕ) where
           (λ d.
           range-out 1 s k s (s + k) f c a pS (λ j l. (omega arith, omega arith)) (inr (d .1))
           ∙ sym (getD-write-after (c .main) (s * (16 * u)) _ a 0 (omega arith))))
-
-  pub row-spare : (s k : ℕ) (f : ℕ → ℕ → ℕ) (c : Flash) → s + k ≤ length (c .spare) → applyAll u (programs u 1 s k f) c .spare ≡ write (c .spare) s (replicate k 0)
-  row-spare s k f c fits =
-      ext-getD 0 (applyAll u (programs u 1 s k f) c .spare) (write (c .spare) s (replicate k 0))
-      (programs-spare-length 1 s k f c ∙ sym (length-write (c .spare) s _))
-      (λ x h. at x (rw (programs-spare-length 1 s k f c) at h))
-    where
-      at : (x : ℕ) → x < length (c .spare) → getD (applyAll u (programs u 1 s k f) c .spare) x 0 ≡ getD (write (c .spare) s (replicate k 0)) x 0
-      at x h =
-          let l : length (replicate {A = ℕ} k 0) ≡ k = length-replicate {A = ℕ} k 0 in
-          either (lt? x s)
-          (λ b. programs-spare-out 1 s k f c x (λ j m. omega arith) ∙ sym (getD-write-before (c .spare) s _ x 0 (b .1)))
-          (λ b. either (lt? x (s + k))
-          (λ d.
-          let e : s + (x - s) * 1 ≡ x = omega arith in
-          (rw e at (programs-spare-in 1 s k f c (x - s) (omega arith) (omega arith) (omega arith)))
-          ∙ sym (getD-write-in (c .spare) s (replicate k 0) x 0 (b .1) (omega arith) h ∙ getD-replicate k (x - s) 0 0 (omega arith)))
-          (λ d. programs-spare-out 1 s k f c x (λ j m. omega arith) ∙ sym (getD-write-after (c .spare) s _ x 0 (omega arith))))

@@ -1,30 +1,24 @@
 -- The next set after the sixteenth flush: it goes to the other side, or as a full one to its place; L1 and the old set are erased.
-use mathlib.Core.Path.{_≡_, refl, ap, _∙_}
+use mathlib.Core.Path.{_≡_, ap, _∙_}
 use mathlib.Core.Logic.{_⊎_, inl, inr}
 use mathlib.Core.Bool.{Bool, true, false, cond}
 use mathlib.Core.List.{List, [], _++_}
-use Prim.Native.Nat.{ℕ, zero, suc, _+_, _-_, _*_, _/_, _%_, _^_, _≤_, _<_, zero-le}
+use Prim.Native.Nat.{ℕ, _+_, _-_, _*_, _/_, _%_, _^_, _≤_, _<_, zero-le}
 use native.Mathlib.Nat.{mul-le-mul-right}
 use native.Mathlib.Omega.{arith}
-use lib.ListN.{length, getD, replicate}
+use lib.ListN.{length, getD}
 use lib.Dec.{ltb, eqb}
 use borrow.Author.Tests.{lt-ltb, le-ltb, eq-eqb, ne-eqb}
-use Rattle.memory.specs.Lists.{length-write}
 use Rattle.memory.specs.Cases.{lt?, eq?, either}
 use Rattle.memory.specs.Numbers.{euclid, div-lt, div-of, mod-of}
 use Rattle.memory.specs.Power.{log2up}
 use Rattle.layout.specs.Geometry.{block, sideBlocks}
-use Rattle.layout.specs.Flash.{Flash, Op, erase, apply, applyAll, programs, erases, allFresh}
+use Rattle.layout.specs.Flash.{Flash, Op, applyAll, programs, erases, allFresh}
 use Rattle.layout.specs.Index.{Index, rowByte, bitAt, setPages, setWidth, setBlocks, fullFilters, sideBlock, fullBlock, flashPlace, setByte, buildOps}
 use Rattle.history.specs.Image.{partitionByte, sideByte, fullByte, IndexMain, IndexSpare}
-use Rattle.history.specs.FlashLaws.{AllAllowed, apply-append, allowed-append, programs-main-length, programs-spare-length, programs-main-in, programs-spare-in, programs-spare-out, programs-allowed, range-out, erases-allowed, erases-main-in, erases-main-out, erases-spare-in, erases-spare-out, erases-spare-length}
+use Rattle.history.specs.FlashLaws.{fresh-append, fresh-programs, fresh-erases, AllAllowed, apply-append, allowed-append, apply-main-length, apply-spare-length, programs-main-in, programs-spare-in, programs-spare-out, programs-allowed, range-out, erases-allowed, erases-main-in, erases-main-out, erases-spare-in, erases-spare-out}
 use Rattle.history.specs.RowLaws.{row-ext, unit-pos, set-whole, width-pos, blocks-fit, full-blocks, full-width, blocks-some, blocks-le}
 use Rattle.history.specs.IndexRead.{read-flash, side-range}
-use Rattle.history.specs.IndexFlush.{fresh-append, fresh-programs, fresh-erases}
-
-erases-main-length : (u b k : ℕ) (c : Flash) → length (applyAll u (erases b k) c .main) ≡ length (c .main)
-erases-main-length u b zero c = refl
-erases-main-length u b (suc k) c = erases-main-length u (suc b) k (apply u (erase b) c) ∙ length-write (c .main) (b * (1024 * u)) (replicate (1024 * u) 255)
 
 -- ---- the sectors of some blocks are programmed, then L1's block and the old set's blocks erased
 
@@ -70,16 +64,6 @@ module _ (u : ℕ) (pu : 0 < u) (r : Rebuild) (f : ℕ → ℕ → ℕ) (C : Fla
 
   spare-is : (x : ℕ) → getD (rebuilt .spare) x 0 ≡ getD (C3 .spare) x 0
   spare-is x = ap (λ (D : Flash). getD (D .spare) x 0) rebuilt-is
-
-  rebuilt-main-length : length (rebuilt .main) ≡ length (C .main)
-  rebuilt-main-length =
-      ap (λ (D : Flash). length (D .main)) rebuilt-is
-      ∙ erases-main-length u (r .old) (r .gone) C2 ∙ erases-main-length u (r .first) 1 C1 ∙ programs-main-length u 1 (r .dest * 64) (r .sectors) f C
-
-  rebuilt-spare-length : length (rebuilt .spare) ≡ length (C .spare)
-  rebuilt-spare-length =
-      ap (λ (D : Flash). length (D .spare)) rebuilt-is
-      ∙ erases-spare-length u (r .old) (r .gone) C2 ∙ erases-spare-length u (r .first) 1 C1 ∙ programs-spare-length u 1 (r .dest * 64) (r .sectors) f C
 
   -- what each step leaves
   main1 : (x : ℕ) → (x < r .dest * (1024 * u)) ⊎ ((r .dest + r .new) * (1024 * u) ≤ x) → getD (C1 .main) x 0 ≡ getD (C .main) x 0
@@ -144,7 +128,7 @@ module _ (u : ℕ) (pu : 0 < u) (r : Rebuild) (f : ℕ → ℕ → ℕ) (C : Fla
 
     main-first : (i : ℕ) → i < 1024 * u → getD (rebuilt .main) (r .first * (1024 * u) + i) 0 ≡ 255
     main-first i h =
-        let l = programs-main-length u 1 (r .dest * 64) (r .sectors) f C in
+        let l = apply-main-length u (programs u 1 (r .dest * 64) (r .sectors) f) C in
         let m0 = mul-le-mul-right (1024 * u) (r .after) in
         let m1 = mul-le-mul-right (1024 * u) (r .after-old) in
         let m2 = mul-le-mul-right (1024 * u) (r .dest-in) in
@@ -154,7 +138,7 @@ module _ (u : ℕ) (pu : 0 < u) (r : Rebuild) (f : ℕ → ℕ → ℕ) (C : Fla
 
     main-old : (i : ℕ) → i < r .gone * (1024 * u) → getD (rebuilt .main) (r .old * (1024 * u) + i) 0 ≡ 255
     main-old i h =
-        let l : length (C2 .main) ≡ length (C .main) = erases-main-length u (r .first) 1 C1 ∙ programs-main-length u 1 (r .dest * 64) (r .sectors) f C in
+        let l : length (C2 .main) ≡ length (C .main) = apply-main-length u (erases (r .first) 1) C1 ∙ apply-main-length u (programs u 1 (r .dest * 64) (r .sectors) f) C in
         main-is (r .old * (1024 * u) + i)
         ∙ erases-main-in u (r .old) (r .gone) C2 (r .old * (1024 * u) + i) (rw l (omega (arith, mul-le-mul-right (1024 * u) (r .old-in)))) (omega arith) (omega arith)
 
@@ -169,14 +153,14 @@ module _ (u : ℕ) (pu : 0 < u) (r : Rebuild) (f : ℕ → ℕ → ℕ) (C : Fla
 
     spare-first : (x : ℕ) → x < 64 → getD (rebuilt .spare) (r .first * 64 + x) 0 ≡ 255
     spare-first x h =
-        let l = programs-spare-length u 1 (r .dest * 64) (r .sectors) f C in
+        let l = apply-spare-length u (programs u 1 (r .dest * 64) (r .sectors) f) C in
         spare-is (r .first * 64 + x)
         ∙ spare3 (r .first * 64 + x) (inl (omega arith))
         ∙ erases-spare-in u (r .first) 1 C1 (r .first * 64 + x) (rw l (omega arith)) (omega arith) (omega arith)
 
     spare-old : (x : ℕ) → x < r .gone * 64 → getD (rebuilt .spare) (r .old * 64 + x) 0 ≡ 255
     spare-old x h =
-        let l : length (C2 .spare) ≡ length (C .spare) = erases-spare-length u (r .first) 1 C1 ∙ programs-spare-length u 1 (r .dest * 64) (r .sectors) f C in
+        let l : length (C2 .spare) ≡ length (C .spare) = apply-spare-length u (erases (r .first) 1) C1 ∙ apply-spare-length u (programs u 1 (r .dest * 64) (r .sectors) f) C in
         spare-is (r .old * 64 + x)
         ∙ erases-spare-in u (r .old) (r .gone) C2 (r .old * 64 + x) (rw l (omega arith)) (omega arith) (omega arith)
 
@@ -206,8 +190,6 @@ pub record IndexAfter (u : ℕ) (ix : Index) (Z : ℕ) (F : ℕ → ℕ → Bool
   pub free : (spare : List ℕ) → ((x : ℕ) → from * 64 ≤ x → x < fullBlock u ix Z * 64 → getD spare x 0 ≡ getD (C .spare) x 0) → allFresh spare ops ≡ true
   pub main-out : (x : ℕ) → (x < ix .first * block u) ⊎ (fullBlock u ix Z * block u ≤ x) → getD (applyAll u ops C .main) x 0 ≡ getD (C .main) x 0
   pub spare-out : (x : ℕ) → (x < ix .first * 64) ⊎ (fullBlock u ix Z * 64 ≤ x) → getD (applyAll u ops C .spare) x 0 ≡ getD (C .spare) x 0
-  pub main-length : length (applyAll u ops C .main) ≡ length (C .main)
-  pub spare-length : length (applyAll u ops C .spare) ≡ length (C .spare)
 
 -- ---- the sides
 
@@ -338,10 +320,6 @@ module _ (u e : ℕ) (pow : u ≡ 2 ^ e) (ix : Index) (Z : ℕ) (F : ℕ → ℕ
           (λ x h. same (dest * 64 + x) (omega arith) (omega (arith, new-fit)) ∙ free x (omega (arith, new-fit)));
       main-out = main-outside u (unit-pos u e pow) plan (setByte u ix (C .main) z c) C;
       spare-out = spare-outside u (unit-pos u e pow) plan (setByte u ix (C .main) z c) C;
-      main-length =
-          rebuilt-main-length u (unit-pos u e pow) plan (setByte u ix (C .main) z c) C;
-      spare-length =
-          rebuilt-spare-length u (unit-pos u e pow) plan (setByte u ix (C .main) z c) C;
     }
 
   -- ---- a set that is not full goes to the other side

@@ -1,9 +1,9 @@
 -- One more filter in the SKA page, and the flush of a full page to L1.
-use mathlib.Core.Path.{_≡_, refl, sym, ap, _∙_}
+use mathlib.Core.Path.{_≡_, sym, ap, _∙_}
 use mathlib.Core.Logic.{_≢_, _⊎_, inl, inr}
-use mathlib.Core.Bool.{Bool, true, false}
-use mathlib.Core.List.{List, [], _∷_, _++_}
-use Prim.Native.Nat.{ℕ, zero, suc, _+_, _-_, _*_, _/_, _%_, _≤_, _<_}
+use mathlib.Core.Bool.{Bool, true}
+use mathlib.Core.List.{List}
+use Prim.Native.Nat.{ℕ, _+_, _-_, _*_, _/_, _%_, _≤_, _<_}
 use native.Mathlib.Nat.{mul-le-mul-right, le-antisymm}
 use native.Mathlib.Omega.{arith}
 use lib.ListN.{length, getD, replicate, length-replicate, getD-replicate}
@@ -11,15 +11,16 @@ use lib.Arith.{digits-div, digits-mod}
 use lib.Dec.{ltb}
 use borrow.Author.Tests.{lt-ltb, le-ltb}
 use Rattle.memory.specs.Lists.{pieces-in, pieces-out, length-pieces, getD-write-before, getD-write-in, getD-write-after}
-use Rattle.memory.specs.Cases.{bool?, lt?, eq?, either}
+use Rattle.memory.specs.Bits.{pack-ext}
+use Rattle.memory.specs.Cases.{lt?, eq?, either}
 use Rattle.memory.specs.Numbers.{euclid, div-lt}
 use Rattle.layout.specs.Geometry.{sector, page, block}
-use Rattle.layout.specs.Flash.{Flash, Op, program, erase, applyAll, programs, erases, fresh, allFresh}
+use Rattle.layout.specs.Flash.{Flash, applyAll, programs, allFresh}
 use Rattle.layout.specs.Items.{zeroPage}
 use Rattle.layout.specs.Index.{Index, rowByte, fullFilters, sideBlock, fullBlock, withFilter}
 use Rattle.history.specs.Image.{l1Byte, IndexMain, IndexSpare}
-use Rattle.history.specs.FlashLaws.{AllAllowed, programs-main-in, programs-main-out, programs-spare-in, programs-spare-out, programs-allowed, range-out}
-use Rattle.history.specs.RowLaws.{pack-ext, row-new, row-old, row-none}
+use Rattle.history.specs.FlashLaws.{fresh-programs, AllAllowed, programs-main-in, programs-main-out, programs-spare-in, programs-spare-out, programs-allowed, range-out}
+use Rattle.history.specs.RowLaws.{row-new, row-old, row-none}
 use Rattle.history.specs.IndexRead.{SkaIs, side-range}
 
 -- ---- the SKA page
@@ -97,30 +98,6 @@ module _ (u : ℕ) (pu : 0 < u) (ix : Index) where
       let d : (i * (16 * u) + y) / (16 * u) ≡ i = digits-div i hy in
       let m : (i * (16 * u) + y) % (16 * u) ≡ y = digits-mod i hy in
       I (i * (16 * u) + y) (omega (arith, mul-le-mul-right (16 * u) hi)) ∙ rw (d, m)
-
--- ---- refusal 7: the sectors to be programmed are fresh
-
-pub fresh-append : (spare : List ℕ) (xs ys : List Op) → allFresh spare xs ≡ true → allFresh spare ys ≡ true → allFresh spare (xs ++ ys) ≡ true
-unfolding allFresh
-fresh-append spare [] ys a b = b
-fresh-append spare (program s bytes ∷ os) ys a b =
-    either (bool? (fresh (getD spare s 0)))
-    (λ h. let a′ : allFresh spare os ≡ true = rw h at a in rw h (fresh-append spare os ys a′ b))
-    (λ h. let a′ : false ≡ true = rw h at a in cc)
-fresh-append spare (erase k ∷ os) ys a b = fresh-append spare os ys a b
-
-pub fresh-programs : (u d s k : ℕ) (f : ℕ → ℕ → ℕ) (spare : List ℕ) → ((j : ℕ) → j < k → getD spare (s + j * d) 0 ≡ 255) → allFresh spare (programs u d s k f) ≡ true
-unfolding allFresh fresh
-fresh-programs u d s zero f spare h = refl
-fresh-programs u d s (suc k) f spare h =
-    let e : s + 0 * d ≡ s = omega arith in
-    let h0 : getD spare s 0 ≡ 255 = rw e at (h 0 (omega arith)) in
-    rw h0 (fresh-programs u d (s + d) k (λ j. f (suc j)) spare (λ j l. let up : s + suc j * d ≡ s + d + j * d = omega arith in rw up at (h (suc j) (omega arith))))
-
-pub fresh-erases : (spare : List ℕ) (b k : ℕ) → allFresh spare (erases b k) ≡ true
-unfolding allFresh
-fresh-erases spare b zero = refl
-fresh-erases spare b (suc k) = fresh-erases spare (suc b) k
 
 -- ---- the flush: four sectors of L1
 

@@ -16,10 +16,10 @@ use Rattle.layout.specs.Flash.{Flash, Op, applyAll, allFresh}
 use Rattle.layout.specs.Items.{zeroPage}
 use Rattle.layout.specs.Index.{Index, rowByte, inSka, inL1, inSet, inFull, fullFilters, fullBlock, filterBit, withFilter, flushOps, buildOps, flushAndBuild, filterOps, filterRam}
 use Rattle.history.specs.Image.{IndexMain, IndexSpare, IndexIs}
-use Rattle.history.specs.FlashLaws.{AllAllowed, apply-append, allowed-append, programs-main-length, programs-spare-length}
+use Rattle.history.specs.FlashLaws.{fresh-append, AllAllowed, apply-append, allowed-append, apply-main-length, apply-spare-length}
 use Rattle.history.specs.RowLaws.{unit-pos}
 use Rattle.history.specs.IndexRead.{SkaIs, onFlash, read-ska, read-flash, ska-ext, main-ext, main-kept, spare-kept, main-erased, spare-erased}
-use Rattle.history.specs.IndexFlush.{ska-add, ska-zero, ska-sector, filter-out, filter-length, zero-in, zero-out, fresh-append, flush-main, flush-main-out, flush-spare, flush-spare-out, flush-allowed, flush-fresh}
+use Rattle.history.specs.IndexFlush.{ska-add, ska-zero, ska-sector, filter-out, filter-length, zero-in, zero-out, flush-main, flush-main-out, flush-spare, flush-spare-out, flush-allowed, flush-fresh}
 use Rattle.history.specs.IndexBuild.{IndexAfter, build-side, build-full}
 
 module _ (u e : ℕ) (pow : u ≡ 2 ^ e) (ix : Index) (Z : ℕ) where
@@ -98,8 +98,6 @@ module _ (u e : ℕ) (pow : u ≡ 2 ^ e) (ix : Index) (Z : ℕ) where
     free = λ spare same. fresh-append spare xs ys (A .free spare same) (B .free spare (λ x lo hi. same x (omega arith) hi ∙ sym (out x lo)));
     main-out = λ x o. rw (apply-append u xs ys C) (B .main-out x o ∙ A .main-out x o);
     spare-out = λ x o. rw (apply-append u xs ys C) (B .spare-out x o ∙ A .spare-out x o);
-    main-length = rw (apply-append u xs ys C) (B .main-length ∙ A .main-length);
-    spare-length = rw (apply-append u xs ys C) (B .spare-length ∙ A .spare-length);
   }
 
   module _ (F : ℕ → ℕ → Bool) (z c t flushes : ℕ) (C : Flash) (ram : List ℕ) (I : IndexMain u ix Z F z c t (C .main)) (M : IndexSpare u ix Z z c t (C .spare))
@@ -121,8 +119,6 @@ module _ (u e : ℕ) (pow : u ≡ 2 ^ e) (ix : Index) (Z : ℕ) where
       free = flush-fresh u (unit-pos u e pow) ix Z z c t C sectors ht M spare-fits;
       main-out = λ x o. flush-main-out u (unit-pos u e pow) ix Z z c t C sectors ht x (either o (λ a. inl a) (λ a. inr (omega arith)));
       spare-out = λ x o. flush-spare-out u (unit-pos u e pow) ix Z z c t C sectors ht x (either o (λ a. inl a) (λ a. inr (omega arith)));
-      main-length = programs-main-length u 16 (ix .first * 64 + t) 4 sectors C;
-      spare-length = programs-spare-length u 16 (ix .first * 64 + t) 4 sectors C;
     }
 
     abbrev flushed : Flash
@@ -142,12 +138,12 @@ module _ (u e : ℕ) (pow : u ≡ 2 ^ e) (ix : Index) (Z : ℕ) where
       after-side : c + 1 < 4 * u → IndexAfter u ix Z F (ix .first) z (c + 1) 0 (flushOps u ix t ram ++ buildOps u ix (flushed .main) z c) C
       after-side more =
           after-append F z c (t + 1) z (c + 1) 0 (flushOps u ix t ram) (buildOps u ix (flushed .main) z c) C after-flush past-l1
-          (build-side u e pow ix Z F z c flushed main-16 spare-16 hc hz (rw (after-flush .main-length) main-fits) (rw (after-flush .spare-length) spare-fits) more)
+          (build-side u e pow ix Z F z c flushed main-16 spare-16 hc hz (rw (apply-main-length u (flushOps u ix t ram) C) main-fits) (rw (apply-spare-length u (flushOps u ix t ram) C) spare-fits) more)
 
       after-full : c + 1 ≡ 4 * u → z < Z → IndexAfter u ix Z F (ix .first) (z + 1) 0 0 (flushOps u ix t ram ++ buildOps u ix (flushed .main) z c) C
       after-full last room =
           after-append F z c (t + 1) (z + 1) 0 0 (flushOps u ix t ram) (buildOps u ix (flushed .main) z c) C after-flush past-l1
-          (build-full u e pow ix Z F z c flushed main-16 spare-16 hc hz (rw (after-flush .main-length) main-fits) (rw (after-flush .spare-length) spare-fits) last room)
+          (build-full u e pow ix Z F z c flushed main-16 spare-16 hc hz (rw (apply-main-length u (flushOps u ix t ram) C) main-fits) (rw (apply-spare-length u (flushOps u ix t ram) C) spare-fits) last room)
 
   -- ---- one more filter
 
@@ -223,8 +219,6 @@ module _ (u e : ℕ) (pow : u ≡ 2 ^ e) (ix : Index) (Z : ℕ) where
       free = λ spare agree. refl;
       main-out = λ x o. refl;
       spare-out = λ x o. refl;
-      main-length = refl;
-      spare-length = refl;
     }
 
     after-filter : IndexAfter u ix Z F (ix .first) (inFull u (N + 1)) (inSet u (N + 1)) (inL1 (N + 1)) ops C
@@ -267,12 +261,6 @@ module _ (u e : ℕ) (pow : u ≡ 2 ^ e) (ix : Index) (Z : ℕ) where
         either (eq? (N % 8 + 1) 8)
         (λ a. rw (a .0) (zero-out u (unit-pos u e pow) ix ram₁ x o ∙ kept))
         (λ a. rw (a .0) kept)
-
-    pub index-main-length : length (applyAll u ops C .main) ≡ length (C .main)
-    index-main-length = after-filter .main-length
-
-    pub index-spare-length : length (applyAll u ops C .spare) ≡ length (C .spare)
-    index-spare-length = after-filter .spare-length
 
     pub index-ram-length : length (filterRam u ix N ram₁) ≡ length ram
     index-ram-length =

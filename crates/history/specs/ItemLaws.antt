@@ -1,4 +1,4 @@
--- Records, entries and deletions: their lengths and the bytes of their words; how many of them make a page.
+-- Records, entries and deletions: their lengths and the bytes of their words.
 use mathlib.Core.Path.{_≡_}
 use mathlib.Core.List.{List, [], _∷_}
 use Prim.Native.Nat.{ℕ, _+_, _*_, _<_}
@@ -7,8 +7,7 @@ use lib.ListN.{length, getD}
 use lib.Seq.{ext-getD}
 use Rattle.memory.specs.Lists.{tab, length-tab, getD-tab}
 use Rattle.memory.specs.Words.{byteOf, length-words, words-byte}
-use Rattle.layout.specs.Geometry.{Geometry, page}
-use Rattle.layout.specs.Items.{RA, KA, DA, recordBytes, entryBytes, deletionBytes}
+use Rattle.layout.specs.Items.{recordBytes, entryBytes, deletionBytes}
 
 -- ---- lengths
 
@@ -25,22 +24,6 @@ unfolding deletionBytes
 length-deletion j = length-words (j ∷ [])
 
 -- ---- bytes of words
-
-pub record-key : (key moves goal free b : ℕ) → b < 4 → getD (recordBytes key moves goal free) (0 * 4 + b) 0 ≡ byteOf key b
-unfolding recordBytes
-record-key key moves goal free b h = words-byte (key ∷ moves ∷ goal ∷ free ∷ []) 0 b (omega arith) h
-
-pub record-moves : (key moves goal free b : ℕ) → b < 4 → getD (recordBytes key moves goal free) (1 * 4 + b) 0 ≡ byteOf moves b
-unfolding recordBytes
-record-moves key moves goal free b h = words-byte (key ∷ moves ∷ goal ∷ free ∷ []) 1 b (omega arith) h
-
-pub record-goal : (key moves goal free b : ℕ) → b < 4 → getD (recordBytes key moves goal free) (2 * 4 + b) 0 ≡ byteOf goal b
-unfolding recordBytes
-record-goal key moves goal free b h = words-byte (key ∷ moves ∷ goal ∷ free ∷ []) 2 b (omega arith) h
-
-pub record-free : (key moves goal free b : ℕ) → b < 4 → getD (recordBytes key moves goal free) (3 * 4 + b) 0 ≡ byteOf free b
-unfolding recordBytes
-record-free key moves goal free b h = words-byte (key ∷ moves ∷ goal ∷ free ∷ []) 3 b (omega arith) h
 
 pub entry-key : (key j b : ℕ) → b < 4 → getD (entryBytes key j) (0 * 4 + b) 0 ≡ byteOf key b
 unfolding entryBytes
@@ -63,15 +46,3 @@ tab-all l =
 
 pub tab-record : (key moves goal free : ℕ) → tab 16 (λ b. getD (recordBytes key moves goal free) b 0) ≡ recordBytes key moves goal free
 tab-record key moves goal free = rw (length-record key moves goal free) at (tab-all (recordBytes key moves goal free))
-
--- ---- pages are full of items
-
-module _ (g : Geometry) where
-  pub records-whole : RA g .perPage * RA g .size ≡ page (g .u)
-  records-whole = omega arith
-
-  pub entries-whole : KA g .perPage * KA g .size ≡ page (g .u)
-  entries-whole = omega arith
-
-  pub deletions-whole : DA g .perPage * DA g .size ≡ page (g .u)
-  deletions-whole = omega arith

@@ -7,7 +7,7 @@ use mathlib.Core.List.{List, [], _∷_, _++_}
 use Prim.Native.Nat.{ℕ, suc, _+_, _≤_, _<_}
 use native.Mathlib.Numerals.{add-one}
 use native.Mathlib.Omega.{arith}
-use lib.ListN.{length, getD, length-append, List·getD-append}
+use lib.ListN.{length, length-append, List·getD-append}
 use lib.Seq.{getD-append-seam}
 use lib.Dec.{leb, eqb}
 use borrow.Author.Tests.{eqb-true, eq-eqb, ne-eqb}
@@ -17,7 +17,6 @@ use Rattle.layout.specs.Calls.{Call, insert, update, delete, lookup}
 use Rattle.layout.specs.FiniteMap.{Level, Map, find, without, Step, insertMap, updateMap, deleteMap, lookupMap, stepMap}
 use Rattle.history.specs.Image.{Record, History, recordAt}
 use Rattle.history.specs.Live.{liveAt, findLive, withRecord, withDeletion, HistoryStep, insertHistory, updateHistory, deleteHistory, lookupHistory, stepHistory, levelOf, levelAt, Nodup, Live}
-use Rattle.history.specs.SearchLaws.{memb-at}
 
 -- ---- membership and one more deletion
 
@@ -222,16 +221,6 @@ Live-deletion H M k j L e = record {
 
     below′ : (i : ℕ) → length (H .records) ≤ i → memb i (H .deleted ++ (j ∷ [])) ≡ false
     below′ i h = memb-snoc i j (H .deleted) ∙ rw (L .below i h, ne-eqb j i (λ q. absurd (omega (arith, at .0, q))))
-
--- ---- every deletion names a record of the history
-
-pub deleted-below : (H : History) (M : Map) → Live H M → (i : ℕ) → i < length (H .deleted) → getD (H .deleted) i 0 < length (H .records)
-deleted-below H M L i h =
-    either (lt? (getD (H .deleted) i 0) (length (H .records)))
-    (λ a. a .1)
-    (λ a. absurd (
-    let z : true ≡ false = sym (memb-at (H .deleted) i h) ∙ L .below (getD (H .deleted) i 0) (a .1) in
-    let w : _≡_ {A = ℕ} 0 1 = cc in omega arith))
 
 -- ---- the calls
 

@@ -1,33 +1,25 @@
 -- A volume's areas and its index, each with a count of its own: what a change passes through, step by step.
-use mathlib.Core.Path.{_≡_, refl, sym, _∙_}
+use mathlib.Core.Path.{_≡_, refl, _∙_}
 use mathlib.Core.Logic.{_⊎_, inl, inr}
-use mathlib.Core.Bool.{Bool, true, false, _&&_, cond}
-use mathlib.Core.List.{List, [], _∷_, _++_}
-use Prim.Native.Nat.{ℕ, _+_, _*_, _/_, _%_, _^_, _≤_, _<_}
+use mathlib.Core.Bool.{Bool, true}
+use mathlib.Core.List.{List}
+use Prim.Native.Nat.{ℕ, _+_, _*_, _/_, _^_, _≤_, _<_}
 use native.Mathlib.Nat.{mul-le-mul-right, div-mul-le-self, le-div-iff-mul-le, le-of-mul-le-mul-right}
 use native.Mathlib.Omega.{arith}
-use lib.ListN.{length, getD, length-append, List·getD-append}
-use lib.Seq.{getD-append-seam}
+use lib.ListN.{length, getD}
 use lib.Pow.{pow-pos}
-use lib.Dec.{eqb}
-use borrow.Author.Tests.{eqb-true}
-use Rattle.memory.specs.Cases.{either, eq?}
-use Rattle.memory.specs.Numbers.{div-lt, carry, euclid}
-use Rattle.memory.specs.Lists.{tab}
-use Rattle.memory.specs.Ranges.{any, any-ext, memb}
-use Rattle.memory.specs.Words.{word, byteOf}
-use Rattle.layout.specs.Geometry.{Geometry, page, block, filterBits, entriesPerPage, kaBlocks, blocks, kaBlock, daBlock, indexBlock, fullSets, recordCapacity, deletionCapacity, dataSize, spareSize, ramSize, kaRam}
-use Rattle.layout.specs.Flash.{Flash, Op, program, erase, applyAll, allFresh, fresh}
+use Rattle.memory.specs.Cases.{either}
+use Rattle.memory.specs.Numbers.{div-lt}
+use Rattle.layout.specs.Geometry.{Geometry, page, block, filterBits, kaBlocks, blocks, indexBlock, fullSets, recordCapacity, deletionCapacity, dataSize, spareSize, ramSize}
+use Rattle.layout.specs.Flash.{Flash, Op, applyAll, allFresh, fresh}
 use Rattle.layout.specs.Hash.{Family}
-use Rattle.layout.specs.Items.{Area, RA, KA, DA, entryBytes, deletionBytes, itemOps, itemRam, put, fills}
+use Rattle.layout.specs.Items.{Area, RA, KA, DA, itemOps, itemRam}
 use Rattle.layout.specs.Index.{Index, inSka, inFull, fullBlock, withFilter, filterOps, filterRam}
-use Rattle.layout.specs.Calls.{keyIndex, keyFilters, keyPositions, pageFilter}
-use Rattle.history.specs.FlashLaws.{AllAllowed}
-use Rattle.history.specs.Image.{Record, History, recordAt, bytesOf, raItem, kaItem, daItem, keyFilter, AreaIs, IndexIs}
-use Rattle.history.specs.Live.{withRecord, withDeletion}
+use Rattle.layout.specs.Calls.{keyIndex}
+use Rattle.history.specs.FlashLaws.{AllAllowed, apply-main-length, apply-spare-length}
+use Rattle.history.specs.Image.{History, raItem, kaItem, daItem, keyFilter, AreaIs, IndexIs}
 use Rattle.history.specs.AreaLaws as area
 use Rattle.history.specs.IndexLaws as index
-use Rattle.history.specs.ItemLaws.{length-record, length-entry, length-deletion, entry-key}
 
 -- the places for full sets suffice: n records give n / (S/2) filters, 128 (S/4) of them to a full set
 pub places-suffice : (u R n : ℕ) → 0 < u → n ≤ 4 * R * (16 * u) → n / (8 * u) / 8 / 16 / (4 * u) ≤ R / (64 * u)
@@ -40,17 +32,6 @@ places-suffice u R n pu h =
     let all : n / (8 * u) / 8 / 16 / (4 * u) * (64 * u) * (64 * u) ≤ R * (64 * u)
     = omega (arith, mul-le-mul-right (16 * 8 * (8 * u)) z, mul-le-mul-right (8 * (8 * u)) c, mul-le-mul-right (8 * u) t, f) in
     le-div-iff-mul-le pos .1 (le-of-mul-le-mul-right all pos)
-
--- a list of operations is fresh where both its parts are
-pub fresh-append : (spare : List ℕ) (xs ys : List Op) → allFresh spare xs ≡ true → allFresh spare ys ≡ true → allFresh spare (xs ++ ys) ≡ true
-unfolding allFresh
-fresh-append spare [] ys p q = q
-fresh-append spare (program s bytes ∷ xs) ys p q = both (fresh (getD spare s 0)) p (λ r. fresh-append spare xs ys r q)
-  where
-    both : (a : Bool) → (a && allFresh spare xs) ≡ true → (allFresh spare xs ≡ true → allFresh spare (xs ++ ys) ≡ true) → (a && allFresh spare (xs ++ ys)) ≡ true
-    both true r f = f r
-    both false r f = r
-fresh-append spare (erase b ∷ xs) ys p q = fresh-append spare xs ys p q
 
 -- what lies past the volume, and the lengths, are kept
 pub record Beyond (g : Geometry) (C C′ : Flash) (r r′ : List ℕ) : Type 0 where
@@ -142,8 +123,8 @@ module _ (u : ℕ) (pu : 0 < u) (a : Area) (blocks : ℕ) (whole : a .perPage * 
       main = area.area-main-out u pu a blocks whole pq ps f f n item C ram A (λ j b l m. refl) size-is new room main-fits spare-fits ram-fits;
       spare = area.area-spare-out u pu a blocks whole pq ps f f n item C ram A (λ j b l m. refl) size-is new room main-fits spare-fits ram-fits;
       ram = area.area-ram-out u pu a blocks whole pq ps f f n item C ram A (λ j b l m. refl) size-is new room main-fits spare-fits ram-fits;
-      main-length = area.area-main-length u pu a blocks whole pq ps f f n item C ram A (λ j b l m. refl) size-is new room main-fits spare-fits ram-fits;
-      spare-length = area.area-spare-length u pu a blocks whole pq ps f f n item C ram A (λ j b l m. refl) size-is new room main-fits spare-fits ram-fits;
+      main-length = apply-main-length u (itemOps u a n item ram) C;
+      spare-length = apply-spare-length u (itemOps u a n item ram) C;
       ram-length = area.area-ram-length u pu a blocks whole pq ps f f n item C ram A (λ j b l m. refl) size-is new room main-fits spare-fits ram-fits;
     };
   }
@@ -286,8 +267,8 @@ module _ (h : Family) (g : Geometry) (e : ℕ) (pow : g .u ≡ 2 ^ e) where
           main = index.index-main-out (g .u) e pow (keyIndex g) (fullSets g) (keyFilter h g H) N new C ram (P .filters) same room main-room spare-room ram-room;
           spare = index.index-spare-out (g .u) e pow (keyIndex g) (fullSets g) (keyFilter h g H) N new C ram (P .filters) same room main-room spare-room ram-room;
           ram = index.index-ram-out (g .u) e pow (keyIndex g) (fullSets g) (keyFilter h g H) N new C ram (P .filters) same room main-room spare-room ram-room;
-          main-length = index.index-main-length (g .u) e pow (keyIndex g) (fullSets g) (keyFilter h g H) N new C ram (P .filters) same room main-room spare-room ram-room;
-          spare-length = index.index-spare-length (g .u) e pow (keyIndex g) (fullSets g) (keyFilter h g H) N new C ram (P .filters) same room main-room spare-room ram-room;
+          main-length = apply-main-length (g .u) indexOps C;
+          spare-length = apply-spare-length (g .u) indexOps C;
           ram-length = index.index-ram-length (g .u) e pow (keyIndex g) (fullSets g) (keyFilter h g H) N new C ram (P .filters) same room main-room spare-room ram-room;
         };
       }

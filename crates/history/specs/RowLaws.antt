@@ -1,5 +1,5 @@
 -- Laws of rows of filter bits, and the widths of partition sets.
-use mathlib.Core.Path.{_≡_, refl, ap₂, _∙_}
+use mathlib.Core.Path.{_≡_, refl, _∙_}
 use mathlib.Core.Logic.{_≢_}
 use mathlib.Core.Bool.{Bool, false, _&&_}
 use Prim.Native.Nat.{ℕ, zero, suc, _+_, _-_, _*_, _/_, _%_, _^_, _≤_, _<_, zero-le}
@@ -9,17 +9,11 @@ use lib.Arith.{digits-div, digits-mod}
 use lib.Pow.{pow-pos}
 use lib.Dec.{ltb}
 use borrow.Author.Tests.{lt-ltb, le-ltb}
-use Rattle.memory.specs.Bits.{bit, pack, bit-pack, num}
+use Rattle.memory.specs.Bits.{bit, pack, bit-pack, pack-ext}
 use Rattle.memory.specs.Cases.{lt?, either}
 use Rattle.memory.specs.Numbers.{euclid, div-of, mod-of}
 use Rattle.memory.specs.Power.{log2up, log2up-enough, width}
 use Rattle.layout.specs.Index.{rowBit, rowByte, setPages, setWidth, setBlocks}
-
--- equal bits make equal numbers
-pub pack-ext : (k : ℕ) (f g : ℕ → Bool) → ((i : ℕ) → i < k → f i ≡ g i) → pack k f ≡ pack k g
-unfolding pack
-pack-ext zero f g h = refl
-pack-ext (suc k) f g h = ap₂ (λ (x : ℕ) (y : Bool). x * 2 + num y) (pack-ext k (λ i. f (suc i)) (λ i. g (suc i)) (λ i l. h (suc i) (omega arith))) (h zero (omega arith))
 
 -- bit r of the w bits of filter g, read from the row's bytes
 pub read-row : (G : ℕ → ℕ → Bool) (N w lo g r : ℕ) → g < N → r < w → bit (rowByte G N w lo ((g * w + r) / 8)) ((g * w + r) % 8) ≡ G g (lo + r)
@@ -79,7 +73,7 @@ module _ (u e : ℕ) (pow : u ≡ 2 ^ e) where
   unit-pos = rw pow (pow-pos e)
 
   -- the pages' bits are the filter's
-  width-is : (c : ℕ) → c ≤ 4 * u → setWidth u c ≡ 2 ^ (e + 2 - log2up c)
+  pub width-is : (c : ℕ) → c ≤ 4 * u → setWidth u c ≡ 2 ^ (e + 2 - log2up c)
   width-is c h =
       let w = width e c (omega arith) in
       div-of (64 * u) (16 * 2 ^ log2up c) (2 ^ (e + 2 - log2up c)) 0 (omega arith) (omega (arith, pow-pos (log2up c)))

@@ -12,7 +12,7 @@ use borrow.Author.Tests.{eq-eqb}
 use Rattle.memory.specs.Cases.{bool?, eq?, either}
 use Rattle.memory.specs.Numbers.{euclid}
 use Rattle.memory.specs.Lists.{tab, length-tab, getD-tab}
-use Rattle.memory.specs.Ranges.{last, any, any-at, memb, allOf}
+use Rattle.memory.specs.Ranges.{last, any, memb, allOf}
 use Rattle.layout.specs.Search.{Stop, found, Found, orElse, scan, opening, searchPages, ramFirst, searchFrom}
 
 -- ---- a scan in parts
@@ -25,11 +25,6 @@ pub scan-add : (try : ℕ → Option Stop) (lo a b : ℕ) → scan try lo (a + b
 unfolding scan
 scan-add try lo a zero = rw add-zero
 scan-add try lo a (suc b) = rw (add-suc, scan-add try lo a b, add-assoc) (sym (orElse-assoc (try (lo + (a + b))) (scan try (lo + a) b) (scan try lo a)))
-
-pub scan-ext : (try test : ℕ → Option Stop) (lo len : ℕ) → ((i : ℕ) → i < len → try (lo + i) ≡ test (lo + i)) → scan try lo len ≡ scan test lo len
-unfolding scan
-scan-ext try test lo zero h = refl
-scan-ext try test lo (suc k) h = rw (h k (omega arith), scan-ext try test lo k (λ i l. h i (omega arith)))
 
 pub scan-none : (try : ℕ → Option Stop) (lo len : ℕ) → ((i : ℕ) → i < len → try (lo + i) ≡ none) → scan try lo len ≡ none
 unfolding scan
@@ -126,15 +121,6 @@ allOf-true f [] h = refl
 allOf-true f (y ∷ ys) h =
     let first : f y ≡ true = h y (rw (eq-eqb y y refl)) in
     rw first (allOf-true f ys (λ x m. h x (either (bool? (eqb y x)) (λ c. rw c) (λ c. rw c m))))
-
--- the number at an index is in the list
-pub memb-at : (l : List ℕ) (i : ℕ) → i < length l → memb (getD l i 0) l ≡ true
-memb-at l i h = sym (any-memb (getD l i 0) l) ∙ any-at (λ x. eqb (getD l x 0) (getD l i 0)) (length l) i h (eq-eqb (getD l i 0) (getD l i 0) refl)
-
-pub memb-tab : (k : ℕ) (f : ℕ → ℕ) (j : ℕ) → j < k → memb (f j) (tab k f) ≡ true
-memb-tab k f j h =
-    let m : memb (getD (tab k f) j 0) (tab k f) ≡ true = memb-at (tab k f) j (rw (length-tab k f) h) in
-    rw (getD-tab k f j 0 h) at m
 
 -- what holds of the number at each index holds of each member
 pub memb-all : (P : ℕ → Type 0) (l : List ℕ) → ((i : ℕ) → i < length l → P (getD l i 0)) → (x : ℕ) → memb x l ≡ true → P x

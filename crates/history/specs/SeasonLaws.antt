@@ -1,31 +1,32 @@
 -- The induction over a list of calls, from the format on.
-use mathlib.Core.Path.{_≡_, refl, sym, ap, _∙_}
-use mathlib.Core.Logic.{inl, inr}
-use mathlib.Core.Bool.{Bool, true, false, _||_, cond}
+use mathlib.Core.Path.{_≡_, refl, ap, _∙_}
+use mathlib.Core.Logic.{inr}
+use mathlib.Core.Bool.{true, false}
 use mathlib.Core.Option.{Option, none, some}
-use mathlib.Core.List.{List, [], _∷_, _++_}
-use Prim.Native.Nat.{ℕ, _+_, _-_, _*_, _/_, _≤_, _<_, zero-le}
+use mathlib.Core.List.{List, [], _∷_}
+use Prim.Native.Nat.{ℕ, _-_, _*_, _/_, _≤_, _<_, zero-le}
 use native.Mathlib.Nat.{not-suc-le-zero, zero-div}
 use native.Mathlib.Omega.{arith}
 use lib.ListN.{length, getD, replicate, length-replicate, getD-replicate, length-append}
 use lib.Dec.{leb, ltb}
 use borrow.Author.Tests.{ltb-false}
+use Rattle.memory.specs.Booleans.{or-eq-false-iff}
 use Rattle.memory.specs.Cases.{either, bool?}
 use Rattle.memory.specs.Lists.{write, length-write, getD-write-in, getD-write-after}
-use Rattle.layout.specs.Geometry.{Geometry, geometry, allowed, page, block, kaBlocks, blocks, fullSets, recordCapacity, deletionCapacity, dataSize, spareSize, ramSize}
+use Rattle.layout.specs.Geometry.{Geometry, geometry, allowed, kaBlocks, blocks, fullSets, recordCapacity, deletionCapacity, dataSize, spareSize, ramSize}
 use Rattle.layout.specs.Flash.{Flash, Op, applyAll, erases}
 use Rattle.layout.specs.Hash.{Family}
 use Rattle.layout.specs.Items.{RA, KA, DA}
-use Rattle.layout.specs.Calls.{Volume, Call, insert, update, delete, lookup, Outcome, accepted, hit, miss, refused, Result, keyIndex, tooShort, format, formatted, call}
-use Rattle.layout.specs.FiniteMap.{Map, emptyMap, Reply, accepts, hits, misses, refuses, Step, mapOf}
-use Rattle.history.specs.FlashLaws.{AllAllowed, apply-append, allowed-append, erases-main-in, erases-main-out, erases-spare-in, erases-spare-out, erases-spare-length, erases-main-length, erases-allowed}
-use Rattle.history.specs.Image.{Record, History, recordAt, raItem, kaItem, daItem, keyFilter}
-use Rattle.history.specs.Live.{findLive, withRecord, withDeletion, emptyHistory, HistoryStep, Live, live-start, stepHistory}
+use Rattle.layout.specs.Calls.{Volume, Call, insert, update, delete, lookup, Outcome, accepted, hit, miss, refused, keyIndex, tooShort, format, formatted, call}
+use Rattle.layout.specs.FiniteMap.{Map, Reply, accepts, hits, misses, refuses, mapOf}
+use Rattle.history.specs.FlashLaws.{AllAllowed, apply-append, allowed-append, erases-main-in, erases-main-out, erases-spare-in, erases-spare-out, apply-main-length, apply-spare-length}
+use Rattle.history.specs.Image.{History, raItem, kaItem, daItem, keyFilter}
+use Rattle.history.specs.Live.{findLive, withRecord, withDeletion, emptyHistory, Live, stepHistory}
 use Rattle.history.specs.MapLaws.{step-same, Live-deletion}
 use Rattle.history.specs.Parts.{Parts, Beyond, beyond-same, beyond-then}
 use Rattle.history.specs.AreaLaws.{area-start}
 use Rattle.history.specs.IndexLaws.{index-start}
-use Rattle.history.specs.Season.{KeyWords, number, after, opsOf, shown, Agrees, EachAgrees, stateOf, growIf, grow, historyOf}
+use Rattle.history.specs.Season.{KeyWords, number, after, opsOf, shown, Agrees, EachAgrees, growIf, grow, historyOf}
 use Rattle.history.specs.Discipline.{Below, below-append}
 use Rattle.history.specs.Volumes as volumes
 use Rattle.history.specs.Volumes.{Sound, Holds, volumeOf}
@@ -85,17 +86,9 @@ module _ (h : Family) (S R D : ℕ) (ok : Sound S R D) (can : allowed S R D ≡ 
     sizes : (dataSize g ≤ length (v .flash .main)) × (spareSize g ≤ length (v .flash .spare)) × (ramSize g ≤ length (v .ram))
     unfolding tooShort
     sizes =
-        let a = first (ltb (length (v .flash .main)) (dataSize g)) _ long in
-        let b = second (ltb (length (v .flash .main)) (dataSize g)) _ long in
-        (ltb-false _ _ a, ltb-false _ _ (first (ltb (length (v .flash .spare)) (spareSize g)) _ b), ltb-false _ _ (second (ltb (length (v .flash .spare)) (spareSize g)) _ b))
-      where
-        first : (a b : Bool) → (a || b) ≡ false → a ≡ false
-        first true b q = q
-        first false b q = refl
-
-        second : (a b : Bool) → (a || b) ≡ false → b ≡ false
-        second true b q = cc
-        second false b q = q
+        let a = or-eq-false-iff (ltb (length (v .flash .main)) (dataSize g)) _ .0 long in
+        let b = or-eq-false-iff (ltb (length (v .flash .spare)) (spareSize g)) _ .0 (a .1) in
+        (ltb-false _ _ (a .0), ltb-false _ _ (b .0), ltb-false _ _ (b .1))
 
     pub format-is : format v S R D ≡ formatted v S R D
     unfolding format
@@ -114,7 +107,7 @@ module _ (h : Family) (S R D : ℕ) (ok : Sound S R D) (can : allowed S R D ≡ 
     spare-erased x l = erases-spare-in (S / 16) 0 (blocks g) (v .flash) x (omega (arith, sizes .1)) (omega arith) (omega arith)
 
     pub start-spare : (spareSize g ≤ length (C .spare)) × ((x : ℕ) → x < spareSize g → getD (C .spare) x 0 ≡ 255)
-    start-spare = (rw (erases-spare-length (S / 16) 0 (blocks g) (v .flash)) (sizes .1), spare-erased)
+    start-spare = (rw (apply-spare-length (S / 16) (erases 0 (blocks g)) (v .flash)) (sizes .1), spare-erased)
 
     zeros : length (replicate {A = ℕ} (ramSize g) 0) ≡ ramSize g
     zeros = length-replicate {A = ℕ} (ramSize g) 0
@@ -139,8 +132,8 @@ module _ (h : Family) (S R D : ℕ) (ok : Sound S R D) (can : allowed S R D ≡ 
           (λ x l m. main-erased x (omega arith)) (λ x l m. spare-erased x (omega arith)) (λ x l m. ram-zero x (omega arith));
       filters = index-start (S / 16) (ok .e) (volumes.pow h S R D ok) (keyIndex g) (fullSets g) (keyFilter h g emptyHistory) (C .main) (C .spare) ram
           (λ x l m. main-erased x (omega arith)) (λ x l m. spare-erased x (omega arith)) (λ x l m. ram-zero x (omega arith));
-      main-fits = rw (erases-main-length (S / 16) 0 (blocks g) (v .flash)) (sizes .0);
-      spare-fits = rw (erases-spare-length (S / 16) 0 (blocks g) (v .flash)) (sizes .1);
+      main-fits = rw (apply-main-length (S / 16) (erases 0 (blocks g)) (v .flash)) (sizes .0);
+      spare-fits = rw (apply-spare-length (S / 16) (erases 0 (blocks g)) (v .flash)) (sizes .1);
       ram-fits = rw (length-write (v .ram) 0 (replicate (ramSize g) 0)) (sizes .2);
     }
 
@@ -160,8 +153,8 @@ module _ (h : Family) (S R D : ℕ) (ok : Sound S R D) (can : allowed S R D ≡ 
       main = λ x l. erases-main-out (S / 16) 0 (blocks g) (v .flash) x (inr (omega arith));
       spare = λ x l. erases-spare-out (S / 16) 0 (blocks g) (v .flash) x (inr (omega arith));
       ram = λ x l. getD-write-after (v .ram) 0 (replicate (ramSize g) 0) x 0 (omega (arith, zeros));
-      main-length = erases-main-length (S / 16) 0 (blocks g) (v .flash);
-      spare-length = erases-spare-length (S / 16) 0 (blocks g) (v .flash);
+      main-length = apply-main-length (S / 16) (erases 0 (blocks g)) (v .flash);
+      spare-length = apply-spare-length (S / 16) (erases 0 (blocks g)) (v .flash);
       ram-length = length-write (v .ram) 0 (replicate (ramSize g) 0);
     }
 

@@ -1,31 +1,31 @@
 -- A volume that holds the image of a history: its search finds the history's live records.
 use mathlib.Core.Path.{_≡_, refl, sym, ap, _∙_}
-use mathlib.Core.Bool.{Bool, true, false, not, _&&_, _||_, cond}
-use mathlib.Core.Option.{Option, none, some, Option·map}
-use mathlib.Core.List.{List, [], _∷_}
+use mathlib.Core.Bool.{true, false, _&&_, cond, and-eq-true-iff}
+use mathlib.Core.Option.{none, some, Option·map}
+use mathlib.Core.List.{List}
 use Prim.Native.Nat.{ℕ, _+_, _*_, _/_, _%_, _^_, _≤_, _<_}
-use native.Mathlib.Nat.{mul-le-mul-right, mul-div-cancel, mul-comm, mod-lt}
+use native.Mathlib.Nat.{mul-le-mul-right, mod-lt}
 use native.Mathlib.Omega.{arith}
 use lib.ListN.{length, getD}
 use lib.Arith.{digits-lt}
 use lib.Pow.{pow-pos, pow-mono}
-use lib.Dec.{leb, ltb, eqb}
+use lib.Dec.{leb, eqb}
 use borrow.Author.Tests.{lt-leb, le-ltb, leb-true}
 use Rattle.memory.specs.Cases.{either, bool?}
 use Rattle.memory.specs.Numbers.{euclid}
 use Rattle.memory.specs.Lists.{tab, tabFrom}
-use Rattle.memory.specs.Ranges.{any, any-ext, any-at, memb, allOf, last}
+use Rattle.memory.specs.Ranges.{any-ext, any-at, memb}
 use Rattle.memory.specs.Words.{bytes4}
-use Rattle.layout.specs.Geometry.{State, Geometry, geometry, sectorSizes, allowed, page, block, filterBits, entriesPerPage, kaBlocks, fullSets, recordCapacity, deletionCapacity, workRam}
+use Rattle.layout.specs.Geometry.{Geometry, geometry, sectorSizes, allowed, page, block, filterBits, entriesPerPage, kaBlocks, fullSets, recordCapacity, deletionCapacity, workRam}
 use Rattle.layout.specs.Flash.{Flash}
-use Rattle.layout.specs.Hash.{Family, positions, positionCount}
+use Rattle.layout.specs.Hash.{Family, positions}
 use Rattle.layout.specs.Items.{RA, KA, DA, itemWord, itemPlace, bytesAt}
-use Rattle.layout.specs.Index.{inFull, filterBit}
-use Rattle.layout.specs.Search.{Stop, found, searchFrom}
+use Rattle.layout.specs.Index.{filterBit}
+use Rattle.layout.specs.Search.{found}
 use Rattle.layout.specs.Calls.{Volume, keyIndex, keyFilters, keyPositions, badState, tooShort, isDeleted, tryAt, maybeIn, search}
-use Rattle.history.specs.Image.{Record, History, recordAt, bytesOf, raItem, kaItem, daItem, keyFilter}
+use Rattle.history.specs.Image.{History, recordAt, bytesOf, raItem, kaItem, daItem, keyFilter}
 use Rattle.history.specs.Live.{liveAt, findLive, live-key}
-use Rattle.history.specs.SearchLaws.{search-all, search-opened, scan-live, any-memb, allOf-true, memb-tab, memb-tab-all}
+use Rattle.history.specs.SearchLaws.{search-all, search-opened, scan-live, any-memb, allOf-true, memb-tab-all}
 use Rattle.history.specs.AreaLaws.{read-word, read-bytes}
 use Rattle.history.specs.IndexLaws.{read-filter}
 use Rattle.history.specs.ItemLaws.{entry-key, entry-number, deletion-number, tab-record}
@@ -47,33 +47,26 @@ sizes : sectorSizes ≡ tab 6 (λ e. 16 * 2 ^ e)
 unfolding tab tabFrom
 sizes = refl
 
-and-left : (a b : Bool) → (a && b) ≡ true → a ≡ true
-and-left true b q = refl
-and-left false b q = q
-
-and-right : (a b : Bool) → (a && b) ≡ true → b ≡ true
-and-right true b q = q
-and-right false b q = cc
-
 abbrev SizeIs : ℕ → Type 0
 SizeIs S = (e : ℕ) × (e < 6) × (S ≡ 16 * 2 ^ e)
 
 pub sound : (S R D : ℕ) → allowed S R D ≡ true → Sound S R D
 unfolding allowed
 sound S R D q =
-    let m = and-left (memb S sectorSizes) _ q in
+    let p = and-eq-true-iff (memb S sectorSizes) _ .0 q in
+    let m : memb S sectorSizes ≡ true = p .0 in
     let s : SizeIs S = memb-tab-all SizeIs 6 (λ e. 16 * 2 ^ e) (λ e l. (e, l, refl)) S (rw sizes at m) in
-    let r = and-right (memb S sectorSizes) _ q in
-    let rR = and-left ((leb 1 R) && (leb R 4096)) _ r in
-    let rD = and-right ((leb 1 R) && (leb R 4096)) _ r in
+    let r = and-eq-true-iff ((leb 1 R) && (leb R 4096)) _ .0 (p .1) in
+    let rR = and-eq-true-iff (leb 1 R) _ .0 (r .0) in
+    let rD = and-eq-true-iff (leb 1 D) _ .0 (r .1) in
     record {
       e = s .0;
       e-lt = s .1;
       size = s .2;
-      R-pos = leb-true 1 R (and-left (leb 1 R) _ rR);
-      R-le = leb-true R 4096 (and-right (leb 1 R) _ rR);
-      D-pos = leb-true 1 D (and-left (leb 1 D) _ rD);
-      D-le = leb-true D 4096 (and-right (leb 1 D) _ rD);
+      R-pos = leb-true 1 R (rR .0);
+      R-le = leb-true R 4096 (rR .1);
+      D-pos = leb-true 1 D (rD .0);
+      D-le = leb-true D 4096 (rD .1);
     }
 
 module _ (h : Family) (S R D : ℕ) (ok : Sound S R D) where

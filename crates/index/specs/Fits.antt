@@ -1,6 +1,5 @@
 -- Where an index fits, and what follows for one more filter: L1 and both sides lie inside, and so does the next set's place.
-use mathlib.Core.Path.{_≡_, refl}
-use mathlib.Core.Logic.{_≢_}
+use mathlib.Core.Path.{_≡_}
 use Prim.Native.Nat.{ℕ, zero, suc, _+_, _*_, _/_, _^_, _≤_, _<_}
 use native.Mathlib.Nat.{mul-le-mul-right, mod-lt}
 use native.Mathlib.Omega.{arith}
@@ -8,10 +7,9 @@ use Rattle.memory.specs.Cases.{either, eq?}
 use Rattle.memory.specs.Numbers.{carry}
 use Rattle.layout.specs.Geometry.{page, block}
 use Rattle.layout.specs.Index.{Index, inSka, inL1, inSet, inFull, setPages, setBlocks, sideBlock, fullBlock, setBlock}
+use Rattle.history.specs.RowLaws.{unit-pos, blocks-fit}
+use Rattle.history.specs.IndexRead.{side-range}
 use Rattle.partition.specs.Indexes.{Unit?, SetFits}
-use Rattle.partition.specs.Reach.{unit-small}
-use Rattle.partition.specs.Widths.{unit-pos, blocks-fit}
-use Rattle.partition.specs.Apart.{side-range}
 
 -- an index with Z places for full sets lies in a spare area of `sectors` sectors, and filter number F needs no more places
 pub record SpareFits (u : ℕ) (ix : Index) (F sectors : ℕ) : Type 0 where
@@ -39,9 +37,6 @@ pub record SetSectors (u : ℕ) (ix : Index) (z c sectors : ℕ) : Type 0 where
 
 pub unit-some : (u : ℕ) → Unit? u → 0 < u
 unit-some u U = unit-pos u (U .e) (U .is)
-
-pub unit-few : (u : ℕ) → Unit? u → u ≤ 32
-unit-few u U = unit-small u (U .e) (U .is) (U .small)
 
 -- ---- the erases after a set
 

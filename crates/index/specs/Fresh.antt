@@ -1,12 +1,12 @@
 -- Does a filter find the sectors that it programs fresh. Assumes nothing.
-use mathlib.Core.Path.{_≡_, refl, sym, ap₂, _∙_}
+use mathlib.Core.Path.{_≡_, refl, ap₂, _∙_}
 use mathlib.Core.Logic.{_≢_}
 use mathlib.Core.Bool.{Bool, true, false, not, _&&_, and-true, cond}
 use mathlib.Core.List.{List, [], _++_}
 use Prim.Native.Nat.{ℕ, _+_, _*_, _/_, _%_}
 use lib.ListN.{getD}
 use lib.Dec.{eqb}
-use borrow.Author.Tests.{eq-eqb, ne-eqb}
+use borrow.Author.Tests.{eq-eqb, ne-eqb, not-true, not-false}
 use Rattle.memory.specs.Cases.{bool?, either}
 use Rattle.layout.specs.Geometry.{sector}
 use Rattle.layout.specs.Flash.{Flash, Op, applyAll, programs, erases, allFresh}
@@ -20,14 +20,6 @@ indexFresh spare u ix F =
     (freshRun spare 16 (ix .first * 64 + inL1 F) 4
     && cond (eqb (inL1 F + 1) 16) (freshRun spare 1 (setBlock u ix (inFull u F) (inSet u F) * 64) (setPages u (inSet u F + 1) * 4)) true)
     true
-
-was-false : (r : Bool) → not r ≡ true → r ≡ false
-was-false true h = sym h
-was-false false h = refl
-
-was-true : (r : Bool) → not r ≡ false → r ≡ true
-was-true true h = refl
-was-true false h = sym h
 
 module _ (spare : List ℕ) (u : ℕ) (ix : Index) where
   -- a set asks for its sectors
@@ -77,13 +69,13 @@ module _ (spare : List ℕ) (u : ℕ) (ix : Index) where
   module _ (F : ℕ) (eight : inSka F + 1 ≡ 8) (r : Bool) (run : r ≡ freshRun spare 16 (ix .first * 64 + inL1 F) 4) where
     pub fresh-none : not r ≡ true → false ≡ indexFresh spare u ix F
     unfolding indexFresh
-    fresh-none h = rw (eq-eqb (F % 8 + 1) 8 eight, ← run, was-false r h)
+    fresh-none h = rw (eq-eqb (F % 8 + 1) 8 eight, ← run, not-true r h)
 
     pub fresh-flush : not r ≡ false → inL1 F + 1 ≢ 16 → true ≡ indexFresh spare u ix F
     unfolding indexFresh
-    fresh-flush h less = rw (eq-eqb (F % 8 + 1) 8 eight, ← run, was-true r h, ne-eqb (F / 8 % 16 + 1) 16 less)
+    fresh-flush h less = rw (eq-eqb (F % 8 + 1) 8 eight, ← run, not-false r h, ne-eqb (F / 8 % 16 + 1) 16 less)
 
     pub fresh-set : not r ≡ false → inL1 F + 1 ≡ 16 → (s : Bool) → s ≡ freshRun spare 1 (setBlock u ix (inFull u F) (inSet u F) * 64) (setPages u (inSet u F + 1) * 4)
         → s ≡ indexFresh spare u ix F
     unfolding indexFresh
-    fresh-set h sixteen s set = rw (eq-eqb (F % 8 + 1) 8 eight, ← run, was-true r h, eq-eqb (F / 8 % 16 + 1) 16 sixteen) set
+    fresh-set h sixteen s set = rw (eq-eqb (F % 8 + 1) 8 eight, ← run, not-false r h, eq-eqb (F / 8 % 16 + 1) 16 sixteen) set

@@ -1,6 +1,6 @@
 -- Scans of a slice from a byte on: a number among words of four bytes, and the newest entry of eight bytes with a key. Assumes nothing.
 use mathlib.Core.Path.{_≡_, refl, sym, _∙_}
-use mathlib.Core.Bool.{Bool, true, false, not, _||_, cond}
+use mathlib.Core.Bool.{Bool, true, false, _||_}
 use mathlib.Core.List.{List}
 use Prim.Native.Nat.{ℕ, zero, suc, _+_, _-_, _*_, _<_}
 use native.Mathlib.Numerals.{add-one}
@@ -76,10 +76,6 @@ newest-none f (suc n) t =
     either (bool? (f n))
     (λ h. let z : true ≡ false = rw h at t in cc)
     (λ h. let z : any f n ≡ false = rw h at t in rw h (newest-none f n z))
-
-pub not-true : (b : Bool) → not b ≡ true → b ≡ false
-not-true true e = cc
-not-true false e = refl
 
 -- ---- tests of what a read gave
 

@@ -1,47 +1,20 @@
--- Bits of a number in two parts, of shifts, of a conjunction and of a little-endian number.
+-- Bits of shifts to the left, of a conjunction and of a little-endian number.
 use mathlib.Core.Path.{_≡_, refl, sym, ap, _∙_}
 use mathlib.Core.Bool.{true, false, _&&_}
 use mathlib.Core.List.{List}
 use Prim.Native.Nat.{ℕ, zero, suc, _+_, _*_, _-_, _/_, _%_, _^_, _≤_, _<_, min}
-use native.Mathlib.Nat.{le-of-suc-le-suc, not-suc-le-zero, mod-lt}
 use native.Mathlib.Omega.{arith}
-use lib.Bits.{bitAnd, and-step, block-half, block-odd}
+use lib.Bits.{bitAnd, and-step}
 use lib.Count.{leadingZeros, leading-top}
 use lib.Dec.{eqb}
 use lib.ListN.{getD}
-use lib.Pow.{split, pow-pos}
-use Rattle.memory.specs.Bits.{bit}
+use lib.Pow.{pow-pos}
+use Rattle.memory.specs.Bits.{bit, bit-zero, bit-low, bit-high, bit-mod}
 use Rattle.memory.specs.Cases.{either, lt?}
 use Rattle.memory.specs.Words.{word}
 use Rattle.kernels.specs.Rows.{bitIn, Word}
 
--- ---- a number of two parts
-
-pub bit-low : (k x b i : ℕ) → i < k → bit (x * 2 ^ k + b) i ≡ bit b i
-unfolding bit
-bit-low zero x b i h = absurd (not-suc-le-zero h)
-bit-low (suc k) x b zero h = ap (λ (y : ℕ). eqb y 1) (block-odd x k b)
-bit-low (suc k) x b (suc i) h = ap (λ (y : ℕ). bit y i) (block-half x k b) ∙ bit-low k x (b / 2) i (le-of-suc-le-suc h)
-
-pub bit-high : (k x b i : ℕ) → b < 2 ^ k → bit (x * 2 ^ k + b) (k + i) ≡ bit x i
-unfolding bit
-bit-high zero x b i h =
-    let e : x * 2 ^ 0 + b ≡ x = omega arith in
-    let z : 0 + i ≡ i = omega arith in
-    rw (e, z)
-bit-high (suc k) x b i h =
-    let z : suc k + i ≡ suc (k + i) = omega arith in
-    rw z (ap (λ (y : ℕ). bit y (k + i)) (block-half x k b) ∙ bit-high k x (b / 2) i (omega arith))
-
-pub bit-zero : (i : ℕ) → bit 0 i ≡ false
-unfolding bit
-bit-zero zero = refl
-bit-zero (suc i) = bit-zero i
-
--- ---- shifts
-
-bit-mod : (n m i : ℕ) → i < m → bit (n % 2 ^ m) i ≡ bit n i
-bit-mod n m i h = sym (ap (λ (y : ℕ). bit y i) (sym (split n m)) ∙ bit-low m (n / 2 ^ m) (n % 2 ^ m) i h)
+-- ---- shifts to the left
 
 pub bit-shl : (x k m i : ℕ) → k + i < m → bit ((x * 2 ^ k) % 2 ^ m) (k + i) ≡ bit x i
 bit-shl x k m i h =
@@ -52,9 +25,6 @@ pub bit-shl-low : (x k m i : ℕ) → i < k → i < m → bit ((x * 2 ^ k) % 2 ^
 bit-shl-low x k m i h l =
     let e : x * 2 ^ k ≡ x * 2 ^ k + 0 = omega arith in
     bit-mod (x * 2 ^ k) m i l ∙ (ap (λ (y : ℕ). bit y i) e ∙ (bit-low k x 0 i h ∙ bit-zero i))
-
-pub bit-shr : (x k i : ℕ) → bit (x / 2 ^ k) i ≡ bit x (k + i)
-bit-shr x k i = sym (ap (λ (y : ℕ). bit y (k + i)) (sym (split x k)) ∙ bit-high k (x / 2 ^ k) (x % 2 ^ k) i (mod-lt x (pow-pos k)))
 
 -- ---- above the highest set bit, and at it
 

@@ -7,9 +7,9 @@ use native.Mathlib.Numerals.{add-one}
 use native.Mathlib.Omega.{arith}
 use lib.Bits.{bitAnd}
 use lib.ListN.{getD}
-use Rattle.memory.specs.Bits.{bit}
+use Rattle.memory.specs.Bits.{bit, bit-shr}
 use Rattle.kernels.specs.Rows.{bitIn, allIn, Word, Words}
-use Rattle.kernels.proofs.Bits.{bit-and, bit-shr}
+use Rattle.kernels.proofs.Bits.{bit-and}
 
 and-comm : (a b : Bool) → (a && b) ≡ (b && a)
 and-comm true true = refl

@@ -1,43 +1,28 @@
 -- The widths: their masks, by computing 64 bits, and the powers of two that they are.
 use mathlib.Core.Path.{_≡_, refl, sym}
-use mathlib.Core.Bool.{Bool, true, false, _&&_}
+use mathlib.Core.Bool.{Bool, true, _&&_, Bool·beq, and-eq-true-iff}
 use Prim.Native.Nat.{ℕ, zero, suc, _%_, _^_, _≤_, _<_}
 use native.Mathlib.Omega.{arith}
 use lib.Dec.{eqb}
 use lib.Pow.{pow-mono}
 use Rattle.memory.specs.Bits.{bit}
+use Rattle.memory.specs.Booleans.{eq-of-beq}
 use Rattle.memory.specs.Cases.{either, lt?}
 use Rattle.kernels.specs.Width.{Mask}
-
-abbrev same : Bool → Bool → Bool
-same true true = true
-same true false = false
-same false true = false
-same false false = true
-
-same-eq : (a b : Bool) → same a b ≡ true → a ≡ b
-same-eq true true e = refl
-same-eq true false e = cc
-same-eq false true e = cc
-same-eq false false e = refl
-
-both : (a b : Bool) → (a && b) ≡ true → (a ≡ true) × (b ≡ true)
-both true b e = (refl, e)
-both false b e = (e, cc)
 
 -- the first n bits of m
 unfoldable isMask : ℕ → ℕ → ℕ → Bool
 isMask m w zero = true
-isMask m w (suc n) = same (bit m n) (eqb (n % w) 0) && isMask m w n
+isMask m w (suc n) = Bool·beq (bit m n) (eqb (n % w) 0) && isMask m w n
 
 mask-at : (m w n i : ℕ) → isMask m w n ≡ true → i < n → bit m i ≡ eqb (i % w) 0
 unfolding isMask
 mask-at m w zero i e h = absurd (omega arith)
 mask-at m w (suc n) i e h =
-    let p = both (same (bit m n) (eqb (n % w) 0)) (isMask m w n) e in
+    let p = and-eq-true-iff (Bool·beq (bit m n) (eqb (n % w) 0)) (isMask m w n) .0 e in
     either (lt? i n)
     (λ l. mask-at m w n i (p .1) (l .1))
-    (λ l. let q : i ≡ n = omega arith in rw q (same-eq (bit m n) (eqb (n % w) 0) (p .0)))
+    (λ l. let q : i ≡ n = omega arith in rw q (eq-of-beq (bit m n) (eqb (n % w) 0) (p .0)))
 
 mask-by : (m w : ℕ) → isMask m w 64 ≡ true → Mask w m
 unfolding Mask

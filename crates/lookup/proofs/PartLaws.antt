@@ -1,22 +1,23 @@
 -- The part that a lookup hands out: it is there, it lies inside its slice, and it holds the record's bytes.
 use mathlib.Core.Path.{_≡_, refl, sym, ap, _∙_}
 use mathlib.Core.Logic.{_≢_}
-use mathlib.Core.Bool.{Bool, true, false, _||_, not, cond}
+use mathlib.Core.Bool.{Bool, true, false, not, cond, false≢true}
 use mathlib.Core.Option.{Option, none, some}
 use mathlib.Core.List.{List, []}
-use Prim.Native.Nat.{ℕ, _+_, _*_, _/_, _%_, _≤_, _<_}
+use Prim.Native.Nat.{ℕ, _+_, _*_, _/_, _≤_}
 use native.Mathlib.Nat.{mod-lt, div-mul-le-self, mul-le-mul-right}
 use native.Mathlib.Omega.{arith}
 use lib.ListN.{length, take, drop}
 use lib.Dec.{ltb}
-use borrow.Author.Tests.{ltb-false}
-use Rattle.memory.specs.Cases.{either, bool?, lt?}
+use borrow.Author.Tests.{ltb-false, not-false}
+use Rattle.memory.specs.Booleans.{or-eq-false-iff}
+use Rattle.memory.specs.Cases.{either, lt?}
 use Rattle.layout.specs.Geometry as layout
-use Rattle.layout.specs.Items.{RA, Place, itemPlace, bytesAt, source}
+use Rattle.layout.specs.Items.{Place, bytesAt, source}
 use Rattle.layout.specs.Hash.{Family}
 use Rattle.layout.specs.Search.{Stop, found, corrupt}
-use Rattle.layout.specs.Calls.{Volume, Outcome, accepted, hit, miss, refused, Result, refuse, badState, tooShort, judged, lookup, lookupAfter, recordPlace, search, answer, call}
-use Rattle.history.specs.Volumes.{Sound, sound, pu}
+use Rattle.layout.specs.Calls.{Volume, Outcome, accepted, hit, miss, refused, refuse, badState, tooShort, judged, lookup, lookupAfter, recordPlace, search, answer, call}
+use Rattle.history.specs.Volumes.{sound, pu}
 use Rattle.flash.specs.Parts.{tab-part}
 use Rattle.lookup.specs.Looked.{num, lookedOf, looked, partOf, whereOf}
 use Rattle.lookup.specs.declared.LookupResult.{LookupResult}
@@ -47,18 +48,6 @@ found-hit miss c n = absurd (n refl)
 found-hit (refused i) c n = absurd (n refl)
 found-hit accepted c n = absurd (n refl)
 
-first : (a b : Bool) → (a || b) ≡ false → a ≡ false
-first true b q = q
-first false b q = refl
-
-second : (a b : Bool) → (a || b) ≡ false → b ≡ false
-second true b q = cc
-second false b q = q
-
-not-false : (a : Bool) → not a ≡ false → a ≡ true
-not-false true q = refl
-not-false false q = cc
-
 -- a part of 16 bytes at a place, inside its slice
 abbrev Inside : List ℕ → List ℕ → Place → List ℕ → Type 0
 Inside main ram p b = (b ≡ bytesAt main ram p 16) × (p .at + 16 ≤ length (source main ram p))
@@ -74,13 +63,15 @@ module _ (h : Family) (v : Volume) where
       → recordPlace h g v j .at + 16 ≤ length (source (v .flash .main) (v .ram) (recordPlace h g v j))
   unfolding badState tooShort
   place-inside bad short j =
-      let ok = sound S (v .state .raBlocks) (v .state .daBlocks) (not-false _ (first (not (layout.allowed S (v .state .raBlocks) (v .state .daBlocks))) _ bad)) in
+      let state = or-eq-false-iff (not (layout.allowed S (v .state .raBlocks) (v .state .daBlocks))) _ .0 bad in
+      let counts = or-eq-false-iff (ltb (layout.recordCapacity g) (v .state .records)) _ .0 (state .1) in
+      let flash = or-eq-false-iff (ltb (length (v .flash .main)) (layout.dataSize g)) _ .0 short in
+      let rest = or-eq-false-iff (ltb (length (v .flash .spare)) (layout.spareSize g)) _ .0 (flash .1) in
+      let ok = sound S (v .state .raBlocks) (v .state .daBlocks) (not-false _ (state .0)) in
       let u-pos = pu h S (v .state .raBlocks) (v .state .daBlocks) ok in
-      let rest = second (not (layout.allowed S (v .state .raBlocks) (v .state .daBlocks))) _ bad in
-      let cap : v .state .records ≤ layout.recordCapacity g = ltb-false _ _ (first (ltb (layout.recordCapacity g) (v .state .records)) _ rest) in
-      let main-fits : layout.dataSize g ≤ length (v .flash .main) = ltb-false _ _ (first (ltb (length (v .flash .main)) (layout.dataSize g)) _ short) in
-      let two = second (ltb (length (v .flash .main)) (layout.dataSize g)) _ short in
-      let ram-fits : layout.ramSize g ≤ length (v .ram) = ltb-false _ _ (second (ltb (length (v .flash .spare)) (layout.spareSize g)) _ two) in
+      let cap : v .state .records ≤ layout.recordCapacity g = ltb-false _ _ (counts .0) in
+      let main-fits : layout.dataSize g ≤ length (v .flash .main) = ltb-false _ _ (flash .0) in
+      let ram-fits : layout.ramSize g ≤ length (v .ram) = ltb-false _ _ (rest .1) in
       either (lt? j (v .state .records / (4 * (S / 16)) * (4 * (S / 16))))
       (λ a. rw (a .0) (omega (arith, div-mul-le-self (v .state .records) (4 * (S / 16)), cap, main-fits)))
       (λ a. rw (a .0) (omega (arith, mul-le-mul-right 16 (mod-lt j {m = 4 * (S / 16)} (omega (arith, u-pos))), ram-fits)))
@@ -88,14 +79,8 @@ module _ (h : Family) (v : Volume) where
   after-inside : badState (v .state) ≡ false → tooShort g (v .flash) (v .ram) ≡ false → (opened : ℕ) (o : Option Stop) (p : Place) (b : List ℕ)
       → lookupAfter h g v opened o .outcome ≡ hit p b → Inside (v .flash .main) (v .ram) p b
   unfolding lookupAfter
-  after-inside bad short opened none p b e = let z : false ≡ true = ap isHit e in (cc, absurd (no z))
-    where
-      no : (false ≡ true) → ⊥
-      no z = let w : _≡_ {A = ℕ} 0 1 = cc in omega arith
-  after-inside bad short opened (some corrupt) p b e = let z : false ≡ true = ap isHit e in (cc, absurd (no z))
-    where
-      no : (false ≡ true) → ⊥
-      no z = let w : _≡_ {A = ℕ} 0 1 = cc in omega arith
+  after-inside bad short opened none p b e = absurd (false≢true (ap isHit e))
+  after-inside bad short opened (some corrupt) p b e = absurd (false≢true (ap isHit e))
   after-inside bad short opened (some (found j)) p b e =
       let q : recordPlace h g v j ≡ p = ap (placeOf p) e in
       let r : bytesAt (v .flash .main) (v .ram) (recordPlace h g v j) 16 ≡ b = ap (bytesOf b) e in
@@ -105,13 +90,10 @@ module _ (h : Family) (v : Volume) where
   unfolding call judged
   call-inside key p b e = go (badState (v .state)) (tooShort g (v .flash) (v .ram)) refl refl e
     where
-      no : (false ≡ true) → ⊥
-      no z = let w : _≡_ {A = ℕ} 0 1 = cc in omega arith
-
       go : (x y : Bool) → badState (v .state) ≡ x → tooShort g (v .flash) (v .ram) ≡ y
           → cond x (refuse v 1) (cond y (refuse v 2) (answer h g v (lookup key))) .outcome ≡ hit p b → Inside (v .flash .main) (v .ram) p b
-      go true y bx by q = let z : false ≡ true = ap isHit q in (cc, absurd (no z))
-      go false true bx by q = let z : false ≡ true = ap isHit q in (cc, absurd (no z))
+      go true y bx by q = absurd (false≢true (ap isHit q))
+      go false true bx by q = absurd (false≢true (ap isHit q))
       go false false bx by q = after-inside bx by (search h g v key .opened) (search h g v key .stop) p b q
 
 -- ---- the part by the numbers of `find`

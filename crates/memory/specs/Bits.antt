@@ -1,13 +1,16 @@
 -- Bits of a number, and a number from its bits.
-use mathlib.Core.Path.{_≡_, refl, sym, ap, _∙_}
-use mathlib.Core.Logic.{_≢_, _⊎_, inl, inr, ⊎-elim}
+use mathlib.Core.Path.{_≡_, refl, sym, ap, ap₂, _∙_}
+use mathlib.Core.Logic.{_≢_}
 use mathlib.Core.Bool.{Bool, true, false}
 use Prim.Native.Nat.{ℕ, zero, suc, _+_, _*_, _/_, _%_, _^_, _<_}
-use native.Mathlib.Nat.{le-of-suc-le-suc, not-suc-le-zero, div-div-eq-div-mul, div-one, pow-suc, mul-comm}
+use native.Mathlib.Nat.{le-of-suc-le-suc, not-suc-le-zero, mod-lt, div-div-eq-div-mul, div-one, pow-suc, mul-comm}
 use native.Mathlib.Omega.{arith}
 use lib.Arith.{digits-div, digits-mod}
+use lib.Bits.{block-half, block-odd}
 use lib.Dec.{eqb}
+use lib.Pow.{split, pow-pos}
 use borrow.Author.Tests.{eqb-true, eqb-false}
+use Rattle.memory.specs.Cases.{bool?, either}
 
 -- bit i of n, by halves; `bit-is` has it in closed form
 unfoldable pub bit : ℕ → ℕ → Bool
@@ -50,21 +53,23 @@ bit-pack (suc k) f zero h = ap (λ (x : ℕ). eqb x 1) (digits-mod (pack k (λ i
 bit-pack (suc k) f (suc i) h =
     ap (λ (x : ℕ). bit x i) (digits-div (pack k (λ i. f (suc i))) (num-lt (f zero))) ∙ bit-pack k (λ i. f (suc i)) i (le-of-suc-le-suc h)
 
+-- equal bits make equal numbers
+pub pack-ext : (k : ℕ) (f g : ℕ → Bool) → ((i : ℕ) → i < k → f i ≡ g i) → pack k f ≡ pack k g
+unfolding pack
+pack-ext zero f g h = refl
+pack-ext (suc k) f g h =
+    ap₂ (λ (x : ℕ) (y : Bool). x * 2 + num y) (pack-ext k (λ i. f (suc i)) (λ i. g (suc i)) (λ i l. h (suc i) (omega arith))) (h zero (omega arith))
+
 -- the lowest digit is settled by its test
 low-eq : (a b : ℕ) → eqb (a % 2) 1 ≡ eqb (b % 2) 1 → a % 2 ≡ b % 2
 low-eq a b e =
-    ⊎-elim
+    either (bool? (eqb (a % 2) 1))
     (λ h. let g : eqb (b % 2) 1 ≡ true = sym e ∙ h in omega (arith, eqb-true (a % 2) 1 h, eqb-true (b % 2) 1 g))
     (λ h.
     let g : eqb (b % 2) 1 ≡ false = sym e ∙ h in
     let p : a % 2 ≢ 1 = eqb-false (a % 2) 1 h in
     let q : b % 2 ≢ 1 = eqb-false (b % 2) 1 g in
     omega arith)
-    (bool? (eqb (a % 2) 1))
-  where
-    bool? : (t : Bool) → (t ≡ true) ⊎ (t ≡ false)
-    bool? true = inl refl
-    bool? false = inr refl
 
 -- numbers below 2 ^ k with the same k bits are equal
 pub bit-ext : (k a b : ℕ) → a < 2 ^ k → b < 2 ^ k → ((i : ℕ) → i < k → bit a i ≡ bit b i) → a ≡ b
@@ -78,3 +83,34 @@ bit-ext (suc k) a b ha hb h =
 -- a number below 2 ^ k is packed from its own bits
 pub pack-bit : (k a : ℕ) → a < 2 ^ k → pack k (bit a) ≡ a
 pack-bit k a h = bit-ext k (pack k (bit a)) a (pack-lt k (bit a)) h (λ i p. bit-pack k (bit a) i p)
+
+-- ---- zero, a number in two parts, a remainder and a shift
+
+pub bit-zero : (i : ℕ) → bit 0 i ≡ false
+unfolding bit
+bit-zero zero = refl
+bit-zero (suc i) = bit-zero i
+
+pub bit-low : (k x b i : ℕ) → i < k → bit (x * 2 ^ k + b) i ≡ bit b i
+unfolding bit
+bit-low zero x b i h = absurd (not-suc-le-zero h)
+bit-low (suc k) x b zero h = ap (λ (y : ℕ). eqb y 1) (block-odd x k b)
+bit-low (suc k) x b (suc i) h = ap (λ (y : ℕ). bit y i) (block-half x k b) ∙ bit-low k x (b / 2) i (le-of-suc-le-suc h)
+
+pub bit-high : (k x b i : ℕ) → b < 2 ^ k → bit (x * 2 ^ k + b) (k + i) ≡ bit x i
+unfolding bit
+bit-high zero x b i h =
+    let e : x * 2 ^ 0 + b ≡ x = omega arith in
+    let z : 0 + i ≡ i = omega arith in
+    rw (e, z)
+bit-high (suc k) x b i h =
+    let z : suc k + i ≡ suc (k + i) = omega arith in
+    rw z (ap (λ (y : ℕ). bit y (k + i)) (block-half x k b) ∙ bit-high k x (b / 2) i (omega arith))
+
+-- a remainder keeps the low bits
+pub bit-mod : (n m i : ℕ) → i < m → bit (n % 2 ^ m) i ≡ bit n i
+bit-mod n m i h = sym (ap (λ (y : ℕ). bit y i) (sym (split n m)) ∙ bit-low m (n / 2 ^ m) (n % 2 ^ m) i h)
+
+-- a shift to the right
+pub bit-shr : (x k i : ℕ) → bit (x / 2 ^ k) i ≡ bit x (k + i)
+bit-shr x k i = sym (ap (λ (y : ℕ). bit y (k + i)) (sym (split x k)) ∙ bit-high k (x / 2 ^ k) (x % 2 ^ k) i (mod-lt x (pow-pos k)))

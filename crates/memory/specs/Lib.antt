@@ -1,3 +1,4 @@
+pub mod Booleans
 pub mod Cases
 pub mod Lists
 pub mod Bits

@@ -1,15 +1,12 @@
--- Memory as a list of bytes: a write keeps the length, and a read after it is a test on the address. Assumes nothing.
+-- Memory as a list of bytes: a write keeps the length, and what a read after it gives is settled by the address. Assumes nothing.
 use mathlib.Core.Path.{_≡_, refl, sym, ap, _∙_}
-use mathlib.Core.Logic.{_⊎_, inl, inr, ⊎-elim}
-use mathlib.Core.Bool.{Bool, true, false, _&&_, cond}
+use mathlib.Core.Logic.{_⊎_, inl, ⊎-elim}
 use mathlib.Core.List.{List, [], _∷_, _++_}
 use Prim.Native.Nat.{ℕ, zero, suc, _+_, _-_, _*_, _≤_, _<_, zero-le}
 use native.Mathlib.Nat.{le-of-suc-le-suc, not-suc-le-zero, suc-sub-suc, sub-zero}
 use native.Mathlib.Omega.{arith}
-use lib.ListN.{length, getD, take, drop, length-append, List·getD-append}
-use lib.Seq.{ext-getD, getD-append-add}
-use lib.Dec.{leb, ltb}
-use Rattle.memory.specs.Cases.{lt?, le?}
+use lib.ListN.{length, getD, take, drop}
+use lib.Seq.{ext-getD}
 
 module _ {ℓ} {A : Type ℓ} where
   -- l with the elements from index at on replaced by those of s, as far as l goes
@@ -90,42 +87,9 @@ tab-ext (suc n) f g h =
     ext-getD (f zero) (tab (suc n) f) (tab (suc n) g) (length-tab (suc n) f ∙ sym (length-tab (suc n) g))
     (λ i l. let b : i < suc n = rw length-tab at l in getD-tab (suc n) f i (f zero) b ∙ h i b ∙ sym (getD-tab (suc n) g i (f zero) b))
 
--- is i among the n addresses from at on
-abbrev pub inside : ℕ → ℕ → ℕ → Bool
-inside at n i = leb at i && ltb i (at + n)
-
-pub inside? : (at n i : ℕ) → ((inside at n i ≡ true) × (at ≤ i) × (i < at + n)) ⊎ ((inside at n i ≡ false) × ((i < at) ⊎ (at + n ≤ i)))
-inside? at n i =
-    ⊎-elim
-    (λ h. ⊎-elim (λ k. inl (cc, h .1, k .1)) (λ k. inr (cc, inr (k .1))) (lt? i (at + n)))
-    (λ h. inr (cc, inl (h .1)))
-    (le? at i)
-
--- one law for a read after a write
-pub getD-write : (l : List ℕ) (at : ℕ) (s : List ℕ) (i : ℕ) → i < length l →
-    getD (write l at s) i 0 ≡ cond (inside at (length s) i) (getD s (i - at) 0) (getD l i 0)
-getD-write l at s i h =
-    ⊎-elim
-    (λ k. getD-write-in l at s i 0 (k .1) (k .2) h ∙ rw (k .0))
-    (λ k. ⊎-elim (λ b. getD-write-before l at s i 0 b) (λ a. getD-write-after l at s i 0 a) (k .1) ∙ rw (k .0))
-    (inside? at (length s) i)
-
--- every address stays in reach
-pub lt-write : (l : List ℕ) (at : ℕ) (s : List ℕ) (i : ℕ) → i < length l → i < length (write l at s)
-lt-write l at s i h = rw length-write h
-
--- a part of n bytes from `at` on, and a read in it
+-- the n bytes from `at` on
 abbrev pub part : List ℕ → ℕ → ℕ → List ℕ
 part l at n = tab n (λ k. getD l (at + k) 0)
-
--- reading back the place that was just written
-pub part-write : (l : List ℕ) (at : ℕ) (s : List ℕ) → at + length s ≤ length l → part (write l at s) at (length s) ≡ s
-part-write l at s h =
-    ext-getD 0 (part (write l at s) at (length s)) s (length-tab (length s) _)
-    (λ i k.
-    let b : i < length s = rw length-tab at k in
-    let sub : (at + i) - at ≡ i = omega arith in
-    getD-tab (length s) _ i 0 b ∙ getD-write-in l at s (at + i) 0 (omega arith) (omega arith) (omega arith) ∙ rw sub)
 
 -- ---- the same as a cut and a paste, for contracts of code that copies
 

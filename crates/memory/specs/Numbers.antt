@@ -1,14 +1,11 @@
 -- Addresses with a symbolic width.
-use mathlib.Core.Path.{_≡_, sym, ap, _∙_}
-use mathlib.Core.Logic.{_⊎_, inl, inr, _≢_, ⊎-elim}
-use mathlib.Core.Bool.{cond}
-use Prim.Native.Nat.{ℕ, zero, suc, _+_, _-_, _*_, _/_, _%_, _^_, _≤_, _<_, zero-le}
-use native.Mathlib.Nat.{div-mul-le-self, le-div-iff-mul-le, le-of-mul-le-mul-right, div-add-mod', mod-lt, mul-le-mul-right, div-lt-iff-lt-mul}
+use mathlib.Core.Path.{_≡_}
+use mathlib.Core.Logic.{_⊎_, inl, inr, _≢_}
+use Prim.Native.Nat.{ℕ, _+_, _-_, _*_, _/_, _%_, _<_}
+use native.Mathlib.Nat.{div-add-mod', mod-lt, div-lt-iff-lt-mul}
 use native.Mathlib.Omega.{arith}
-use lib.Arith.{digits-div, digits-mod, digits-lt}
-use lib.Pow.{pow-pos, pow-add}
-use lib.Dec.{ltb}
-use Rattle.memory.specs.Cases.{either, eq?, lt?, by-lt}
+use lib.Arith.{digits-div, digits-mod}
+use Rattle.memory.specs.Cases.{either, eq?}
 
 -- quotient and remainder, with all that omega needs of them
 pub record Euclid (x w : ℕ) : Type 0 where
@@ -24,11 +21,6 @@ div-of x w q r e h = rw e (digits-div q h)
 
 pub mod-of : (x w q r : ℕ) → x ≡ q * w + r → r < w → x % w ≡ r
 mod-of x w q r e h = rw e (digits-mod q h)
-
--- two digits are unique
-pub digits-eq : (w q r q′ r′ : ℕ) → r < w → r′ < w → q * w + r ≡ q′ * w + r′ → (q ≡ q′) × (r ≡ r′)
-digits-eq w q r q′ r′ h h′ e =
-    (sym (digits-div q h) ∙ rw e (digits-div q′ h′), sym (digits-mod q h) ∙ rw e (digits-mod q′ h′))
 
 pub div-lt : (x w n : ℕ) → 0 < w → x < n * w → x / w < n
 div-lt x w n h k = div-lt-iff-lt-mul h .1 k

@@ -2,7 +2,7 @@
 use mathlib.Core.Path.{_≡_, refl}
 use mathlib.Core.Logic.{⊎-elim}
 use mathlib.Core.Bool.{Bool, true, false, _&&_, _||_, cond}
-use mathlib.Core.List.{List, [], _∷_, _++_, reverse, reverse-cons, reverse-reverse}
+use mathlib.Core.List.{List, [], _∷_}
 use mathlib.Core.Option.{Option, none, some}
 use Prim.Native.Nat.{ℕ, zero, suc, _<_}
 use native.Mathlib.Nat.{not-suc-le-zero}
@@ -67,11 +67,3 @@ memb x (y ∷ ys) = eqb y x || memb x ys
 unfoldable pub allOf : (ℕ → Bool) → List ℕ → Bool
 allOf f [] = true
 allOf f (x ∷ xs) = f x && allOf f xs
-
--- induction from the newest end
-pub snoc-ind : {A : Type 0} (P : List A → Type 0) → P [] → ((l : List A) (x : A) → P l → P (l ++ (x ∷ []))) → (l : List A) → P l
-snoc-ind {A = A} P base step l = rw reverse-reverse at (go (reverse l))
-  where
-    go : (r : List A) → P (reverse r)
-    go [] = base
-    go (x ∷ r) = rw reverse-cons (step (reverse r) x (go r))

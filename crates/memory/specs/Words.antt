@@ -1,7 +1,7 @@
 -- Little-endian numbers of four bytes, and items made of such words.
 use mathlib.Core.Path.{_≡_, refl, _∙_}
 use mathlib.Core.List.{List, [], _∷_, _++_}
-use Prim.Native.Nat.{ℕ, zero, suc, _+_, _*_, _/_, _%_, _^_, _≤_, _<_}
+use Prim.Native.Nat.{ℕ, zero, suc, _+_, _*_, _/_, _%_, _^_, _<_}
 use native.Mathlib.Omega.{arith}
 use lib.ListN.{length, getD}
 use lib.Seq.{getD-append-add}
@@ -26,19 +26,11 @@ wordsBytes (k ∷ ks) = bytes4 k ++ wordsBytes ks
 
 -- ---- laws
 
-pub byte-lt : (k i : ℕ) → byteOf k i < 256
-unfolding byteOf
-byte-lt k zero = omega arith
-byte-lt k (suc i) = byte-lt (k / 256) i
-
 -- four bytes that are those of a number make the number
 pub bytes-word : (k a b c d : ℕ) → k < 2 ^ 32 → a ≡ byteOf k 0 → b ≡ byteOf k 1 → c ≡ byteOf k 2 → d ≡ byteOf k 3
     → a + b * 256 + c * 65536 + d * 16777216 ≡ k
 unfolding byteOf
 bytes-word k a b c d h ea eb ec ed = omega arith
-
-pub word-bytes4 : (k : ℕ) → k < 2 ^ 32 → word (bytes4 k) 0 ≡ k
-word-bytes4 k h = omega arith
 
 pub length-words : (ks : List ℕ) → length (wordsBytes ks) ≡ length ks * 4
 unfolding wordsBytes

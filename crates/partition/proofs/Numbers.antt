@@ -7,15 +7,12 @@ use lib.Pow.{pow-mono}
 use Rattle.memory.specs.Power.{log2up}
 use Rattle.memory.specs.Numbers.{euclid}
 use Rattle.layout.specs.Index.{Index, setPages, setWidth, sideBlock}
-use Rattle.partition.specs.Indexes.{Unit?}
+use Rattle.history.specs.RowLaws.{unit-pos, width-is, width-pos, blocks-fit}
+use Rattle.partition.specs.Indexes.{Unit?, unit-le}
 use Rattle.partition.specs.Sources.{sourceOf, rowOf}
 use Rattle.fields.specs.declared.Source.{Source}
 use Rattle.partition.specs.declared.Row.{Row}
-use Rattle.partition.specs.Widths.{unit-pos, width-is, width-pos, blocks-fit, old-whole, sector-whole}
-use Rattle.partition.specs.Reach.{unit-small}
-
-pub unit-le : (u : ℕ) → Unit? u → u ≤ 32
-unit-le u U = unit-small u (U .e) (U .is) (U .small)
+use Rattle.partition.specs.Widths.{old-whole, sector-whole}
 
 -- a set's width and its bounds
 pub width-of : (u c r : ℕ) → Unit? u → c ≤ 4 * u → r ≡ setWidth u c → (r ≡ setWidth u c) × (0 < r) × (r ≤ 128)

@@ -1,8 +1,8 @@
 -- One more sector of the next set is programmed; what it is made of is as it was before the first.
-use mathlib.Core.Path.{_≡_, refl, sym, ap, _∙_}
+use mathlib.Core.Path.{_≡_, sym, ap, _∙_}
 use mathlib.Core.Logic.{_⊎_, inl, inr}
 use mathlib.Core.List.{List}
-use Prim.Native.Nat.{ℕ, suc, _+_, _*_, _^_, _≤_, _<_}
+use Prim.Native.Nat.{ℕ, _+_, _*_, _^_, _≤_, _<_}
 use native.Mathlib.Nat.{mul-le-mul-right}
 use native.Mathlib.Numerals.{add-one}
 use native.Mathlib.Omega.{arith}
@@ -11,11 +11,13 @@ use Rattle.memory.specs.Lists.{tab, tab-ext}
 use Rattle.memory.specs.Cases.{either, eq?}
 use Rattle.layout.specs.Geometry.{sector}
 use Rattle.layout.specs.Flash.{Flash, flashOf, program, apply, applyAll, programs}
-use Rattle.layout.specs.Index.{Index, setPages, setBlock, setByte, sideBlock}
+use Rattle.layout.specs.Index.{Index, setPages, setBlock, setByte}
+use Rattle.history.specs.FlashLaws.{apply-main-length, apply-spare-length, range-out}
+use Rattle.history.specs.RowLaws.{unit-pos, blocks-fit}
+use Rattle.history.specs.IndexRead.{side-range}
 use Rattle.partition.specs.Indexes.{SetFits}
-use Rattle.partition.specs.Widths.{blocks-fit}
-use Rattle.partition.specs.Apart.{set-byte-same, side-range}
-use Rattle.partition.specs.Programs.{programs-more, programs-main-length, programs-spare-length, programs-outside}
+use Rattle.partition.specs.Apart.{set-byte-same}
+use Rattle.partition.specs.Programs.{programs-more}
 
 module _ (u e : ℕ) (pow : u ≡ 2 ^ e) (ix : Index) (z c : ℕ) (hc : c < 4 * u) (main₀ spare₀ : List ℕ) (s : ℕ) (s-is : s ≡ setBlock u ix z c * 64) where
   abbrev f₀ : ℕ → ℕ → ℕ
@@ -26,10 +28,10 @@ module _ (u e : ℕ) (pow : u ≡ 2 ^ e) (ix : Index) (z c : ℕ) (hc : c < 4 * 
   After j = applyAll u (programs u 1 s j f₀) (flashOf main₀ spare₀)
 
   pub main-length : (main spare : List ℕ) (j : ℕ) → flashOf main spare ≡ After j → length main ≡ length main₀
-  main-length main spare j h = ap (λ (C : Flash). length (C .main)) h ∙ programs-main-length u 1 s j f₀ (flashOf main₀ spare₀)
+  main-length main spare j h = ap (λ (C : Flash). length (C .main)) h ∙ apply-main-length u (programs u 1 s j f₀) (flashOf main₀ spare₀)
 
   pub spare-length : (main spare : List ℕ) (j : ℕ) → flashOf main spare ≡ After j → length spare ≡ length spare₀
-  spare-length main spare j h = ap (λ (C : Flash). length (C .spare)) h ∙ programs-spare-length u 1 s j f₀ (flashOf main₀ spare₀)
+  spare-length main spare j h = ap (λ (C : Flash). length (C .spare)) h ∙ apply-spare-length u (programs u 1 s j f₀) (flashOf main₀ spare₀)
 
   -- the set's bytes by what the flash holds now
   same-now : (main spare : List ℕ) (j : ℕ) → j < setPages u (c + 1) * 4 → flashOf main spare ≡ After j → tab (sector u) (setByte u ix main z c j) ≡ tab (sector u) (f₀ j)
@@ -41,7 +43,7 @@ module _ (u e : ℕ) (pow : u ≡ 2 ^ e) (ix : Index) (z c : ℕ) (hc : c < 4 * 
           let m = mul-le-mul-right (16 * u) h in
           let t = ap (λ (n : ℕ). n * (16 * u)) s-is in
           ap (λ (C : Flash). getD (C .main) x 0) eq
-          ∙ programs-outside u s j f₀ (flashOf main₀ spare₀) x (either o (λ a. inl (omega arith)) (λ a. inr (omega arith)))
+          ∙ range-out u 1 s j s (s + j) f₀ (flashOf main₀ spare₀) x (omega (arith, unit-pos u e pow)) (λ i l. (omega arith, omega arith)) (either o (λ a. inl (omega arith)) (λ a. inr (omega arith)))
 
   pub after-more : (main spare main′ spare′ bytes : List ℕ) (j : ℕ) → j < setPages u (c + 1) * 4 → flashOf main spare ≡ After j
       → bytes ≡ tab (sector u) (setByte u ix main z c j) → flashOf main′ spare′ ≡ apply u (program (s + j) bytes) (flashOf main spare)

@@ -1,22 +1,21 @@
 -- The next set is built of bytes outside its own place: L1 and the set before it, which lies on the other side.
-use mathlib.Core.Path.{_≡_, refl, sym, ap, _∙_}
+use mathlib.Core.Path.{_≡_, ap}
 use mathlib.Core.Logic.{_⊎_, inl, inr}
-use mathlib.Core.Bool.{Bool, true, false, cond}
 use mathlib.Core.List.{List, []}
-use Prim.Native.Nat.{ℕ, zero, suc, _+_, _-_, _*_, _/_, _%_, _^_, _≤_, _<_}
+use Prim.Native.Nat.{ℕ, _+_, _-_, _*_, _/_, _%_, _^_, _≤_, _<_}
 use native.Mathlib.Nat.{mul-le-mul-right}
 use native.Mathlib.Omega.{arith}
 use lib.ListN.{getD}
-use lib.Dec.{ltb, eqb}
 use borrow.Author.Tests.{lt-ltb, le-ltb}
 use Rattle.memory.specs.Cases.{lt?, eq?, either}
 use Rattle.memory.specs.Numbers.{euclid, div-lt}
-use Rattle.memory.specs.Power.{log2up, log2up-enough}
+use Rattle.memory.specs.Power.{log2up}
 use Rattle.memory.specs.Bits.{bit}
-use Rattle.layout.specs.Geometry.{sector, page, block, sideBlocks}
-use Rattle.layout.specs.Index.{Index, BitPlace, bitAt, setPages, setWidth, fullFilters, sideBlock, fullBlock, l1Place, setPlace, flashPlace, setByte, setBlock}
-use Rattle.partition.specs.Rows.{row-ext}
-use Rattle.partition.specs.Widths.{unit-pos, set-whole, width-pos, blocks-fit, filters-fit}
+use Rattle.layout.specs.Geometry.{sector, page, block}
+use Rattle.layout.specs.Index.{Index, bitAt, setPages, setWidth, fullFilters, sideBlock, l1Place, setPlace, flashPlace, setByte, setBlock}
+use Rattle.history.specs.RowLaws.{row-ext, unit-pos, set-whole, width-pos, blocks-fit}
+use Rattle.history.specs.IndexRead.{side-range}
+use Rattle.partition.specs.Widths.{filters-fit}
 
 module _ (u : ℕ) (ix : Index) where
   -- filter g of the set before the next one
@@ -31,10 +30,6 @@ module _ (u : ℕ) (ix : Index) where
       let s : z * fullFilters u + g - (z * fullFilters u + 128 * c) ≡ g - 128 * c = omega arith in
       rw (le-ltb (z * fullFilters u + g) (z * fullFilters u) (omega arith), le-ltb (z * fullFilters u + g) (z * fullFilters u + 128 * c) (omega arith), s)
 
-  -- where a side lies
-  pub side-range : (c : ℕ) → (ix .first + 1 ≤ sideBlock u ix c) × (sideBlock u ix c + 4 * u ≤ ix .first + 1 + 8 * u)
-  side-range c = either (eq? (c % 2) 1) (λ a. rw (a .0) (omega arith, omega arith)) (λ a. rw (a .0) (omega arith, omega arith))
-
   -- one round more is on the other side
   side-other : (c : ℕ) → (sideBlock u ix c + 4 * u ≤ sideBlock u ix (c + 1)) ⊎ (sideBlock u ix (c + 1) + 4 * u ≤ sideBlock u ix c)
   side-other c =
@@ -44,10 +39,10 @@ module _ (u : ℕ) (ix : Index) where
 
   -- the next set's place is behind L1, and apart from the set before it
   pub next-after : (z c : ℕ) → ix .first + 1 ≤ setBlock u ix z c
-  next-after z c = either (eq? (c + 1) (4 * u)) (λ a. rw (a .0) (omega arith)) (λ a. rw (a .0) (side-range (c + 1) .0))
+  next-after z c = either (eq? (c + 1) (4 * u)) (λ a. rw (a .0) (omega arith)) (λ a. rw (a .0) (side-range u ix (c + 1) .0))
 
   pub next-apart : (z c : ℕ) → (sideBlock u ix c + 4 * u ≤ setBlock u ix z c) ⊎ (setBlock u ix z c + 4 * u ≤ sideBlock u ix c)
-  next-apart z c = either (eq? (c + 1) (4 * u)) (λ a. rw (a .0) (inl (omega (arith, side-range c .1)))) (λ a. rw (a .0) (side-other c))
+  next-apart z c = either (eq? (c + 1) (4 * u)) (λ a. rw (a .0) (inl (omega (arith, side-range u ix c .1)))) (λ a. rw (a .0) (side-other c))
 
 module _ (u e : ℕ) (pow : u ≡ 2 ^ e) (ix : Index) where
   -- the byte of a bit of the set before lies in that set's blocks

@@ -1,5 +1,4 @@
 pub mod Indexes
-pub mod Rows
 pub mod Widths
 pub mod Apart
 pub mod Sources

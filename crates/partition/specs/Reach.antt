@@ -3,16 +3,17 @@ use mathlib.Core.Path.{_≡_, refl, sym, ap}
 use Prim.Native.Nat.{ℕ, _+_, _-_, _*_, _/_, _%_, _^_, _≤_, _<_}
 use native.Mathlib.Nat.{mul-le-mul-right}
 use native.Mathlib.Omega.{arith}
-use lib.Pow.{pow-mono}
 use Rattle.memory.specs.Cases.{lt?, either}
 use Rattle.memory.specs.Numbers.{div-lt}
 use Rattle.memory.specs.Power.{log2up}
 use Rattle.layout.specs.Geometry.{block}
 use Rattle.layout.specs.Index.{Index, setPages, setWidth, fullBlock}
+use Rattle.history.specs.RowLaws.{unit-pos, width-is, width-pos, set-whole, blocks-fit}
+use Rattle.history.specs.IndexRead.{side-range}
 use Rattle.fields.specs.Sources.{Aligned, Reaches}
 use Rattle.partition.specs.declared.Row.{Row}
-use Rattle.partition.specs.Widths.{unit-pos, width-is, width-pos, set-whole, blocks-fit, filters-fit, old-whole, sector-whole}
-use Rattle.partition.specs.Apart.{side-range}
+use Rattle.partition.specs.Indexes.{unit-small}
+use Rattle.partition.specs.Widths.{filters-fit, old-whole, sector-whole}
 use Rattle.partition.specs.Sources.{oldOf, l1Of, rowOf, pages-pos, field-room}
 
 pub record RowFits (len : ℕ) (r : Row) : Type 0 where
@@ -21,10 +22,6 @@ pub record RowFits (len : ℕ) (r : Row) : Type 0 where
   pub l1-aligned : Aligned (r .l1) (r .w)
   pub old-reaches : (y : ℕ) → y < r .split → Reaches len (r .old) (r .w) y
   pub l1-reaches : (y : ℕ) → r .split ≤ y → y < r .end → Reaches len (r .l1) (r .w) (y - r .split)
-
--- the units are small
-pub unit-small : (u e : ℕ) → u ≡ 2 ^ e → e < 6 → u ≤ 32
-unit-small u e pow h = let l : e ≤ 5 = omega arith in omega (arith, pow-mono l)
 
 -- where P pages of w bits and Q of v = m * w bits hold the same, m pages go into one
 fewer : (w v m P Q T p : ℕ) → 0 < w → m * w ≡ v → P * w ≡ T → Q * v ≡ T → p < P → p < Q * m

@@ -10,14 +10,14 @@ use lib.Dec.{ltb}
 use borrow.Author.Tests.{lt-ltb, le-ltb}
 use Rattle.memory.specs.Cases.{lt?, either}
 use Rattle.memory.specs.Numbers.{euclid, div-of, mod-of, div-lt}
-use Rattle.memory.specs.Bits.{bit, pack}
+use Rattle.memory.specs.Bits.{bit, pack, pack-ext}
 use Rattle.layout.specs.Geometry.{sector, page, block}
 use Rattle.layout.specs.Index.{Index, rowBit, rowByte, bitAt, setWidth, fullFilters, sideBlock, flashPlace, setByte}
+use Rattle.history.specs.RowLaws.{unit-pos, width-pos}
 use Rattle.fields.specs.declared.Source.{Source}
-use Rattle.fields.specs.Laws.{pack-ext}
 use Rattle.fields.specs.Sources.{bitFrom, fieldByte}
 use Rattle.partition.specs.declared.Row.{Row}
-use Rattle.partition.specs.Widths.{unit-pos, width-pos, old-whole, sector-whole}
+use Rattle.partition.specs.Widths.{old-whole, sector-whole}
 use Rattle.partition.specs.Apart.{place-old, place-new}
 
 -- byte y of a page

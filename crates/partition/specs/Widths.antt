@@ -3,10 +3,10 @@ use mathlib.Core.Path.{_≡_, sym, _∙_}
 use Prim.Native.Nat.{ℕ, _+_, _-_, _*_, _/_, _^_, _≤_, _<_}
 use native.Mathlib.Nat.{mul-le-mul-right}
 use native.Mathlib.Omega.{arith}
-use lib.Pow.{pow-pos, pow-add}
-use Rattle.memory.specs.Numbers.{div-of}
-use Rattle.memory.specs.Power.{log2up, log2up-enough, log2up-least, width}
-use Rattle.layout.specs.Index.{setPages, setWidth}
+use lib.Pow.{pow-add}
+use Rattle.memory.specs.Power.{log2up, log2up-enough, log2up-least}
+use Rattle.layout.specs.Index.{setWidth}
+use Rattle.history.specs.RowLaws.{width-is, set-whole}
 use Rattle.fields.specs.Laws.{pow-whole}
 
 -- more rounds want no smaller power of two
@@ -14,36 +14,17 @@ pub log2up-next : (c : ℕ) → log2up c ≤ log2up (c + 1)
 log2up-next c = log2up-least c (log2up (c + 1)) (omega (arith, log2up-enough (c + 1)))
 
 module _ (u e : ℕ) (pow : u ≡ 2 ^ e) where
-  pub unit-pos : 0 < u
-  unit-pos = rw pow (pow-pos e)
-
-  pub width-is : (c : ℕ) → c ≤ 4 * u → setWidth u c ≡ 2 ^ (e + 2 - log2up c)
-  width-is c h =
-      let w = width e c (omega arith) in
-      div-of (64 * u) (16 * 2 ^ log2up c) (2 ^ (e + 2 - log2up c)) 0 (omega arith) (omega (arith, pow-pos (log2up c)))
-
-  -- the bits of the pages are those of a filter
-  pub set-whole : (c : ℕ) → c ≤ 4 * u → setPages u c * setWidth u c ≡ 64 * u
-  set-whole c h = rw (width-is c h) (omega (arith, width e c (omega arith)))
-
-  pub width-pos : (c : ℕ) → c ≤ 4 * u → 0 < setWidth u c
-  width-pos c h = rw (width-is c h) (pow-pos (e + 2 - log2up c))
-
-  -- a set fits a side
-  pub blocks-fit : (c : ℕ) → c ≤ 4 * u → 2 ^ log2up c ≤ 4 * u
-  blocks-fit c h = omega (arith, width e c (omega arith), mul-le-mul-right (2 ^ log2up c) (pow-pos (e + 2 - log2up c)))
-
   -- the filters of a set fit its pages
   pub filters-fit : (c : ℕ) → c ≤ 4 * u → 128 * c * setWidth u c ≤ 512 * u
-  filters-fit c h = omega (arith, set-whole c h, mul-le-mul-right (setWidth u c) (log2up-enough c))
+  filters-fit c h = omega (arith, set-whole u e pow c h, mul-le-mul-right (setWidth u c) (log2up-enough c))
 
   -- the width of the next set divides that of the set before it, and a sector
   pub old-whole : (c : ℕ) → c < 4 * u → setWidth u c / setWidth u (c + 1) * setWidth u (c + 1) ≡ setWidth u c
   old-whole c h =
-      rw (width-is c (omega arith), width-is (c + 1) (omega arith))
+      rw (width-is u e pow c (omega arith), width-is u e pow (c + 1) (omega arith))
       (pow-whole (e + 2 - log2up c) (e + 2 - log2up (c + 1)) (omega (arith, log2up-next c)))
 
   pub sector-whole : (c : ℕ) → c ≤ 4 * u → 16 * u / setWidth u c * setWidth u c ≡ 16 * u
   sector-whole c h =
       let s : 16 * u ≡ 2 ^ (e + 4) = sym (pow-add 2 e 4 ∙ omega arith) in
-      rw (width-is c h, s) (pow-whole (e + 4) (e + 2 - log2up c) (omega arith))
+      rw (width-is u e pow c h, s) (pow-whole (e + 4) (e + 2 - log2up c) (omega arith))

@@ -1,6 +1,6 @@
 -- What is left of the scan of a page's entries at the newest entry with the key, and the step from it to the next.
 use mathlib.Core.Path.{_≡_, refl, ap, _∙_}
-use mathlib.Core.Bool.{Bool, true, false, not, cond}
+use mathlib.Core.Bool.{Bool, true, false, cond}
 use mathlib.Core.Option.{Option, none, some}
 use mathlib.Core.List.{List}
 use Prim.Native.Nat.{ℕ, zero, suc, _+_, _*_, _-_, _≤_, _<_}
@@ -10,22 +10,10 @@ use lib.Dec.{leb}
 use Rattle.memory.specs.Cases.{bool?, either}
 use Rattle.memory.specs.Words.{word}
 use Rattle.layout.specs.Search.{Stop, found, corrupt, tryEntry, orElse, scan}
-use Rattle.kernels.specs.Candidate.{candidate, candidate-le}
+use Rattle.kernels.specs.Candidate.{candidate, candidate-le, candidate-opens}
 use Rattle.items.specs.Scans.{hasKey, lastEntry}
 
-pub not-false : (b : Bool) → not b ≡ false → b ≡ true
-not-false true e = refl
-not-false false e = cc
-
 -- ---- the newest that passes
-
-newest-has : (f : ℕ → Bool) (m : ℕ) → 0 < candidate f m → f (candidate f m - 1) ≡ true
-unfolding candidate
-newest-has f zero h = absurd (omega arith)
-newest-has f (suc m) h =
-    either (bool? (f m))
-    (λ t. let e : suc m - 1 ≡ m = omega arith in rw (t, e) t)
-    (λ t. let z : 0 < candidate f m = rw t at h in rw t (newest-has f m z))
 
 -- a scan may begin at the newest entry that passes
 scan-from : (try : ℕ → Option Stop) (f : ℕ → Bool) (lo m : ℕ) → ((i : ℕ) → i < m → f i ≡ false → try (lo + i) ≡ none)
@@ -82,7 +70,7 @@ module _ (bytes : List ℕ) (from count n key : ℕ) (deleted : ℕ → Bool) (t
   left-first e is =
       record {
         le = omega (arith, candidate-le (hasKey bytes from key) count);
-        has = rw is (newest-has (hasKey bytes from key) count);
+        has = rw is (candidate-opens (hasKey bytes from key) count);
         rest = rw is (skipped count (omega arith));
       }
 
@@ -107,7 +95,7 @@ module _ (bytes : List ℕ) (from count n key : ℕ) (deleted : ℕ → Bool) (t
       left-next r t is =
           record {
             le = omega (arith, candidate-le (hasKey bytes from key) (e - 1), L .le);
-            has = rw is (newest-has (hasKey bytes from key) (e - 1));
+            has = rw is (candidate-opens (hasKey bytes from key) (e - 1));
             rest = rw is (gone t ∙ skipped (e - 1) (omega (arith, L .le)));
           }
 

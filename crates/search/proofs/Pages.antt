@@ -6,20 +6,12 @@ use Prim.Native.Nat.{ℕ, zero, suc, _+_, _*_, _-_, _≤_, _<_}
 use native.Mathlib.Omega.{arith}
 use Rattle.memory.specs.Cases.{bool?, either}
 use Rattle.layout.specs.Search.{Stop, Found, reply, scan, opening, searchPages}
-use Rattle.kernels.specs.Candidate.{candidate, candidate-le}
+use Rattle.kernels.specs.Candidate.{candidate, candidate-le, candidate-opens}
 use Rattle.search.specs.Find.{onward}
 
 -- what is found after k pages were opened in vain
 abbrev pub after : ℕ → Found → Found
 after k r = reply (r .stop) (k + r .opened)
-
-candidate-opens : (gate : ℕ → Bool) (N : ℕ) → 0 < candidate gate N → gate (candidate gate N - 1) ≡ true
-unfolding candidate
-candidate-opens gate zero h = absurd (omega arith)
-candidate-opens gate (suc N) h =
-    either (bool? (gate N))
-    (λ t. let e : suc N - 1 ≡ N = omega arith in rw (t, e) t)
-    (λ t. let z : 0 < candidate gate N = rw t at h in rw t (candidate-opens gate N z))
 
 module _ (gate : ℕ → Bool) (try : ℕ → Option Stop) (q : ℕ) where
   pages-open : (p : ℕ) → gate p ≡ true → searchPages gate try q (suc p) ≡ opening (scan try (p * q) q) (searchPages gate try q p)

@@ -1,12 +1,12 @@
 -- The answers of the judges by the tests that they make.
 use mathlib.Core.Path.{_≡_, refl, sym, ap, _∙_}
-use mathlib.Core.Bool.{Bool, true, false, _||_, not, cond}
+use mathlib.Core.Bool.{Bool, true, false, _||_}
 use mathlib.Core.List.{List}
-use Prim.Native.Nat.{ℕ, _≤_}
-use native.Mathlib.Omega.{arith}
+use Prim.Native.Nat.{ℕ}
 use lib.ListN.{length}
 use lib.Dec.{ltb}
 use borrow.Author.Tests.{ltb-false}
+use Rattle.memory.specs.Booleans.{or-eq-false-iff}
 use Rattle.layout.specs.Geometry as layout
 use Rattle.layout.specs.Flash.{flashOf}
 use Rattle.layout.specs.Calls.{badState, tooShort}
@@ -15,7 +15,6 @@ use Rattle.geometry.specs.declared.Geometry.{Geometry}
 use Rattle.geometry.specs.declared.Shaped.{Shaped}
 use Rattle.geometry.specs.declared.Shaped.the-variants as shaped
 use Rattle.state.specs.declared.State.{State}
-use Rattle.state.specs.declared.Judged.{Judged}
 use Rattle.state.specs.declared.Judged.the-variants.{Good, Refused}
 use Rattle.state.specs.Contract.{stateOf}
 use Rattle.state.specs.Judge.{geometryIn, judgedOf, judgedNew, Long, Fits, New}
@@ -41,23 +40,12 @@ shaped-good false S R D r g p q =
     let z : false ≡ true = ap isGood (sym p ∙ q) in
     (z, cc)
 
-first : (a b : Bool) → (a || b) ≡ false → a ≡ false
-first true b q = q
-first false b q = refl
-
-second : (a b : Bool) → (a || b) ≡ false → b ≡ false
-second true b q = cc
-second false b q = q
-
 pub long-of : (g : Geometry) (main spare ram : List ℕ) → tooShort (shape g) (flashOf main spare) ram ≡ false → Long g main spare ram
 unfolding tooShort
 long-of g main spare ram q =
-    let b = second (ltb (length main) (layout.dataSize (shape g))) _ q in
-    record {
-      main-fits = ltb-false _ _ (first (ltb (length main) (layout.dataSize (shape g))) _ q);
-      spare-fits = ltb-false _ _ (first (ltb (length spare) (layout.spareSize (shape g))) _ b);
-      ram-fits = ltb-false _ _ (second (ltb (length spare) (layout.spareSize (shape g))) _ b);
-    }
+    let a = or-eq-false-iff (ltb (length main) (layout.dataSize (shape g))) _ .0 q in
+    let b = or-eq-false-iff (ltb (length spare) (layout.spareSize (shape g))) _ .0 (a .1) in
+    record { main-fits = ltb-false _ _ (a .0); spare-fits = ltb-false _ _ (b .0); ram-fits = ltb-false _ _ (b .1) }
 
 -- n or d above its capacity, or d above n
 abbrev pub counts : Geometry → ℕ → ℕ → Bool
@@ -95,16 +83,17 @@ module _ (s : State) (main spare ram : List ℕ) where
 
     pub fits-of : Sound g → counts g (s .records) (s .deletions) ≡ false → tooShort (shape g) (flashOf main spare) ram ≡ false → Fits s main spare ram g
     fits-of ok c t =
-        let b = second (ltb (layout.recordCapacity (shape g)) (s .records)) _ c in
+        let a = or-eq-false-iff (ltb (layout.recordCapacity (shape g)) (s .records)) _ .0 c in
+        let b = or-eq-false-iff (ltb (layout.deletionCapacity (shape g)) (s .deletions)) _ .0 (a .1) in
         record {
           sound = ok;
           is = p;
           good = bad-is q ∙ at-state false c;
           enough = t;
           long = long-of g main spare ram t;
-          n-cap = ltb-false _ _ (first (ltb (layout.recordCapacity (shape g)) (s .records)) _ c);
-          d-cap = ltb-false _ _ (first (ltb (layout.deletionCapacity (shape g)) (s .deletions)) _ b);
-          d-le = ltb-false _ _ (second (ltb (layout.deletionCapacity (shape g)) (s .deletions)) _ b);
+          n-cap = ltb-false _ _ (a .0);
+          d-cap = ltb-false _ _ (b .0);
+          d-le = ltb-false _ _ (b .1);
         }
 
 module _ (S R D : ℕ) (main spare ram : List ℕ) where

@@ -8,7 +8,8 @@ use Rattle.layout.specs.Flash.{flashOf, applyAll}
 use Rattle.layout.specs.Items.{zeroPage}
 use Rattle.layout.specs.Index.{flushAndBuild}
 use Rattle.sets.specs.Indexes.{indexOf}
-use Rattle.index.specs.Fits.{unit-some, unit-few}
+use Rattle.partition.specs.Indexes.{unit-le}
+use Rattle.index.specs.Fits.{unit-some}
 use borrow.Author.Needs.{needs}
 use Rattle.index.proofs.add_filter.Statement.{statement}
 use Rattle.index.proofs.add_filter.Tie as tie
@@ -16,7 +17,7 @@ use Rattle.index.proofs.add_filter.Tie as tie
 put-filter-requires : tie.Need-put-filter-requires
 put-filter-requires c κs =
     let x = c .before .before .before .before in
-    (unit-some (x .args .unit) (x .pre .on-spare .unit), unit-few (x .args .unit) (x .pre .on-spare .unit), omega arith, x .pre .in-ram)
+    (unit-some (x .args .unit) (x .pre .on-spare .unit), unit-le (x .args .unit) (x .pre .on-spare .unit), omega arith, x .pre .in-ram)
 
 add-if1 : tie.Need-add-if1
 add-if1 c = search needs

@@ -3,7 +3,8 @@ use mathlib.Core.Path.{_≡_}
 use lib.ListN.{length}
 use Rattle.layout.specs.Flash.{flashOf}
 use Rattle.sets.specs.Indexes.{indexOf}
-use Rattle.index.specs.Fits.{unit-few, first-inside, old-inside}
+use Rattle.partition.specs.Indexes.{unit-le}
+use Rattle.index.specs.Fits.{first-inside, old-inside}
 use Rattle.index.specs.Build.{build-is}
 use borrow.Author.Needs.{needs}
 use Rattle.index.proofs.build_set.Statement.{statement}
@@ -12,12 +13,12 @@ use Rattle.index.proofs.build_set.Tie as tie
 side-block-requires : tie.Need-side-block-requires
 side-block-requires c κs =
     let x = c .before .before in
-    (unit-few (x .args .unit) (x .pre .unit), x .pre .first)
+    (unit-le (x .args .unit) (x .pre .unit), x .pre .first)
 
 set-blocks-requires : tie.Need-set-blocks-requires
 set-blocks-requires c κs =
     let x = c .before .before .before in
-    omega (arith, unit-few (x .args .unit) (x .pre .unit), x .pre .rounds)
+    omega (arith, unit-le (x .args .unit) (x .pre .unit), x .pre .rounds)
 
 program-set-requires : tie.Need-program-set-requires
 program-set-requires c κs = search needs
@@ -29,7 +30,7 @@ erase-blocks-requires c κs =
     let m : length (p .last .0) ≡ length (x .args .main .now) = omega arith in
     let s : length (p .last .1 .0) ≡ length (x .args .spare .now) = omega arith in
     let I = first-inside (x .args .unit) (indexOf (x .args .ix)) (x .args .z) (x .args .c) (length (x .args .main .now)) (length (x .args .spare .now)) (x .pre) in
-    (unit-few (x .args .unit) (x .pre .unit), rw m (I .0), rw s (I .1))
+    (unit-le (x .args .unit) (x .pre .unit), rw m (I .0), rw s (I .1))
 
 erase-blocks-requires-2 : tie.Need-erase-blocks-requires-2
 erase-blocks-requires-2 c κs =
@@ -39,7 +40,7 @@ erase-blocks-requires-2 c κs =
     let s : length (p .last .1 .0) ≡ length (x .args .spare .now) = omega arith in
     let I = old-inside (x .args .unit) (indexOf (x .args .ix)) (x .args .z) (x .args .c) (length (x .args .main .now)) (length (x .args .spare .now)) (x .pre)
     (c .before .before .before .before .before .before .before .before .before .before .before .before .before .before .before .before .before .side-block .result) (c .before .before .before .before .before .before .before .before .before .before .before .before .before .before .before .before .set-blocks .result) (c .before .before .before .before .before .before .before .before .before .before .before .before .before .before .before .before .before .side-block .ensures .0) (c .before .before .before .before .before .before .before .before .before .before .before .before .before .before .before .before .set-blocks .ensures) in
-    (unit-few (x .args .unit) (x .pre .unit), rw m (I .0), rw s (I .1))
+    (unit-le (x .args .unit) (x .pre .unit), rw m (I .0), rw s (I .1))
 
 same-length : tie.Need-same-length
 same-length c = search needs

@@ -5,7 +5,8 @@ use Prim.Native.Nat.{_*_, _/_, _%_, _≤_}
 use lib.ListN.{length}
 use Rattle.layout.specs.Flash.{flashOf}
 use Rattle.sets.specs.Indexes.{indexOf}
-use Rattle.index.specs.Fits.{unit-some, unit-few, l1-inside, set-fits}
+use Rattle.partition.specs.Indexes.{unit-le}
+use Rattle.index.specs.Fits.{unit-some, l1-inside, set-fits}
 use Rattle.index.specs.Build.{flush-is, flush-build-is}
 use borrow.Author.Needs.{needs}
 use Rattle.index.proofs.flush_and_build.Statement.{statement}
@@ -23,7 +24,7 @@ program-four-requires c κs =
     let P = x .pre .0 in
     let I = l1-inside (x .args .unit) (indexOf (x .args .ix)) (x .args .filters) (length (x .args .main .now)) (length (x .args .spare .now)) (length (x .args .ram .now)) P in
     let t : x .args .filters / 8 % 16 ≤ 15 = omega arith in
-    (unit-some (x .args .unit) (P .on-spare .unit), unit-few (x .args .unit) (P .on-spare .unit), omega arith, P .in-ram, omega (arith, I .0, mul-le-mul-right (16 * x .args .unit) t), omega (arith, I .1, t))
+    (unit-some (x .args .unit) (P .on-spare .unit), unit-le (x .args .unit) (P .on-spare .unit), omega arith, P .in-ram, omega (arith, I .0, mul-le-mul-right (16 * x .args .unit) t), omega (arith, I .1, t))
 
 add-if1 : tie.Need-add-if1
 add-if1 c = search needs

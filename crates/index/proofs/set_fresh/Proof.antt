@@ -4,7 +4,7 @@ use Prim.Native.Nat.{ℕ, _*_}
 use Rattle.layout.specs.Index.{setBlock}
 use Rattle.flash.specs.Fresh.{freshRun}
 use Rattle.sets.specs.Indexes.{indexOf}
-use Rattle.index.specs.Fits.{unit-few}
+use Rattle.partition.specs.Indexes.{unit-le}
 use borrow.Author.Needs.{needs}
 use Rattle.index.proofs.set_fresh.Statement.{statement}
 use Rattle.index.proofs.set_fresh.Tie as tie
@@ -12,7 +12,7 @@ use Rattle.index.proofs.set_fresh.Tie as tie
 set-block-requires : tie.Need-set-block-requires
 set-block-requires c κs =
     let x = c .before in
-    (unit-few (x .args .unit) (x .pre .unit), x .pre .first, x .pre .sets, x .pre .rounds)
+    (unit-le (x .args .unit) (x .pre .unit), x .pre .first, x .pre .sets, x .pre .rounds)
 
 mul-s : tie.Need-mul-s
 mul-s c = search needs
@@ -20,12 +20,12 @@ mul-s c = search needs
 add-set-pages : tie.Need-add-set-pages
 add-set-pages c =
     let x = c .before .before in
-    omega (arith, unit-few (x .args .unit) (x .pre .unit), x .pre .rounds)
+    omega (arith, unit-le (x .args .unit) (x .pre .unit), x .pre .rounds)
 
 set-pages-requires : tie.Need-set-pages-requires
 set-pages-requires c κs =
     let x = c .before .before in
-    omega (arith, unit-few (x .args .unit) (x .pre .unit), x .pre .rounds)
+    omega (arith, unit-le (x .args .unit) (x .pre .unit), x .pre .rounds)
 
 mul-n : tie.Need-mul-n
 mul-n c = search needs

@@ -1,16 +1,15 @@
 use Rattle.memory.specs.Lists.{length-tab}
 use Rattle.layout.specs.Flash.{flashOf, applyAll, programs}
 use Rattle.layout.specs.Index.{setBlock, setByte}
-use Rattle.partition.proofs.Numbers.{unit-le}
+use Rattle.partition.specs.Indexes.{unit-le}
 use Rattle.partition.proofs.Steps.{main-length, spare-length, after-more, after-all, sector-inside}
 use native.Mathlib.Omega.{arith}
-use Prim.Native.Nat.{ℕ, _+_, _-_, _*_, _≤_, _<_}
+use Prim.Native.Nat.{ℕ, _+_, _-_, _*_, _≤_}
 use mathlib.Core.Path.{_≡_, refl, ap, sym, _∙_}
 use lib.ListN.{length}
-use borrow.Author.Needs.{needs}
 use Rattle.layout.specs.Index.{setByte}
 use Rattle.sets.specs.Indexes.{indexOf}
-use Rattle.partition.proofs.Steps.{After, main-length, spare-length, after-more, after-all, sector-inside}
+use Rattle.partition.proofs.Steps.{main-length, spare-length, after-more, after-all, sector-inside}
 use Rattle.partition.proofs.program_sectors.Statement.{statement}
 use Rattle.partition.proofs.program_sectors.Tie as tie
 use Rattle.partition.proofs.program_sectors.Reads as reads

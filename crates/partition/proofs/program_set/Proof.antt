@@ -1,5 +1,5 @@
 use native.Mathlib.Omega.{arith}
-use Rattle.partition.proofs.Numbers.{unit-le}
+use Rattle.partition.specs.Indexes.{unit-le}
 use borrow.Author.Needs.{needs}
 use Rattle.partition.proofs.program_set.Statement.{statement}
 use Rattle.partition.proofs.program_set.Tie as tie

@@ -1,10 +1,9 @@
 use native.Mathlib.Omega.{arith}
 use native.Mathlib.Nat.{mul-le-mul-right}
-use Prim.Native.Nat.{ℕ, _+_, _*_, _≤_}
-use mathlib.Core.Path.{_≡_}
+use Prim.Native.Nat.{_+_, _*_, _≤_}
 use Rattle.sets.specs.Indexes.{indexOf}
-use Rattle.partition.proofs.Numbers.{unit-le, width-of, next-le, sector-le, row-made}
-use borrow.Author.Needs.{needs}
+use Rattle.partition.specs.Indexes.{unit-le}
+use Rattle.partition.proofs.Numbers.{width-of, next-le, sector-le, row-made}
 use Rattle.partition.proofs.row_of.Statement.{statement}
 use Rattle.partition.proofs.row_of.Tie as tie
 use Rattle.partition.proofs.row_of.Reads as reads

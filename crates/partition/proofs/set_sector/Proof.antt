@@ -1,12 +1,13 @@
 use native.Mathlib.Omega.{arith}
 use native.Mathlib.Nat.{mul-le-mul-right}
-use Prim.Native.Nat.{ℕ, _+_, _*_, _/_, _%_, _≤_}
-use mathlib.Core.Path.{_≡_, _∙_}
+use Prim.Native.Nat.{_+_, _*_, _/_, _%_, _≤_}
+use mathlib.Core.Path.{_∙_}
 use lib.ListN.{length}
 use Rattle.sets.specs.Indexes.{indexOf}
 use Rattle.partition.specs.Reach.{row-fits}
-use Rattle.partition.specs.Widths.{unit-pos}
-use Rattle.partition.proofs.Numbers.{unit-le, pages-le}
+use Rattle.history.specs.RowLaws.{unit-pos}
+use Rattle.partition.specs.Indexes.{unit-le}
+use Rattle.partition.proofs.Numbers.{pages-le}
 use Rattle.partition.proofs.Pages.{sector-is}
 use borrow.Author.Needs.{needs}
 use Rattle.partition.proofs.set_sector.Statement.{statement}

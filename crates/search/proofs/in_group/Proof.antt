@@ -8,13 +8,13 @@ use lib.ListN.{length}
 use Rattle.layout.specs.Geometry.{kaBlock, page, block}
 use Rattle.layout.specs.Search.{Stop, found, corrupt, searchPages}
 use Rattle.geometry.specs.Shape.{shape}
-use Rattle.items.specs.Scans.{not-true}
 use Rattle.filter.specs.Groups.{bytesOf, groupHas}
 use Rattle.search.specs.declared.Stop.the-variants.{Nothing}
-use Rattle.search.proofs.Entries.{Same, Left, left-none, left-first, left-corrupt, left-found, left-next, left-less, not-false}
+use Rattle.search.proofs.Entries.{Same, Left, left-none, left-first, left-corrupt, left-found, left-next, left-less}
 use Rattle.search.proofs.Pages.{Pages, pages-first, pages-none, pages-some, pages-next, pages-less}
 use Rattle.search.proofs.Volume.{gateOf, tryOf, deletedOf, perPage, same-flash, group-same, deleted-is, fewer-records, within-fewer, pages-few, page-in}
 use borrow.Author.Needs.{needs}
+use borrow.Author.Tests.{not-true, not-false}
 use Rattle.search.proofs.in_group.Statement.{statement}
 use Rattle.search.proofs.in_group.Tie as tie
 

@@ -2,10 +2,10 @@
 use native.Mathlib.Omega.{arith}
 use mathlib.Core.Path.{sym, _∙_}
 use Prim.Native.Nat.{_*_, _-_, _/_, _%_}
-use Rattle.items.specs.Scans.{not-true}
-use Rattle.search.proofs.Entries.{Left, left-none, left-first, left-corrupt, left-found, left-next, left-less, not-false}
+use Rattle.search.proofs.Entries.{Left, left-none, left-first, left-corrupt, left-found, left-next, left-less}
 use Rattle.search.proofs.Volume.{tryOf, deletedOf, perPage, same-ram, deleted-is, fewer-records, slots-lt}
 use borrow.Author.Needs.{needs}
+use borrow.Author.Tests.{not-true, not-false}
 use Rattle.search.proofs.in_ram.Statement.{statement}
 use Rattle.search.proofs.in_ram.Tie as tie
 
