@@ -1,29 +1,23 @@
 -- The layout's calls by what the search met, and by what the judge of the state answers.
-use mathlib.Core.Path.{_≡_, refl, sym, ap, _∙_}
-use mathlib.Core.Bool.{Bool, true, false, _&&_, cond}
-use mathlib.Core.Option.{Option, none, some}
+use mathlib.Core.Path.{_≡_, sym, _∙_}
+use mathlib.Core.Bool.{Bool, true, false, _&&_}
+use mathlib.Core.Option.{none, some}
 use mathlib.Core.List.{List}
-use Prim.Native.Nat.{ℕ, zero, suc, _+_, _*_, _/_, _%_, _≤_, _<_}
-use lib.Dec.{eqb, leb, ltb}
-use native.Mathlib.Omega.{arith}
-use native.Mathlib.Nat.{mod-lt}
-use borrow.Author.Tests.{ltb-true}
+use Prim.Native.Nat.{ℕ}
 use Rattle.layout.specs.Geometry as layout
 use Rattle.layout.specs.Flash.{flashOf}
 use Rattle.layout.specs.Hash.{Family}
 use Rattle.layout.specs.Items.{recordBytes}
 use Rattle.layout.specs.Search as find
 use Rattle.layout.specs.Search.{found, corrupt}
-use Rattle.layout.specs.Calls.{Volume, Result, Call, insert, update, delete, lookup, refuse, badState, tooShort, judged, call, answer, search, insertAfter, updateAfter, deleteAfter, lookupAfter}
-use Rattle.geometry.specs.Shape.{shape, Sound}
-use Rattle.geometry.specs.Bounds.{record-capacity-le, multiples-le}
+use Rattle.layout.specs.Calls.{Volume, Call, insert, update, delete, badState, tooShort, judged, call, answer, search, insertAfter, updateAfter, deleteAfter}
+use Rattle.geometry.specs.Shape.{shape}
 use Rattle.geometry.specs.declared.Geometry.{Geometry}
-use Rattle.state.specs.Contract.{Left, seen, outcomeOf, volume, stateOf}
+use Rattle.state.specs.Contract.{Left, seen, volume, stateOf}
 use Rattle.state.specs.Judge.{judgedOf, geometryIn, Fits}
 use Rattle.state.specs.declared.State.{State}
-use Rattle.state.specs.declared.Judged.{Judged}
-use Rattle.state.specs.declared.Judged.the-variants.{Good, Refused}
-use Rattle.search.specs.Find.{stopOf, foundOf, search-at, at as volumeAt}
+use Rattle.state.specs.declared.Judged.the-variants.{Refused}
+use Rattle.search.specs.Find.{foundOf, search-at, at as volumeAt}
 use Rattle.search.specs.declared.Found.{Found}
 use Rattle.changes.proofs.CallLaws.{refusedLeft}
 use Rattle.state.proofs.Refusals.{state-refusal}

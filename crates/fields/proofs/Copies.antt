@@ -4,10 +4,10 @@ use mathlib.Core.List.{List}
 use Prim.Native.Nat.{ℕ, _+_, _-_, _/_, _≤_, _<_}
 use native.Mathlib.Omega.{arith}
 use lib.ListN.{length, getD, take, drop, length-take, length-drop}
-use Rattle.memory.specs.Lists.{tab, tab-ext}
+use Rattle.memory.specs.Lists.{tab, tab-ext, is-tab}
 use Rattle.fields.specs.declared.Source.{Source}
 use Rattle.fields.specs.Sources.{fieldByte, runByte, Aligned, Run, Runs}
-use Rattle.fields.specs.Lists.{is-tab, part-at}
+use Rattle.fields.specs.Lists.{part-at}
 use Rattle.fields.proofs.Rows.{same-inside, same-byte, run-in, run-is}
 
 module _ (bytes : List ℕ) (s : Source) (w y n : ℕ) (A : Aligned s w) where

@@ -11,12 +11,12 @@ use lib.Dec.{ltb}
 use lib.ListN.{getD}
 use lib.Pow.{pow-pos}
 use borrow.Author.Tests.{ltb-true}
-use Rattle.memory.specs.Bits.{bit, bit-low, bit-high, bit-shr}
+use Rattle.memory.specs.Bits.{bit, bitIn, bit-low, bit-high, bit-shr}
 use Rattle.memory.specs.Booleans.{eq-of-beq}
 use Rattle.memory.specs.Cases.{lt?, either}
 use Rattle.fields.specs.declared.Source.{Source}
 use Rattle.fields.specs.Laws.{pack-byte}
-use Rattle.fields.specs.Sources.{bitFrom, fieldByte, Aligned, Reaches}
+use Rattle.fields.specs.Sources.{fieldByte, Aligned, Reaches}
 use Rattle.fields.specs.Halves.{Narrow, Half}
 
 -- ---- a law of every byte, computed
@@ -121,7 +121,7 @@ module _ (bytes : List ℕ) (s : Source) (w y : ℕ) (A : Aligned s w) (small : 
   unfolding fieldByte
   halved-is lo hi L H = sym (pack-byte _ (hi * 16 + lo) (omega (arith, L .small, H .small)) one)
     where
-      one : (b : ℕ) → b < 8 → bitFrom bytes (s .at) ((y * 8 + b) / w * s .step + (s .low + (y * 8 + b) % w)) ≡ bit (hi * 16 + lo) b
+      one : (b : ℕ) → b < 8 → bitIn bytes (s .at) ((y * 8 + b) / w * s .step + (s .low + (y * 8 + b) % w)) ≡ bit (hi * 16 + lo) b
       one b h =
           rw twice (either (lt? b 4)
           (λ a.

@@ -8,12 +8,12 @@ use native.Mathlib.Omega.{arith}
 use lib.Bits.{bitAnd, and-mask}
 use lib.ListN.{getD}
 use lib.Pow.{pow-pos, pow-add, pow-mono}
-use Rattle.memory.specs.Bits.{bit, bit-low, bit-high, bit-mod, bit-shr}
+use Rattle.memory.specs.Bits.{bit, bitIn, bit-low, bit-high, bit-mod, bit-shr}
 use Rattle.memory.specs.Cases.{lt?, either}
 use Rattle.memory.specs.Numbers.{euclid, div-of, mod-of}
 use Rattle.fields.specs.declared.Source.{Source}
 use Rattle.fields.specs.Laws.{pack-byte, pow-whole}
-use Rattle.fields.specs.Sources.{bitFrom, fieldByte, runByte, Aligned, Reaches}
+use Rattle.fields.specs.Sources.{fieldByte, runByte, Aligned, Reaches}
 
 -- ---- fields next to one another: the source's own bytes
 
@@ -30,7 +30,7 @@ module _ (bytes : List ℕ) (s : Source) (w y : ℕ) (A : Aligned s w) (same : s
   unfolding fieldByte
   same-byte small = sym (pack-byte _ (getD bytes (s .at + y) 0) small one)
     where
-      one : (b : ℕ) → b < 8 → bitFrom bytes (s .at) ((y * 8 + b) / w * s .step + (s .low + (y * 8 + b) % w)) ≡ bit (getD bytes (s .at + y) 0) b
+      one : (b : ℕ) → b < 8 → bitIn bytes (s .at) ((y * 8 + b) / w * s .step + (s .low + (y * 8 + b) % w)) ≡ bit (getD bytes (s .at + y) 0) b
       one b h =
           let E = euclid (y * 8 + b) w w-pos in
           let z : s .low ≡ 0 = omega (arith, A .room) in
@@ -86,7 +86,7 @@ module _ (bytes : List ℕ) (s : Source) (w y : ℕ) (A : Aligned s w) (big : 8 
   run-is small = sym (pack-byte _ (runByte bytes (s .at + s .low / 8) (s .step / 8) n y) small one)
     where
       one : (b : ℕ) → b < 8
-          → bitFrom bytes (s .at) ((y * 8 + b) / w * s .step + (s .low + (y * 8 + b) % w)) ≡ bit (runByte bytes (s .at + s .low / 8) (s .step / 8) n y) b
+          → bitIn bytes (s .at) ((y * 8 + b) / w * s .step + (s .low + (y * 8 + b) % w)) ≡ bit (runByte bytes (s .at + s .low / 8) (s .step / 8) n y) b
       one b h =
           let t = ap (λ (x : ℕ). y / n * x) step-whole in
           let d : s .at + (y / n * s .step + (s .low + (y % n * 8 + b))) / 8 ≡ s .at + s .low / 8 + (y / n * (s .step / 8) + y % n) = omega (arith, low-whole) in
@@ -97,7 +97,7 @@ module _ (bytes : List ℕ) (s : Source) (w y : ℕ) (A : Aligned s w) (big : 8 
 
 -- bit b of byte y, and a number that has the fields of it from field k on
 abbrev bitOf : List ℕ → Source → ℕ → ℕ → ℕ → Bool
-bitOf bytes s w y b = bitFrom bytes (s .at) ((y * 8 + b) / w * s .step + (s .low + (y * 8 + b) % w))
+bitOf bytes s w y b = bitIn bytes (s .at) ((y * 8 + b) / w * s .step + (s .low + (y * 8 + b) % w))
 
 abbrev pub From : List ℕ → Source → ℕ → ℕ → ℕ → ℕ → Type 0
 From bytes s w y acc k = (acc < 2 ^ ((8 / w - k) * w)) × ((b : ℕ) → b < (8 / w - k) * w → bit acc b ≡ bitOf bytes s w y (k * w + b))

@@ -1,26 +1,12 @@
 -- Lists that grow by elements or by parts until they are a table.
-use mathlib.Core.Path.{_≡_, sym, ap, _∙_}
+use mathlib.Core.Path.{_≡_, ap, _∙_}
 use mathlib.Core.List.{List, _++_}
 use Prim.Native.Nat.{ℕ, _+_, _-_, _≤_, _<_}
 use native.Mathlib.Omega.{arith}
-use lib.ListN.{length, getD, set, take, drop, replicate, length-take, length-drop, length-replicate, getD-replicate}
-use lib.Seq.{ext-getD, drop-drop, getD-take, getD-drop, getD-set-same, getD-set-other}
-use Rattle.memory.specs.Lists.{tab, length-tab, getD-tab, write, write-cut, length-write, getD-write-before, getD-write-in}
-use Rattle.memory.specs.Cases.{eq?, lt?, either}
-
--- a list by its elements
-pub is-tab : (l : List ℕ) (n : ℕ) (f : ℕ → ℕ) → length l ≡ n → ((i : ℕ) → i < n → getD l i 0 ≡ f i) → l ≡ tab n f
-is-tab l n f e h = ext-getD 0 l (tab n f) (e ∙ sym (length-tab n f)) (λ i k. let b : i < n = omega arith in h i b ∙ sym (getD-tab n f i 0 b))
-
--- the first i elements of a list are there
-abbrev pub Done : (ℕ → ℕ) → List ℕ → ℕ → Type 0
-Done f l i = (k : ℕ) → k < i → getD l k 0 ≡ f k
-
-pub done-more : (f : ℕ → ℕ) (l : List ℕ) (i v : ℕ) → i < length l → Done f l i → v ≡ f i → Done f (set l i v) (i + 1)
-done-more f l i v h D e k p =
-    either (eq? k i)
-    (λ a. rw (a .1, getD-set-same l i v 0 h) e)
-    (λ a. rw (getD-set-other l i k v 0 (a .1)) (D k (omega arith)))
+use lib.ListN.{length, getD, take, drop, replicate, length-take, length-drop, length-replicate, getD-replicate}
+use lib.Seq.{getD-take, getD-drop}
+use Rattle.memory.specs.Lists.{tab, is-tab, length-tab, getD-tab, Done, length-write, getD-write-before, getD-write-in, part-back}
+use Rattle.memory.specs.Cases.{lt?, either}
 
 pub done-all : (f : ℕ → ℕ) (l : List ℕ) (n i : ℕ) → length l ≡ n → n ≤ i → Done f l i → l ≡ tab n f
 done-all f l n i e h D = is-tab l n f e (λ k p. D k (omega arith))
@@ -29,10 +15,7 @@ done-all f l n i e h D = is-tab l n f e (λ k p. D k (omega arith))
 pub take-lt : (l : List ℕ) (n i : ℕ) → i < length (take n l) → i < n
 take-lt l n i h = omega (arith, length-take n l)
 
--- a part of m elements from `at` on, and element j of it
-pub part-size : (l : List ℕ) (at m : ℕ) → at + m ≤ length l → length (take (at + m - at) (drop at l)) ≡ m
-part-size l at m h = simp (length-take, length-drop) (omega arith)
-
+-- element j of the part of m elements from `at` on
 pub part-at : (l : List ℕ) (at m j : ℕ) → j < m → getD (take (at + m - at) (drop at l)) j 0 ≡ getD l (at + j) 0
 part-at l at m j h =
     let e : at + m - at ≡ m = omega arith in
@@ -40,15 +23,12 @@ part-at l at m j h =
 
 -- the part from element i to element e was lent and came back as ys
 module _ (l ys : List ℕ) (i e : ℕ) (order : i ≤ e) (h : e ≤ length l) (size : length ys ≡ e - i) where
-  part-back : take i l ++ (ys ++ drop (e - i) (drop i l)) ≡ write l i ys
-  part-back = rw (← size, drop-drop, write-cut l i ys (omega arith))
-
   pub part-length : length (take i l ++ (ys ++ drop (e - i) (drop i l))) ≡ length l
-  part-length = rw part-back (length-write l i ys)
+  part-length = rw (part-back l i e ys order h size) (length-write l i ys)
 
   pub part-more : (f : ℕ → ℕ) → Done f l i → ((j : ℕ) → j < e - i → getD ys j 0 ≡ f (i + j)) → Done f (take i l ++ (ys ++ drop (e - i) (drop i l))) e
   part-more f D P k p =
-      rw part-back
+      rw (part-back l i e ys order h size)
       (either (lt? k i)
       (λ a. getD-write-before l i ys k 0 (a .1) ∙ D k (a .1))
       (λ a.

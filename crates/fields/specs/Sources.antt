@@ -1,19 +1,14 @@
 -- Fields of bits in a row of bytes, and the bytes that they make when w bits of each are taken, one field after another.
 use mathlib.Core.Path.{_≡_}
-use mathlib.Core.Bool.{Bool}
 use mathlib.Core.List.{List}
 use Prim.Native.Nat.{ℕ, _+_, _*_, _/_, _%_, _^_, _≤_, _<_}
 use lib.ListN.{getD}
-use Rattle.memory.specs.Bits.{bit, pack}
+use Rattle.memory.specs.Bits.{bitIn, pack}
 use Rattle.fields.specs.declared.Source.{Source}
-
--- bit q of the row from byte `at` on
-abbrev pub bitFrom : List ℕ → ℕ → ℕ → Bool
-bitFrom bytes at q = bit (getD bytes (at + q / 8) 0) (q % 8)
 
 -- byte y of a row that takes w bits of each field of a source, one field after another
 unfoldable pub fieldByte : List ℕ → Source → ℕ → ℕ → ℕ
-fieldByte bytes s w y = pack 8 (λ b. bitFrom bytes (s .at) ((y * 8 + b) / w * s .step + (s .low + (y * 8 + b) % w)))
+fieldByte bytes s w y = pack 8 (λ b. bitIn bytes (s .at) ((y * 8 + b) / w * s .step + (s .low + (y * 8 + b) % w)))
 
 -- byte y of runs of n bytes, `stride` bytes from one to the next, the first from byte `at` on
 abbrev pub runByte : List ℕ → ℕ → ℕ → ℕ → ℕ → ℕ

@@ -12,7 +12,7 @@ use Rattle.memory.specs.Cases.{bool?, either, lt?, by-eq, by-lt}
 use Rattle.memory.specs.Numbers.{Euclid, euclid, div-of, mod-of, div-lt}
 use Rattle.memory.specs.Power.{log2up, log2up-enough, log2up-least, width}
 use Rattle.layout.specs.Index.{Index, bitAt, filterBit, setWidth, sideBlock, inFull, inSet}
-use Rattle.kernels.specs.Rows.{bitIn}
+use Rattle.memory.specs.Bits.{bitIn}
 use Rattle.filter.specs.Filter.{Fits}
 use Rattle.filter.specs.Groups.{UnitIs, stageOf, skaLevel, l1Level, setLevel, fullLevel, levelInSets, levelOnFlash, levelBelow}
 use Rattle.filter.specs.declared.Level.{Level}

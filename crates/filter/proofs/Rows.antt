@@ -4,30 +4,22 @@ use mathlib.Core.Bool.{Bool, true, false, _&&_}
 use mathlib.Core.List.{List, [], _∷_}
 use Prim.Native.Nat.{ℕ, zero, suc, _+_, _*_, _-_, _^_, _≤_, _<_}
 use native.Mathlib.Omega.{arith}
-use lib.ListN.{length, getD, take, set}
+use lib.ListN.{length, getD, take}
 use lib.Pow.{pow-pos}
-use lib.Seq.{getD-set-same, getD-set-other}
-use Rattle.memory.specs.Cases.{either, lt?}
+use Rattle.memory.specs.Bits.{bitIn}
+use Rattle.memory.specs.Lists.{Done}
 use Rattle.memory.specs.Numbers.{euclid}
 use Rattle.memory.specs.Ranges.{allOf}
 use Rattle.layout.specs.Index.{Index, filterBit}
 use Rattle.kernels.specs.declared.Rows.{Rows}
-use Rattle.kernels.specs.Rows.{bitIn, allIn, Within}
+use Rattle.kernels.specs.Rows.{allIn, Within}
 use Rattle.filter.specs.Groups.{RowsAt}
 use Rattle.filter.specs.declared.Level.{Level}
 use Rattle.filter.proofs.Levels.{levelBytes, LevelAt}
 
--- ---- an element more of an array that is filled from its start on
-
--- the first i elements are those of f
+-- the first i elements of an array are those of f
 abbrev pub Filled : (ℕ → ℕ) → ℕ → List ℕ → Type 0
-Filled f i l = (length l ≡ 8) × ((j : ℕ) → j < i → getD l j 0 ≡ f j)
-
-pub filled-more : (f : ℕ → ℕ) (i x : ℕ) (l : List ℕ) → Filled f i l → i < 8 → x ≡ f i → (j : ℕ) → j < i + 1 → getD (set l i x) j 0 ≡ f j
-filled-more f i x l F h e j b =
-    either (lt? j i)
-    (λ t. getD-set-other l i j x 0 (λ q. omega arith) ∙ F .1 j (t .1))
-    (λ t. let q : j ≡ i = omega arith in rw q (getD-set-same l i x 0 (omega (arith, F .0)) ∙ e))
+Filled f i l = (length l ≡ 8) × Done f l i
 
 -- ---- the test of the first positions, from the last on
 

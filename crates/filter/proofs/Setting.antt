@@ -1,14 +1,14 @@
 -- Bits that are set in an array of bytes.
 use mathlib.Core.Path.{_≡_, refl, sym, ap, _∙_}
 use mathlib.Core.Logic.{_≢_}
-use mathlib.Core.Bool.{Bool, true, false, _||_}
+use mathlib.Core.Bool.{Bool, true, false, _||_, or-comm}
 use mathlib.Core.List.{List, [], _∷_}
 use Prim.Native.Nat.{ℕ, zero, suc, _+_, _*_, _/_, _%_, _^_, _<_, max}
 use native.Mathlib.Nat.{not-suc-le-zero, le-of-suc-le-suc}
 use native.Mathlib.Numerals.{add-one}
 use native.Mathlib.Omega.{arith}
 use lib.Bits.{bitOr, or-step}
-use lib.Dec.{eqb}
+use lib.Dec.{eqb, eqb·suc-suc}
 use lib.ListN.{length, getD, set, replicate, getD-replicate}
 use lib.Pow.{pow-lt}
 use lib.Seq.{getD-set-same, getD-set-other}
@@ -18,19 +18,13 @@ use Rattle.memory.specs.Cases.{either, eq?}
 use Rattle.memory.specs.Ranges.{memb, any}
 use Rattle.filter.specs.Filter.{arrayBit}
 
-eqb-suc : (a b : ℕ) → eqb (suc a) (suc b) ≡ eqb a b
-eqb-suc a b =
-    either (eq? a b)
-    (λ c. rw (c .0) (eq-eqb (suc a) (suc b) (omega (arith, c .1))))
-    (λ c. let n : a ≢ b = c .1 in rw (c .0) (ne-eqb (suc a) (suc b) (λ e. n (omega arith))))
-
 -- the number 2 ^ k has bit k alone
 pub bit-power : (k i : ℕ) → bit (2 ^ k) i ≡ eqb k i
 unfolding bit
 bit-power zero zero = refl
 bit-power zero (suc i) = bit-zero i ∙ sym (ne-eqb 0 (suc i) (λ e. omega arith))
 bit-power (suc k) zero = let e : 2 ^ suc k % 2 ≡ 0 = omega arith in rw e (sym (ne-eqb (suc k) 0 (λ e. omega arith)))
-bit-power (suc k) (suc i) = let e : 2 ^ suc k / 2 ≡ 2 ^ k = omega arith in rw e (bit-power k i ∙ sym (eqb-suc k i))
+bit-power (suc k) (suc i) = let e : 2 ^ suc k / 2 ≡ 2 ^ k = omega arith in rw e (bit-power k i ∙ sym (eqb·suc-suc k i))
 
 max-or : (a b : ℕ) → a < 2 → b < 2 → eqb (max a b) 1 ≡ (eqb a 1 || eqb b 1)
 max-or zero zero h l = refl
@@ -53,12 +47,6 @@ bit-or a b (suc i) =
     let e : bitOr a b / 2 ≡ bitOr (a / 2) (b / 2) = omega arith in
     ap (λ (y : ℕ). bit y i) e ∙ bit-or (a / 2) (b / 2) i
 
-or-swap : (a b : Bool) → (a || b) ≡ (b || a)
-or-swap true true = refl
-or-swap true false = refl
-or-swap false true = refl
-or-swap false false = refl
-
 -- the mask of a bit of a byte
 mask-is : (k : ℕ) → k < 8 → (1 * 2 ^ k) % 2 ^ 8 ≡ 2 ^ k
 mask-is k h = omega (arith, pow-lt h)
@@ -73,7 +61,7 @@ set-one l p x len h =
     (λ c. let e : x / 8 ≡ p / 8 = c .1 in
     rw e (ap (λ (y : ℕ). bit y (x % 8)) (getD-set-same l (p / 8) (bitOr (getD l (p / 8) 0) (2 ^ (p % 8))) 0 (omega arith))
     ∙ bit-or (getD l (p / 8) 0) (2 ^ (p % 8)) (x % 8)
-    ∙ or-swap (bit (getD l (p / 8) 0) (x % 8)) (bit (2 ^ (p % 8)) (x % 8))
+    ∙ or-comm (bit (getD l (p / 8) 0) (x % 8)) (bit (2 ^ (p % 8)) (x % 8))
     ∙ ap (λ (t : Bool). t || bit (getD l (p / 8) 0) (x % 8)) (bit-power (p % 8) (x % 8) ∙ same e)))
     (λ c.
     let n : x / 8 ≢ p / 8 = c .1 in

@@ -1,7 +1,7 @@
 -- Which sector sizes, and counts of blocks, are allowed: by the table, and that what is allowed is sound.
 use Prim.Native.Nat.{ℕ, zero, suc, _+_, _*_, _/_, _^_, _<_, _≤_}
 use mathlib.Core.Path.{_≡_, refl}
-use mathlib.Core.Bool.{Bool, true, false, _&&_, and-eq-true-iff}
+use mathlib.Core.Bool.{Bool, true, false, _&&_, and-eq-true-iff, false≢true}
 use mathlib.Core.List.{List, [], _∷_}
 use native.Mathlib.Numerals.{add-one}
 use native.Mathlib.Omega.{arith}
@@ -55,7 +55,7 @@ answer-miss S R D e = rw e
 -- a sector size in the table is that of a row
 in-row : (S : ℕ) (d : Row) (xs : List Row) → memb S (sectorsOf xs) ≡ true → (k : ℕ) × (k < length xs) × (getD xs k d .sector ≡ S)
 unfolding memb
-in-row S d [] e = absurd (let z : _≡_ {A = ℕ} 0 1 = cc in omega arith)
+in-row S d [] e = absurd (false≢true e)
 in-row S d (x ∷ xs) e =
     either (bool? (eqb (x .sector) S))
     (λ h. (zero, omega arith, eqb-true (x .sector) S h))

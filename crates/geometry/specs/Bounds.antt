@@ -1,8 +1,7 @@
--- Bounds of a sound geometry's sizes, and of a partition set's exponent.
-use Prim.Native.Nat.{ℕ, _*_, _/_, _≤_}
+-- Bounds of a sound geometry's sizes.
+use Prim.Native.Nat.{ℕ, _*_, _≤_}
 use native.Mathlib.Nat.{mul-le-mul-right, mul-le-mul-left, le-trans, div-mul-le-self}
 use native.Mathlib.Omega.{arith}
-use Rattle.memory.specs.Power.{log2up, log2up-least}
 use Rattle.layout.specs.Geometry as layout
 use Rattle.geometry.specs.declared.Geometry.{Geometry}
 use Rattle.geometry.specs.Shape.{shape, Sound}
@@ -10,10 +9,6 @@ use Rattle.geometry.specs.Shape.{shape, Sound}
 -- a product of bounded numbers
 pub product-le : (a b m n : ℕ) → a ≤ m → b ≤ n → a * b ≤ m * n
 product-le a b m n h k = le-trans (mul-le-mul-right b h) (mul-le-mul-left m k)
-
--- whole multiples of w below a number
-pub multiples-le : (n w : ℕ) → n / w * w ≤ n
-multiples-le n w = div-mul-le-self n w
 
 module _ (g : Geometry) (s : Sound g) where
   pub index-le : layout.indexBlock (shape g) ≤ 10240
@@ -34,8 +29,3 @@ module _ (g : Geometry) (s : Sound g) where
 
   pub deletion-capacity-le : layout.deletionCapacity (shape g) ≤ 33554432
   deletion-capacity-le = omega (arith, product-le (g .da) (g .unit) 4096 32 (s .da-most) (s .most))
-
--- ---- an exponent of a partition set
-
-pub exponent-le : (c : ℕ) → c ≤ 128 → log2up c ≤ 7
-exponent-le c h = log2up-least c 7 h

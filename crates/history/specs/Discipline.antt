@@ -4,8 +4,8 @@ use mathlib.Core.Bool.{Bool, true, false, cond, and-eq-true-iff}
 use mathlib.Core.List.{List, [], _∷_, _++_}
 use Prim.Native.Nat.{ℕ, zero, suc, _+_, _-_, _*_, _/_, _≤_, _<_}
 use native.Mathlib.Omega.{arith}
-use lib.ListN.{length, getD, take, replicate, length-set, length-take, length-replicate, getD-replicate}
-use lib.Seq.{getD-take, getD-set-same, getD-set-other}
+use lib.ListN.{length, getD, take, replicate, length-set, length-take, length-replicate, getD-replicate, List·getD-eq-default}
+use lib.Seq.{getD-set-same, getD-set-other}
 use lib.Dec.{eqb}
 use borrow.Author.Tests.{eqb-true, ne-eqb}
 use Rattle.memory.specs.Cases.{either, eq?, lt?}
@@ -20,14 +20,6 @@ Below N [] = Unit {0}
 Below N (program s bytes ∷ os) = (s < N) × Below N os
 Below N (erase b ∷ os) = Below N os
 
-getD-past : (l : List ℕ) (i : ℕ) → length l ≤ i → getD l i 0 ≡ 0
-getD-past [] i h = refl
-getD-past (x ∷ l) zero h = absurd (omega arith)
-getD-past (x ∷ l) (suc i) h = getD-past l i (omega arith)
-
-pub below-take : (N : ℕ) (l : List ℕ) (x : ℕ) → x < N → getD (take N l) x 0 ≡ getD l x 0
-below-take N l x h = getD-take N l x 0 h
-
 -- operations whose sectors are fresh by the first N marks program none past them
 pub fresh-below : (N : ℕ) (spare : List ℕ) (ops : List Op) → allFresh (take N spare) ops ≡ true → Below N ops
 unfolding allFresh fresh
@@ -37,7 +29,7 @@ fresh-below N spare (program s bytes ∷ os) q =
       either (lt? s N)
           (λ a. a .1)
           (λ a.
-          let past : getD (take N spare) s 0 ≡ 0 = getD-past (take N spare) s (omega (arith, length-take N spare)) in
+          let past : getD (take N spare) s 0 ≡ 0 = List·getD-eq-default (take N spare) 0 (omega (arith, length-take N spare)) in
           let e : getD (take N spare) s 0 ≡ 255 = eqb-true (getD (take N spare) s 0) 255 (p .0) in
           absurd (omega (arith, past, e))),
       fresh-below N spare os (p .1),

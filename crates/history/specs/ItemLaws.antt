@@ -1,11 +1,10 @@
 -- Records, entries and deletions: their lengths and the bytes of their words.
-use mathlib.Core.Path.{_≡_}
-use mathlib.Core.List.{List, [], _∷_}
+use mathlib.Core.Path.{_≡_, refl, sym}
+use mathlib.Core.List.{[], _∷_}
 use Prim.Native.Nat.{ℕ, _+_, _*_, _<_}
 use native.Mathlib.Omega.{arith}
 use lib.ListN.{length, getD}
-use lib.Seq.{ext-getD}
-use Rattle.memory.specs.Lists.{tab, length-tab, getD-tab}
+use Rattle.memory.specs.Lists.{tab, is-tab}
 use Rattle.memory.specs.Words.{byteOf, length-words, words-byte}
 use Rattle.layout.specs.Items.{recordBytes, entryBytes, deletionBytes}
 
@@ -37,12 +36,8 @@ pub deletion-number : (j b : ℕ) → b < 4 → getD (deletionBytes j) (0 * 4 + 
 unfolding deletionBytes
 deletion-number j b h = words-byte (j ∷ []) 0 b (omega arith) h
 
--- ---- a list by its elements is the list
-
-pub tab-all : (l : List ℕ) → tab (length l) (λ b. getD l b 0) ≡ l
-tab-all l =
-    ext-getD 0 (tab (length l) (λ b. getD l b 0)) l (length-tab (length l) (λ b. getD l b 0))
-    (λ i h. let k : i < length l = rw length-tab at h in getD-tab (length l) (λ b. getD l b 0) i 0 k)
+-- ---- a record by its bytes is the record
 
 pub tab-record : (key moves goal free : ℕ) → tab 16 (λ b. getD (recordBytes key moves goal free) b 0) ≡ recordBytes key moves goal free
-tab-record key moves goal free = rw (length-record key moves goal free) at (tab-all (recordBytes key moves goal free))
+tab-record key moves goal free =
+    sym (is-tab (recordBytes key moves goal free) 16 (λ b. getD (recordBytes key moves goal free) b 0) (length-record key moves goal free) (λ i h. refl))

@@ -1,7 +1,7 @@
 -- The history and the finite map answer alike: each call keeps the invariant `Live`.
 use mathlib.Core.Path.{_≡_, refl, sym, ap, _∙_}
 use mathlib.Core.Logic.{_≢_, _⊎_, inl, inr}
-use mathlib.Core.Bool.{Bool, true, false, not, _&&_, _||_, cond, and-true}
+use mathlib.Core.Bool.{true, false, not, _&&_, _||_, cond, and-true, true≢false}
 use mathlib.Core.Option.{Option, none, some, Option·map, map-eq-none-iff}
 use mathlib.Core.List.{List, [], _∷_, _++_}
 use Prim.Native.Nat.{ℕ, suc, _+_, _≤_, _<_}
@@ -151,8 +151,7 @@ Live-record H M r L e = record {
         let t : eqb (r .key) k ≡ true = sym (live-new H r k fresh) ∙ rw (← q) b in
         let k-is : r .key ≡ k = eqb-true (r .key) k t in
         let f : liveAt H k i ≡ false = rw (← k-is) (last-none (liveAt H (r .key)) (length (H .records)) i e h) in
-        let z : _≡_ {A = Bool} true false = sym a ∙ live-old H r k i h ∙ f in
-        let w : _≡_ {A = ℕ} 0 1 = cc in omega arith
+        true≢false (sym a ∙ live-old H r k i h ∙ f)
 
     one′ : (k i j : ℕ) → i < length (withRecord H r .records) → j < length (withRecord H r .records)
         → liveAt (withRecord H r) k i ≡ true → liveAt (withRecord H r) k j ≡ true → i ≡ j

@@ -1,6 +1,6 @@
 -- The search page by page, with pages left out, is one scan from the newest entry down; lists of numbers by index and by membership.
 use mathlib.Core.Path.{_≡_, refl, sym, _∙_}
-use mathlib.Core.Bool.{Bool, true, false, _||_, cond}
+use mathlib.Core.Bool.{Bool, true, false, _||_, cond, false≢true}
 use mathlib.Core.Option.{Option, none, some, Option·map}
 use mathlib.Core.List.{List, [], _∷_}
 use Prim.Native.Nat.{ℕ, zero, suc, _+_, _*_, _/_, _%_, _≤_, _<_}
@@ -125,7 +125,7 @@ allOf-true f (y ∷ ys) h =
 -- what holds of the number at each index holds of each member
 pub memb-all : (P : ℕ → Type 0) (l : List ℕ) → ((i : ℕ) → i < length l → P (getD l i 0)) → (x : ℕ) → memb x l ≡ true → P x
 unfolding memb
-memb-all P [] h x m = absurd (let w : _≡_ {A = ℕ} 0 1 = cc in omega arith)
+memb-all P [] h x m = absurd (false≢true m)
 memb-all P (y ∷ ys) h x m =
     either (eq? y x)
     (λ e. rw (← (e .1)) (h 0 (omega arith)))

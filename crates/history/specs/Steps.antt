@@ -1,31 +1,31 @@
 -- One call on a volume that holds the image of a history: it answers as the history does, and leaves the image of the next history.
 use mathlib.Core.Path.{_≡_, refl, sym, ap, _∙_}
-use mathlib.Core.Logic.{_≢_, _⊎_, inl, inr}
-use mathlib.Core.Bool.{Bool, true, false, cond}
+use mathlib.Core.Logic.{_≢_, inl, inr}
+use mathlib.Core.Bool.{true, false}
 use mathlib.Core.Option.{Option, none, some, Option·map}
-use mathlib.Core.List.{List, [], _∷_, _++_}
-use Prim.Native.Nat.{ℕ, _+_, _-_, _*_, _/_, _≤_, _<_, _^_}
+use mathlib.Core.List.{List, [], _∷_}
+use Prim.Native.Nat.{ℕ, _+_, _-_, _/_, _≤_, _<_, _^_}
 use native.Mathlib.Omega.{arith}
 use lib.ListN.{length, getD, take, replicate, length-append, length-replicate, getD-replicate, List·getD-append}
-use lib.Seq.{getD-append-seam}
+use lib.Seq.{getD-append-seam, getD-take}
 use lib.Dec.{leb}
 use borrow.Author.Tests.{leb-false}
 use Rattle.memory.specs.Cases.{either, bool?, lt?}
-use Rattle.memory.specs.Lists.{write, length-write, getD-write-before, getD-write-in, getD-write-after}
-use Rattle.layout.specs.Geometry.{Geometry, geometry, allowed, page, entriesPerPage, kaBlocks, fullSets, recordCapacity, deletionCapacity, spareSize, ramSize, workRam}
-use Rattle.layout.specs.Flash.{Flash, Op, applyAll, allFresh}
+use Rattle.memory.specs.Lists.{length-write, getD-write-before, getD-write-in, getD-write-after}
+use Rattle.layout.specs.Geometry.{Geometry, geometry, allowed, page, entriesPerPage, kaBlocks, fullSets, recordCapacity, deletionCapacity, spareSize, workRam}
+use Rattle.layout.specs.Flash.{Flash, applyAll, allFresh}
 use Rattle.layout.specs.Hash.{Family}
 use Rattle.layout.specs.Items.{RA, KA, DA, zeroPage}
-use Rattle.layout.specs.Search.{Stop, found, Found}
-use Rattle.layout.specs.Calls.{Volume, Call, insert, update, delete, lookup, Outcome, accepted, hit, miss, refused, Result, refuse, judged, Draft, keyIndex, keyFilters, deletion, insertion, commit, search, insertAfter, updateAfter, deleteAfter, lookupAfter, answer, call}
-use Rattle.layout.specs.FiniteMap.{Reply, accepts, hits, misses, refuses}
+use Rattle.layout.specs.Search.{found}
+use Rattle.layout.specs.Calls.{Volume, Call, insert, update, delete, lookup, Result, refuse, judged, Draft, keyIndex, keyFilters, deletion, insertion, commit, insertAfter, updateAfter, deleteAfter, lookupAfter, answer, call}
+use Rattle.layout.specs.FiniteMap.{accepts, hits, refuses}
 use Rattle.history.specs.FlashLaws.{AllAllowed}
 use Rattle.history.specs.Image.{Record, History, recordAt, bytesOf, raItem, kaItem, daItem, keyFilter}
 use Rattle.history.specs.Live.{findLive, withRecord, withDeletion, HistoryStep, historyStep, insertHistory, updateHistory, deleteHistory, lookupHistory, stepHistory, found-below}
 use Rattle.history.specs.Parts.{Parts, Did, Frame, Beyond, beyond-same, beyond-then, frame-beyond, frame-area, frame-index}
 use Rattle.history.specs.Changes.{Changed, deletion-did, deletion-parts, insertion-changes}
 use Rattle.history.specs.Season.{KeyWord, shown, Possible, HandedOn}
-use Rattle.history.specs.Discipline.{Below, fresh-below, below-take}
+use Rattle.history.specs.Discipline.{Below, fresh-below}
 use Rattle.history.specs.Volumes as volumes
 use Rattle.history.specs.Volumes.{Sound, Holds, volumeOf}
 
@@ -188,7 +188,7 @@ module _ (h : Family) (S R D : ℕ) (ok : Sound S R D) (can : allowed S R D ≡ 
           = insertion-changes h g (ok .e) (volumes.pow h S R D ok) H r d C (record { ops = []; ram = ram }) (I .parts) room word (I .keys) tt in
           commit-done (withRecord H r) (n + 1) d (insertion h g C n (r .key) (bytesOf r) (record { ops = []; ram = ram })) (length-record r) refl
           (X .grown) (X .allowed) (X .beyond) (X .fresh (C .spare) (λ x l o. refl) (no-ops (C .spare)))
-          (fresh-below (spareSize g) (C .spare) _ (X .fresh (take (spareSize g) (C .spare)) (λ x l o. below-take (spareSize g) (C .spare) x l) (no-ops (take (spareSize g) (C .spare)))))
+          (fresh-below (spareSize g) (C .spare) _ (X .fresh (take (spareSize g) (C .spare)) (λ x l o. getD-take (spareSize g) (C .spare) x 0 l) (no-ops (take (spareSize g) (C .spare)))))
           (omega arith) (I .d-cap) (omega (arith, I .d-le)) (keys-record r word) (λ i l. omega (arith, I .gone i l))
 
       insert-done : (o : Option ℕ) → findLive H (r .key) ≡ o
@@ -222,7 +222,7 @@ module _ (h : Family) (S R D : ℕ) (ok : Sound S R D) (can : allowed S R D ≡ 
       fresh₀ = did .fresh (C .spare) (λ x l m. refl)
 
       inside₀ : allFresh (take (spareSize g) (C .spare)) (t .ops) ≡ true
-      inside₀ = did .fresh (take (spareSize g) (C .spare)) (λ x l m. below-take (spareSize g) (C .spare) x (omega arith))
+      inside₀ = did .fresh (take (spareSize g) (C .spare)) (λ x l m. getD-take (spareSize g) (C .spare) x 0 (omega arith))
 
       delete-accepted : length (H .deleted) < length (H .records) → Done H C ram (commit h g v n (d + 1) (deletion h g d j ram)) (historyStep accepts (withDeletion H j))
       delete-accepted less =
@@ -238,7 +238,7 @@ module _ (h : Family) (S R D : ℕ) (ok : Sound S R D) (can : allowed S R D ≡ 
           commit-done (withRecord (withDeletion H j) r) (n + 1) (d + 1) (insertion h g C n (r .key) (bytesOf r) t) (length-record r) (length-deletion j)
           (X .grown) (X .allowed) (beyond-then g C (applyAll (S / 16) (t .ops) C) _ ram (t .ram) _ past (X .beyond))
           (X .fresh (C .spare) (λ x l o. sym (did .frame .spare x o)) fresh₀)
-          (fresh-below (spareSize g) (C .spare) _ (X .fresh (take (spareSize g) (C .spare)) (λ x l o. below-take (spareSize g) (C .spare) x l ∙ sym (did .frame .spare x o)) inside₀))
+          (fresh-below (spareSize g) (C .spare) _ (X .fresh (take (spareSize g) (C .spare)) (λ x l o. getD-take (spareSize g) (C .spare) x 0 l ∙ sym (did .frame .spare x o)) inside₀))
           (omega arith) (omega (arith, room-d)) (omega (arith, I .d-le)) (keys-record r word) (λ i l. omega (arith, gone-deletion j below i l))
 
     update-done : (r : Record) → r .key < 2 ^ 32 → (o : Option ℕ) → findLive H (r .key) ≡ o

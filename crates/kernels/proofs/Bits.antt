@@ -1,6 +1,6 @@
 -- Bits of shifts to the left, of a conjunction and of a little-endian number.
 use mathlib.Core.Path.{_≡_, refl, sym, ap, _∙_}
-use mathlib.Core.Bool.{true, false, _&&_}
+use mathlib.Core.Bool.{true, false, _&&_, false≢true}
 use mathlib.Core.List.{List}
 use Prim.Native.Nat.{ℕ, zero, suc, _+_, _*_, _-_, _/_, _%_, _^_, _≤_, _<_, min}
 use native.Mathlib.Omega.{arith}
@@ -9,10 +9,10 @@ use lib.Count.{leadingZeros, leading-top}
 use lib.Dec.{eqb}
 use lib.ListN.{getD}
 use lib.Pow.{pow-pos}
-use Rattle.memory.specs.Bits.{bit, bit-zero, bit-low, bit-high, bit-mod}
+use Rattle.memory.specs.Bits.{bit, bitIn, bit-zero, bit-low, bit-high, bit-mod}
 use Rattle.memory.specs.Cases.{either, lt?}
 use Rattle.memory.specs.Words.{word}
-use Rattle.kernels.specs.Rows.{bitIn, Word}
+use Rattle.kernels.specs.Rows.{Word}
 
 -- ---- shifts to the left
 
@@ -83,7 +83,7 @@ module _ (x b : ℕ) (bb : b ≤ 64) where
   high : (j : ℕ) → j < 64 → bit raised j ≡ true → 64 - b ≤ j
   high j l e =
       either (lt? j (64 - b))
-      (λ h. absurd (let z : false ≡ true = sym (bit-shl-low x (64 - b) 64 j (h .1) l) ∙ e in let n : _≡_ {A = ℕ} 0 1 = cc in omega arith))
+      (λ h. absurd (false≢true (sym (bit-shl-low x (64 - b) 64 j (h .1) l) ∙ e)))
       (λ h. h .1)
 
   pub raised-top : 0 < raised → raised < 2 ^ 64 → Top x b (leadingZeros 64 raised)

@@ -4,9 +4,9 @@ ghost use mathlib.Core.List.{[]};
 ghost use Prim.Native.Nat.{ℕ, _+_, _*_, _/_, _%_, _^_, _≤_, _<_};
 ghost use lib.Count.{leadingZeros};
 ghost use lib.ListN.{length, getD};
-ghost use Rattle.memory.specs.Bits.{bit};
+ghost use Rattle.memory.specs.Bits.{bit, bitIn};
 ghost use Rattle.kernels.specs.Candidate.{candidate};
-ghost use Rattle.kernels.specs.Rows.{bitIn, allIn, Word, Words, Within, WordIn, BytesIn};
+ghost use Rattle.kernels.specs.Rows.{allIn, Word, Words, Within, WordIn, BytesIn};
 ghost use Rattle.kernels.specs.Width.{IsWidth};
 
 // Rows of bits, one for each position: its first byte, and the bit among the w that a filter has in

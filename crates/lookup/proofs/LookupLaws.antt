@@ -1,30 +1,27 @@
 -- The layout's lookup by what the search met, and by what the judge of the state answers.
-use mathlib.Core.Path.{_≡_, refl, sym, ap, _∙_}
-use mathlib.Core.Bool.{Bool, true, false, _&&_, cond}
-use mathlib.Core.Option.{Option, none, some}
+use mathlib.Core.Path.{_≡_, refl, ap}
+use mathlib.Core.Bool.{Bool, true, false, cond}
+use mathlib.Core.Option.{none, some}
 use mathlib.Core.List.{List}
-use Prim.Native.Nat.{ℕ, zero, suc, _+_, _*_, _/_, _%_, _≤_, _<_}
-use lib.Dec.{eqb, leb, ltb}
+use Prim.Native.Nat.{ℕ, _+_, _*_, _/_, _%_, _≤_, _<_}
+use lib.Dec.{ltb}
 use native.Mathlib.Omega.{arith}
-use native.Mathlib.Nat.{mod-lt}
+use native.Mathlib.Nat.{mod-lt, div-mul-le-self}
 use borrow.Author.Tests.{ltb-true}
 use Rattle.layout.specs.Geometry as layout
 use Rattle.layout.specs.Flash.{flashOf}
 use Rattle.layout.specs.Hash.{Family}
-use Rattle.layout.specs.Items.{recordBytes, Place, itemPlace, RA}
+use Rattle.layout.specs.Items.{Place, itemPlace, RA}
 use Rattle.layout.specs.Search as find
 use Rattle.layout.specs.Search.{found, corrupt}
-use Rattle.layout.specs.Calls.{Volume, Result, Call, insert, update, delete, lookup, refuse, badState, tooShort, judged, call, answer, search, insertAfter, updateAfter, deleteAfter, lookupAfter}
+use Rattle.layout.specs.Calls.{Volume, Result, Call, lookup, refuse, badState, tooShort, judged, call, answer, search, lookupAfter}
 use Rattle.geometry.specs.Shape.{shape, Sound}
-use Rattle.geometry.specs.Bounds.{record-capacity-le, multiples-le}
+use Rattle.geometry.specs.Bounds.{record-capacity-le}
 use Rattle.geometry.specs.declared.Geometry.{Geometry}
-use Rattle.state.specs.Contract.{Left, seen, outcomeOf, volume, stateOf}
-use Rattle.state.specs.Judge.{judgedOf, geometryIn, Fits}
+use Rattle.state.specs.Contract.{volume, stateOf}
+use Rattle.state.specs.Judge.{judgedOf, geometryIn}
 use Rattle.state.specs.declared.State.{State}
-use Rattle.state.specs.declared.Judged.{Judged}
 use Rattle.state.specs.declared.Judged.the-variants.{Good, Refused}
-use Rattle.search.specs.Find.{stopOf, foundOf, search-at, at as volumeAt}
-use Rattle.search.specs.declared.Found.{Found}
 use Rattle.state.proofs.Refusals.{number, refuses}
 use Rattle.lookup.specs.Looked.{looked}
 use Rattle.lookup.specs.declared.LookupResult.{LookupResult}
@@ -60,7 +57,7 @@ module _ (g : Geometry) (s : Sound g) (n j : ℕ) (m : n ≤ layout.recordCapaci
   place-at : (t : Bool) → ltb j (n / layout.recordsPerPage (g .unit) * layout.recordsPerPage (g .unit)) ≡ t
       → cond {A = Place} t (record { inRam = false; at = layout.raBlock (shape g) * layout.block (g .unit) + j * 16 }) (record { inRam = true; at = layout.raRam (g .unit) + j % layout.recordsPerPage (g .unit) * 16 }) .at < 4294967296
   place-at true q =
-      omega (arith, ltb-true j (n / layout.recordsPerPage (g .unit) * layout.recordsPerPage (g .unit)) q, multiples-le n (layout.recordsPerPage (g .unit)), record-capacity-le g s, m)
+      omega (arith, ltb-true j (n / layout.recordsPerPage (g .unit) * layout.recordsPerPage (g .unit)) q, div-mul-le-self n (layout.recordsPerPage (g .unit)), record-capacity-le g s, m)
   place-at false q =
       let l : j % layout.recordsPerPage (g .unit) < layout.recordsPerPage (g .unit) = mod-lt j (omega (arith, s .some)) in
       omega (arith, l, s .most)

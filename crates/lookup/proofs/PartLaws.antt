@@ -10,6 +10,7 @@ use native.Mathlib.Omega.{arith}
 use lib.ListN.{length, take, drop}
 use lib.Dec.{ltb}
 use borrow.Author.Tests.{ltb-false, not-false}
+use Rattle.memory.specs.Bits.{num}
 use Rattle.memory.specs.Booleans.{or-eq-false-iff}
 use Rattle.memory.specs.Cases.{either, lt?}
 use Rattle.layout.specs.Geometry as layout
@@ -19,7 +20,7 @@ use Rattle.layout.specs.Search.{Stop, found, corrupt}
 use Rattle.layout.specs.Calls.{Volume, Outcome, accepted, hit, miss, refused, refuse, badState, tooShort, judged, lookup, lookupAfter, recordPlace, search, answer, call}
 use Rattle.history.specs.Volumes.{sound, pu}
 use Rattle.flash.specs.Parts.{tab-part}
-use Rattle.lookup.specs.Looked.{num, lookedOf, looked, partOf, whereOf}
+use Rattle.lookup.specs.Looked.{lookedOf, looked, partOf, whereOf}
 use Rattle.lookup.specs.declared.LookupResult.{LookupResult}
 
 -- the place of an outcome, and its bytes

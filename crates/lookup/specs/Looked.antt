@@ -2,13 +2,10 @@
 use mathlib.Core.Bool.{Bool, true, false}
 use mathlib.Core.List.{List, []}
 use Prim.Native.Nat.{ℕ, _+_}
+use Rattle.memory.specs.Bits.{num}
 use Rattle.layout.specs.Items as layout
 use Rattle.layout.specs.Calls.{Outcome, accepted, hit, miss, refused, Result}
 use Rattle.lookup.specs.declared.LookupResult.{LookupResult}
-
-abbrev pub num : Bool → ℕ
-num true = 1
-num false = 0
 
 -- "hit, count and the 16 record bytes .. or miss, count and an empty part; its refusals give count 0 and an empty part"
 abbrev pub lookedOf : Outcome → ℕ → LookupResult

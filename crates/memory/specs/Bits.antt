@@ -2,12 +2,14 @@
 use mathlib.Core.Path.{_≡_, refl, sym, ap, ap₂, _∙_}
 use mathlib.Core.Logic.{_≢_}
 use mathlib.Core.Bool.{Bool, true, false}
+use mathlib.Core.List.{List}
 use Prim.Native.Nat.{ℕ, zero, suc, _+_, _*_, _/_, _%_, _^_, _<_}
 use native.Mathlib.Nat.{le-of-suc-le-suc, not-suc-le-zero, mod-lt, div-div-eq-div-mul, div-one, pow-suc, mul-comm}
 use native.Mathlib.Omega.{arith}
 use lib.Arith.{digits-div, digits-mod}
 use lib.Bits.{block-half, block-odd}
 use lib.Dec.{eqb}
+use lib.ListN.{getD}
 use lib.Pow.{split, pow-pos}
 use borrow.Author.Tests.{eqb-true, eqb-false}
 use Rattle.memory.specs.Cases.{bool?, either}
@@ -23,6 +25,10 @@ bit-is n zero = rw div-one
 bit-is n (suc i) =
     bit-is (n / 2) i
     ∙ ap (λ (x : ℕ). eqb (x % 2) 1) (div-div-eq-div-mul n 2 (2 ^ i) ∙ ap (λ (x : ℕ). n / x) (mul-comm 2 (2 ^ i) ∙ sym (pow-suc 2 i)))
+
+-- bit q of the row of bits that begins at byte `at`
+abbrev pub bitIn : List ℕ → ℕ → ℕ → Bool
+bitIn bytes at q = bit (getD bytes (at + q / 8) 0) (q % 8)
 
 abbrev pub num : Bool → ℕ
 num true = 1

@@ -5,8 +5,9 @@ use mathlib.Core.List.{List, [], _∷_, _++_}
 use Prim.Native.Nat.{ℕ, zero, suc, _+_, _-_, _*_, _≤_, _<_, zero-le}
 use native.Mathlib.Nat.{le-of-suc-le-suc, not-suc-le-zero, suc-sub-suc, sub-zero}
 use native.Mathlib.Omega.{arith}
-use lib.ListN.{length, getD, take, drop}
-use lib.Seq.{ext-getD}
+use lib.ListN.{length, getD, set, take, drop, length-take, length-drop}
+use lib.Seq.{ext-getD, drop-drop, getD-set-same, getD-set-other}
+use Rattle.memory.specs.Cases.{either, eq?}
 
 module _ {ℓ} {A : Type ℓ} where
   -- l with the elements from index at on replaced by those of s, as far as l goes
@@ -87,11 +88,26 @@ tab-ext (suc n) f g h =
     ext-getD (f zero) (tab (suc n) f) (tab (suc n) g) (length-tab (suc n) f ∙ sym (length-tab (suc n) g))
     (λ i l. let b : i < suc n = rw length-tab at l in getD-tab (suc n) f i (f zero) b ∙ h i b ∙ sym (getD-tab (suc n) g i (f zero) b))
 
+-- a list is the table of its elements
+pub is-tab : (l : List ℕ) (n : ℕ) (f : ℕ → ℕ) → length l ≡ n → ((i : ℕ) → i < n → getD l i 0 ≡ f i) → l ≡ tab n f
+is-tab l n f e h = ext-getD 0 l (tab n f) (e ∙ sym (length-tab n f)) (λ i k. let b : i < n = omega arith in h i b ∙ sym (getD-tab n f i 0 b))
+
 -- the n bytes from `at` on
 abbrev pub part : List ℕ → ℕ → ℕ → List ℕ
 part l at n = tab n (λ k. getD l (at + k) 0)
 
--- ---- the same as a cut and a paste, for contracts of code that copies
+-- ---- a list that is filled from its start on: its first i elements are those of f
+
+abbrev pub Done : (ℕ → ℕ) → List ℕ → ℕ → Type 0
+Done f l i = (k : ℕ) → k < i → getD l k 0 ≡ f k
+
+pub done-more : (f : ℕ → ℕ) (l : List ℕ) (i v : ℕ) → i < length l → Done f l i → v ≡ f i → Done f (set l i v) (i + 1)
+done-more f l i v h D e k p =
+    either (eq? k i)
+    (λ a. rw (a .1, getD-set-same l i v 0 h) e)
+    (λ a. rw (getD-set-other l i k v 0 (a .1)) (D k (omega arith)))
+
+-- ---- a write as a cut and a paste, for contracts of code that copies
 
 pub write-cut : {A : Type 0} (l : List A) (at : ℕ) (s : List A) → at + length s ≤ length l → write l at s ≡ take at l ++ (s ++ drop (at + length s) l)
 unfolding write
@@ -104,6 +120,14 @@ write-cut (x ∷ xs) zero (y ∷ ys) h =
 write-cut (x ∷ xs) (suc n) s h =
     let e : suc n + length s ≡ suc (n + length s) = omega arith in
     rw (e, write-cut xs n s (omega arith))
+
+-- the part of n elements from `at` on has n
+pub length-part : (l : List ℕ) (at n : ℕ) → at + n ≤ length l → length (take (at + n - at) (drop at l)) ≡ n
+length-part l at n h = simp (length-take, length-drop) (omega arith)
+
+-- the part from element i to element e, lent and come back as s, is a write of s
+pub part-back : (l : List ℕ) (i e : ℕ) (s : List ℕ) → i ≤ e → e ≤ length l → length s ≡ e - i → take i l ++ (s ++ drop (e - i) (drop i l)) ≡ write l i s
+part-back l i e s order h size = rw (← size, drop-drop, write-cut l i s (omega arith))
 
 -- ---- k pieces of L elements, the j-th from at + j * d on; element y of the j-th is f j y
 

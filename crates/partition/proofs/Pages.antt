@@ -5,10 +5,9 @@ use Prim.Native.Nat.{ℕ, _+_, _-_, _*_, _/_, _%_, _^_, _≤_, _<_, min}
 use native.Mathlib.Omega.{arith}
 use lib.ListN.{length, take, drop, replicate}
 use borrow.Author.Tests.{lt-ltb, le-ltb}
-use Rattle.memory.specs.Lists.{tab, tab-ext}
-use Rattle.layout.specs.Geometry.{sector}
+use Rattle.memory.specs.Lists.{Done, tab, tab-ext}
 use Rattle.layout.specs.Index.{Index, setByte}
-use Rattle.fields.specs.Lists.{Done, done-all, table-length, table-more, zeros}
+use Rattle.fields.specs.Lists.{done-all, table-length, table-more, zeros}
 use Rattle.fields.specs.Sources.{fieldByte, Reaches}
 use Rattle.partition.specs.declared.Row.{Row}
 use Rattle.partition.specs.Sources.{pageByte, rowOf, set-byte-is}

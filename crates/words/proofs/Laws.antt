@@ -1,12 +1,12 @@
--- Stores of straight-line code, turns of copying loops and parts that come back, each as a write. Assumes nothing.
+-- Stores of straight-line code and turns of copying loops, each as a write. Assumes nothing.
 use mathlib.Core.Path.{_≡_, refl, ap}
 use mathlib.Core.List.{List, [], _∷_, _++_, append-assoc}
 use Prim.Native.Nat.{ℕ, zero, suc, _+_, _-_, _<_, _≤_}
 use native.Mathlib.Nat.{not-suc-le-zero, le-of-suc-le-suc}
 use native.Mathlib.Numerals.{add-one}
 use native.Mathlib.Omega.{arith}
-use lib.ListN.{length, set, take, drop, getD, length-take, length-drop}
-use lib.Seq.{sets, sets-eq, drop-drop}
+use lib.ListN.{length, set, take, drop, getD}
+use lib.Seq.{sets, sets-eq}
 use Rattle.memory.specs.Lists.{write, write-cut}
 
 -- stores of the elements of vs, one after another from `at` on, are a write of vs
@@ -31,14 +31,3 @@ copy-suc (suc n) (x ∷ s) (y ∷ d) h k = ap (λ (t : List ℕ). x ∷ t) (copy
 
 pub copy-more : (n : ℕ) (s d : List ℕ) → n < length s → n < length d → set (take n s ++ drop n d) n (getD s n 0) ≡ take (n + 1) s ++ drop (n + 1) d
 copy-more n s d h k = rw add-one (copy-suc n s d h k)
-
--- the part of n bytes from `at` on has n bytes
-pub part-length : (at n : ℕ) (xs : List ℕ) → at + n ≤ length xs → length (take (at + n - at) (drop at xs)) ≡ n
-part-length at n xs h = simp (length-take, length-drop) (omega arith)
-
--- the part of n bytes from `at` on, lent and come back as ys, is a write of ys
-pub part-back : (at n : ℕ) (xs ys : List ℕ) → length ys ≡ n → at + n ≤ length xs
-    → take at xs ++ (ys ++ drop (at + n - at) (drop at xs)) ≡ write xs at ys
-part-back at n xs ys l h =
-    let e : at + n - at ≡ length ys = omega arith in
-    rw (e, drop-drop, write-cut xs at ys (omega arith))

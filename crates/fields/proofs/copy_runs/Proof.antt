@@ -5,7 +5,8 @@ use mathlib.Core.List.{List}
 use mathlib.Core.Path.{_≡_, refl, sym, ap, _∙_}
 use lib.ListN.{length, getD}
 use Rattle.fields.specs.Sources.{runByte}
-use Rattle.fields.specs.Lists.{Done, done-all, part-length, part-more, part-size}
+use Rattle.memory.specs.Lists.{Done, length-part}
+use Rattle.fields.specs.Lists.{done-all, part-length, part-more}
 use Rattle.fields.proofs.Strides.{At, first-in, at-lt, turn-some, turn-inside, turn-bytes, turn-next}
 use Rattle.fields.proofs.copy_runs.Statement.{statement}
 use Rattle.fields.proofs.copy_runs.Tie as tie
@@ -109,8 +110,8 @@ copy-requires c κs =
     let d = c .before .before in
     let l = d .before .before .loop in
     let x = d .before .before .before .before .before .args in
-    part-size (l .out) (l .i) (d .lesser .result) (omega (arith, d .lesser .ensures .1))
-    ∙ sym (part-size (x .bytes .now) (l .a + l .k) (d .lesser .result) (turn d .1))
+    length-part (l .out) (l .i) (d .lesser .result) (omega (arith, d .lesser .ensures .1))
+    ∙ sym (length-part (x .bytes .now) (l .a + l .k) (d .lesser .result) (turn d .1))
 
 add-a-2 : tie.Need-add-a-2 Inv-loop μ-loop
 add-a-2 c = omega (arith, turn (c .before .before .before .before .before) .1)
@@ -126,7 +127,7 @@ loop-again c =
     let k = c .before .before .copy in
     let h : l .i < length (x .args .out .now) = omega arith in
     let fit : l .i + d .lesser .result ≤ length (l .out) = omega (arith, d .lesser .ensures .1) in
-    let size : length (k .last .0) ≡ l .i + d .lesser .result - l .i = ap length (k .ensures) ∙ part-size (x .args .bytes .now) (l .a + l .k) (d .lesser .result) (turn d .1) ∙ omega arith in
+    let size : length (k .last .0) ≡ l .i + d .lesser .result - l .i = ap length (k .ensures) ∙ length-part (x .args .bytes .now) (l .a + l .k) (d .lesser .result) (turn d .1) ∙ omega arith in
     let f : ℕ → ℕ = λ j. runByte (x .args .bytes .now) (x .args .at) (x .args .stride) (x .args .n) (x .args .y + j) in (
       omega (arith, fit, l .inv .1),
       part-length (l .out) (k .last .0) (l .i) (l .i + d .lesser .result) (omega arith) fit size ∙ l .inv .1,

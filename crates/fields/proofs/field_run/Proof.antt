@@ -3,7 +3,7 @@ use Prim.Native.Nat.{ℕ, _+_}
 use mathlib.Core.Path.{refl}
 use lib.ListN.{length}
 use Rattle.fields.specs.Sources.{fieldByte}
-use Rattle.fields.specs.Lists.{is-tab}
+use Rattle.memory.specs.Lists.{is-tab}
 use borrow.Author.Needs.{needs}
 use Rattle.fields.proofs.field_run.Statement.{statement}
 use Rattle.fields.proofs.field_run.Tie as tie

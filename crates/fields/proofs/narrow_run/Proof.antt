@@ -3,7 +3,8 @@ use Prim.Native.Nat.{ℕ, _+_, _-_, _≤_}
 use mathlib.Core.Path.{_≡_, refl}
 use lib.ListN.{length, length-set}
 use Rattle.fields.specs.Sources.{fieldByte}
-use Rattle.fields.specs.Lists.{Done, done-more, done-all}
+use Rattle.memory.specs.Lists.{Done, done-more}
+use Rattle.fields.specs.Lists.{done-all}
 use Rattle.fields.proofs.narrow_run.Statement.{statement}
 use Rattle.fields.proofs.narrow_run.Tie as tie
 use Rattle.fields.proofs.narrow_run.Reads as reads

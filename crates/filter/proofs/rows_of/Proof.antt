@@ -3,7 +3,8 @@ use native.Mathlib.Omega.{arith}
 use Prim.Native.Nat.{ℕ, _+_, _*_, _-_, _/_, _%_, _≤_}
 use mathlib.Core.Path.{_≡_, refl}
 use lib.ListN.{getD, length-set}
-use Rattle.filter.proofs.Rows.{Filled, filled-more}
+use Rattle.memory.specs.Lists.{done-more}
+use Rattle.filter.proofs.Rows.{Filled}
 use borrow.Author.Needs.{needs}
 use Rattle.filter.proofs.rows_of.Statement.{statement}
 use Rattle.filter.proofs.rows_of.Tie as tie
@@ -78,8 +79,8 @@ loop-again c =
     let f : ℕ → ℕ = λ j. x .l .base + getD (x .t2) j 0 / w * x .l .stride in
     let r : ℕ → ℕ = λ j. getD (x .t2) j 0 % w in (
       omega arith,
-      (simp length-set (l .inv .1 .0), filled-more f (l .i) (x .l .base + c .wide .result / w * x .l .stride) (l .at) (l .inv .1) (omega arith) (rw (c .wide .ensures))),
-      (simp length-set (l .inv .2 .0), filled-more r (l .i) (c .wide .result % w) (l .low) (l .inv .2) (omega arith) (rw (c .wide .ensures))),
+      (simp length-set (l .inv .1 .0), done-more f (l .at) (l .i) (x .l .base + c .wide .result / w * x .l .stride) (omega (arith, l .inv .1 .0)) (l .inv .1 .1) (rw (c .wide .ensures))),
+      (simp length-set (l .inv .2 .0), done-more r (l .low) (l .i) (c .wide .result % w) (omega (arith, l .inv .2 .0)) (l .inv .2 .1) (rw (c .wide .ensures))),
     )
 
 returns : tie.Need-returns Inv-loop μ-loop

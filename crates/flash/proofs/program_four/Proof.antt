@@ -6,7 +6,7 @@ use lib.ListN.{length, getD}
 use Rattle.layout.specs.Geometry.{sector}
 use Rattle.layout.specs.Flash.{flashOf, applyAll, programs}
 use Rattle.flash.proofs.Laws.{ram-fits, run-le, run-main-le, leftOps, program-start, program-more, program-end}
-use Rattle.words.proofs.Laws.{part-length}
+use Rattle.memory.specs.Lists.{length-part}
 use Rattle.flash.proofs.program_four.Statement.{statement}
 use Rattle.flash.proofs.program_four.Tie as tie
 
@@ -75,7 +75,7 @@ program-sector-requires c κs =
     let x = l .before .before .before .before .args in
     let h : l .loop .j ≤ 3 = omega arith in (
       omega arith,
-      part-length (x .at + l .loop .j * sector (x .unit)) (sector (x .unit)) (x .ram .now) (ram-fits (x .unit) (x .at) (l .loop .j) (length (x .ram .now)) (omega arith) (omega arith)),
+      length-part (x .ram .now) (x .at + l .loop .j * sector (x .unit)) (sector (x .unit)) (ram-fits (x .unit) (x .at) (l .loop .j) (length (x .ram .now)) (omega arith) (omega arith)),
       omega (arith, run-main-le (sector (x .unit)) (x .s) (x .stride) (l .loop .j) 3 h),
       omega (arith, run-le (x .s) (x .stride) (l .loop .j) 3 h),
     )

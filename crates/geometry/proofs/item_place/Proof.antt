@@ -1,8 +1,8 @@
 use native.Mathlib.Omega.{arith}
 use Prim.Native.Nat.{_*_, _/_, _%_, _≤_}
-use native.Mathlib.Nat.{mod-lt}
+use native.Mathlib.Nat.{mod-lt, div-mul-le-self}
 use borrow.Author.Tests.{lt-ltb, le-ltb}
-use Rattle.geometry.specs.Bounds.{product-le, multiples-le}
+use Rattle.geometry.specs.Bounds.{product-le}
 use borrow.Author.Needs.{needs}
 use Rattle.geometry.proofs.item_place.Statement.{statement}
 use Rattle.geometry.proofs.item_place.Tie as tie
@@ -11,7 +11,7 @@ div-full : tie.Need-div-full
 div-full c = search needs
 
 mul-full : tie.Need-mul-full
-mul-full c = omega (arith, multiples-le (c .args .n) (c .args .a .«per_page»))
+mul-full c = omega (arith, div-mul-le-self (c .args .n) (c .args .a .«per_page»))
 
 block-address-requires : tie.Need-block-address-requires
 block-address-requires c κs = search needs

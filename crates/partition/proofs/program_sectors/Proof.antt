@@ -7,9 +7,7 @@ use native.Mathlib.Omega.{arith}
 use Prim.Native.Nat.{ℕ, _+_, _-_, _*_, _≤_}
 use mathlib.Core.Path.{_≡_, refl, ap, sym, _∙_}
 use lib.ListN.{length}
-use Rattle.layout.specs.Index.{setByte}
 use Rattle.sets.specs.Indexes.{indexOf}
-use Rattle.partition.proofs.Steps.{main-length, spare-length, after-more, after-all, sector-inside}
 use Rattle.partition.proofs.program_sectors.Statement.{statement}
 use Rattle.partition.proofs.program_sectors.Tie as tie
 use Rattle.partition.proofs.program_sectors.Reads as reads

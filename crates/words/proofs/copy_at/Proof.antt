@@ -1,9 +1,9 @@
 use mathlib.Core.Path.{ap, _∙_}
 use mathlib.Core.List.{List}
-use Prim.Native.Nat.{ℕ}
+use Prim.Native.Nat.{ℕ, _+_}
+use native.Mathlib.Omega.{arith}
 use lib.ListN.{length}
-use Rattle.memory.specs.Lists.{write}
-use Rattle.words.proofs.Laws.{part-back}
+use Rattle.memory.specs.Lists.{write, part-back}
 use borrow.Author.Needs.{needs}
 use Rattle.words.proofs.copy_at.Statement.{statement}
 use Rattle.words.proofs.copy_at.Tie as tie
@@ -31,7 +31,7 @@ returns c =
     let b = c .before .before .before .before .before .before in
     let k = c .before .before .copy in
     let x = b .args in
-    part-back (x .at) (length (x .src .now)) (x .dst .now) (k .last .0) (ap length (k .ensures)) (b .pre)
+    part-back (x .dst .now) (x .at) (x .at + length (x .src .now)) (k .last .0) (omega arith) (b .pre) (omega (arith, ap length (k .ensures)))
     ∙ ap (λ (ys : List ℕ). write (x .dst .now) (x .at) ys) (k .ensures)
 
 pub copy-at-spec : {M : Type 1} → statement M

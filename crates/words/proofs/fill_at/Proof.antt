@@ -1,9 +1,9 @@
 use mathlib.Core.Path.{_≡_, ap, _∙_}
 use mathlib.Core.List.{List}
-use Prim.Native.Nat.{ℕ}
+use Prim.Native.Nat.{ℕ, _+_}
+use native.Mathlib.Omega.{arith}
 use lib.ListN.{length, replicate, length-replicate}
-use Rattle.memory.specs.Lists.{write}
-use Rattle.words.proofs.Laws.{part-back, part-length}
+use Rattle.memory.specs.Lists.{write, length-part, part-back}
 use borrow.Author.Needs.{needs}
 use Rattle.words.proofs.fill_at.Statement.{statement}
 use Rattle.words.proofs.fill_at.Tie as tie
@@ -32,8 +32,8 @@ returns c =
     let x = b .args in
     let k = c .before .before .fill in
     let l : k .last .0 ≡ replicate (x .n) (x .v) =
-    k .ensures ∙ rw (part-length (x .at) (x .n) (x .dst .now) (b .pre)) in
-    part-back (x .at) (x .n) (x .dst .now) (k .last .0) (ap length l ∙ length-replicate {A = ℕ} (x .n) (x .v)) (b .pre)
+    k .ensures ∙ rw (length-part (x .dst .now) (x .at) (x .n) (b .pre)) in
+    part-back (x .dst .now) (x .at) (x .at + x .n) (k .last .0) (omega arith) (b .pre) (omega (arith, ap length l, length-replicate {A = ℕ} (x .n) (x .v)))
     ∙ ap (λ (ys : List ℕ). write (x .dst .now) (x .at) ys) l
 
 pub fill-at-spec : {M : Type 1} → statement M
