@@ -1,2 +1,3 @@
+pub mod Example
 pub mod Trace
 pub mod FirstFilter

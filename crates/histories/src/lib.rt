@@ -1,1 +1,1 @@
-// A published trace, computed by the layout's definitions. No code.
+// Short histories computed by the definitions: document 01's replay example, a published trace, the first filter. No code.

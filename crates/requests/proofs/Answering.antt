@@ -21,7 +21,7 @@ use Rattle.lookup.specs.Looked.{lookedOf, looked, partOf}
 use Rattle.script.specs.Lines.{Request, request}
 use Rattle.script.specs.Answers.{text}
 use Rattle.script.specs.Answers as answers
-use Rattle.script.specs.Answered.{answered}
+use Rattle.answers.specs.Answered.{answered}
 use Rattle.script.specs.Script.{Done, said, done, perform}
 use Rattle.requests.specs.Contract.{performed, changeAnswer, stepped, answeredLine}
 use Rattle.requests.specs.declared.Performed.{Performed}

@@ -10,10 +10,10 @@ use Rattle.state.specs.Contract.{volume}
 use Rattle.state.specs.declared.Change.{Change}
 use Rattle.script.specs.Lines.{request}
 use Rattle.script.specs.Answers.{text}
-use Rattle.script.specs.Answered.{answered}
+use Rattle.answers.specs.Answered.{answered}
 use Rattle.script.specs.Script.{Done, perform}
-use Rattle.script.specs.declared.Answer.{Answer}
-use Rattle.script.specs.declared.Answer.the-variants.{Ok, No}
+use Rattle.answers.specs.declared.Answer.{Answer}
+use Rattle.answers.specs.declared.Answer.the-variants.{Ok, No}
 use Rattle.requests.specs.declared.Performed.{Performed}
 use Rattle.requests.specs.declared.Step.{Step}
 

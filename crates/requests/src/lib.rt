@@ -6,10 +6,10 @@ ghost use Rattle.layout.specs.Calls.{lookup};
 ghost use Rattle.state.specs.Contract.{volume};
 ghost use Rattle.script.specs.Lines as lines;
 ghost use Rattle.script.specs.Asked.{asked};
-ghost use Rattle.script.specs.Answered.{answered};
+ghost use Rattle.answers.specs.Answered.{answered};
 ghost use Rattle.script.specs.Script.{perform};
 ghost use Rattle.requests.specs.Contract.{performed, changeAnswer, stepped, answeredLine};
-use script::Answer;
+use answers::Answer;
 use script::Request;
 use state::Change;
 use state::State;
@@ -123,7 +123,7 @@ pub fn answer_line(
     let p = perform(s, q, main, spare, ram);
     let next = p.state;
     let answer = p.answer;
-    let length = script::put_answer(out, answer);
+    let length = answers::put_answer(out, answer);
     Step {
         state: next,
         length,

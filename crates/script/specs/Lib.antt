@@ -1,10 +1,7 @@
 pub mod Lines
 pub mod Answers
 pub mod Script
-pub mod Example
 pub mod Asked
 pub mod FirstWord
 pub mod ReadNumber
 pub mod Cut
-pub mod Answered
-pub mod Written

@@ -1,16 +1,10 @@
-// The lines and answers of a script: reading a line, writing an answer. Document 01, "Replay program".
+// The reader of a script's lines. Document 01, "Replay program"; the definitions of the replay program are in `specs`.
 ghost use mathlib.Core.Path.{_≡_};
-ghost use mathlib.Core.List.{[], _∷_, _++_};
 ghost use Prim.Native.Nat.{_+_, _-_, _≤_, _<_};
 ghost use lib.ListN.{length, take, drop};
-ghost use Rattle.memory.specs.Lists.{write};
 ghost use Rattle.script.specs.Lines.{digitsFrom, small, number, fields, one, two, three, lettered, request};
 ghost use Rattle.script.specs.FirstWord.{wordLength};
 ghost use Rattle.script.specs.Asked.{numberOf, asked};
-ghost use Rattle.script.specs.Answers.{decimal, text};
-ghost use Rattle.script.specs.Answered.{answered};
-
-// ---- lines
 
 // What a line asks for.
 pub enum Request {
@@ -22,7 +16,7 @@ pub enum Request {
     Lookup(u32),
 }
 
-// ---- lines: numbers
+// ---- numbers
 
 // The number that a word is, or none.
 enum Number {
@@ -77,7 +71,7 @@ fn read_number(word: &[u8]) -> Number
     read_digits(word)
 }
 
-// ---- lines: requests
+// ---- requests
 
 // `d key` and `l key`.
 fn one_number(letter: u8, x: Number) -> Request
@@ -133,7 +127,7 @@ fn three_numbers(letter: u8, x: Number, y: Number, z: Number) -> Request
     Request::Bad
 }
 
-// ---- lines: words
+// ---- words
 
 // How many bytes stand before the first space.
 fn word_length(line: &[u8]) -> usize
@@ -203,97 +197,4 @@ pub fn parse_line(line: &[u8]) -> Request
     }
     let words = after_space(line, 1);
     parse_words(line[0], words)
-}
-
-// ---- answers
-
-// The answer to a line: n and d, a hit's moves and count, a miss's count, or a refusal's number.
-pub enum Answer {
-    Ok(u32, u32),
-    Hit(u32, u32),
-    Miss(u32),
-    No(u32),
-    Bad,
-}
-
-// How many digits a number has in decimal.
-fn digits_of(n: u32) -> usize
-    ensures { λ r. ⌜ r ≡ length (decimal n) ⌝ }
-{
-    let mut left = n;
-    let mut k = 1;
-    while left >= 10 {
-        left = left / 10;
-        k += 1;
-    }
-    k
-}
-
-// Writes a number in decimal from `at` on; gives where it ends.
-fn put_decimal(out: &mut [u8], at: usize, n: u32) -> usize
-    requires { ⌜ at + 10 ≤ length (now out) ⌝ }
-    ensures { λ r. ⌜ r ≡ at + length (decimal n) ⌝ }
-    ensures { λ _. ⌜ now (out .exit) ≡ write (now (out .entry)) at (decimal n) ⌝ }
-{
-    let end = at + digits_of(n);
-    let mut left = n;
-    let mut i = end;
-    while left >= 10 {
-        i -= 1;
-        out[i] = (left % 10) as u8 + b'0';
-        left = left / 10;
-    }
-    out[at] = left as u8 + b'0';
-    end
-}
-
-// Writes a number and the byte that ends it from `at` on; gives where they end.
-fn put_number(out: &mut [u8], at: usize, n: u32, mark: u8) -> usize
-    requires { ⌜ at + 11 ≤ length (now out) ⌝ }
-    ensures { λ r. ⌜ (r ≡ at + length (decimal n ++ (mark ∷ []))) × (r ≤ at + 11) ⌝ }
-    ensures { λ _. ⌜ now (out .exit) ≡ write (now (out .entry)) at (decimal n ++ (mark ∷ [])) ⌝ }
-{
-    let mark_at = put_decimal(out, at, n);
-    out[mark_at] = mark;
-    mark_at + 1
-}
-
-// Writes a word and a number as a line.
-fn put_one(out: &mut [u8], word: &[u8], n: u32) -> usize
-    requires { ⌜ length (now word) + 11 ≤ length (now out) ⌝ }
-    ensures { λ r. ⌜ (r ≡ length (now (word .entry) ++ (decimal n ++ (10 ∷ [])))) × (r ≤ length (now (word .entry)) + 11) ⌝ }
-    ensures { λ _. ⌜ now (out .exit) ≡ write (now (out .entry)) 0 (now (word .entry) ++ (decimal n ++ (10 ∷ []))) ⌝ }
-{
-    words::copy_at(out, 0, word);
-    put_number(out, word.len(), n, b'\n')
-}
-
-// Writes a word and two numbers as a line.
-fn put_two(out: &mut [u8], word: &[u8], n: u32, m: u32) -> usize
-    requires { ⌜ length (now word) + 22 ≤ length (now out) ⌝ }
-    ensures { λ r. ⌜ (r ≡ length (now (word .entry) ++ (decimal n ++ (32 ∷ (decimal m ++ (10 ∷ [])))))) × (r ≤ length (now (word .entry)) + 22) ⌝ }
-    ensures { λ _. ⌜ now (out .exit) ≡ write (now (out .entry)) 0 (now (word .entry) ++ (decimal n ++ (32 ∷ (decimal m ++ (10 ∷ []))))) ⌝ }
-{
-    words::copy_at(out, 0, word);
-    let at = put_number(out, word.len(), n, b' ');
-    put_number(out, at, m, b'\n')
-}
-
-// Writes an answer's line at the start of `out`; gives its length.
-pub fn put_answer(out: &mut [u8], a: Answer) -> usize
-    requires { ⌜ 32 ≤ length (now out) ⌝ }
-    ensures { λ r. ⌜ r ≡ length (text (answered a)) ⌝ }
-    ensures { λ r. ⌜ r ≤ 32 ⌝ }
-    ensures { λ _. ⌜ now (out .exit) ≡ write (now (out .entry)) 0 (text (answered a)) ⌝ }
-{
-    match a {
-        Answer::Ok(n, d) => put_two(out, b"ok ", n, d),
-        Answer::Hit(moves, count) => put_two(out, b"hit ", moves, count),
-        Answer::Miss(count) => put_one(out, b"miss ", count),
-        Answer::No(number) => put_one(out, b"no ", number),
-        Answer::Bad => {
-            words::copy_at(out, 0, b"bad\n");
-            4
-        }
-    }
 }

@@ -15,7 +15,7 @@ use Rattle.memory.specs.Lists.{write}
 use Rattle.layout.specs.Calls.{Volume}
 use Rattle.script.specs.Lines.{request}
 use Rattle.script.specs.Answers.{text}
-use Rattle.script.specs.Written.{text-length}
+use Rattle.answers.specs.Written.{text-length}
 use Rattle.script.specs.Script.{Done, perform}
 use Rattle.requests.specs.Contract.{LineLeft, answeredLine}
 use Rattle.stream.specs.Kept.{Kept, endKept, addKept, keptByte, keptFeed}

@@ -2,7 +2,7 @@
 use Rattle.layout.specs.Hash.{fnvFamily}
 use Rattle.layout.specs.Calls as calls
 use Rattle.state.specs.Contract.{volume}
-use Rattle.script.specs.Answered.{answered}
+use Rattle.answers.specs.Answered.{answered}
 use Rattle.script.specs.Script.{perform}
 use Rattle.requests.proofs.Answering.{change-done, lookup-done}
 use borrow.Author.Needs.{needs}

@@ -5,7 +5,7 @@ use native.Mathlib.Omega.{arith}
 use mathlib.Core.Path.{sym}
 use mathlib.Core.List.{[], _∷_}
 use lib.ListN.{length}
-use Rattle.script.specs.Written.{write-byte}
+use Rattle.answers.specs.Written.{write-byte}
 use Rattle.stream.specs.Buffers.{write-past}
 use Rattle.stream.proofs.add_byte.Statement.{statement}
 use Rattle.stream.proofs.add_byte.Tie as tie

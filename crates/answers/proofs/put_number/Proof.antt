@@ -3,10 +3,10 @@ use borrow.Author.Needs.{needs}
 use native.Mathlib.Omega.{arith}
 use mathlib.Core.List.{[], _∷_}
 use lib.ListN.{length-append}
 use Rattle.script.specs.Answers.{decimal}
-use Rattle.script.specs.Written.{write-byte, write-then, decimal-length}
-use Rattle.script.proofs.put_number.Statement.{statement}
-use Rattle.script.proofs.put_number.Tie as tie
+use Rattle.answers.specs.Written.{write-byte, write-then, decimal-length}
+use Rattle.answers.proofs.put_number.Statement.{statement}
+use Rattle.answers.proofs.put_number.Tie as tie
 
 put-decimal-requires : tie.Need-put-decimal-requires
 put-decimal-requires c κs = search needs

@@ -2,10 +2,10 @@
 use borrow.Author.Needs.{needs}
 use native.Mathlib.Omega.{arith}
 use mathlib.Core.List.{[], _∷_, _++_}
 use Rattle.script.specs.Answers.{decimal}
-use Rattle.script.specs.Written.{write-three}
-use Rattle.script.proofs.put_two.Statement.{statement}
-use Rattle.script.proofs.put_two.Tie as tie
+use Rattle.answers.specs.Written.{write-three}
+use Rattle.answers.proofs.put_two.Statement.{statement}
+use Rattle.answers.proofs.put_two.Tie as tie
 
 copy-at-requires : tie.Need-copy-at-requires
 copy-at-requires c κs = search needs

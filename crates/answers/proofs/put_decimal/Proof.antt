@@ -6,10 +6,10 @@ use mathlib.Core.Path.{_≡_, refl, sym, ap, _∙_}
 use mathlib.Core.List.{List}
 use lib.ListN.{length, length-set, length-append}
 use Rattle.memory.specs.Lists.{write}
 use Rattle.script.specs.Answers.{decimal}
-use Rattle.script.specs.Written.{write-byte, write-last, decimal-one, decimal-more, decimal-length, decimal-there}
-use Rattle.script.proofs.put_decimal.Statement.{statement}
-use Rattle.script.proofs.put_decimal.Tie as tie
+use Rattle.answers.specs.Written.{write-byte, write-last, decimal-one, decimal-more, decimal-length, decimal-there}
+use Rattle.answers.proofs.put_decimal.Statement.{statement}
+use Rattle.answers.proofs.put_decimal.Tie as tie
 
 abbrev Inv-loop : tie.InvT-loop
 Inv-loop out₀ at n end left₀ i₀ out left i =

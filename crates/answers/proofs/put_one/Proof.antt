@@ -5,10 +5,10 @@ use Prim.Native.Nat.{_+_}
 use mathlib.Core.Path.{sym, _∙_}
 use mathlib.Core.List.{[], _∷_, _++_}
 use lib.ListN.{length, length-append}
 use Rattle.script.specs.Answers.{decimal}
-use Rattle.script.specs.Written.{write-then}
-use Rattle.script.proofs.put_one.Statement.{statement}
-use Rattle.script.proofs.put_one.Tie as tie
+use Rattle.answers.specs.Written.{write-then}
+use Rattle.answers.proofs.put_one.Statement.{statement}
+use Rattle.answers.proofs.put_one.Tie as tie
 
 copy-at-requires : tie.Need-copy-at-requires
 copy-at-requires c κs = search needs

@@ -1,7 +1,7 @@
 -- The code's answer as the definitions' answer.
 use Rattle.script.specs.Answers as answers
-use Rattle.script.specs.declared.Answer.{Answer}
-use Rattle.script.specs.declared.Answer.the-variants.{Ok, Hit, Miss, No, Bad}
+use Rattle.answers.specs.declared.Answer.{Answer}
+use Rattle.answers.specs.declared.Answer.the-variants.{Ok, Hit, Miss, No, Bad}
 
 abbrev pub answered : Answer → answers.Answer
 answered (Ok n d) = answers.ok n d
