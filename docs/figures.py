@@ -23,7 +23,8 @@ definitions = [path for name in ("layout", "script") for path in sorted((crates 
 specs = [path for path in sorted(crates.glob("*/specs/*.antt")) if path not in definitions]
 proofs = sorted(crates.glob("*/proofs/**/*.antt"))
 functions = sum(len(re.findall(r"^ *(?:pub )?(?:extern \"C\" )?fn ", path.read_text(), re.M)) for path in code)
-edits = len(list(crates.glob("*/must-fail/*.edit")))
+edits = len(list(crates.glob("*/must-fail/**/*.edit")))
+gate = len(list(crates.glob("*/must-fail/*.edit")))
 
 print(f"crates: {len([c for c in crates.iterdir() if c.is_dir()])}")
 print(f"functions: {functions}")
@@ -31,4 +32,4 @@ print(f"lines of code, contracts included: {lines(code)}")
 print(f"lines of definitions, examples included (layout, script): {lines(definitions)}")
 print(f"lines of other specs and theorems: {lines(specs)}")
 print(f"lines of proof: {lines(proofs)}")
-print(f"wrong programs that must be refused: {edits}")
+print(f"wrong programs that must be refused: {edits}, in the gate {gate}")
