@@ -87,6 +87,19 @@ fn fail(state: State, reason: &[u8]) -> Turn
     }
 }
 
+// The answers of a chunk are written.
+fn tell(q: Progress, out: &[u8]) -> Turn
+    requires { ⌜ q .printed ≤ length (now out) ⌝ }
+    ensures { λ r. ⌜ (r .progress .state ≡ q .state) × (r .progress .fill ≡ cond (r .more) (q .fill) 0) × (r .progress .printed ≡ 0) × (r .whole ≡ r .more) ⌝ }
+{
+    let printed = q.printed;
+    let state = q.state;
+    if !io::write_all(STDOUT_FILENO, &out[0..printed]) {
+        return fail(state, b"replay: cannot write the answers\n");
+    }
+    between(state, q.fill, true)
+}
+
 // The lines that end in the first n bytes of a chunk are answered, and the answers are written.
 fn answer_chunk(
     p: Progress,
@@ -104,12 +117,7 @@ fn answer_chunk(
     ensures { λ r. ⌜ r .whole ≡ r .more ⌝ }
 {
     let q = stream::feed(p, &chunk[0..n], line, main, spare, ram, out);
-    let printed = q.printed;
-    let state = q.state;
-    if !io::write_all(STDOUT_FILENO, &out[0..printed]) {
-        return fail(state, b"replay: cannot write the answers\n");
-    }
-    between(state, q.fill, true)
+    tell(q, out)
 }
 
 // A chunk is read and answered.
