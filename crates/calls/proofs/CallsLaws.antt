@@ -8,7 +8,6 @@ use Rattle.layout.specs.Geometry as layout
 use Rattle.layout.specs.Flash.{flashOf}
 use Rattle.layout.specs.Hash.{Family}
 use Rattle.layout.specs.Items.{recordBytes}
-use Rattle.layout.specs.Search as find
 use Rattle.layout.specs.Search.{found, corrupt}
 use Rattle.layout.specs.Calls.{Volume, Call, insert, update, delete, badState, tooShort, judged, call, answer, search, insertAfter, updateAfter, deleteAfter}
 use Rattle.geometry.specs.Shape.{shape}

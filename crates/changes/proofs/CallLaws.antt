@@ -1,16 +1,16 @@
 -- The layout's changing calls by the tests that they make, after refusals 1 and 2 and the search.
-use mathlib.Core.Path.{_≡_, refl, sym, ap, _∙_}
-use mathlib.Core.Bool.{Bool, true, false, _&&_, cond}
+use mathlib.Core.Path.{_≡_, sym, ap, _∙_}
+use mathlib.Core.Bool.{Bool, true, false, _&&_}
 use mathlib.Core.Option.{none, some}
 use mathlib.Core.List.{List, []}
-use Prim.Native.Nat.{ℕ, _+_, _≤_, _<_}
+use Prim.Native.Nat.{ℕ, _+_}
 use lib.Dec.{leb}
 use Rattle.layout.specs.Geometry.{Geometry, recordCapacity, deletionCapacity, workRam}
-use Rattle.layout.specs.Flash.{Flash, Op, applyAll, allFresh}
+use Rattle.layout.specs.Flash.{Flash, applyAll, allFresh}
 use Rattle.layout.specs.Hash.{Family}
 use Rattle.layout.specs.Items.{DA, deletionBytes, zeroPage}
 use Rattle.layout.specs.Search.{found}
-use Rattle.layout.specs.Calls.{Volume, accepted, Draft, deletion, insertion, commit, insertAfter, updateAfter, deleteAfter}
+use Rattle.layout.specs.Calls.{Volume, Draft, deletion, insertion, commit, insertAfter, updateAfter, deleteAfter}
 use Rattle.state.specs.Contract.{Left, seen, outcomeOf}
 use Rattle.items.specs.Fresh.{itemFresh, item-fresh}
 use Rattle.changes.specs.Inserted.{insertFresh, insertedFlash, insertedRam}

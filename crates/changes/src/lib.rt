@@ -1,7 +1,7 @@
 // What an accepted deletion and an accepted insertion do to flash and RAM, and whether the sectors that
 // they program are fresh. Document 01, "Records, entries, deletions" and "Filters".
 ghost use mathlib.Core.Path.{_≡_};
-ghost use Prim.Native.Nat.{_+_, _*_, _%_, _<_, _≤_};
+ghost use Prim.Native.Nat.{_+_, _%_, _<_, _≤_};
 ghost use lib.ListN.{length};
 ghost use Rattle.layout.specs.Geometry.{deletionCapacity, recordCapacity, spareSize, entriesPerPage};
 ghost use Rattle.layout.specs.Flash.{flashOf, applyAll};

@@ -1,7 +1,6 @@
 // Delete: a level is taken out. Document 01, "Calls".
 ghost use mathlib.Core.Path.{_≡_};
 ghost use mathlib.Core.Option.{some};
-ghost use Prim.Native.Nat.{_+_};
 ghost use Rattle.layout.specs.Hash.{fnvFamily};
 ghost use Rattle.layout.specs.Search.{found};
 ghost use Rattle.layout.specs.Calls.{delete, call, answer, deleteAfter};

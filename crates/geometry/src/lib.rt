@@ -1,11 +1,10 @@
 // Sizes, areas, addresses and the places of items of a volume.
 ghost use mathlib.Core.Path.{_≡_};
 ghost use mathlib.Core.Bool.{_&&_};
-ghost use Prim.Native.Nat.{_+_, _*_, _^_, _<_, _≤_};
+ghost use Prim.Native.Nat.{_*_, _<_, _≤_};
 ghost use Rattle.memory.specs.Power.{log2up};
 ghost use Rattle.layout.specs.Geometry as layout;
 ghost use Rattle.layout.specs.Items.{RA, KA, DA, itemPlace};
-ghost use Rattle.layout.specs.Index.{setPages, setBlocks};
 ghost use Rattle.geometry.specs.Rows.{rowOf, Ruled};
 ghost use Rattle.geometry.specs.Shape.{shape, Sound, answer, shapedOf, GoodSound, area, place, AreaSound};
 

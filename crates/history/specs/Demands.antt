@@ -1,18 +1,15 @@
 -- Demands 2 and 3 of document 01, for every hash family and every list of calls after an accepted format.
 -- Their words (runs, discipline, agreement, history, image) are defined in Season and Image; the calls and the map in `layout`.
-use mathlib.Core.Path.{_≡_, refl, sym, ap, _∙_}
+use mathlib.Core.Path.{_≡_}
 use mathlib.Core.Bool.{Bool, true, false}
 use mathlib.Core.List.{List, _++_}
-use Prim.Native.Nat.{ℕ, _+_, _/_, _<_}
-use native.Mathlib.Omega.{arith}
-use lib.ListN.{length, getD}
-use Rattle.layout.specs.Geometry.{Geometry, geometry, allowed, blocks, spareSize}
-use Rattle.layout.specs.Flash.{Flash, Op, applyAll, erases}
+use Prim.Native.Nat.{ℕ, _/_}
+use Rattle.layout.specs.Geometry.{geometry, allowed}
+use Rattle.layout.specs.Flash.{applyAll}
 use Rattle.layout.specs.Hash.{Family}
-use Rattle.layout.specs.Calls.{Volume, Call, lookup, Outcome, accepted, tooShort, format, formatted, call}
-use Rattle.layout.specs.FiniteMap.{Map, emptyMap}
-use Rattle.history.specs.Image.{History}
-use Rattle.history.specs.Live.{emptyHistory, live-start}
+use Rattle.layout.specs.Calls.{Volume, Call, accepted, tooShort, format}
+use Rattle.layout.specs.FiniteMap.{emptyMap}
+use Rattle.history.specs.Live.{emptyHistory}
 use Rattle.history.specs.Season.{KeyWords, after, opsOf, Disciplined, stateOf, EachAgrees, historyOf, ImageOf}
 use Rattle.history.specs.DemandLaws as laws
 

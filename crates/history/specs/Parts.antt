@@ -11,7 +11,7 @@ use lib.Pow.{pow-pos}
 use Rattle.memory.specs.Cases.{either}
 use Rattle.memory.specs.Numbers.{div-lt}
 use Rattle.layout.specs.Geometry.{Geometry, page, block, filterBits, kaBlocks, blocks, indexBlock, fullSets, recordCapacity, deletionCapacity, dataSize, spareSize, ramSize}
-use Rattle.layout.specs.Flash.{Flash, Op, applyAll, allFresh, fresh}
+use Rattle.layout.specs.Flash.{Flash, Op, applyAll, allFresh}
 use Rattle.layout.specs.Hash.{Family}
 use Rattle.layout.specs.Items.{Area, RA, KA, DA, itemOps, itemRam}
 use Rattle.layout.specs.Index.{Index, inSka, inFull, fullBlock, withFilter, filterOps, filterRam}

@@ -8,11 +8,11 @@ use Prim.Native.Nat.{ℕ, _+_, _/_, _^_, _≤_, _<_}
 use lib.ListN.{length, getD}
 use lib.Dec.{eqb}
 use Rattle.layout.specs.Geometry.{State, Geometry, geometry, dataSize, spareSize, ramSize, entriesPerPage}
-use Rattle.layout.specs.Flash.{Flash, Op, program, erase}
+use Rattle.layout.specs.Flash.{Op, program, erase}
 use Rattle.layout.specs.Hash.{Family}
 use Rattle.layout.specs.Calls.{Volume, Call, insert, update, delete, lookup, Outcome, accepted, hit, miss, refused, Result, call}
 use Rattle.layout.specs.FiniteMap.{Map, Reply, accepts, hits, misses, refuses, Step, mapOf}
-use Rattle.history.specs.Image.{Record, History, recordAt, bytesOf, mainImage, spareImage, ramImage}
+use Rattle.history.specs.Image.{History, recordAt, bytesOf, mainImage, spareImage, ramImage}
 use Rattle.history.specs.Live.{findLive, withRecord, withDeletion}
 
 -- ---- runs

@@ -1,7 +1,7 @@
 // A PBFilter index that takes one more filter: into the SKA page, of eight filters into L1, of
 // sixteen flushes into the next partition set. Document 01, "Filters".
 ghost use mathlib.Core.Path.{_≡_};
-ghost use Prim.Native.Nat.{_+_, _*_, _≤_, _<_};
+ghost use Prim.Native.Nat.{_+_, _*_};
 ghost use lib.ListN.{length};
 ghost use Rattle.layout.specs.Flash.{flashOf, applyAll};
 ghost use Rattle.layout.specs.Index.{inSka, setPages, setBlock, withFilter, buildOps, flushAndBuild, filterOps, filterRam};

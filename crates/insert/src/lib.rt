@@ -1,7 +1,6 @@
 // Insert: a new level. Document 01, "Calls".
 ghost use mathlib.Core.Path.{_≡_};
 ghost use mathlib.Core.Option.{none};
-ghost use Prim.Native.Nat.{_+_};
 ghost use Rattle.layout.specs.Hash.{fnvFamily};
 ghost use Rattle.layout.specs.Items.{recordBytes};
 ghost use Rattle.layout.specs.Calls.{insert, call, answer, insertAfter};

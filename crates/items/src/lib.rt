@@ -11,7 +11,7 @@ ghost use Rattle.layout.specs.Items.{itemOps, itemRam, itemWord};
 ghost use Rattle.geometry.specs.Shape.{area};
 ghost use Rattle.items.specs.Fits.{Fits, SpareFits};
 ghost use Rattle.items.specs.Fresh.{itemFresh};
-ghost use Rattle.items.specs.Scans.{isWord, hasKey, hasWord, lastEntry};
+ghost use Rattle.items.specs.Scans.{hasWord, lastEntry};
 use geometry::Area;
 
 // Sectors of a page and of a block.

@@ -1,8 +1,8 @@
 -- The five calls, for any state and any lent bytes. Document 01, "Calls".
-use mathlib.Core.Bool.{Bool, true, false, not, _||_, cond}
+use mathlib.Core.Bool.{Bool, not, _||_, cond}
 use mathlib.Core.Option.{Option, none, some}
-use mathlib.Core.List.{List, [], _∷_, _++_}
-use Prim.Native.Nat.{ℕ, _+_, _*_, _/_, _%_}
+use mathlib.Core.List.{List, [], _++_}
+use Prim.Native.Nat.{ℕ, _+_, _*_, _/_}
 use lib.ListN.{length, replicate}
 use lib.Dec.{ltb, leb, eqb}
 use Rattle.memory.specs.Lists.{write}
@@ -12,7 +12,7 @@ use Rattle.layout.specs.Geometry.{State, Geometry, geometry, geometryOf,
 use Rattle.layout.specs.Flash.{Flash, Op, applyAll, erases, allFresh}
 use Rattle.layout.specs.Hash.{Family, positions, positionCount}
 use Rattle.layout.specs.Index.{Index, filterBit, withFilter, filterOps, filterRam, inSka}
-use Rattle.layout.specs.Items.{Area, RA, KA, DA, recordBytes, entryBytes, deletionBytes, Place, itemPlace, bytesAt, itemWord, put, fills, itemOps, itemRam, zeroPage}
+use Rattle.layout.specs.Items.{RA, KA, DA, recordBytes, entryBytes, deletionBytes, Place, itemPlace, bytesAt, itemWord, put, fills, itemOps, itemRam, zeroPage}
 use Rattle.layout.specs.Search.{Stop, found, corrupt, Found, tryEntry, searchFrom}
 
 -- ---- what is handed in and what comes back

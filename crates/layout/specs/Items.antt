@@ -1,13 +1,13 @@
 -- Areas that grow at their end: records, entries and deletions. Document 01, "Records, entries, deletions".
 use mathlib.Core.Bool.{Bool, true, false, cond}
-use mathlib.Core.List.{List, [], _∷_, _++_}
+use mathlib.Core.List.{List, [], _∷_}
 use Prim.Native.Nat.{ℕ, _+_, _*_, _/_, _%_}
 use lib.ListN.{getD, replicate}
 use lib.Dec.{ltb, eqb}
 use Rattle.memory.specs.Lists.{write, part}
 use Rattle.memory.specs.Words.{word, wordsBytes}
 use Rattle.layout.specs.Geometry.{Geometry, sector, page, block, recordsPerPage, entriesPerPage, deletionsPerPage, raBlock, kaBlock, daBlock, raRam, kaRam, daRam}
-use Rattle.layout.specs.Flash.{Flash, Op, programs}
+use Rattle.layout.specs.Flash.{Op, programs}
 
 -- items of `size` bytes, `perPage` to a page, from block `first` on; the page that is not full yet is in RAM from byte `ram` on
 pub record Area : Type 0 where

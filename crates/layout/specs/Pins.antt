@@ -3,7 +3,7 @@ use mathlib.Core.Path.{_≡_, refl}
 use mathlib.Core.Bool.{Bool, true, false, _&&_, cond}
 use mathlib.Core.Option.{Option, none, some}
 use mathlib.Core.List.{List, [], _∷_}
-use Prim.Native.Nat.{ℕ, suc, _+_, _*_, _/_, _%_}
+use Prim.Native.Nat.{ℕ, suc, _+_, _*_}
 use lib.ListN.{length, getD, take, replicate}
 use lib.Dec.{eqb}
 use Rattle.memory.specs.Lists.{write, tab, tabFrom, pieces}
@@ -12,13 +12,13 @@ use Rattle.memory.specs.Power.{log2up}
 use Rattle.memory.specs.Words.{bytes4, wordsBytes}
 use Rattle.memory.specs.Ranges.{any, memb}
 use Rattle.layout.specs.Geometry.{State, geometry, allowed, indexBlock, sector, page, block}
-use Rattle.layout.specs.Flash.{Flash, flashOf, Op, program, erase, fresh, apply}
+use Rattle.layout.specs.Flash.{flashOf, Op, program, erase, fresh, apply}
 use Rattle.layout.specs.Hash.{fnvFrom, fnvFamily, positions, positionCount}
 use Rattle.layout.specs.Index.{BitPlace, rowBit, rowByte, withFilter, filterPlace, filterOps, flushAndBuild}
-use Rattle.layout.specs.Items.{recordBytes, entryBytes, deletionBytes, itemPlace, KA}
-use Rattle.layout.specs.Search.{Stop, found, corrupt, Found, tryEntry, scan, searchPages, searchFrom}
+use Rattle.layout.specs.Items.{recordBytes, entryBytes, deletionBytes}
+use Rattle.layout.specs.Search.{Stop, found, corrupt, tryEntry, scan, searchPages, searchFrom}
 use Rattle.layout.specs.Calls.{Call, insert, update, delete, lookup, keyIndex, badState, tooShort, pageFilter}
-use Rattle.layout.specs.FiniteMap.{Map, emptyMap, Reply, accepts, hits, misses, refuses, Step, stepMap, find, without}
+use Rattle.layout.specs.FiniteMap.{Map, emptyMap, Reply, accepts, hits, misses, refuses, stepMap, find, without}
 use Rattle.layout.specs.Examples.{sectorsOf, blocksOf}
 
 -- ---- "set pages, each rising; last the erases, L1, then the blocks of set i-1"

@@ -3,7 +3,6 @@ use mathlib.Core.Bool.{Bool, true, false}
 use mathlib.Core.List.{List, []}
 use Prim.Native.Nat.{ℕ, _+_}
 use Rattle.memory.specs.Bits.{num}
-use Rattle.layout.specs.Items as layout
 use Rattle.layout.specs.Calls.{Outcome, accepted, hit, miss, refused, Result}
 use Rattle.lookup.specs.declared.LookupResult.{LookupResult}
 

@@ -1,8 +1,6 @@
 // Lookup: where a level's record lies. Document 01, "Calls".
 ghost use mathlib.Core.Path.{_≡_};
-ghost use Prim.Native.Nat.{_+_};
 ghost use Rattle.layout.specs.Hash.{fnvFamily};
-ghost use Rattle.layout.specs.Search.{found};
 ghost use Rattle.layout.specs.Calls.{lookup, call, answer};
 ghost use Rattle.geometry.specs.Shape.{shape};
 ghost use Rattle.state.specs.Contract.{volume};

@@ -1,6 +1,6 @@
 -- Refusals 1 and 2 as one answer: the refusal's number, or the sound geometry of the state.
 use mathlib.Core.Path.{_≡_}
-use mathlib.Core.Bool.{Bool, true, false, cond}
+use mathlib.Core.Bool.{true, false, cond}
 use mathlib.Core.List.{List}
 use Prim.Native.Nat.{ℕ, _≤_}
 use Prim.{Unit}

@@ -7,7 +7,6 @@ ghost use Rattle.layout.specs.Geometry.{recordCapacity, deletionCapacity};
 ghost use Rattle.layout.specs.Flash.{flashOf};
 ghost use Rattle.layout.specs.Calls.{tooShort};
 ghost use Rattle.geometry.specs.Shape.{shape, Sound};
-ghost use Rattle.state.specs.Contract.{outcomeOf};
 ghost use Rattle.state.specs.Judge.{judgedOf, judgedNew, GoodFits, NewFits};
 use geometry::Geometry;
 use geometry::Shaped;

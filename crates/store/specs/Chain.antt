@@ -1,5 +1,5 @@
 -- Demand 3 of the code: every chain of calls whose results satisfy the contracts, from an accepted format on, agrees with the map at FNV-1a.
-use mathlib.Core.Path.{_≡_, refl, sym, ap, _∙_}
+use mathlib.Core.Path.{_≡_, refl, ap, _∙_}
 use mathlib.Core.Bool.{true, false}
 use mathlib.Core.List.{List, [], _∷_}
 use Prim.Native.Nat.{ℕ, _+_, _/_, _≤_}

@@ -1,7 +1,7 @@
 // Fast passes over three rows of bits, with plain numbers that stay in registers.
 ghost use mathlib.Core.Path.{_≡_};
 ghost use mathlib.Core.List.{[], _∷_};
-ghost use Prim.Native.Nat.{_+_, _*_, _/_, _%_, _^_, _≤_, _<_};
+ghost use Prim.Native.Nat.{_+_, _*_, _/_, _%_, _^_, _<_};
 ghost use lib.ListN.{length};
 ghost use Rattle.kernels.specs.Candidate.{candidate};
 ghost use Rattle.kernels.specs.Rows.{allIn, Words};

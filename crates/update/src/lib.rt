@@ -1,7 +1,6 @@
 // Update: new values for a level. Document 01, "Calls".
 ghost use mathlib.Core.Path.{_≡_};
 ghost use mathlib.Core.Option.{some};
-ghost use Prim.Native.Nat.{_+_};
 ghost use Rattle.layout.specs.Hash.{fnvFamily};
 ghost use Rattle.layout.specs.Items.{recordBytes};
 ghost use Rattle.layout.specs.Search.{found};

@@ -1,12 +1,7 @@
 use borrow.Author.Needs.{needs}
-use mathlib.Core.Path.{_≡_, refl, _∙_}
+use mathlib.Core.Path.{refl, _∙_}
 use Rattle.calls.proofs.finish.Statement.{statement}
 use Rattle.calls.proofs.finish.Tie as tie
-use Rattle.calls.proofs.finish.Reads as reads
-use Rattle.calls.proofs.finish.Lts as lts
-use Rattle.geometry.proofs.Geometry.page.Reads as page-reads
-use Rattle.geometry.proofs.Geometry.work_ram.Reads as work-ram-reads
-use Rattle.words.proofs.fill_at.Reads as fill-at-reads
 
 work-ram-requires : tie.Need-work-ram-requires
 work-ram-requires c κs = search needs

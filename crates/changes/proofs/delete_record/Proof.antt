@@ -1,8 +1,7 @@
 use borrow.Author.Needs.{needs}
 use native.Mathlib.Omega.{arith}
 use Prim.Native.Nat.{_+_}
-use mathlib.Core.Path.{_≡_, refl, sym, ap, _∙_}
-use lib.ListN.{length}
+use mathlib.Core.Path.{_≡_, ap, _∙_}
 use Rattle.layout.specs.Items as layout
 use Rattle.layout.specs.Flash.{flashOf}
 use Rattle.layout.specs.Hash.{fnvFamily}
@@ -12,11 +11,6 @@ use Rattle.history.specs.ItemLaws.{length-deletion}
 use Rattle.items.specs.Fits.{fits-deletions, spare-fits-deletions}
 use Rattle.changes.proofs.delete_record.Statement.{statement}
 use Rattle.changes.proofs.delete_record.Tie as tie
-use Rattle.changes.proofs.delete_record.Reads as reads
-use Rattle.changes.proofs.delete_record.Lts as lts
-use Rattle.changes.proofs.deletion_bytes.Reads as deletion-bytes-reads
-use Rattle.geometry.proofs.deletion_area.Reads as deletion-area-reads
-use Rattle.items.proofs.append_item.Reads as append-item-reads
 
 -- src/lib.rt:108:17
 deletion-bytes-requires : tie.Need-deletion-bytes-requires

@@ -4,8 +4,6 @@ use Rattle.memory.specs.Words.{wordsBytes}
 use Rattle.layout.specs.Items.{deletionBytes}
 use Rattle.changes.proofs.deletion_bytes.Statement.{statement}
 use Rattle.changes.proofs.deletion_bytes.Tie as tie
-use Rattle.changes.proofs.deletion_bytes.Reads as reads
-use Rattle.changes.proofs.deletion_bytes.Lts as lts
 
 -- src/lib.rt:84:9
 cast-t6 : tie.Need-cast-t6

@@ -1,14 +1,10 @@
 use borrow.Author.Needs.{needs}
 use native.Mathlib.Omega.{arith}
 use Prim.Native.Nat.{_+_}
-use mathlib.Core.Path.{_≡_, _∙_}
+use mathlib.Core.Path.{_∙_}
 use Rattle.items.specs.Fits.{spare-fits-deletions}
 use Rattle.changes.proofs.deletion_fresh.Statement.{statement}
 use Rattle.changes.proofs.deletion_fresh.Tie as tie
-use Rattle.changes.proofs.deletion_fresh.Reads as reads
-use Rattle.changes.proofs.deletion_fresh.Lts as lts
-use Rattle.geometry.proofs.deletion_area.Reads as deletion-area-reads
-use Rattle.items.proofs.item_fresh.Reads as item-fresh-reads
 
 -- src/lib.rt:98:30
 deletion-area-requires : tie.Need-deletion-area-requires

@@ -1,10 +1,9 @@
 use borrow.Author.Needs.{needs}
 use native.Mathlib.Omega.{arith}
-use native.Mathlib.Nat.{mod-lt, mul-le-mul-right}
-use Prim.Native.Nat.{_+_, _*_, _/_, _%_, _<_, _≤_}
-use mathlib.Core.Path.{_≡_, refl, sym, ap, _∙_}
+use native.Mathlib.Nat.{mod-lt}
+use Prim.Native.Nat.{_+_, _/_, _%_, _<_, _≤_}
+use mathlib.Core.Path.{_≡_, ap, _∙_}
 use lib.ListN.{length}
-use Rattle.memory.specs.Lists.{length-write}
 use Rattle.layout.specs.Items as layout
 use Rattle.layout.specs.Geometry.{ramSize}
 use Rattle.history.specs.ItemLaws.{length-entry}
@@ -20,17 +19,6 @@ use Rattle.changes.proofs.FitLaws.{all-fits}
 use Rattle.changes.proofs.PlanLaws.{last-is, put-by, page-by}
 use Rattle.changes.proofs.enter_last.Statement.{statement}
 use Rattle.changes.proofs.enter_last.Tie as tie
-use Rattle.changes.proofs.enter_last.Reads as reads
-use Rattle.changes.proofs.enter_last.Lts as lts
-use Rattle.changes.proofs.entry_bytes.Reads as entry-bytes-reads
-use Rattle.changes.proofs.key_index.Reads as key-index-reads
-use Rattle.filter.proofs.page_filter.Reads as page-filter-reads
-use Rattle.geometry.proofs.Geometry.entries_per_page.Reads as entries-per-page-reads
-use Rattle.geometry.proofs.Geometry.ka_ram.Reads as ka-ram-reads
-use Rattle.geometry.proofs.entry_area.Reads as entry-area-reads
-use Rattle.index.proofs.add_filter.Reads as add-filter-reads
-use Rattle.items.proofs.append_item.Reads as append-item-reads
-use Rattle.words.proofs.copy_at.Reads as copy-at-reads
 
 -- src/lib.rt:154:9
 entries-per-page-requires : tie.Need-entries-per-page-requires

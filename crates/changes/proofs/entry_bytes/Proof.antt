@@ -4,8 +4,6 @@ use Rattle.memory.specs.Words.{wordsBytes}
 use Rattle.layout.specs.Items.{entryBytes}
 use Rattle.changes.proofs.entry_bytes.Statement.{statement}
 use Rattle.changes.proofs.entry_bytes.Tie as tie
-use Rattle.changes.proofs.entry_bytes.Reads as reads
-use Rattle.changes.proofs.entry_bytes.Lts as lts
 
 -- src/lib.rt:65:9
 cast-t10 : tie.Need-cast-t10

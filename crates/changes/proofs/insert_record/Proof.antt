@@ -1,31 +1,20 @@
 use borrow.Author.Needs.{needs}
 use native.Mathlib.Omega.{arith}
 use native.Mathlib.Nat.{mod-lt}
-use Prim.Native.Nat.{_+_, _*_, _/_, _%_, _<_, _≤_}
-use mathlib.Core.Path.{_≡_, refl, sym, ap, _∙_}
+use Prim.Native.Nat.{_+_, _%_, _<_}
+use mathlib.Core.Path.{_≡_, ap}
 use lib.ListN.{length}
 use borrow.Author.Tests.{eq-eqb, ne-eqb}
 use Rattle.layout.specs.Items as layout
 use Rattle.layout.specs.Flash.{flashOf}
 use Rattle.layout.specs.Hash.{fnvFamily}
-use Rattle.layout.specs.Geometry.{dataSize, spareSize, ramSize}
 use Rattle.history.specs.ItemLaws.{length-record, length-entry}
 use Rattle.geometry.specs.Shape.{shape, area}
 use Rattle.geometry.specs.Bounds.{record-capacity-le}
-use Rattle.state.specs.Judge.{Long}
 use Rattle.items.specs.Fits.{fits-records, spare-fits-records, fits-entries, spare-fits-entries}
 use Rattle.changes.proofs.PlanLaws.{inserted-part, inserted-full}
 use Rattle.changes.proofs.insert_record.Statement.{statement}
 use Rattle.changes.proofs.insert_record.Tie as tie
-use Rattle.changes.proofs.insert_record.Reads as reads
-use Rattle.changes.proofs.insert_record.Lts as lts
-use Rattle.changes.proofs.enter_last.Reads as enter-last-reads
-use Rattle.changes.proofs.entry_bytes.Reads as entry-bytes-reads
-use Rattle.changes.proofs.record_bytes.Reads as record-bytes-reads
-use Rattle.geometry.proofs.Geometry.entries_per_page.Reads as entries-per-page-reads
-use Rattle.geometry.proofs.entry_area.Reads as entry-area-reads
-use Rattle.geometry.proofs.record_area.Reads as record-area-reads
-use Rattle.items.proofs.append_item.Reads as append-item-reads
 
 -- src/lib.rt:180:9
 entries-per-page-requires : tie.Need-entries-per-page-requires

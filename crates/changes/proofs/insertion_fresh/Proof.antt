@@ -1,24 +1,14 @@
 use borrow.Author.Needs.{needs}
 use native.Mathlib.Omega.{arith}
-use Prim.Native.Nat.{_+_, _*_, _/_, _%_, _<_}
+use Prim.Native.Nat.{_+_, _/_, _%_, _<_}
 use native.Mathlib.Nat.{mod-lt}
-use mathlib.Core.Path.{_≡_, refl, sym, ap, _∙_}
 use lib.ListN.{length}
-use Rattle.layout.specs.Calls.{keyIndex}
 use Rattle.geometry.specs.Shape.{shape, area}
 use Rattle.sets.specs.Indexes.{indexOf}
 use Rattle.items.specs.Fits.{spare-fits-records, spare-fits-entries}
 use Rattle.changes.proofs.FitLaws.{spare-fits, fresh-record, fresh-entry, fresh-part, fresh-index}
 use Rattle.changes.proofs.insertion_fresh.Statement.{statement}
 use Rattle.changes.proofs.insertion_fresh.Tie as tie
-use Rattle.changes.proofs.insertion_fresh.Reads as reads
-use Rattle.changes.proofs.insertion_fresh.Lts as lts
-use Rattle.changes.proofs.key_index.Reads as key-index-reads
-use Rattle.geometry.proofs.Geometry.entries_per_page.Reads as entries-per-page-reads
-use Rattle.geometry.proofs.entry_area.Reads as entry-area-reads
-use Rattle.geometry.proofs.record_area.Reads as record-area-reads
-use Rattle.index.proofs.index_fresh.Reads as index-fresh-reads
-use Rattle.items.proofs.item_fresh.Reads as item-fresh-reads
 
 -- src/lib.rt:133:34
 record-area-requires : tie.Need-record-area-requires

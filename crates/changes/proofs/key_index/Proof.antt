@@ -1,11 +1,6 @@
 use borrow.Author.Needs.{needs}
-use mathlib.Core.Path.{_≡_}
 use Rattle.changes.proofs.key_index.Statement.{statement}
 use Rattle.changes.proofs.key_index.Tie as tie
-use Rattle.changes.proofs.key_index.Reads as reads
-use Rattle.changes.proofs.key_index.Lts as lts
-use Rattle.geometry.proofs.Geometry.index_block.Reads as index-block-reads
-use Rattle.geometry.proofs.Geometry.ska_ram.Reads as ska-ram-reads
 
 -- src/lib.rt:123:16
 index-block-requires : tie.Need-index-block-requires

@@ -4,8 +4,6 @@ use Rattle.memory.specs.Words.{wordsBytes}
 use Rattle.layout.specs.Items.{recordBytes}
 use Rattle.changes.proofs.record_bytes.Statement.{statement}
 use Rattle.changes.proofs.record_bytes.Tie as tie
-use Rattle.changes.proofs.record_bytes.Reads as reads
-use Rattle.changes.proofs.record_bytes.Lts as lts
 
 -- src/lib.rt:35:9
 cast-t18 : tie.Need-cast-t18

@@ -1,16 +1,11 @@
 use borrow.Author.Needs.{needs}
-use mathlib.Core.Path.{_≡_, sym, ap, _∙_}
+use mathlib.Core.Path.{sym, ap, _∙_}
 use Rattle.layout.specs.Hash.{fnvFamily}
 use Rattle.layout.specs.Calls as calls
 use Rattle.state.specs.Contract.{seen}
 use Rattle.calls.proofs.CallsLaws.{call-refused, call-fits}
 use Rattle.delete.proofs.delete.Statement.{statement}
 use Rattle.delete.proofs.delete.Tie as tie
-use Rattle.delete.proofs.delete.Reads as reads
-use Rattle.delete.proofs.delete.Lts as lts
-use Rattle.state.proofs.judge.Reads as judge-reads
-use Rattle.state.proofs.refuse.Reads as refuse-reads
-use Rattle.delete.proofs.delete_in.Reads as delete-in-reads
 
 judge-requires : tie.Need-judge-requires
 judge-requires c κs = search needs

@@ -1,6 +1,6 @@
 use borrow.Author.Needs.{needs}
 use native.Mathlib.Omega.{arith}
-use mathlib.Core.Path.{_≡_, sym, _∙_}
+use mathlib.Core.Path.{sym, _∙_}
 use borrow.Author.Tests.{le-leb, lt-leb, not-true, not-false}
 use Rattle.layout.specs.Flash.{flashOf}
 use Rattle.layout.specs.Hash.{fnvFamily}
@@ -10,13 +10,6 @@ use Rattle.state.specs.Contract.{volume}
 use Rattle.changes.proofs.CallLaws.{delete-full, delete-stale, delete-done}
 use Rattle.delete.proofs.delete_found.Statement.{statement}
 use Rattle.delete.proofs.delete_found.Tie as tie
-use Rattle.delete.proofs.delete_found.Reads as reads
-use Rattle.delete.proofs.delete_found.Lts as lts
-use Rattle.changes.proofs.delete_record.Reads as delete-record-reads
-use Rattle.changes.proofs.deletion_fresh.Reads as deletion-fresh-reads
-use Rattle.geometry.proofs.Geometry.deletion_capacity.Reads as deletion-capacity-reads
-use Rattle.state.proofs.refuse.Reads as refuse-reads
-use Rattle.calls.proofs.finish.Reads as finish-reads
 
 cast-d : tie.Need-cast-d
 cast-d c = search needs

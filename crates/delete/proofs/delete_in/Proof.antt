@@ -1,5 +1,5 @@
 use borrow.Author.Needs.{needs}
-use mathlib.Core.Path.{_≡_, ap, _∙_}
+use mathlib.Core.Path.{ap, _∙_}
 use Rattle.layout.specs.Hash.{fnvFamily}
 use Rattle.layout.specs.Search as find
 use Rattle.geometry.specs.Shape.{shape}
@@ -8,11 +8,6 @@ use Rattle.state.specs.Contract.{volume}
 use Rattle.calls.proofs.CallsLaws.{stop-at, delete-corrupt, delete-nothing, delete-there}
 use Rattle.delete.proofs.delete_in.Statement.{statement}
 use Rattle.delete.proofs.delete_in.Tie as tie
-use Rattle.delete.proofs.delete_in.Reads as reads
-use Rattle.delete.proofs.delete_in.Lts as lts
-use Rattle.search.proofs.search.Reads as search-reads
-use Rattle.state.proofs.refuse.Reads as refuse-reads
-use Rattle.delete.proofs.delete_found.Reads as delete-found-reads
 
 cast-search : tie.Need-cast-search
 cast-search c = search needs

@@ -6,9 +6,6 @@ use Rattle.fields.proofs.Copies.{copy-inside, copies}
 use borrow.Author.Needs.{needs}
 use Rattle.fields.proofs.copy_run.Statement.{statement}
 use Rattle.fields.proofs.copy_run.Tie as tie
-use Rattle.fields.proofs.copy_run.Reads as reads
-use Rattle.fields.proofs.copy_run.Lts as lts
-use Rattle.words.proofs.copy.Reads as copy-reads
 
 add-a : tie.Need-add-a
 add-a c =

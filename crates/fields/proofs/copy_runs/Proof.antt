@@ -10,10 +10,6 @@ use Rattle.fields.specs.Lists.{done-all, part-length, part-more}
 use Rattle.fields.proofs.Strides.{At, first-in, at-lt, turn-some, turn-inside, turn-bytes, turn-next}
 use Rattle.fields.proofs.copy_runs.Statement.{statement}
 use Rattle.fields.proofs.copy_runs.Tie as tie
-use Rattle.fields.proofs.copy_runs.Reads as reads
-use Rattle.fields.proofs.copy_runs.Lts as lts
-use Rattle.fields.proofs.lesser.Reads as lesser-reads
-use Rattle.words.proofs.copy.Reads as copy-reads
 
 abbrev Inv-loop : tie.InvT-loop
 Inv-loop bytes at stride n y out₀ a₀ k₀ i₀ out a k i =

@@ -4,8 +4,6 @@ use Rattle.memory.specs.Cases.{either}
 use Rattle.fields.proofs.Halving.{half1, half2, half4}
 use Rattle.fields.proofs.even_fields.Statement.{statement}
 use Rattle.fields.proofs.even_fields.Tie as tie
-use Rattle.fields.proofs.even_fields.Reads as reads
-use Rattle.fields.proofs.even_fields.Lts as lts
 
 returns : tie.Need-returns
 returns c = rw (c .if1 .taken) (half1 (c .before .args .x) (omega arith))

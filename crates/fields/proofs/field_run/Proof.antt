@@ -7,12 +7,6 @@ use Rattle.memory.specs.Lists.{is-tab}
 use borrow.Author.Needs.{needs}
 use Rattle.fields.proofs.field_run.Statement.{statement}
 use Rattle.fields.proofs.field_run.Tie as tie
-use Rattle.fields.proofs.field_run.Reads as reads
-use Rattle.fields.proofs.field_run.Lts as lts
-use Rattle.fields.proofs.copy_run.Reads as copy-run-reads
-use Rattle.fields.proofs.halve_run.Reads as halve-run-reads
-use Rattle.fields.proofs.narrow_run.Reads as narrow-run-reads
-use Rattle.fields.proofs.wide_run.Reads as wide-run-reads
 
 returns : tie.Need-returns
 returns c =

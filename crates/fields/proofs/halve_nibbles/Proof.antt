@@ -7,9 +7,6 @@ use Rattle.memory.specs.Lists.{Done, done-more}
 use Rattle.fields.specs.Lists.{done-all}
 use Rattle.fields.proofs.halve_nibbles.Statement.{statement}
 use Rattle.fields.proofs.halve_nibbles.Tie as tie
-use Rattle.fields.proofs.halve_nibbles.Reads as reads
-use Rattle.fields.proofs.halve_nibbles.Lts as lts
-use Rattle.fields.proofs.halved_byte.Reads as halved-byte-reads
 
 abbrev Inv-loop : tie.InvT-loop
 Inv-loop bytes s y out₀ i₀ out i = (i ≤ length out₀) × (length out ≡ length out₀) × Done (λ (k : ℕ). fieldByte bytes s 4 (y + k)) out i

@@ -5,11 +5,6 @@ use Rattle.fields.proofs.Halving.{narrow}
 use borrow.Author.Needs.{needs}
 use Rattle.fields.proofs.halve_run.Statement.{statement}
 use Rattle.fields.proofs.halve_run.Tie as tie
-use Rattle.fields.proofs.halve_run.Reads as reads
-use Rattle.fields.proofs.halve_run.Lts as lts
-use Rattle.fields.proofs.halve_bits.Reads as halve-bits-reads
-use Rattle.fields.proofs.halve_nibbles.Reads as halve-nibbles-reads
-use Rattle.fields.proofs.halve_pairs.Reads as halve-pairs-reads
 
 w-four : (c : tie.Else2) → c .before .before .before .before .args .w ≡ 4
 w-four c =

@@ -4,9 +4,6 @@ use Rattle.fields.proofs.Halving.{narrow, both-inside, halved-is}
 use borrow.Author.Needs.{needs}
 use Rattle.fields.proofs.halved_byte.Statement.{statement}
 use Rattle.fields.proofs.halved_byte.Tie as tie
-use Rattle.fields.proofs.halved_byte.Reads as reads
-use Rattle.fields.proofs.halved_byte.Lts as lts
-use Rattle.fields.proofs.even_fields.Reads as even-fields-reads
 
 mul-a : tie.Need-mul-a
 mul-a c = search needs

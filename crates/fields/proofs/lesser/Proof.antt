@@ -3,8 +3,6 @@ use mathlib.Core.Logic.{inl, inr}
 use native.Mathlib.Omega.{arith}
 use Rattle.fields.proofs.lesser.Statement.{statement}
 use Rattle.fields.proofs.lesser.Tie as tie
-use Rattle.fields.proofs.lesser.Reads as reads
-use Rattle.fields.proofs.lesser.Lts as lts
 
 returns : tie.Need-returns
 returns c = (omega arith, omega arith, inl refl)

@@ -7,9 +7,6 @@ use mathlib.Core.Path.{_≡_}
 use lib.ListN.{length}
 use Rattle.fields.proofs.narrow_byte.Statement.{statement}
 use Rattle.fields.proofs.narrow_byte.Tie as tie
-use Rattle.fields.proofs.narrow_byte.Reads as reads
-use Rattle.fields.proofs.narrow_byte.Lts as lts
-use Rattle.fields.proofs.wide.Reads as wide-reads
 
 abbrev Inv-loop : tie.InvT-loop
 Inv-loop bytes w y at step low per m acc₀ k₀ acc k = (k ≤ per) × From bytes (record { at = at; step = step; low = low }) w y acc k

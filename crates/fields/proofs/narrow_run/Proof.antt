@@ -7,9 +7,6 @@ use Rattle.memory.specs.Lists.{Done, done-more}
 use Rattle.fields.specs.Lists.{done-all}
 use Rattle.fields.proofs.narrow_run.Statement.{statement}
 use Rattle.fields.proofs.narrow_run.Tie as tie
-use Rattle.fields.proofs.narrow_run.Reads as reads
-use Rattle.fields.proofs.narrow_run.Lts as lts
-use Rattle.fields.proofs.narrow_byte.Reads as narrow-byte-reads
 
 abbrev Inv-loop : tie.InvT-loop
 Inv-loop bytes s w y out₀ i₀ out i = (i ≤ length out₀) × (length out ≡ length out₀) × Done (λ (k : ℕ). fieldByte bytes s w (y + k)) out i

@@ -4,9 +4,6 @@ use Rattle.fields.proofs.Copies.{runs-in, runs-are}
 use borrow.Author.Needs.{needs}
 use Rattle.fields.proofs.wide_run.Statement.{statement}
 use Rattle.fields.proofs.wide_run.Tie as tie
-use Rattle.fields.proofs.wide_run.Reads as reads
-use Rattle.fields.proofs.wide_run.Lts as lts
-use Rattle.fields.proofs.copy_runs.Reads as copy-runs-reads
 
 add-at : tie.Need-add-at
 add-at c =

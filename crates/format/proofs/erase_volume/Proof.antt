@@ -1,14 +1,8 @@
 use borrow.Author.Needs.{needs}
 use native.Mathlib.Omega.{arith}
-use mathlib.Core.Path.{_≡_, _∙_}
+use mathlib.Core.Path.{_∙_}
 use Rattle.format.proofs.erase_volume.Statement.{statement}
 use Rattle.format.proofs.erase_volume.Tie as tie
-use Rattle.format.proofs.erase_volume.Reads as reads
-use Rattle.format.proofs.erase_volume.Lts as lts
-use Rattle.flash.proofs.erase_blocks.Reads as erase-blocks-reads
-use Rattle.geometry.proofs.Geometry.blocks.Reads as blocks-reads
-use Rattle.geometry.proofs.Geometry.ram_size.Reads as ram-size-reads
-use Rattle.words.proofs.fill_at.Reads as fill-at-reads
 
 blocks-requires : tie.Need-blocks-requires
 blocks-requires c κs = search needs

@@ -1,16 +1,11 @@
 use borrow.Author.Needs.{needs}
-use mathlib.Core.Path.{_≡_, sym, _∙_}
+use mathlib.Core.Path.{sym, _∙_}
 use Rattle.layout.specs.Flash.{flashOf}
 use Rattle.state.specs.Contract.{volume}
 use Rattle.state.specs.Judge.{New}
 use Rattle.format.proofs.FormatLaws.{format-refused, format-left}
 use Rattle.format.proofs.format.Statement.{statement}
 use Rattle.format.proofs.format.Tie as tie
-use Rattle.format.proofs.format.Reads as reads
-use Rattle.format.proofs.format.Lts as lts
-use Rattle.state.proofs.judge_new.Reads as judge-new-reads
-use Rattle.state.proofs.refuse.Reads as refuse-reads
-use Rattle.format.proofs.erase_volume.Reads as erase-volume-reads
 
 judge-new-requires : tie.Need-judge-new-requires
 judge-new-requires c κs = search needs

@@ -1,16 +1,11 @@
 use borrow.Author.Needs.{needs}
-use mathlib.Core.Path.{_≡_, sym, ap, _∙_}
+use mathlib.Core.Path.{sym, ap, _∙_}
 use Rattle.layout.specs.Hash.{fnvFamily}
 use Rattle.layout.specs.Calls as calls
 use Rattle.state.specs.Contract.{seen}
 use Rattle.calls.proofs.CallsLaws.{call-refused, call-fits}
 use Rattle.insert.proofs.insert.Statement.{statement}
 use Rattle.insert.proofs.insert.Tie as tie
-use Rattle.insert.proofs.insert.Reads as reads
-use Rattle.insert.proofs.insert.Lts as lts
-use Rattle.state.proofs.judge.Reads as judge-reads
-use Rattle.state.proofs.refuse.Reads as refuse-reads
-use Rattle.insert.proofs.insert_in.Reads as insert-in-reads
 
 judge-requires : tie.Need-judge-requires
 judge-requires c κs = search needs

@@ -1,5 +1,5 @@
 use borrow.Author.Needs.{needs}
-use mathlib.Core.Path.{_≡_, ap, _∙_}
+use mathlib.Core.Path.{ap, _∙_}
 use Rattle.layout.specs.Hash.{fnvFamily}
 use Rattle.layout.specs.Search as find
 use Rattle.geometry.specs.Shape.{shape}
@@ -8,11 +8,6 @@ use Rattle.state.specs.Contract.{volume}
 use Rattle.calls.proofs.CallsLaws.{stop-at, insert-corrupt, insert-there, insert-nothing}
 use Rattle.insert.proofs.insert_in.Statement.{statement}
 use Rattle.insert.proofs.insert_in.Tie as tie
-use Rattle.insert.proofs.insert_in.Reads as reads
-use Rattle.insert.proofs.insert_in.Lts as lts
-use Rattle.search.proofs.search.Reads as search-reads
-use Rattle.state.proofs.refuse.Reads as refuse-reads
-use Rattle.insert.proofs.insert_new.Reads as insert-new-reads
 
 cast-search : tie.Need-cast-search
 cast-search c = search needs

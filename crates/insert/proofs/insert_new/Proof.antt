@@ -1,6 +1,6 @@
 use borrow.Author.Needs.{needs}
 use native.Mathlib.Omega.{arith}
-use mathlib.Core.Path.{_≡_, sym, _∙_}
+use mathlib.Core.Path.{sym, _∙_}
 use borrow.Author.Tests.{le-leb, lt-leb, not-true, not-false}
 use Rattle.layout.specs.Flash.{flashOf}
 use Rattle.layout.specs.Hash.{fnvFamily}
@@ -11,13 +11,6 @@ use Rattle.state.specs.Contract.{volume}
 use Rattle.changes.proofs.CallLaws.{insert-full, insert-stale, insert-done}
 use Rattle.insert.proofs.insert_new.Statement.{statement}
 use Rattle.insert.proofs.insert_new.Tie as tie
-use Rattle.insert.proofs.insert_new.Reads as reads
-use Rattle.insert.proofs.insert_new.Lts as lts
-use Rattle.changes.proofs.insert_record.Reads as insert-record-reads
-use Rattle.changes.proofs.insertion_fresh.Reads as insertion-fresh-reads
-use Rattle.geometry.proofs.Geometry.record_capacity.Reads as record-capacity-reads
-use Rattle.state.proofs.refuse.Reads as refuse-reads
-use Rattle.calls.proofs.finish.Reads as finish-reads
 
 cast-n : tie.Need-cast-n
 cast-n c = search needs

@@ -1,5 +1,5 @@
 use borrow.Author.Needs.{needs}
-use mathlib.Core.Path.{_≡_, sym, ap, _∙_}
+use mathlib.Core.Path.{sym, ap, _∙_}
 use Rattle.layout.specs.Hash.{fnvFamily}
 use Rattle.layout.specs.Calls.{lookup}
 use Rattle.lookup.specs.Looked.{looked}
@@ -7,11 +7,6 @@ use Rattle.calls.proofs.CallsLaws.{call-fits}
 use Rattle.lookup.proofs.LookupLaws.{lookup-refused}
 use Rattle.lookup.proofs.find.Statement.{statement}
 use Rattle.lookup.proofs.find.Tie as tie
-use Rattle.lookup.proofs.find.Reads as reads
-use Rattle.lookup.proofs.find.Lts as lts
-use Rattle.state.proofs.judge.Reads as judge-reads
-use Rattle.lookup.proofs.find_in.Reads as find-in-reads
-use Rattle.lookup.proofs.refuse_lookup.Reads as refuse-lookup-reads
 
 judge-requires : tie.Need-judge-requires
 judge-requires c κs = search needs

@@ -1,6 +1,6 @@
 use borrow.Author.Needs.{needs}
 use native.Mathlib.Omega.{arith}
-use mathlib.Core.Path.{_≡_, ap, _∙_}
+use mathlib.Core.Path.{ap, _∙_}
 use Rattle.layout.specs.Hash.{fnvFamily}
 use Rattle.layout.specs.Items.{Area, itemPlace}
 use Rattle.layout.specs.Search as find
@@ -12,12 +12,6 @@ use Rattle.calls.proofs.CallsLaws.{stop-at}
 use Rattle.lookup.proofs.LookupLaws.{lookup-corrupt, lookup-nothing, lookup-ram, lookup-main, place-fits}
 use Rattle.lookup.proofs.find_in.Statement.{statement}
 use Rattle.lookup.proofs.find_in.Tie as tie
-use Rattle.lookup.proofs.find_in.Reads as reads
-use Rattle.lookup.proofs.find_in.Lts as lts
-use Rattle.geometry.proofs.item_place.Reads as item-place-reads
-use Rattle.geometry.proofs.record_area.Reads as record-area-reads
-use Rattle.search.proofs.search.Reads as search-reads
-use Rattle.lookup.proofs.refuse_lookup.Reads as refuse-lookup-reads
 
 cast-n : tie.Need-cast-n
 cast-n c = search needs

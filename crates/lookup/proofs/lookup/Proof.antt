@@ -1,18 +1,14 @@
 use borrow.Author.Needs.{needs}
 use native.Mathlib.Omega.{arith}
 use Prim.Native.Nat.{_+_, _-_}
-use mathlib.Core.Path.{_≡_, refl, sym, ap, _∙_}
+use mathlib.Core.Path.{_≡_, sym, ap, _∙_}
 use Rattle.layout.specs.Hash.{fnvFamily}
 use Rattle.layout.specs.Calls.{call, lookup}
 use Rattle.state.specs.Contract.{volume}
-use Rattle.lookup.specs.Looked.{looked, lookedOf}
 use Rattle.lookup.specs.declared.LookupResult.{LookupResult}
 use Rattle.lookup.proofs.PartLaws.{empty-part, part-in-ram, part-in-main}
 use Rattle.lookup.proofs.lookup.Statement.{statement}
 use Rattle.lookup.proofs.lookup.Tie as tie
-use Rattle.lookup.proofs.lookup.Reads as reads
-use Rattle.lookup.proofs.lookup.Lts as lts
-use Rattle.lookup.proofs.find.Reads as find-reads
 
 find-requires : tie.Need-find-requires
 find-requires c κs = search needs

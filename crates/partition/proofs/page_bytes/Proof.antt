@@ -7,12 +7,6 @@ use Rattle.partition.proofs.Pages.{Cuts, order, old-run, l1-run, made}
 use borrow.Author.Needs.{needs}
 use Rattle.partition.proofs.page_bytes.Statement.{statement}
 use Rattle.partition.proofs.page_bytes.Tie as tie
-use Rattle.partition.proofs.page_bytes.Reads as reads
-use Rattle.partition.proofs.page_bytes.Lts as lts
-use Rattle.fields.proofs.field_run.Reads as field-run-reads
-use Rattle.partition.proofs.behind.Reads as behind-reads
-use Rattle.partition.proofs.below.Reads as below-reads
-use Rattle.words.proofs.fill.Reads as fill-reads
 
 cuts : (c : tie.After-behind)
     → Cuts (c .before .before .before .before .before .before .before .args .r) (c .before .before .before .before .before .before .before .args .y) (length (c .before .before .before .before .before .before .before .args .out .now))

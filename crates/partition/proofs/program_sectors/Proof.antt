@@ -10,12 +10,6 @@ use lib.ListN.{length}
 use Rattle.sets.specs.Indexes.{indexOf}
 use Rattle.partition.proofs.program_sectors.Statement.{statement}
 use Rattle.partition.proofs.program_sectors.Tie as tie
-use Rattle.partition.proofs.program_sectors.Reads as reads
-use Rattle.partition.proofs.program_sectors.Lts as lts
-use Rattle.flash.proofs.program_sector.Reads as program-sector-reads
-use Rattle.sets.proofs.set_block.Reads as set-block-reads
-use Rattle.sets.proofs.set_pages.Reads as set-pages-reads
-use Rattle.partition.proofs.set_sector.Reads as set-sector-reads
 
 abbrev Inv-loop : tie.InvT-loop
 Inv-loop main₀ spare₀ unit ix z c buf₀ b first p n j₀ main spare buf j =

@@ -3,9 +3,6 @@ use Rattle.partition.specs.Indexes.{unit-le}
 use borrow.Author.Needs.{needs}
 use Rattle.partition.proofs.program_set.Statement.{statement}
 use Rattle.partition.proofs.program_set.Tie as tie
-use Rattle.partition.proofs.program_set.Reads as reads
-use Rattle.partition.proofs.program_set.Lts as lts
-use Rattle.partition.proofs.program_sectors.Reads as program-sectors-reads
 
 mul-size : tie.Need-mul-size
 mul-size c = omega (arith, unit-le (c .before .before .args .unit) (c .before .before .pre .unit))

@@ -6,11 +6,6 @@ use Rattle.partition.specs.Indexes.{unit-le}
 use Rattle.partition.proofs.Numbers.{width-of, next-le, sector-le, row-made}
 use Rattle.partition.proofs.row_of.Statement.{statement}
 use Rattle.partition.proofs.row_of.Tie as tie
-use Rattle.partition.proofs.row_of.Reads as reads
-use Rattle.partition.proofs.row_of.Lts as lts
-use Rattle.sets.proofs.set_width.Reads as set-width-reads
-use Rattle.sets.proofs.side_block.Reads as side-block-reads
-use Rattle.partition.proofs.source_of.Reads as source-of-reads
 
 add-set-width : tie.Need-add-set-width
 add-set-width c = omega (arith, unit-le (c .args .unit) (c .pre .0))

@@ -12,10 +12,6 @@ use Rattle.partition.proofs.Pages.{sector-is}
 use borrow.Author.Needs.{needs}
 use Rattle.partition.proofs.set_sector.Statement.{statement}
 use Rattle.partition.proofs.set_sector.Tie as tie
-use Rattle.partition.proofs.set_sector.Reads as reads
-use Rattle.partition.proofs.set_sector.Lts as lts
-use Rattle.partition.proofs.page_bytes.Reads as page-bytes-reads
-use Rattle.partition.proofs.row_of.Reads as row-of-reads
 
 mul-size : tie.Need-mul-size
 mul-size c = search needs

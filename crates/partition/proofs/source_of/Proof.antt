@@ -1,10 +1,8 @@
 use native.Mathlib.Omega.{arith}
-use Rattle.partition.proofs.Numbers.{Shares, shares}
+use Rattle.partition.proofs.Numbers.{shares}
 use borrow.Author.Needs.{needs}
 use Rattle.partition.proofs.source_of.Statement.{statement}
 use Rattle.partition.proofs.source_of.Tie as tie
-use Rattle.partition.proofs.source_of.Reads as reads
-use Rattle.partition.proofs.source_of.Lts as lts
 
 div-m : tie.Need-div-m
 div-m c = search needs

@@ -1,6 +1,5 @@
 -- The deletions of the volume are those of the area that the geometry names.
 use mathlib.Core.Path.{ap, _∙_}
-use Prim.Native.Nat.{_-_}
 use lib.ListN.{length}
 use lib.Dec.{eqb}
 use Rattle.memory.specs.Ranges.{any}

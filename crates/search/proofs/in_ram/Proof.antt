@@ -1,7 +1,7 @@
 -- What is left of the scan of the RAM page, at each entry with the key.
 use native.Mathlib.Omega.{arith}
 use mathlib.Core.Path.{sym, _∙_}
-use Prim.Native.Nat.{_*_, _-_, _/_, _%_}
+use Prim.Native.Nat.{_*_, _/_, _%_}
 use Rattle.search.proofs.Entries.{Left, left-none, left-first, left-corrupt, left-found, left-next, left-less}
 use Rattle.search.proofs.Volume.{tryOf, deletedOf, perPage, same-ram, deleted-is, fewer-records, slots-lt}
 use borrow.Author.Needs.{needs}

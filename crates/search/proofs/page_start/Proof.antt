@@ -1,6 +1,5 @@
 -- A page of entries lies within numbers of the machine.
 use native.Mathlib.Omega.{arith}
-use Prim.Native.Nat.{_-_}
 use Rattle.geometry.specs.Bounds.{product-le}
 use borrow.Author.Needs.{needs}
 use Rattle.search.proofs.page_start.Statement.{statement}

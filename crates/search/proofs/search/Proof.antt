@@ -1,6 +1,5 @@
 -- RAM first, then full pages.
 use mathlib.Core.Path.{_∙_}
-use Prim.Native.Nat.{_-_}
 use mathlib.Core.Option.{none, some}
 use Rattle.layout.specs.Search.{found, corrupt}
 use Rattle.search.proofs.Volume.{search-is}

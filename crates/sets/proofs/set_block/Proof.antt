@@ -6,9 +6,6 @@ use borrow.Author.Tests.{eq-eqb, ne-eqb}
 use borrow.Author.Needs.{needs}
 use Rattle.sets.proofs.set_block.Statement.{statement}
 use Rattle.sets.proofs.set_block.Tie as tie
-use Rattle.sets.proofs.set_block.Reads as reads
-use Rattle.sets.proofs.set_block.Lts as lts
-use Rattle.sets.proofs.side_block.Reads as side-block-reads
 
 add-if1 : tie.Need-add-if1
 add-if1 c = search needs

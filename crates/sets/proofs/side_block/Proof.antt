@@ -4,8 +4,6 @@ use borrow.Author.Tests.{eq-eqb, ne-eqb}
 use borrow.Author.Needs.{needs}
 use Rattle.sets.proofs.side_block.Statement.{statement}
 use Rattle.sets.proofs.side_block.Tie as tie
-use Rattle.sets.proofs.side_block.Reads as reads
-use Rattle.sets.proofs.side_block.Lts as lts
 
 add-result : tie.Need-add-result
 add-result c = search needs

@@ -6,10 +6,6 @@ use Rattle.layout.specs.Geometry.{recordCapacity, deletionCapacity}
 use Rattle.geometry.specs.Shape.{shape}
 use Rattle.state.proofs.counts_bad.Statement.{statement}
 use Rattle.state.proofs.counts_bad.Tie as tie
-use Rattle.state.proofs.counts_bad.Reads as reads
-use Rattle.state.proofs.counts_bad.Lts as lts
-use Rattle.geometry.proofs.Geometry.deletion_capacity.Reads as deletion-capacity-reads
-use Rattle.geometry.proofs.Geometry.record_capacity.Reads as record-capacity-reads
 
 -- src/lib.rt:43:8
 record-capacity-requires : tie.Need-record-capacity-requires

@@ -1,19 +1,12 @@
 use borrow.Author.Needs.{needs}
 use mathlib.Core.Path.{_≡_, sym, _∙_}
-use mathlib.Core.Bool.{true, false}
-use Prim.Native.Nat.{ℕ}
+use mathlib.Core.Bool.{true}
 use Rattle.layout.specs.Geometry.{allowed}
 use Rattle.geometry.specs.Shape.{Sound}
-use Rattle.geometry.specs.declared.Geometry.{Geometry}
 use Rattle.state.specs.Judge.{geometryIn}
 use Rattle.state.proofs.Laws.{shaped-bad, shaped-good, judged-shape, judged-counts, judged-short, judged-good, fits-of}
 use Rattle.state.proofs.judge.Statement.{statement}
 use Rattle.state.proofs.judge.Tie as tie
-use Rattle.state.proofs.judge.Reads as reads
-use Rattle.state.proofs.judge.Lts as lts
-use Rattle.geometry.proofs.geometry_for.Reads as geometry-for-reads
-use Rattle.state.proofs.counts_bad.Reads as counts-bad-reads
-use Rattle.state.proofs.too_short.Reads as too-short-reads
 
 -- src/lib.rt:71:11
 geometry-for-requires : tie.Need-geometry-for-requires

@@ -1,15 +1,11 @@
 use borrow.Author.Needs.{needs}
 use mathlib.Core.Path.{_≡_, sym, _∙_}
-use mathlib.Core.Bool.{true, false}
+use mathlib.Core.Bool.{true}
 use Rattle.layout.specs.Geometry.{allowed}
 use Rattle.geometry.specs.Shape.{Sound, geometryFor}
 use Rattle.state.proofs.Laws.{shaped-bad, shaped-good, new-shape, new-short, new-good, new-of}
 use Rattle.state.proofs.judge_new.Statement.{statement}
 use Rattle.state.proofs.judge_new.Tie as tie
-use Rattle.state.proofs.judge_new.Reads as reads
-use Rattle.state.proofs.judge_new.Lts as lts
-use Rattle.geometry.proofs.geometry_for.Reads as geometry-for-reads
-use Rattle.state.proofs.too_short.Reads as too-short-reads
 
 -- src/lib.rt:92:11
 geometry-for-requires : tie.Need-geometry-for-requires

@@ -3,17 +3,11 @@ use borrow.Author.Tests.{lt-ltb, le-ltb}
 use native.Mathlib.Omega.{arith}
 use Prim.Native.Nat.{_<_, _≤_}
 use lib.ListN.{length}
-use Rattle.layout.specs.Geometry.{dataSize, spareSize, ramSize}
+use Rattle.layout.specs.Geometry.{dataSize, spareSize}
 use Rattle.layout.specs.Calls.{tooShort}
 use Rattle.geometry.specs.Shape.{shape}
-use mathlib.Core.Path.{_≡_}
 use Rattle.state.proofs.too_short.Statement.{statement}
 use Rattle.state.proofs.too_short.Tie as tie
-use Rattle.state.proofs.too_short.Reads as reads
-use Rattle.state.proofs.too_short.Lts as lts
-use Rattle.geometry.proofs.Geometry.data_size.Reads as data-size-reads
-use Rattle.geometry.proofs.Geometry.ram_size.Reads as ram-size-reads
-use Rattle.geometry.proofs.Geometry.spare_size.Reads as spare-size-reads
 
 -- src/lib.rt:57:21
 data-size-requires : tie.Need-data-size-requires

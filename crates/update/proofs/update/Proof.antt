@@ -1,16 +1,11 @@
 use borrow.Author.Needs.{needs}
-use mathlib.Core.Path.{_≡_, sym, ap, _∙_}
+use mathlib.Core.Path.{sym, ap, _∙_}
 use Rattle.layout.specs.Hash.{fnvFamily}
 use Rattle.layout.specs.Calls as calls
 use Rattle.state.specs.Contract.{seen}
 use Rattle.calls.proofs.CallsLaws.{call-refused, call-fits}
 use Rattle.update.proofs.update.Statement.{statement}
 use Rattle.update.proofs.update.Tie as tie
-use Rattle.update.proofs.update.Reads as reads
-use Rattle.update.proofs.update.Lts as lts
-use Rattle.state.proofs.judge.Reads as judge-reads
-use Rattle.state.proofs.refuse.Reads as refuse-reads
-use Rattle.update.proofs.update_in.Reads as update-in-reads
 
 judge-requires : tie.Need-judge-requires
 judge-requires c κs = search needs

@@ -13,16 +13,6 @@ use Rattle.changes.proofs.CallLaws.{update-full, update-full-deletions, update-
 use Rattle.calls.proofs.CallsLaws.{and-first, and-second, and-both}
 use Rattle.update.proofs.update_found.Statement.{statement}
 use Rattle.update.proofs.update_found.Tie as tie
-use Rattle.update.proofs.update_found.Reads as reads
-use Rattle.update.proofs.update_found.Lts as lts
-use Rattle.changes.proofs.delete_record.Reads as delete-record-reads
-use Rattle.changes.proofs.deletion_fresh.Reads as deletion-fresh-reads
-use Rattle.changes.proofs.insert_record.Reads as insert-record-reads
-use Rattle.changes.proofs.insertion_fresh.Reads as insertion-fresh-reads
-use Rattle.geometry.proofs.Geometry.deletion_capacity.Reads as deletion-capacity-reads
-use Rattle.geometry.proofs.Geometry.record_capacity.Reads as record-capacity-reads
-use Rattle.state.proofs.refuse.Reads as refuse-reads
-use Rattle.calls.proofs.finish.Reads as finish-reads
 
 cast-n : tie.Need-cast-n
 cast-n c = search needs
