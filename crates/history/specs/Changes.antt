@@ -127,9 +127,6 @@ module _ (h : Family) (g : Geometry) (e : ℕ) (pow : g .u ≡ 2 ^ e) where
 
     -- ---- the record into RA, its entry into KA
 
-    abbrev bytes : List ℕ
-    bytes = bytesOf r
-
     abbrev entry : List ℕ
     entry = entryBytes (r .key) (length (H .records))
 

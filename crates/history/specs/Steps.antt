@@ -37,9 +37,6 @@ module _ (h : Family) (S R D : ℕ) (ok : Sound S R D) (can : allowed S R D ≡ 
   abbrev g : Geometry
   g = geometry S R D
 
-  abbrev u : ℕ
-  u = S / 16
-
   pub record Done (H : History) (C : Flash) (ram : List ℕ) (r : Result) (s : HistoryStep) : Type 0 where
     pub says : shown (r .outcome) ≡ s .says
     pub possible : Possible (r .outcome)

@@ -116,9 +116,6 @@ module _ (h : Family) (S R D : ℕ) (ok : Sound S R D) where
     abbrev v : Volume
     v = volumeOf H C ram
 
-    abbrev u : ℕ
-    u = S / 16
-
     -- record numbers are 32-bit numbers
     n-word : length (H .records) < 2 ^ 32
     n-word =
