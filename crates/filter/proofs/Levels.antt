@@ -8,11 +8,13 @@ use native.Mathlib.Omega.{arith}
 use borrow.Author.Tests.{lt-ltb, le-ltb}
 use lib.ListN.{length}
 use lib.Pow.{pow-pos, pow-lt, pow-mono, pow-add}
-use Rattle.memory.specs.Cases.{bool?, either, lt?, by-eq, by-lt}
+use Rattle.memory.specs.Cases.{bool?, either, lt?, by-lt}
 use Rattle.memory.specs.Numbers.{Euclid, euclid, div-of, mod-of, div-lt}
 use Rattle.memory.specs.Power.{log2up, log2up-enough, log2up-least, width}
-use Rattle.layout.specs.Index.{Index, bitAt, filterBit, setWidth, sideBlock, inFull, inSet}
+use Rattle.layout.specs.Index.{Index, bitAt, filterBit, inFull, inSet}
 use Rattle.memory.specs.Bits.{bitIn}
+use Rattle.history.specs.RowLaws.{width-is}
+use Rattle.history.specs.IndexRead.{side-range}
 use Rattle.filter.specs.Filter.{Fits}
 use Rattle.filter.specs.Groups.{UnitIs, stageOf, skaLevel, l1Level, setLevel, fullLevel, levelInSets, levelOnFlash, levelBelow}
 use Rattle.filter.specs.declared.Level.{Level}
@@ -73,11 +75,6 @@ module _ (u e : ℕ) (S : UnitIs u e) where
         side = omega (arith, pow-mono l, power-2);
       }
 
-  pub set-width : (c : ℕ) → c < 4 * u → setWidth u c ≡ 2 ^ (e + 2 - log2up c)
-  set-width c h =
-      let W = set-of c h in
-      div-of (64 * u) (16 * 2 ^ log2up c) (2 ^ (e + 2 - log2up c)) 0 (omega (arith, W .whole)) (omega (arith, pow-pos (log2up c)))
-
 -- the exponent of a power of two, found as that of the least power not below it
 pub unit-is : (u Z r : ℕ) (ix : Index) (main ram : List ℕ) → Fits u ix Z main ram → r ≡ log2up u → UnitIs u r
 unit-is u Z r ix main ram I is =
@@ -94,9 +91,6 @@ unit-is u Z r ix main ram I is =
     }
 
 -- ---- the four levels
-
-side-le : (u : ℕ) (ix : Index) (c : ℕ) → sideBlock u ix c ≤ ix .first + 1 + 4 * u
-side-le u ix c = by-eq (λ t. cond t (ix .first + 1) (ix .first + 1 + 4 * u) ≤ ix .first + 1 + 4 * u) (c % 2) 1 (λ h. omega arith) (λ h. omega arith)
 
 module _ (u e : ℕ) (S : UnitIs u e) (ix : Index) (main ram : List ℕ) (F below : ℕ) (le : below ≤ F) where
   pub ska-at : ix .ska + 64 * u ≤ length ram → F / 8 * 8 < below → LevelAt u ix main ram F below (skaLevel u e ix (F / 8 * 8))
@@ -170,9 +164,9 @@ module _ (u e : ℕ) (S : UnitIs u e) (ix : Index) (main ram : List ℕ) (F belo
           small = omega (arith, S .few, Q .whole);
           reach = λ x b.
               let r : x / w < 16 * 2 ^ log2up (inSet u F) = div-lt x w (16 * 2 ^ log2up (inSet u F)) (Q .some) (omega (arith, Q .whole)) in
-              omega (arith, Q .whole, mul-le-mul-right (64 * u) r, mul-le-mul-right (1024 * u) (side-le u ix (inSet u F)), mul-le-mul-right (1024 * u) (Q .side));
+              omega (arith, Q .whole, mul-le-mul-right (64 * u) r, mul-le-mul-right (1024 * u) (side-range u ix (inSet u F) .1), mul-le-mul-right (1024 * u) (Q .side));
           bit-is = λ f x a b.
-              rw (lt-ltb f (F / 8 * 8) (omega arith), le-ltb f start a, lt-ltb f (start + 128 * inSet u F) (omega arith), set-width u e S (inSet u F) few);
+              rw (lt-ltb f (F / 8 * 8) (omega arith), le-ltb f start a, lt-ltb f (start + 128 * inSet u F) (omega arith), width-is u e (S .power) (inSet u F) (omega arith));
         }
 
   pub full-at : (k : ℕ) → k ≡ (below - 1) / (128 * (4 * u)) → (ix .first + 1 + 2 * (4 * u) + inFull u F * (4 * u)) * (1024 * u) ≤ length main

@@ -4,7 +4,7 @@ use mathlib.Core.Bool.{Bool, true, _&&_, and-assoc}
 use mathlib.Core.List.{List, [], _∷_, _++_}
 use Prim.Native.Nat.{ℕ, zero, suc, _+_}
 use lib.ListN.{getD}
-use Rattle.layout.specs.Flash.{Op, program, erase, fresh, programs, erases, allFresh}
+use Rattle.layout.specs.Flash.{Op, program, erase, fresh, programs, allFresh}
 
 -- are k sectors fresh, from s on in steps of d
 unfoldable pub freshRun : List ℕ → ℕ → ℕ → ℕ → Bool
@@ -16,12 +16,6 @@ pub fresh-programs : (u d s k : ℕ) (f : ℕ → ℕ → ℕ) (spare : List ℕ
 unfolding allFresh freshRun
 fresh-programs u d s zero f spare = refl
 fresh-programs u d s (suc k) f spare = ap (λ (t : Bool). fresh (getD spare s 0) && t) (fresh-programs u d (s + d) k (λ j. f (suc j)) spare)
-
--- an erase asks for nothing
-pub fresh-erases : (b k : ℕ) (spare : List ℕ) → allFresh spare (erases b k) ≡ true
-unfolding allFresh
-fresh-erases b zero spare = refl
-fresh-erases b (suc k) spare = fresh-erases (suc b) k spare
 
 -- two lists, one after the other, ask for what each asks for, by the marks before both
 pub fresh-append : (xs ys : List Op) (spare : List ℕ) → allFresh spare (xs ++ ys) ≡ (allFresh spare xs && allFresh spare ys)

@@ -11,7 +11,8 @@ use Rattle.memory.specs.Cases.{bool?, either}
 use Rattle.layout.specs.Geometry.{sector}
 use Rattle.layout.specs.Flash.{Flash, Op, applyAll, programs, erases, allFresh}
 use Rattle.layout.specs.Index.{Index, inSka, inL1, inSet, inFull, setPages, setBlocks, sideBlock, setBlock, setByte, flushOps, buildOps, flushAndBuild, filterOps}
-use Rattle.flash.specs.Fresh.{freshRun, fresh-programs, fresh-erases, fresh-append}
+use Rattle.flash.specs.Fresh.{freshRun, fresh-programs, fresh-append}
+use Rattle.history.specs.FlashLaws.{fresh-erases}
 
 -- the four sectors of the flush where filter F is the eighth, and those of the next set where that flush is the sixteenth
 unfoldable pub indexFresh : List ℕ → ℕ → Index → ℕ → Bool
@@ -29,7 +30,7 @@ module _ (spare : List ℕ) (u : ℕ) (ix : Index) where
       let l1 : List Op = erases (ix .first) 1 in
       let old : List Op = erases (sideBlock u ix c) (setBlocks u c) in
       let none : allFresh spare (l1 ++ old) ≡ true =
-      fresh-append l1 old spare ∙ ap₂ (λ (s t : Bool). s && t) (fresh-erases (ix .first) 1 spare) (fresh-erases (sideBlock u ix c) (setBlocks u c) spare) in
+      fresh-append l1 old spare ∙ ap₂ (λ (s t : Bool). s && t) (fresh-erases spare (ix .first) 1) (fresh-erases spare (sideBlock u ix c) (setBlocks u c)) in
       fresh-append set (l1 ++ old) spare
       ∙ ap₂ (λ (s t : Bool). s && t) (fresh-programs u 1 (setBlock u ix z c * 64) (setPages u (c + 1) * 4) (setByte u ix main z c) spare) none
       ∙ and-true (freshRun spare 1 (setBlock u ix z c * 64) (setPages u (c + 1) * 4))
