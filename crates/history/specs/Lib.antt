@@ -21,3 +21,5 @@ pub mod Steps
 pub mod SeasonLaws
 pub mod DemandLaws
 pub mod Demands
+pub mod Inside
+pub mod Every

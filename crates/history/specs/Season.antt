@@ -13,7 +13,7 @@ use Rattle.layout.specs.Hash.{Family}
 use Rattle.layout.specs.Calls.{Volume, Call, insert, update, delete, lookup, Outcome, accepted, hit, miss, refused, Result, call}
 use Rattle.layout.specs.FiniteMap.{Map, Reply, accepts, hits, misses, refuses, Step, mapOf}
 use Rattle.history.specs.Image.{History, recordAt, bytesOf, mainImage, spareImage, ramImage}
-use Rattle.history.specs.Live.{findLive, withRecord, withDeletion}
+use Rattle.history.specs.Live.{findLive, withRecord, withDeletion, Nodup}
 
 -- ---- runs
 
@@ -84,8 +84,9 @@ pub record Agrees (S R D : ℕ) (v : Volume) (r : Result) (s : Step) : Type 0 wh
   pub says : shown (r .outcome) ≡ s .says
   -- "the state, which is the format's S, R and D with the map's n and d"
   pub state-is : r .volume .state ≡ stateOf S R D (s .next .n) (s .next .d)
-  -- n - d is the number of live levels
+  -- n - d is the number of live levels: the map's list has no key twice
   pub live : r .volume .state .records ≡ r .volume .state .deletions + length (s .next .levels)
+  pub once : Nodup (s .next .levels)
   pub possible : Possible (r .outcome)
   pub handed-on : HandedOn (r .outcome) v (r .volume)
   -- "It is at most floor(n / (S/2))"

@@ -185,6 +185,7 @@ module _ (h : Family) (S R D : ℕ) (ok : Sound S R D) (can : allowed S R D ≡ 
     says = X .says ∙ same;
     state-is = ap (λ (w : Volume). w .state) (X .volume-is) ∙ rw (L′ .n-is, L′ .d-is);
     live = rw (X .volume-is) (omega (arith, L′ .count));
+    once = L′ .once;
     possible = X .possible;
     handed-on = X .handed-on;
     count-le = X .count-le;

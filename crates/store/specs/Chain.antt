@@ -1,19 +1,21 @@
 -- Demand 3 of the code: every chain of calls whose results satisfy the contracts, from an accepted format on, agrees with the map at FNV-1a.
 use mathlib.Core.Path.{_≡_, refl, ap, _∙_}
-use mathlib.Core.Bool.{true, false}
-use mathlib.Core.List.{List, [], _∷_}
+use mathlib.Core.Bool.{Bool, true, false}
+use mathlib.Core.List.{List, [], _∷_, _++_}
 use Prim.Native.Nat.{ℕ, _+_, _/_, _≤_}
 use lib.ListN.{length}
 use Rattle.layout.specs.Geometry.{geometry, allowed, entriesPerPage}
+use Rattle.layout.specs.Flash.{applyAll}
 use Rattle.layout.specs.Hash.{fnvFamily}
 use Rattle.layout.specs.Calls.{Volume, Call, accepted, tooShort, format, call}
 use Rattle.layout.specs.FiniteMap.{Map, emptyMap, Step, mapOf}
-use Rattle.history.specs.Live.{emptyHistory}
-use Rattle.history.specs.Season.{KeyWords, after, shown, Possible, HandedOn, stateOf, EachAgrees, historyOf, ImageOf}
+use Rattle.history.specs.Live.{emptyHistory, Nodup}
+use Rattle.history.specs.Season.{KeyWords, after, opsOf, Disciplined, shown, Possible, HandedOn, stateOf, EachAgrees, historyOf, ImageOf}
 use Rattle.history.specs.Demands.{demand-2, demand-3}
 use Rattle.state.specs.Contract.{Left, seen}
 
--- a chain of calls, each on what the one before it left: what each leaves is what its contract says
+-- a chain of calls, each on what the one before it left: what each leaves is what its contract says. The contracts of insert, update and
+-- delete are this equation; those of `lookup` and `find` give it by `lookup-left` and `find-left` (`lookup/specs/LookedLeft.antt`)
 abbrev pub Chain : Volume → List Call → List Left → Type 0
 Chain v [] [] = Unit {0}
 Chain v [] (l ∷ ls) = ⊥
@@ -25,6 +27,7 @@ pub record Sees (S R D : ℕ) (v : Volume) (l : Left) (s : Step) : Type 0 where
   pub says : shown (l .outcome) ≡ s .says
   pub state-is : l .left .state ≡ stateOf S R D (s .next .n) (s .next .d)
   pub live : l .left .state .records ≡ l .left .state .deletions + length (s .next .levels)
+  pub once : Nodup (s .next .levels)
   pub possible : Possible (l .outcome)
   pub handed-on : HandedOn (l .outcome) v (l .left)
   pub count-le : l .count ≤ v .state .records / entriesPerPage (S / 16)
@@ -45,7 +48,7 @@ each-sees S R D v m (c ∷ cs) [] k a = k
 each-sees S R D v m (c ∷ cs) (l ∷ ls) k a =
     let e : l ≡ seen (call fnvFamily v c) = k .0 in
     let w : l .left ≡ call fnvFamily v c .volume = ap (λ (x : Left). x .left) e in (
-      rw e (record { says = a .0 .says; state-is = a .0 .state-is; live = a .0 .live; possible = a .0 .possible; handed-on = a .0 .handed-on; count-le = a .0 .count-le }),
+      rw e (record { says = a .0 .says; state-is = a .0 .state-is; live = a .0 .live; once = a .0 .once; possible = a .0 .possible; handed-on = a .0 .handed-on; count-le = a .0 .count-le }),
       each-sees S R D (l .left) (mapOf (geometry S R D) m c .next) cs ls (k .1) (rw w (a .1)),
     )
 
@@ -60,6 +63,10 @@ pub record CodeSeason (v : Volume) (S R D : ℕ) (first : Left) (cs : List Call)
   pub formatted : first .outcome ≡ accepted
   pub started : first .left .state ≡ stateOf S R D 0 0
   pub each : EachSees S R D (first .left) emptyMap cs ls
+  -- the chip operations of the list, done in order on the chip handed to the format, give the flash that the last call leaves
+  pub flash-is : applyAll (S / 16) (format v S R D .ops ++ opsOf fnvFamily (first .left) cs) (v .flash) ≡ lastLeft (first .left) ls .flash
+  -- and keep the chip's discipline
+  pub disciplined : (P : ℕ → Bool) → Disciplined (format v S R D .ops ++ opsOf fnvFamily (first .left) cs) P
   pub image : ImageOf fnvFamily (geometry S R D) (historyOf fnvFamily (first .left) emptyHistory cs) v (lastLeft (first .left) ls)
 
 pub code-season : (v : Volume) (S R D : ℕ) (first : Left) (cs : List Call) (ls : List Left)
@@ -73,5 +80,7 @@ code-season v S R D first cs ls can long words e k =
       formatted = ap (λ (x : Left). x .outcome) e ∙ d .formatted-ok;
       started = ap (λ (x : Left). x .left .state) e ∙ d .started;
       each = each-sees S R D (first .left) emptyMap cs ls k (rw w (d .agrees));
+      flash-is = rw (last-is (first .left) cs ls k, w) (d .flash-is);
+      disciplined = λ P. rw w (d .disciplined P);
       image = rw (last-is (first .left) cs ls k, w) (demand-2 fnvFamily v S R D cs can long words);
     }

@@ -1,0 +1,306 @@
+-- Every call on every volume, whatever its state and lent bytes: a refusal hands everything back, bytes past the volume never change,
+-- and a lookup opens at most floor(n / (S/2)) pages.
+use mathlib.Core.Path.{_≡_, refl, sym, ap, _∙_}
+use mathlib.Core.Bool.{Bool, true, false, not, _||_, cond, true≢false, and-eq-true-iff}
+use mathlib.Core.Option.{Option, none, some}
+use mathlib.Core.List.{List, [], _++_}
+use Prim.Native.Nat.{ℕ, _+_, _*_, _/_, _%_, _^_, _≤_, _<_}
+use native.Mathlib.Nat.{mul-le-mul-right}
+use native.Mathlib.Omega.{arith}
+use lib.ListN.{length, replicate, length-replicate}
+use borrow.Author.Tests.{leb-false, eqb-true}
+use Rattle.memory.specs.Cases.{either, bool?}
+use Rattle.memory.specs.Lists.{length-write, getD-write-after}
+use Rattle.memory.specs.Numbers.{carry, div-lt}
+use Rattle.layout.specs.Geometry.{Geometry, geometry, geometryOf, allowed, blocks, kaBlocks, fullSets, recordCapacity, deletionCapacity, ramSize, entriesPerPage, workRam}
+use Rattle.layout.specs.Flash.{Flash, Op, applyAll, erases, allFresh}
+use Rattle.layout.specs.Hash.{Family, fnvFamily}
+use Rattle.layout.specs.Items.{RA, KA, DA, entryBytes, deletionBytes, put, fills, itemOps, itemRam}
+use Rattle.layout.specs.Search.{Stop, found, corrupt}
+use Rattle.layout.specs.Calls.{Volume, Call, insert, update, delete, lookup, Outcome, accepted, hit, miss, refused, Result, refuse, badState, tooShort, judged, format, formatted, keyIndex, keyFilters, Draft, keyPositions, tryAt, maybeIn, search, deletion, pageFilter, summary, insertion, commit, noRoom, noDeletion, insertAfter, updateAfter, deleteAfter, lookupAfter, answer, call}
+use Rattle.history.specs.FlashLaws.{apply-main-length, apply-spare-length}
+use Rattle.history.specs.ItemLaws.{length-record, length-entry, length-deletion}
+use Rattle.history.specs.SearchLaws.{search-opened}
+use Rattle.history.specs.Parts.{places-suffice, Beyond, beyond-same}
+use Rattle.history.specs.Volumes.{Sound, sound}
+use Rattle.history.specs.Volumes as volumes
+use Rattle.history.specs.Inside.{Inside, inside-none, inside-append, inside-erases, main-past, spare-past, inside-item, inside-filter, Past, past-none, past-then, past-zero, past-item, past-filter}
+
+-- ---- a refusal hands everything back
+
+abbrev pub Keeps : Volume → Result → Type 0
+Keeps v r = (i : ℕ) → r .outcome ≡ refused i → r .volume ≡ v
+
+keeps-either : (v : Volume) (t : Bool) (r s : Result) → Keeps v r → Keeps v s → Keeps v (cond t r s)
+keeps-either v true r s a b = a
+keeps-either v false r s a b = b
+
+refuse-keeps : (v : Volume) (j : ℕ) → Keeps v (refuse v j)
+refuse-keeps v j i e = refl
+
+module _ (h : Family) (g : Geometry) (v : Volume) where
+  commit-keeps : (n d : ℕ) (t : Draft) → Keeps v (commit h g v n d t)
+  unfolding commit
+  commit-keeps n d t = keeps-either v (allFresh (v .flash .spare) (t .ops)) _ _ (λ i e. absurd (let z : true ≡ false = cc in true≢false z)) (refuse-keeps v 7)
+
+  insert-keeps : (key : ℕ) (bytes : List ℕ) (s : Option Stop) → Keeps v (insertAfter h g v key bytes s)
+  unfolding insertAfter
+  insert-keeps key bytes (some corrupt) = refuse-keeps v 8
+  insert-keeps key bytes (some (found j)) = refuse-keeps v 3
+  insert-keeps key bytes none = keeps-either v (noRoom h g v) _ _ (refuse-keeps v 5) (commit-keeps _ _ _)
+
+  update-keeps : (key : ℕ) (bytes : List ℕ) (s : Option Stop) → Keeps v (updateAfter h g v key bytes s)
+  unfolding updateAfter
+  update-keeps key bytes (some corrupt) = refuse-keeps v 8
+  update-keeps key bytes none = refuse-keeps v 4
+  update-keeps key bytes (some (found j)) = keeps-either v (noRoom h g v) _ _ (refuse-keeps v 5) (keeps-either v (noDeletion h g v) _ _ (refuse-keeps v 6) (commit-keeps _ _ _))
+
+  delete-keeps : (s : Option Stop) → Keeps v (deleteAfter h g v s)
+  unfolding deleteAfter
+  delete-keeps (some corrupt) = refuse-keeps v 8
+  delete-keeps none = refuse-keeps v 4
+  delete-keeps (some (found j)) = keeps-either v (noDeletion h g v) _ _ (refuse-keeps v 6) (commit-keeps _ _ _)
+
+  lookup-keeps : (opened : ℕ) (s : Option Stop) → Keeps v (lookupAfter h g v opened s)
+  unfolding lookupAfter
+  lookup-keeps opened (some corrupt) = refuse-keeps v 8
+  lookup-keeps opened none = λ i e. refl
+  lookup-keeps opened (some (found j)) = λ i e. refl
+
+  answer-keeps : (c : Call) → Keeps v (answer h g v c)
+  answer-keeps (insert key moves goal free) = insert-keeps key _ (search h g v key .stop)
+  answer-keeps (update key moves goal free) = update-keeps key _ (search h g v key .stop)
+  answer-keeps (delete key) = delete-keeps (search h g v key .stop)
+  answer-keeps (lookup key) = lookup-keeps (search h g v key .opened) (search h g v key .stop)
+
+-- "The state comes back as handed in", and so do all bytes
+pub refusal-keeps : (h : Family) (v : Volume) (c : Call) → Keeps v (call h v c)
+unfolding call judged
+refusal-keeps h v c =
+    keeps-either v (badState (v .state)) _ _ (refuse-keeps v 1)
+    (keeps-either v (tooShort (geometryOf (v .state)) (v .flash) (v .ram)) _ _ (refuse-keeps v 2) (answer-keeps h (geometryOf (v .state)) v c))
+
+pub format-refusal-keeps : (v : Volume) (S R D : ℕ) → Keeps v (format v S R D)
+unfolding format formatted
+format-refusal-keeps v S R D =
+    keeps-either v (allowed S R D) _ _
+    (keeps-either v (tooShort (geometry S R D) (v .flash) (v .ram)) _ _ (refuse-keeps v 2) (λ i e. absurd (let z : true ≡ false = cc in true≢false z)))
+    (refuse-keeps v 1)
+
+-- ---- a format is accepted exactly if neither 1 nor 2 applies to it
+
+pub can-accepted : (v : Volume) (S R D : ℕ) → allowed S R D ≡ true → tooShort (geometry S R D) (v .flash) (v .ram) ≡ false → format v S R D .outcome ≡ accepted
+unfolding format formatted
+can-accepted v S R D can long = rw (can, long)
+
+abbrev isAccepted : Outcome → Bool
+isAccepted accepted = true
+isAccepted (hit place bytes) = false
+isAccepted miss = false
+isAccepted (refused i) = false
+
+pub accepted-can : (v : Volume) (S R D : ℕ) → format v S R D .outcome ≡ accepted → (allowed S R D ≡ true) × (tooShort (geometry S R D) (v .flash) (v .ram) ≡ false)
+unfolding format
+accepted-can v S R D e =
+    let t : isAccepted (format v S R D .outcome) ≡ true = ap isAccepted e in
+    either (bool? (allowed S R D))
+    (λ a. either (bool? (tooShort (geometry S R D) (v .flash) (v .ram)))
+    (λ b. let z : false ≡ true = rw (a, b) at t in (a, b ∙ sym z))
+    (λ b. (a, b)))
+    (λ a. let z : false ≡ true = rw a at t in (a ∙ z, cc))
+
+-- ---- the count of a lookup: "It is at most floor(n / (S/2))"
+
+count-after : (h : Family) (g : Geometry) (v : Volume) (opened m : ℕ) (s : Option Stop) → opened ≤ m → lookupAfter h g v opened s .count ≤ m
+unfolding lookupAfter
+count-after h g v opened m (some corrupt) l = omega arith
+count-after h g v opened m none l = l
+count-after h g v opened m (some (found j)) l = l
+
+pub count-most : (h : Family) (v : Volume) (key : ℕ) → call h v (lookup key) .count ≤ v .state .records / entriesPerPage (v .state .sectorSize / 16)
+unfolding call judged search
+count-most h v key =
+    either (bool? (badState (v .state)))
+    (λ a. rw a (omega arith))
+    (λ a. either (bool? (tooShort (geometryOf (v .state)) (v .flash) (v .ram)))
+    (λ b. rw (a, b) (omega arith))
+    (λ b. rw (a, b) (count-after h (geometryOf (v .state)) v _ _ _
+    (search-opened (maybeIn h (geometryOf (v .state)) v (keyPositions h (geometryOf (v .state)) key)) (tryAt h (geometryOf (v .state)) v key) (8 * (v .state .sectorSize / 16)) (v .state .records)))))
+
+-- ---- "bytes past the volume and past the desk's 20S never change"
+
+-- operations inside the volume, and a RAM that keeps what is past its pages
+record Bounded (g : Geometry) (ram : List ℕ) (t : Draft) : Type 0 where
+  ops : Inside (g .u) (blocks g) (t .ops)
+  past : Past (ramSize g) ram (t .ram)
+
+bounded-either : (g : Geometry) (ram : List ℕ) (b : Bool) (s t : Draft) → (b ≡ true → Bounded g ram s) → (b ≡ false → Bounded g ram t) → Bounded g ram (cond b s t)
+bounded-either g ram true s t a b = a refl
+bounded-either g ram false s t a b = b refl
+
+module _ (h : Family) (S R D : ℕ) (ok : Sound S R D) where
+  abbrev g : Geometry
+  g = geometry S R D
+
+  abbrev u : ℕ
+  u = S / 16
+
+  pu : 0 < S / 16
+  pu = volumes.pu h S R D ok
+
+  deletion-bounded : (d j : ℕ) (ram : List ℕ) → d < deletionCapacity g → Bounded g ram (deletion h g d j ram)
+  unfolding deletion
+  deletion-bounded d j ram l = record {
+    ops = inside-item u (blocks g) (DA g) D d (deletionBytes j) ram (omega arith) (div-lt d (16 * u) (D * 16) (omega (arith, pu)) (omega arith));
+    past = past-item u (DA g) d (ramSize g) (deletionBytes j) ram (omega (arith, pu)) (omega arith) (length-deletion j) (omega arith);
+  }
+
+  ka-room : (n : ℕ) → n < recordCapacity g → n / (8 * u) < kaBlocks g * 16
+  ka-room n l =
+      let half : R ≤ (R + 1) / 2 * 2 = omega arith in
+      div-lt n (8 * u) ((R + 1) / 2 * 16) (omega (arith, pu)) (omega (arith, mul-le-mul-right u half))
+
+  -- the places for full sets suffice for one more record's filter
+  sets-room : (n : ℕ) → n < recordCapacity g → n % (8 * u) + 1 ≡ 8 * u → (n / (8 * u) + 1) / 8 / 16 / (4 * u) ≤ R / (64 * u)
+  sets-room n l full =
+      let next : (n + 1) / (8 * u) ≡ n / (8 * u) + 1
+      = either (carry n (8 * u) (omega (arith, pu))) (λ c. c .1) (λ c. absurd (c .0 full)) in
+      rw (← next) (places-suffice u R (n + 1) pu (omega arith))
+
+  module _ (flash : Flash) (n key : ℕ) (bytes ram : List ℕ) (t : Draft) (room : n < recordCapacity g) (size : length bytes ≡ 16) (b : Bounded g ram t) where
+    -- after the record and the entry
+    abbrev entered : Draft
+    entered = record {
+      ops = (t .ops ++ itemOps u (RA g) n bytes (t .ram)) ++ itemOps u (KA g) n (entryBytes key n) (itemRam u (RA g) n bytes (t .ram));
+      ram = itemRam u (KA g) n (entryBytes key n) (itemRam u (RA g) n bytes (t .ram));
+    }
+
+    entered-bounded : Bounded g ram entered
+    entered-bounded = record {
+      ops =
+          inside-append u (blocks g) _ _
+          (inside-append u (blocks g) _ _ (b .ops) (inside-item u (blocks g) (RA g) R n bytes _ (omega arith) (div-lt n (4 * u) (R * 16) (omega (arith, pu)) (omega arith))))
+          (inside-item u (blocks g) (KA g) (kaBlocks g) n (entryBytes key n) _ (omega arith) (ka-room n room));
+      past =
+          past-then (ramSize g) ram _ _ (b .past)
+          (past-then (ramSize g) _ _ _ (past-item u (RA g) n (ramSize g) bytes _ (omega (arith, pu)) (omega arith) size (omega arith))
+          (past-item u (KA g) n (ramSize g) (entryBytes key n) _ (omega (arith, pu)) (omega arith) (length-entry key n) (omega arith)));
+    }
+
+    insertion-bounded : Bounded g ram (insertion h g flash n key bytes t)
+    unfolding insertion summary
+    insertion-bounded =
+        bounded-either g ram (fills (KA g) n) _ entered
+        (λ a. record {
+          ops = inside-append u (blocks g) _ _ (entered-bounded .ops) (inside-filter u (ok .e) (volumes.pow h S R D ok) (blocks g) (keyIndex g) (fullSets g) (omega arith) (keyFilters g n) _ _ (sets-room n room (eqb-true (n % (8 * u) + 1) (8 * u) a)));
+          past = past-then (ramSize g) ram _ _ (entered-bounded .past) (past-filter u pu (keyIndex g) (keyFilters g n) (ramSize g) (pageFilter h g (put (KA g) n (entryBytes key n) (itemRam u (RA g) n bytes (t .ram)))) _ (omega arith));
+        })
+        (λ a. entered-bounded)
+
+  -- what is kept of a volume
+  abbrev Kept : Volume → Result → Type 0
+  Kept v r = Beyond g (v .flash) (r .volume .flash) (v .ram) (r .volume .ram)
+
+  kept-either : (v : Volume) (b : Bool) (r s : Result) → (b ≡ true → Kept v r) → (b ≡ false → Kept v s) → Kept v (cond b r s)
+  kept-either v true r s a b = a refl
+  kept-either v false r s a b = b refl
+
+  refuse-kept : (v : Volume) (i : ℕ) → Kept v (refuse v i)
+  refuse-kept v i = beyond-same g (v .flash) (v .ram)
+
+  commit-kept : (v : Volume) (n d : ℕ) (t : Draft) → Bounded g (v .ram) t → Kept v (commit h g v n d t)
+  unfolding commit
+  commit-kept v n d t b =
+      kept-either v (allFresh (v .flash .spare) (t .ops)) _ _
+      (λ fresh.
+      let p = past-then (ramSize g) (v .ram) (t .ram) _ (b .past) (past-zero u (workRam u) (ramSize g) (t .ram) (omega arith)) in
+      record {
+        main = λ x l. main-past u (blocks g) (t .ops) (v .flash) x (b .ops) l;
+        spare = λ x l. spare-past u (blocks g) (t .ops) (v .flash) x (b .ops) l;
+        ram = p .same;
+        main-length = apply-main-length u (t .ops) (v .flash);
+        spare-length = apply-spare-length u (t .ops) (v .flash);
+        ram-length = p .long;
+      })
+      (λ fresh. refuse-kept v 7)
+
+  module _ (v : Volume) where
+    start-bounded : Bounded g (v .ram) (record { ops = []; ram = v .ram })
+    start-bounded = record { ops = inside-none u (blocks g); past = past-none (ramSize g) (v .ram) }
+
+    insert-kept : (key : ℕ) (bytes : List ℕ) (s : Option Stop) → length bytes ≡ 16 → Kept v (insertAfter h g v key bytes s)
+    unfolding insertAfter
+    insert-kept key bytes (some corrupt) size = refuse-kept v 8
+    insert-kept key bytes (some (found j)) size = refuse-kept v 3
+    insert-kept key bytes none size =
+        kept-either v (noRoom h g v) _ _ (λ a. refuse-kept v 5)
+        (λ a. commit-kept v _ _ _ (insertion-bounded (v .flash) (v .state .records) key bytes (v .ram) _ (leb-false (recordCapacity g) (v .state .records) a) size start-bounded))
+
+    update-kept : (key : ℕ) (bytes : List ℕ) (s : Option Stop) → length bytes ≡ 16 → Kept v (updateAfter h g v key bytes s)
+    unfolding updateAfter
+    update-kept key bytes (some corrupt) size = refuse-kept v 8
+    update-kept key bytes none size = refuse-kept v 4
+    update-kept key bytes (some (found j)) size =
+        kept-either v (noRoom h g v) _ _ (λ a. refuse-kept v 5)
+        (λ a. kept-either v (noDeletion h g v) _ _ (λ b. refuse-kept v 6)
+        (λ b. commit-kept v _ _ _
+        (insertion-bounded (v .flash) (v .state .records) key bytes (v .ram) _ (leb-false (recordCapacity g) (v .state .records) a) size
+        (deletion-bounded (v .state .deletions) j (v .ram) (leb-false (deletionCapacity g) (v .state .deletions) b)))))
+
+    delete-kept : (s : Option Stop) → Kept v (deleteAfter h g v s)
+    unfolding deleteAfter
+    delete-kept (some corrupt) = refuse-kept v 8
+    delete-kept none = refuse-kept v 4
+    delete-kept (some (found j)) =
+        kept-either v (noDeletion h g v) _ _ (λ b. refuse-kept v 6)
+        (λ b. commit-kept v _ _ _ (deletion-bounded (v .state .deletions) j (v .ram) (leb-false (deletionCapacity g) (v .state .deletions) b)))
+
+    lookup-kept : (opened : ℕ) (s : Option Stop) → Kept v (lookupAfter h g v opened s)
+    unfolding lookupAfter
+    lookup-kept opened (some corrupt) = refuse-kept v 8
+    lookup-kept opened none = refuse-kept v 0
+    lookup-kept opened (some (found j)) = refuse-kept v 0
+
+    answer-kept : (c : Call) → Kept v (answer h g v c)
+    answer-kept (insert key moves goal free) = insert-kept key _ (search h g v key .stop) (length-record key moves goal free)
+    answer-kept (update key moves goal free) = update-kept key _ (search h g v key .stop) (length-record key moves goal free)
+    answer-kept (delete key) = delete-kept (search h g v key .stop)
+    answer-kept (lookup key) = lookup-kept (search h g v key .opened) (search h g v key .stop)
+
+    format-kept : Kept v (formatted v S R D)
+    unfolding formatted
+    format-kept =
+        let l : length (replicate {A = ℕ} (5 * (64 * u)) 0) ≡ 5 * (64 * u) = length-replicate {A = ℕ} (5 * (64 * u)) 0 in
+        let i = inside-erases u (blocks g) 0 (blocks g) (omega arith) in
+        record {
+          main = λ x q. main-past u (blocks g) (erases 0 (blocks g)) (v .flash) x i q;
+          spare = λ x q. spare-past u (blocks g) (erases 0 (blocks g)) (v .flash) x i q;
+          ram = λ x q. getD-write-after (v .ram) 0 (replicate (5 * (64 * u)) 0) x 0 (omega (arith, l));
+          main-length = apply-main-length u (erases 0 (blocks g)) (v .flash);
+          spare-length = apply-spare-length u (erases 0 (blocks g)) (v .flash);
+          ram-length = length-write (v .ram) 0 (replicate (5 * (64 * u)) 0);
+        }
+
+-- a state that is not bad has allowed sizes
+state-allowed : (v : Volume) → badState (v .state) ≡ false → allowed (v .state .sectorSize) (v .state .raBlocks) (v .state .daBlocks) ≡ true
+unfolding badState
+state-allowed v good =
+    either (bool? (allowed (v .state .sectorSize) (v .state .raBlocks) (v .state .daBlocks))) (λ a. a) (λ a. let z : true ≡ false = rw a at good in absurd (true≢false z))
+
+pub beyond-kept : (h : Family) (v : Volume) (c : Call) → Beyond (geometryOf (v .state)) (v .flash) (call h v c .volume .flash) (v .ram) (call h v c .volume .ram)
+unfolding call judged
+beyond-kept h v c =
+    either (bool? (badState (v .state)))
+    (λ a. rw a (beyond-same (geometryOf (v .state)) (v .flash) (v .ram)))
+    (λ a. either (bool? (tooShort (geometryOf (v .state)) (v .flash) (v .ram)))
+    (λ b. rw (a, b) (beyond-same (geometryOf (v .state)) (v .flash) (v .ram)))
+    (λ b. rw (a, b) (answer-kept h (v .state .sectorSize) (v .state .raBlocks) (v .state .daBlocks) (sound _ _ _ (state-allowed v a)) v c)))
+
+pub format-beyond-kept : (v : Volume) (S R D : ℕ) → Beyond (geometry S R D) (v .flash) (format v S R D .volume .flash) (v .ram) (format v S R D .volume .ram)
+unfolding format
+format-beyond-kept v S R D =
+    either (bool? (allowed S R D))
+    (λ a. either (bool? (tooShort (geometry S R D) (v .flash) (v .ram)))
+    (λ b. rw (a, b) (beyond-same (geometry S R D) (v .flash) (v .ram)))
+    (λ b. rw (a, b) (format-kept fnvFamily S R D (sound S R D a) v)))
+    (λ a. rw a (beyond-same (geometry S R D) (v .flash) (v .ram)))
