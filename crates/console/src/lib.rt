@@ -159,8 +159,7 @@ fn finish(
     ensures { λ _. ⌜ (flashOf (now (main .exit)) (now (spare .exit)) ≡ keptClose (kept p (now (line .entry)) (now (main .entry)) (now (spare .entry)) (now (ram .entry)) (now (out .entry))) .volume .flash) × (now (ram .exit) ≡ keptClose (kept p (now (line .entry)) (now (main .entry)) (now (spare .entry)) (now (ram .entry)) (now (out .entry))) .volume .ram) × (now (out .exit) ≡ keptClose (kept p (now (line .entry)) (now (main .entry)) (now (spare .entry)) (now (ram .entry)) (now (out .entry))) .out) ⌝ }
 {
     let q = stream::close(p, line, main, spare, ram, out);
-    let printed = q.printed;
-    io::write_all(STDOUT_FILENO, &out[0..printed]);
+    tell(q, out);
 }
 
 // The whole input; the answer is whether its end was reached. A proved loop ends, so it counts its turns down from a number that no run

@@ -84,10 +84,10 @@ fn no_bits() -> [u8; 256]
     [0u8; 256]
 }
 
-// The bloom filter of the page of entries from byte `at` on: the positions of all its keys set.
+// The bloom filter of the page of entries from byte `at` on: the positions of all its keys set, and no other of the 2048 bits.
 pub fn page_filter(ram: &[u8], at: usize, unit: usize) -> [u8; 256]
     requires { ⌜ (0 < unit) × (unit ≤ 32) × (at + page unit ≤ length (now ram)) ⌝ }
-    ensures { λ r. ⌜ ((x : ℕ) → x < 64 * unit → arrayBit r x ≡ any (λ i. memb x (positions fnvFamily positionCount unit (bytes4 (word (now (ram .entry)) (at + i * 8))))) (8 * unit)) ⌝ }
+    ensures { λ r. ⌜ ((x : ℕ) → x < 2048 → arrayBit r x ≡ any (λ i. memb x (positions fnvFamily positionCount unit (bytes4 (word (now (ram .entry)) (at + i * 8))))) (8 * unit)) ⌝ }
 {
     let mut bits = no_bits();
     let mut i = 0;

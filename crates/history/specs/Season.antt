@@ -140,5 +140,5 @@ pub record ImageOf (h : Family) (g : Geometry) (H : History) (handed v : Volume)
   pub ram-length : length (v .ram) ≡ length (handed .ram)
   pub records : v .state .records ≡ length (H .records)
   pub deletions : v .state .deletions ≡ length (H .deleted)
-  -- "lookups give the live records back"
+  -- lookups give the live records back
   pub lookups : (key : ℕ) → key < 2 ^ 32 → shown (call h v (lookup key) .outcome) ≡ liveReply H (findLive H key)

@@ -193,7 +193,7 @@ fn bit_place(x: usize) -> usize
 // The byte that has bit x of the row from byte `row` on, moved down so that this bit is its lowest.
 pub fn byte_of(bytes: &[u8], row: usize, x: usize) -> u8
     requires { ⌜ row + x / 8 < length (now bytes) ⌝ }
-    ensures { λ r. ⌜ bit r 0 ≡ bitIn (now (bytes .entry)) row x ⌝ }
+    ensures { λ r. ⌜ (r ≡ getD (now (bytes .entry)) (row + x / 8) 0 / 2 ^ (x % 8)) × (bit r 0 ≡ bitIn (now (bytes .entry)) row x) ⌝ }
 {
     bytes[row + x / 8] >> bit_place(x)
 }

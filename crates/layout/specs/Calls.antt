@@ -45,7 +45,7 @@ pub record Result : Type 0 where
   pub volume : Volume
   pub ops : List Op
 
--- "A refusal changes nothing": "The state comes back as handed in", and its count is 0
+-- a refusal changes nothing: "The state comes back as handed in", and so do all bytes; its count is 0
 abbrev pub refuse : Volume → ℕ → Result
 refuse v i = record { outcome = refused i; count = 0; volume = v; ops = [] }
 

@@ -7,10 +7,10 @@ use lib.ListN.{length, getD}
 use Rattle.memory.specs.Power.{log2up}
 use Rattle.layout.specs.Geometry.{Geometry, geometry, blocks, indexBlock, recordCapacity, sectorSizes, sector, page, recordsPerPage, entriesPerPage, filterBits}
 use Rattle.layout.specs.Flash.{Op, program, erase}
-use Rattle.layout.specs.Hash.{fnvFrom, fnv1a}
-use Rattle.layout.specs.Index.{Index, BitPlace, inSka, inL1, setPages, setWidth, setPlace, l1Place, flushOps, flushAndBuild, filterOps}
+use Rattle.layout.specs.Hash.{Family, fnvFrom, fnv1a}
+use Rattle.layout.specs.Index.{Index, BitPlace, inSka, inL1, setPages, setWidth, setPlace, l1Place, flushOps, flushAndBuild}
 use Rattle.layout.specs.Items.{RA, Place, itemPlace}
-use Rattle.layout.specs.Calls.{keyIndex, keyFilters}
+use Rattle.layout.specs.Calls.{keyFilters, summary, insertion}
 
 -- a row: what the definitions give, and what the document says
 pub record Row : Type 0 where
@@ -64,18 +64,19 @@ flushRead = l1Place 1 index 48 (2 * sector 1) .row / sector 1
 abbrev recordAt : ℕ → ℕ → Place
 recordAt n j = itemPlace 1 (RA (geometry 16 1 1)) n j
 
--- S = 16, R = 16, n = 1023: its filters, and what the filter of the next insert does
+-- S = 16, R = 16, n = 1023: its filters, and what one more insert does
 abbrev g16 : Geometry
 g16 = geometry 16 16 1
 
 abbrev filters : ℕ
 filters = keyFilters g16 1023
 
-abbrev built : List Op
-built = filterOps 1 (keyIndex g16) (record { main = []; spare = [] }) filters []
+abbrev oneMore : Family → ℕ → List ℕ → List Op
+oneMore h key bytes = insertion h g16 (record { main = []; spare = [] }) 1023 key bytes (record { ops = []; ram = [] }) .ops
 
-abbrev pub examples : List Row
-examples =
+-- the last line's insert is of any record, whatever the hash functions
+abbrev pub examples : Family → ℕ → List ℕ → List Row
+examples h key bytes =
     -- FNV-1a of nothing, and of the letter a
     row (fnv1a []) 0x811C9DC5
     ∷ row (fnv1a (97 ∷ [])) 0xE40C292C
@@ -111,16 +112,16 @@ examples =
     ∷ row (inL1 filters) 15
     ∷ row (inSka filters) 7
     ∷ row (1023 % entriesPerPage 1) 7
-    -- one more insert builds set 2: the flush's four sectors, then 16 pages of side A; and erases L1
-    ∷ row (length (sectorsOf built)) (4 + 16 * 4)
-    ∷ row (getD (sectorsOf built) 4 0) ((indexBlock g16 + 1) * 64)
-    ∷ row (length (blocksOf built)) 1
-    ∷ row (getD (blocksOf built) 0 0) (indexBlock g16)
+    -- one more insert builds set 2: after its RA page, its KA page and the flush's four sectors come 16 pages of side A; and erases L1
+    ∷ row (length (sectorsOf (oneMore h key bytes))) (4 + 4 + 4 + 16 * 4)
+    ∷ row (getD (sectorsOf (oneMore h key bytes)) 12 0) ((indexBlock g16 + 1) * 64)
+    ∷ row (length (blocksOf (oneMore h key bytes))) 1
+    ∷ row (getD (blocksOf (oneMore h key bytes)) 0 0) (indexBlock g16)
     ∷ []
 
-pub examples-hold : computed examples ≡ expected examples
-unfolding fnvFrom log2up flushAndBuild
-examples-hold = refl
+pub examples-hold : (h : Family) (key : ℕ) (bytes : List ℕ) → computed (examples h key bytes) ≡ expected (examples h key bytes)
+unfolding fnvFrom log2up insertion summary flushAndBuild
+examples-hold h key bytes = refl
 
 -- ---- the table of sector sizes: "records a page (S/4)", "entries a page (S/2)", "filter bits m (4S)"
 

@@ -98,7 +98,7 @@ tryToy n j = tryEntry n (λ i. memb i (4 ∷ 9 ∷ [])) 7 (cond (memb j (1 ∷ 4
 abbrev gateToy : ℕ → Bool
 gateToy p = true
 
--- "A newer deleted entry does not end the search"; both pages are opened, the RAM's entry is not counted
+-- a newer deleted entry is not "the end of the search"; both pages are opened, the RAM's entry is not counted
 pub search-past-deleted : searchFrom gateToy (tryToy 10) 4 10 ≡ record { stop = some (found 1); opened = 2 }
 unfolding searchPages scan memb
 search-past-deleted = refl
@@ -113,7 +113,7 @@ pub search-shut : searchFrom (λ p. false) (tryToy 8) 4 8 ≡ record { stop = no
 unfolding searchPages scan memb
 search-shut = refl
 
--- ---- refusals 1 and 2: "Equality with a capacity is allowed", "under" is strict
+-- ---- refusals 1 and 2: n and d may be at capacity, "under" is strict
 
 abbrev state : ℕ → ℕ → ℕ → ℕ → ℕ → State
 state S R D n d = record { sectorSize = S; raBlocks = R; daBlocks = D; records = n; deletions = d }

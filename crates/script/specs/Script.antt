@@ -53,7 +53,7 @@ unfoldable pub feed : Progress → List ℕ → Progress
 feed p [] = p
 feed p (c ∷ cs) = feed (advance p c) cs
 
--- the input's end: "the last [line feed] may be missing"
+-- the input's end: "(the last may be missing)"
 abbrev pub close : Progress → List ℕ → Progress
 close p [] = p
 close p (c ∷ cs) = endLine p

@@ -158,7 +158,7 @@ returns c =
     (area (a .result)) (e .result) (k .last .0) (i .last .1 .1 .0) (d .last .1 .1 .0) (arrayBit (f .result)) (indexOf (w .result)) (x .n / q .result)
     (flashOf (i .last .0) (i .last .1 .0)) (flashOf (d .last .0) (d .last .1 .0))
     (a .ensures .0) (e .ensures) (w .ensures) (rw (q .ensures)) put-is
-    (λ y l. f .ensures y l ∙ page-by (shape (x .g)) (c .before .before .before .before .before .before .before .before .before .before .before .before .before .before .before .before .before .before .before .before .before .before .before .before .before .before .before .before .before .before .before .ka-ram .result) (k .last .0) y (c .before .before .before .before .before .before .before .before .before .before .before .before .before .before .before .before .before .before .before .before .before .before .before .before .before .before .before .before .before .before .before .ka-ram .ensures))
+    (λ y l. f .ensures y (omega (arith, l, c .before .before .before .before .before .before .before .before .before .before .before .before .before .before .before .before .before .before .before .before .before .before .before .before .before .before .before .before .before .before .before .before .before .before .before .before .pre .0 .most)) ∙ page-by (shape (x .g)) (c .before .before .before .before .before .before .before .before .before .before .before .before .before .before .before .before .before .before .before .before .before .before .before .before .before .before .before .before .before .before .before .ka-ram .result) (k .last .0) y (c .before .before .before .before .before .before .before .before .before .before .before .before .before .before .before .before .before .before .before .before .before .before .before .before .before .before .before .before .before .before .before .ka-ram .ensures))
     (i .ensures .0) (i .ensures .1) (d .ensures .0) (d .ensures .1)
 
 pub enter-last-spec : {M : Type 1} → statement M

@@ -12,17 +12,8 @@ use Rattle.stream.proofs.close.Reads as close-reads
 close-requires : tie.Need-close-requires
 close-requires c κs = search needs
 
-sub-write-all : tie.Need-sub-write-all
-sub-write-all c = search needs
-
-part-write-all-start : tie.Need-part-write-all-start
-part-write-all-start c = search needs
-
-part-write-all-end : tie.Need-part-write-all-end
-part-write-all-end c = search needs
-
-write-all-requires : tie.Need-write-all-requires
-write-all-requires c κs = search needs
+tell-requires : tie.Need-tell-requires
+tell-requires c κs = search needs
 
 same-length : tie.Need-same-length
 same-length c = search needs
@@ -38,7 +29,7 @@ same-length-4 c = search needs
 
 returns : tie.Need-returns
 returns c =
-    let e = c .before .before .before .before .before .before .before .before .before .before .before .close .ensures .0 in
+    let e = c .before .before .before .before .before .before .before .before .before .before .close .ensures .0 in
     (ap (λ (k : Kept). k .volume .flash) e, ap (λ (k : Kept). k .volume .ram) e, ap (λ (k : Kept). k .out) e)
 
 pub finish-spec : {M : Type 1} → statement M
@@ -46,10 +37,7 @@ finish-spec =
     tie.close
     (tie.spec
     close-requires
-    sub-write-all
-    part-write-all-start
-    part-write-all-end
-    write-all-requires
+    tell-requires
     same-length
     same-length-2
     same-length-3

@@ -79,7 +79,7 @@ returns c =
     let l = c .before .loop in
     let u = c .before .before .before .before .args .unit in
     let e : l .i ≡ 8 * u = omega arith in
-    λ x h. rw e at (l .inv .2 x (omega arith))
+    λ x h. rw e at (l .inv .2 x h)
 
 pub page-filter-spec : {M : Type 1} → statement M
 page-filter-spec =

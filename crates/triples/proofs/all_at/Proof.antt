@@ -34,9 +34,9 @@ returns c =
     let at = x .a ∷ x .b ∷ x .c ∷ [] in
     let low = x .la ∷ x .lb ∷ x .lc ∷ [] in
     rows-three (x .bytes .now) at low (x .o * 8) 0 (one .byte-of .result) (two .byte-of2 .result) (c .byte-of3 .result)
-    (byte-row (x .bytes .now) at low (x .o) 0 (one .byte-of .result) (one .byte-of .ensures))
-    (byte-row (x .bytes .now) at low (x .o) 1 (two .byte-of2 .result) (two .byte-of2 .ensures))
-    (byte-row (x .bytes .now) at low (x .o) 2 (c .byte-of3 .result) (c .byte-of3 .ensures))
+    (byte-row (x .bytes .now) at low (x .o) 0 (one .byte-of .result) (one .byte-of .ensures .1))
+    (byte-row (x .bytes .now) at low (x .o) 1 (two .byte-of2 .result) (two .byte-of2 .ensures .1))
+    (byte-row (x .bytes .now) at low (x .o) 2 (c .byte-of3 .result) (c .byte-of3 .ensures .1))
 
 pub all-at-spec : {M : Type 1} → statement M
 all-at-spec =
