@@ -1,7 +1,7 @@
 #!/usr/bin/env python3
 """check.py: holds the documents to the tree; prints what is wrong, and ends with status 1 if anything is.
 
-Of README.md and docs/*.md: lines of 140 characters at most, links that lead somewhere. Of ARCHITECTURE.md: every name
+Of README files and docs/*.md: lines of 140 characters at most, links that lead somewhere. Of ARCHITECTURE.md: every name
 stands in the file that it is said to be in, every edit is there, and the contract of every function in a column "code"
 cites what its row says.
 """
@@ -32,9 +32,9 @@ def check_link(path, target):
     name, _, anchor = target.partition("#")
     file = (path.parent / name).resolve() if name else path
     if not file.exists():
-        wrong.append(f"{path.name}: no {target}")
+        wrong.append(f"{path.relative_to(ROOT)}: no {target}")
     elif anchor and anchor not in anchors(file):
-        wrong.append(f"{path.name}: no heading for {target}")
+        wrong.append(f"{path.relative_to(ROOT)}: no heading for {target}")
 
 
 def references(text):
@@ -46,7 +46,7 @@ def check_document(path):
     text = path.read_text(encoding="utf-8")
     for number, line in enumerate(text.splitlines(), 1):
         if len(line) > WIDTH:
-            wrong.append(f"{path.name}:{number}: {len(line)} characters")
+            wrong.append(f"{path.relative_to(ROOT)}:{number}: {len(line)} characters")
     prose = re.sub(r"`[^`]*`", "", text)
     for target in re.findall(r"\]\(([^)\s]+)\)", prose):
         check_link(path, target)
@@ -55,9 +55,9 @@ def check_document(path):
         check_link(path, target)
     used = {label or name for name, label in re.findall(r"(?<![\]\w])\[([^\]\[]+)\](?:\[([^\]]+)\])?(?!\()", prose)}
     for label in sorted(set(known) - used):
-        wrong.append(f"{path.name}: nothing uses the reference [{label}]")
+        wrong.append(f"{path.relative_to(ROOT)}: nothing uses the reference [{label}]")
     for label in sorted(used - set(known)) if known else []:
-        wrong.append(f"{path.name}: no reference [{label}]")
+        wrong.append(f"{path.relative_to(ROOT)}: no reference [{label}]")
 
 
 def contract(source, name):
@@ -99,22 +99,23 @@ def check_names(path):
             source = (path.parent / files[label]).read_text(encoding="utf-8")
             form = rf"\b(?:fn|struct|enum|const) {name}\b" if files[label].endswith(".rt") else defines + re.escape(name) + " "
             if not re.search(form, source, re.M):
-                wrong.append(f"{path.name}: no {name} in {label}")
+                wrong.append(f"{path.relative_to(ROOT)}: no {name} in {label}")
         cited = {name for _, name in items(row.get("its contract cites", row.get("definition", "")))}
         code = list(items(row.get("code", ""))) if cited else []
         ensures = [contract((path.parent / files[label]).read_text(encoding="utf-8"), name) for label, name in code]
         for (label, name), promise in zip(code, ensures):
             if not any(cites(promise, word) for word in cited):
-                wrong.append(f"{path.name}: the contract of {label}::{name} cites none of {', '.join(sorted(cited))}")
+                wrong.append(f"{path.relative_to(ROOT)}: the contract of {label}::{name} cites none of {', '.join(sorted(cited))}")
         for crate, edit in re.findall(r"`(\w+)/(\w+)`", row.get("edit", "")):
             if not list((ROOT / "crates" / crate / "must-fail").glob(f"**/{edit}.edit")):
-                wrong.append(f"{path.name}: no edit {crate}/{edit}")
+                wrong.append(f"{path.relative_to(ROOT)}: no edit {crate}/{edit}")
         for word in sorted(cited) if "its contract cites" in row else []:
             if not any(cites(promise, word) for promise in ensures):
-                wrong.append(f"{path.name}: no contract of that row cites {word}")
+                wrong.append(f"{path.relative_to(ROOT)}: no contract of that row cites {word}")
 
 
-for document in [ROOT / "README.md", *sorted((ROOT / "docs").glob("*.md"))]:
+READMES = [ROOT / name / "README.md" for name in (".", "rust", "tests/vectors")]
+for document in READMES + sorted((ROOT / "docs").glob("*.md")):
     check_document(document)
 check_names(ROOT / "docs" / "ARCHITECTURE.md")
 print("\n".join(wrong) or "the documents agree with the tree")
