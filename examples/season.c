@@ -1,21 +1,19 @@
-/* A short season: format a small volume, insert, update and look up a few levels, and print what comes back. */
+/* Formats a small volume, inserts, updates, deletes and looks up a few levels, and prints what comes back:
+ *   rt staticlib capi && mkdir -p target/examples
+ *   gcc -std=c11 -Wall -Wextra -Werror -O2 -Iinclude examples/season.c target/staticlib/libcapi.a -o target/examples/season
+ */
 #include <stdio.h>
 #include <string.h>
 #include "level_store.h"
 
-enum { S = 16, R = 1, D = 1, B = R + (R + 1) / 2 + D + 1 + S / 2 + R / (4 * S) * (S / 4) };
+enum { S = 16, R = 1, D = 1 };
 
-static uint8_t data[64 * S * B], spare[64 * B], ram[20 * S];
-
-static uint32_t word_at(const uint8_t *p)
-{
-    return p[0] | (uint32_t)p[1] << 8 | (uint32_t)p[2] << 16 | (uint32_t)p[3] << 24;
-}
+static uint8_t data[LEVEL_STORE_DATA_SIZE(S, R, D)], spare[LEVEL_STORE_SPARE_SIZE(S, R, D)], ram[LEVEL_STORE_RAM_SIZE(S)];
 
 static level_store_state report(const char *what, level_store_change c)
 {
-    if (c.refusal)
-        printf("%-8s refused by %u\n", what, c.refusal);
+    if (c.refusal != LEVEL_STORE_OK)
+        printf("%-8s refused: %s\n", what, level_store_refusal_text(c.refusal));
     else
         printf("%-8s ok, %u records, %u deletions\n", what, c.state.records, c.state.deletions);
     return c.state;
@@ -24,11 +22,11 @@ static level_store_state report(const char *what, level_store_change c)
 static void look(level_store_state s, uint32_t key)
 {
     level_store_lookup_result r = level_store_lookup(s, key, data, sizeof data, spare, sizeof spare, ram, sizeof ram);
-    if (r.refusal) {
-        printf("level %u: refused by %u\n", key, r.refusal);
+    if (r.refusal != LEVEL_STORE_OK) {
+        printf("level %u: refused: %s\n", key, level_store_refusal_text(r.refusal));
     } else if (r.found) {
         const uint8_t *record = (r.in_ram ? ram : data) + r.offset;
-        printf("level %u: %u moves, goal %u\n", key, word_at(record + 4), word_at(record + 8));
+        printf("level %u: %u moves, goal %u\n", key, level_store_record_moves(record), level_store_record_goal(record));
     } else {
         printf("level %u: not there\n", key);
     }

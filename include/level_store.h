@@ -1,28 +1,30 @@
 /* level_store.h - a level store on a flash chip, proved.
  *
- * Every function may be called with any state and any bytes: a call that cannot be done is refused by a number and
- * changes nothing. Nothing is allocated, kept between calls or printed; every call ends. The functions are reentrant.
+ * Every function may be called with any state and any bytes, of the lengths given beside them. A call that cannot be done is
+ * refused by a number, and a refused call changes nothing: neither a byte nor the state, which comes back as it was handed in.
+ * Nothing is allocated or printed.
  *
- * Lent bytes. Three byte arrays hold a volume; they need no alignment and must not overlap.
- *   data   the chip's data bytes              at least 64 * S * B bytes
- *   spare  one byte for each sector            at least 64 * B bytes; FF is fresh, 00 is programmed
- *   ram    working memory that must keep       at least 20 * S bytes; between calls it belongs to the store
- * S is the sector size in bytes, B the volume's number of blocks (sixteen pages of four sectors each):
- *   B = R + (R + 1) / 2 + D + 1 + S / 2 + R / (4 * S) * (S / 4)        (divisions rounded down)
- * R blocks hold 4 * R * S records, D blocks hold 16 * D * S deletions. Longer arrays are allowed; bytes past these sizes never
- * change. All lengths are in bytes. Multi-byte numbers in the arrays are little-endian.
+ * Lent bytes. Three arrays hold a volume; they need no alignment and must not overlap.
+ *   data   the chip's data bytes        at least LEVEL_STORE_DATA_SIZE(S, R, D) bytes
+ *   spare  one byte for each sector     at least LEVEL_STORE_SPARE_SIZE(S, R, D) bytes; FF is fresh, else programmed
+ *   ram    working memory               at least LEVEL_STORE_RAM_SIZE(S) bytes; between calls it belongs to the store
+ * S is the sector size in bytes: 16, 32, 64, 128, 256 or 512. A page is four sectors, a block sixteen pages. R blocks hold the
+ * records, D blocks the deletions; both are 1 to 4096. Longer arrays are allowed; bytes past these sizes never change. All
+ * lengths are in bytes. Multi-byte numbers in the arrays are little-endian.
  *
- * Refusals (0 means accepted):
- *   1  S, R or D not allowed (S is 16, 32, 64, 128, 256 or 512; R and D are 1 to 4096), or n or d above its
- *      capacity, or d above n
- *   2  data, spare or ram too short
- *   3  insert of a level that is there
- *   4  update or delete of a level that is not there
- *   5  no room for a record (insert, update)
- *   6  no room for a deletion (update, delete)
- *   7  a sector to be programmed is not fresh
- *   8  the search met a damaged entry: a record number of n or more
- * On a chip that was formatted and not altered, 1, 2, 7 and 8 never occur. A refusal gives back the state that was handed in.
+ * Power. The chip alone does not give a volume back: the pages that are not full yet (records, entries, deletions, filters) are in
+ * ram only, and the counts in the state only. Save both, of the same moment, across power cycles. Where one of them is lost, so is
+ * what it held; calls stay safe, but what they answer is no longer what was stored. A call cut short is not recovered.
+ *
+ * Several callers. There is no static data, so calls on different volumes may run at the same time. Two calls on the same volume
+ * must not, unless both are lookups.
+ *
+ * Time. Every call ends, within a time that the size of the volume bounds, not that of the answer: a search tries the records of
+ * its level, from the newest on, against the deletions until one is live. A level that was updated often and then deleted takes
+ * longest.
+ *
+ * Needs. The library is x86-64 code, 28 KB with its constants, and has no other data. Of C it calls memcpy and memset alone. It
+ * takes at most 1.6 KB of stack, arguments included (measured: format 0.2, lookup 1.1, delete 1.2, insert 1.5, update 1.6).
  */
 #ifndef LEVEL_STORE_H
 #define LEVEL_STORE_H
@@ -30,9 +32,72 @@
 #include <stddef.h>
 #include <stdint.h>
 
+#if defined __cplusplus || (defined __STDC_VERSION__ && __STDC_VERSION__ >= 199901L)
+#define LEVEL_STORE_INLINE static inline
+#elif defined __GNUC__
+#define LEVEL_STORE_INLINE static __inline__
+#else
+#define LEVEL_STORE_INLINE static
+#endif
+
 #ifdef __cplusplus
 extern "C" {
 #endif
+
+/* The major number stands for the bytes of a volume: 1 is the layout of document 01. Where it differs from that of the code which
+ * formatted a volume, the volume's data, spare, ram and state do not fit. The minor number rises with any other change. */
+#define LEVEL_STORE_VERSION_MAJOR 1
+#define LEVEL_STORE_VERSION_MINOR 0
+#define LEVEL_STORE_VERSION (LEVEL_STORE_VERSION_MAJOR * 1000 + LEVEL_STORE_VERSION_MINOR)
+
+/* Sizes, as constant expressions where the arguments are constants. An argument may be evaluated more than once. */
+
+/* The volume's blocks: records, their entries, deletions, and the filters' first level, two sides and full sets. */
+#define LEVEL_STORE_BLOCKS(S, R, D) \
+    ((size_t)(R) + ((size_t)(R) + 1) / 2 + (size_t)(D) + 1 + (size_t)(S) / 2 + (size_t)(R) / (4 * (size_t)(S)) * ((size_t)(S) / 4))
+
+/* Bytes to lend. */
+#define LEVEL_STORE_DATA_SIZE(S, R, D) (64 * (size_t)(S) * LEVEL_STORE_BLOCKS(S, R, D))
+#define LEVEL_STORE_SPARE_SIZE(S, R, D) (64 * LEVEL_STORE_BLOCKS(S, R, D))
+#define LEVEL_STORE_RAM_SIZE(S) (20 * (size_t)(S))
+
+/* Records and deletions that fit between two formats. */
+#define LEVEL_STORE_RECORD_CAPACITY(S, R) (4 * (size_t)(R) * (size_t)(S))
+#define LEVEL_STORE_DELETION_CAPACITY(S, D) (16 * (size_t)(D) * (size_t)(S))
+
+/* Bytes of a record: key, moves, goal, free word, 4 bytes each. */
+#define LEVEL_STORE_RECORD_SIZE 16
+
+/* What a call was refused by, tested in the order 1, 2, 8, 3, 4, 5, 6, 7; the first that applies is given. On a volume that was
+ * formatted, its bytes and state handed on unaltered, 1, 2, 7 and 8 never occur. */
+enum level_store_refusal {
+    LEVEL_STORE_OK = 0,             /* accepted */
+    LEVEL_STORE_BAD_STATE = 1,      /* S, R or D not allowed, or n or d above its capacity, or d above n */
+    LEVEL_STORE_TOO_SHORT = 2,      /* data, spare or ram too short */
+    LEVEL_STORE_PRESENT = 3,        /* insert of a level that is there */
+    LEVEL_STORE_ABSENT = 4,         /* update or delete of a level that is not there */
+    LEVEL_STORE_FULL = 5,           /* insert or update without room for a record */
+    LEVEL_STORE_DELETIONS_FULL = 6, /* update or delete without room for a deletion */
+    LEVEL_STORE_NOT_FRESH = 7,      /* a sector to be programmed is not fresh */
+    LEVEL_STORE_CORRUPT_ENTRY = 8   /* the search met an entry of the level with a record number of n or more */
+};
+
+/* A refusal in words. */
+LEVEL_STORE_INLINE const char *level_store_refusal_text(uint32_t refusal)
+{
+    switch (refusal) {
+    case LEVEL_STORE_OK: return "accepted";
+    case LEVEL_STORE_BAD_STATE: return "sizes or counts not allowed";
+    case LEVEL_STORE_TOO_SHORT: return "data, spare or ram too short";
+    case LEVEL_STORE_PRESENT: return "level already there";
+    case LEVEL_STORE_ABSENT: return "level not there";
+    case LEVEL_STORE_FULL: return "no room for a record";
+    case LEVEL_STORE_DELETIONS_FULL: return "no room for a deletion";
+    case LEVEL_STORE_NOT_FRESH: return "sector not fresh";
+    case LEVEL_STORE_CORRUPT_ENTRY: return "entry with a wrong record number";
+    default: return "unknown refusal";
+    }
+}
 
 /* S, R, D, n, d. The caller keeps it and hands in what the last call gave back; before any format it may be all zero. */
 typedef struct {
@@ -43,15 +108,15 @@ typedef struct {
     uint32_t deletions;   /* d, deletions accepted since the format; n - d levels are live */
 } level_store_state;
 
-/* What a changing call gives: refusal 0 and the new state, or a refusal's number and the state handed in. */
+/* What a changing call gives: LEVEL_STORE_OK and the new state, or a refusal and the state handed in. */
 typedef struct {
     uint32_t refusal;
     level_store_state state;
 } level_store_change;
 
-/* What a lookup gives. found 1: the record's 16 bytes (key, moves, goal, free word, 4 bytes each) start at `offset` of ram
- * (in_ram 1) or of data (in_ram 0). found 0: the level is not there, in_ram and offset are 0. count is the number of pages
- * of keys opened. A refusal has found, count, in_ram and offset 0. */
+/* What a lookup gives. found 1: the record's 16 bytes start at `offset` of ram (in_ram 1) or of data (in_ram 0). found 0: the
+ * level is not there, in_ram and offset are 0. count is the number of pages of keys opened. A refusal has found, count, in_ram
+ * and offset 0. */
 typedef struct {
     uint32_t refusal;
     uint32_t found;
@@ -60,11 +125,26 @@ typedef struct {
     uint32_t offset;
 } level_store_lookup_result;
 
-/* Erases the volume and starts a season. `old` is not judged; it comes back on a refusal (1 or 2). */
+/* A little-endian number, at any address. */
+LEVEL_STORE_INLINE uint32_t level_store_read32(const uint8_t *bytes)
+{
+    uint32_t number = bytes[3];
+    number = number << 8 | bytes[2];
+    number = number << 8 | bytes[1];
+    return number << 8 | bytes[0];
+}
+
+/* The four numbers of a record. */
+LEVEL_STORE_INLINE uint32_t level_store_record_key(const uint8_t *record) { return level_store_read32(record); }
+LEVEL_STORE_INLINE uint32_t level_store_record_moves(const uint8_t *record) { return level_store_read32(record + 4); }
+LEVEL_STORE_INLINE uint32_t level_store_record_goal(const uint8_t *record) { return level_store_read32(record + 8); }
+LEVEL_STORE_INLINE uint32_t level_store_record_word(const uint8_t *record) { return level_store_read32(record + 12); }
+
+/* Starts an empty volume: erases its blocks and zeroes ram. `old` is not judged; it comes back on a refusal. Refused by 1, 2. */
 level_store_change level_store_format(level_store_state old, uint32_t sector_size, uint32_t ra_blocks, uint32_t da_blocks,
     uint8_t *data, size_t data_len, uint8_t *spare, size_t spare_len, uint8_t *ram, size_t ram_len);
 
-/* A new level. Refused by 1, 2, 8, 3, 5, 7, tested in this order. */
+/* A new level. Refused by 1, 2, 8, 3, 5, 7. */
 level_store_change level_store_insert(level_store_state state, uint32_t key, uint32_t moves, uint32_t goal, uint32_t word,
     uint8_t *data, size_t data_len, uint8_t *spare, size_t spare_len, uint8_t *ram, size_t ram_len);
 
@@ -83,5 +163,7 @@ level_store_lookup_result level_store_lookup(level_store_state state, uint32_t k
 #ifdef __cplusplus
 }
 #endif
+
+#undef LEVEL_STORE_INLINE
 
 #endif
