@@ -1,0 +1,206 @@
+/* The sizes, refusals and accessors of include/level_store.h, held to the library. Plain C89, also C++, so that it can be compiled
+ * as each of them:
+ *   gcc -std=c11 -Wall -Wextra -Werror -O2 -Iinclude tests/header.c target/staticlib/libcapi.a -o target/examples/header
+ */
+#include <stdio.h>
+#include <stdlib.h>
+#include <string.h>
+#include "level_store.h"
+
+/* Compile time: an array of -1 elements is refused. The examples of document 01, and the largest volume. */
+#define HOLDS(name, condition) extern char name[(condition) ? 1 : -1]
+HOLDS(blocks_1, LEVEL_STORE_BLOCKS(16, 1, 1) == 12);
+HOLDS(blocks_32, LEVEL_STORE_BLOCKS(16, 32, 1) == 58);
+HOLDS(blocks_63, LEVEL_STORE_BLOCKS(16, 63, 1) == 105);
+HOLDS(blocks_64, LEVEL_STORE_BLOCKS(16, 64, 1) == 110);
+HOLDS(blocks_512, LEVEL_STORE_BLOCKS(512, 2048, 1) == 3458);
+HOLDS(blocks_of_terms, LEVEL_STORE_BLOCKS(8 + 8, 60 + 4, 0 + 1) == 110);
+HOLDS(capacity_1, LEVEL_STORE_RECORD_CAPACITY(16, 1) == 64);
+HOLDS(capacity_of_terms, LEVEL_STORE_RECORD_CAPACITY(8 + 8, 0 + 1) == 64 && LEVEL_STORE_DELETION_CAPACITY(8 + 8, 0 + 1) == 256);
+HOLDS(ram_of_terms, LEVEL_STORE_RAM_SIZE(8 + 8) == 320);
+HOLDS(largest, LEVEL_STORE_DATA_SIZE(512, 4096, 4096) == 352354304 && LEVEL_STORE_SPARE_SIZE(512, 4096, 4096) == 688192);
+HOLDS(largest_counts, LEVEL_STORE_RECORD_CAPACITY(512, 4096) == 8388608 && LEVEL_STORE_DELETION_CAPACITY(512, 4096) == 33554432);
+HOLDS(sizes_are_size_t, sizeof LEVEL_STORE_BLOCKS(16, 1, 1) == sizeof(size_t) && sizeof LEVEL_STORE_RAM_SIZE(16) == sizeof(size_t));
+HOLDS(layouts, sizeof(level_store_state) == 20 && sizeof(level_store_change) == 24 && sizeof(level_store_lookup_result) == 20);
+#if LEVEL_STORE_VERSION != LEVEL_STORE_VERSION_MAJOR * 1000 + LEVEL_STORE_VERSION_MINOR || LEVEL_STORE_VERSION < 1000
+#error "version"
+#endif
+
+static unsigned checks, failures;
+
+static void hold(int condition, int line, const char *what)
+{
+    checks++;
+    if (!condition) {
+        failures++;
+        fprintf(stderr, "tests/header.c:%d: %s\n", line, what);
+    }
+}
+#define CHECK(condition) hold(condition, __LINE__, #condition)
+
+/* A volume in arrays of exactly the sizes that the header gives. */
+static uint8_t *data, *spare, *ram;
+static size_t data_len, spare_len, ram_len;
+static level_store_state state;
+
+#define LENT data, data_len, spare, spare_len, ram, ram_len
+
+static uint8_t *array(size_t len)
+{
+    uint8_t *bytes = (uint8_t *)malloc(len);
+    if (bytes == NULL) {
+        fputs("tests/header.c: no memory\n", stderr);
+        exit(1);
+    }
+    return bytes;
+}
+
+static void lend(uint32_t S, uint32_t R, uint32_t D)
+{
+    data = array(data_len = LEVEL_STORE_DATA_SIZE(S, R, D));
+    spare = array(spare_len = LEVEL_STORE_SPARE_SIZE(S, R, D));
+    ram = array(ram_len = LEVEL_STORE_RAM_SIZE(S));
+}
+
+static void give_back(void)
+{
+    free(data);
+    free(spare);
+    free(ram);
+}
+
+/* The refusal of a changing call; its state is handed on. */
+static uint32_t after(level_store_change c)
+{
+    state = c.state;
+    return c.refusal;
+}
+
+static uint32_t format(uint32_t S, uint32_t R, uint32_t D) { return after(level_store_format(state, S, R, D, LENT)); }
+static uint32_t insert(uint32_t key) { return after(level_store_insert(state, key, 40, 0, 0, LENT)); }
+static uint32_t update(uint32_t key) { return after(level_store_update(state, key, 41, 0, 0, LENT)); }
+static uint32_t take_out(uint32_t key) { return after(level_store_delete(state, key, LENT)); }
+
+/* Run time: the same examples of document 01. */
+static void check_blocks(void)
+{
+    static const uint32_t examples[][4] = {{16, 1, 1, 12}, {16, 32, 1, 58}, {16, 63, 1, 105}, {16, 64, 1, 110}, {512, 2048, 1, 3458}};
+    size_t i;
+    for (i = 0; i < sizeof examples / sizeof *examples; i++)
+        CHECK(LEVEL_STORE_BLOCKS(examples[i][0], examples[i][1], examples[i][2]) == examples[i][3]);
+}
+
+/* The sizes are enough, and none of them is too large. */
+static void check_sizes(uint32_t S, uint32_t R, uint32_t D)
+{
+    lend(S, R, D);
+    data_len--;
+    CHECK(format(S, R, D) == LEVEL_STORE_TOO_SHORT);
+    data_len++;
+    spare_len--;
+    CHECK(format(S, R, D) == LEVEL_STORE_TOO_SHORT);
+    spare_len++;
+    ram_len--;
+    CHECK(format(S, R, D) == LEVEL_STORE_TOO_SHORT);
+    ram_len++;
+    CHECK(format(S, R, D) == LEVEL_STORE_OK);
+    CHECK(state.sector_size == S && state.ra_blocks == R && state.da_blocks == D && state.records == 0 && state.deletions == 0);
+    CHECK(spare[spare_len - 1] == 0xFF && data[data_len - 1] == 0xFF && ram[ram_len - 1] == 0);
+    give_back();
+}
+
+/* Each refusal by its name: the examples of document 01's table. */
+static void check_refusals(void)
+{
+    uint32_t i;
+    lend(16, 1, 1);
+    CHECK(format(24, 1, 1) == LEVEL_STORE_BAD_STATE);
+    CHECK(format(16, 1, 1) == LEVEL_STORE_OK);
+    CHECK(take_out(7) == LEVEL_STORE_ABSENT);
+    CHECK(update(7) == LEVEL_STORE_ABSENT);
+    CHECK(insert(7) == LEVEL_STORE_OK);
+    CHECK(insert(7) == LEVEL_STORE_PRESENT);
+    for (i = 1; i < LEVEL_STORE_RECORD_CAPACITY(16, 1); i++)
+        CHECK(insert(1000 + i) == LEVEL_STORE_OK);
+    CHECK(state.records == 64);
+    CHECK(insert(2000) == LEVEL_STORE_FULL);
+    CHECK(update(7) == LEVEL_STORE_FULL);
+    CHECK(format(16, 1, 1) == LEVEL_STORE_OK);
+    spare[0] = 0;
+    CHECK(insert(1) == LEVEL_STORE_OK && insert(2) == LEVEL_STORE_OK && insert(3) == LEVEL_STORE_OK);
+    CHECK(insert(4) == LEVEL_STORE_NOT_FRESH);
+    CHECK(format(16, 1, 1) == LEVEL_STORE_OK);
+    CHECK(insert(7) == LEVEL_STORE_OK);
+    ram[4 * 16 + 4] = 9; /* the record number of entry 0, on the second page of ram */
+    CHECK(take_out(7) == LEVEL_STORE_CORRUPT_ENTRY);
+    CHECK(level_store_lookup(state, 7, LENT).refusal == LEVEL_STORE_CORRUPT_ENTRY);
+    give_back();
+
+    lend(16, 5, 1);
+    CHECK(format(16, 5, 1) == LEVEL_STORE_OK);
+    for (i = 0; i <= LEVEL_STORE_DELETION_CAPACITY(16, 1); i++)
+        CHECK(insert(i) == LEVEL_STORE_OK);
+    for (i = 0; i < LEVEL_STORE_DELETION_CAPACITY(16, 1); i++)
+        CHECK(take_out(i) == LEVEL_STORE_OK);
+    CHECK(state.deletions == 256);
+    CHECK(take_out(i) == LEVEL_STORE_DELETIONS_FULL);
+    give_back();
+}
+
+/* Every refusal has a text of its own, and so have all other numbers together. */
+static void check_texts(void)
+{
+    uint32_t i, j;
+    for (i = 0; i <= 9; i++) {
+        CHECK(level_store_refusal_text(i) != NULL && level_store_refusal_text(i)[0] != '\0');
+        for (j = 0; j < i; j++)
+            CHECK(strcmp(level_store_refusal_text(i), level_store_refusal_text(j)) != 0);
+    }
+    CHECK(strcmp(level_store_refusal_text(0xFFFFFFFF), level_store_refusal_text(9)) == 0);
+}
+
+/* The accessors read what an insert wrote: in ram, on the chip, and at an odd address. */
+static void check_accessors(void)
+{
+    uint32_t i, in_ram = 0;
+    lend(16, 1, 1);
+    CHECK(format(16, 1, 1) == LEVEL_STORE_OK);
+    for (i = 0; i < 5; i++)
+        CHECK(after(level_store_insert(state, 0xF1E2D3C0 + i, 0x81726350 + i, 0x94857660 + i, 0xA7B8C9D0 + i, LENT)) == LEVEL_STORE_OK);
+    for (i = 0; i < 5; i++) {
+        level_store_lookup_result r = level_store_lookup(state, 0xF1E2D3C0 + i, LENT);
+        const uint8_t *record = (r.in_ram ? ram : data) + r.offset;
+        uint8_t copy[LEVEL_STORE_RECORD_SIZE + 1];
+        CHECK(r.refusal == LEVEL_STORE_OK && r.found == 1);
+        if (!r.found)
+            continue;
+        in_ram += r.in_ram;
+        CHECK(level_store_record_key(record) == 0xF1E2D3C0 + i);
+        CHECK(level_store_record_moves(record) == 0x81726350 + i);
+        CHECK(level_store_record_goal(record) == 0x94857660 + i);
+        CHECK(level_store_record_word(record) == 0xA7B8C9D0 + i);
+        memcpy(copy + 1, record, LEVEL_STORE_RECORD_SIZE);
+        CHECK(level_store_record_key(copy + 1) == 0xF1E2D3C0 + i && level_store_record_word(copy + 1) == 0xA7B8C9D0 + i);
+    }
+    CHECK(in_ram == 1); /* the fifth; the page of the first four is on the chip */
+    give_back();
+}
+
+int main(void)
+{
+    uint32_t S;
+    memset(&state, 0, sizeof state);
+    check_blocks();
+    for (S = 16; S <= 512; S *= 2)
+        check_sizes(S, 1, 1);
+    check_sizes(16, 32, 1);
+    check_sizes(16, 63, 3);
+    check_sizes(16, 64, 2);
+    check_sizes(32, 300, 5);
+    check_sizes(512, 2048, 1);
+    check_refusals();
+    check_texts();
+    check_accessors();
+    printf("header: %u checks, %u failed\n", checks, failures);
+    return failures != 0;
+}
