@@ -14,7 +14,6 @@ use Rattle.layout.specs.Geometry as layout
 use Rattle.layout.specs.Items.{Area, RA, KA}
 use Rattle.layout.specs.Index.{Index, inFull}
 use Rattle.layout.specs.Calls.{keyIndex, keyFilters}
-use Rattle.history.specs.Parts.{places-suffice}
 use Rattle.geometry.specs.Shape.{shape, Sound}
 use Rattle.geometry.specs.Bounds.{index-le, full-le, record-capacity-le}
 use Rattle.geometry.specs.declared.Geometry.{Geometry}
@@ -23,6 +22,7 @@ use Rattle.index.specs.Fits as index
 use Rattle.index.specs.Fresh.{indexFresh}
 use Rattle.items.specs.Fresh.{itemFresh}
 use Rattle.changes.specs.Inserted.{insertFresh}
+use Rattle.laws.specs.RowLaws.{places-suffice}
 
 module _ (g : Geometry) (ok : Sound g) where
   -- the exponent is below six

@@ -18,7 +18,7 @@ use Rattle.filter.specs.Filter.{page-filter-is}
 use Rattle.memory.specs.Ranges.{any, memb}
 use Rattle.memory.specs.Words.{word, bytes4}
 use Rattle.layout.specs.Calls.{Draft, keyIndex, keyFilters, pageFilter, deletion, summary, insertion}
-use Rattle.history.specs.FlashLaws.{apply-append}
+use Rattle.laws.specs.FlashLaws.{apply-append}
 use Rattle.flash.specs.Fresh.{fresh-append}
 use Rattle.changes.specs.Inserted.{raOps, raRam, kaOps, kaRam, filterIn, entered, indexOps, lastFlash, lastRam, insertedFlash, insertedRam, insertFresh}
 use Rattle.items.specs.Fresh.{itemFresh, item-fresh}

@@ -13,8 +13,7 @@ use Rattle.memory.specs.Numbers.{Euclid, euclid, div-of, mod-of, div-lt}
 use Rattle.memory.specs.Power.{log2up, log2up-enough, log2up-least, width}
 use Rattle.layout.specs.Index.{Index, bitAt, filterBit, inFull, inSet}
 use Rattle.memory.specs.Bits.{bitIn}
-use Rattle.history.specs.RowLaws.{width-is}
-use Rattle.history.specs.IndexRead.{side-range}
+use Rattle.laws.specs.RowLaws.{width-is, side-range}
 use Rattle.filter.specs.Filter.{Fits}
 use Rattle.filter.specs.Groups.{UnitIs, stageOf, skaLevel, l1Level, setLevel, fullLevel, levelInSets, levelOnFlash, levelBelow}
 use Rattle.filter.specs.declared.Level.{Level}

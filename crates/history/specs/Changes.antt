@@ -20,14 +20,15 @@ use Rattle.layout.specs.Hash.{Family}
 use Rattle.layout.specs.Items.{RA, KA, DA, entryBytes, deletionBytes, itemOps, itemRam, put, fills}
 use Rattle.layout.specs.Index.{inSka, inFull, fullBlock, withFilter, filterOps, filterRam}
 use Rattle.layout.specs.Calls.{Draft, keyIndex, keyFilters, keyPositions, pageFilter, deletion, summary, insertion}
-use Rattle.history.specs.FlashLaws.{fresh-append, AllAllowed, apply-append, allowed-append}
+use Rattle.laws.specs.FlashLaws.{fresh-append, AllAllowed, apply-append, allowed-append}
 use Rattle.history.specs.Image.{Record, History, recordAt, bytesOf, raItem, kaItem, daItem, keyFilter}
 use Rattle.history.specs.Live.{withRecord, withDeletion}
 use Rattle.history.specs.AreaLaws.{area-ext, put-word}
 use Rattle.history.specs.IndexLaws.{index-ext}
-use Rattle.history.specs.ItemLaws.{length-record, length-entry, length-deletion, entry-key}
+use Rattle.laws.specs.ItemLaws.{length-record, length-entry, length-deletion, entry-key}
 use Rattle.history.specs.Parts as parts
-use Rattle.history.specs.Parts.{Parts, Did, Beyond, beyond-then, frame-beyond, places-suffice}
+use Rattle.history.specs.Parts.{Parts, Did, Beyond, beyond-then, frame-beyond}
+use Rattle.laws.specs.RowLaws.{places-suffice}
 
 module _ (h : Family) (g : Geometry) (e : ℕ) (pow : g .u ≡ 2 ^ e) where
   abbrev u : ℕ

@@ -11,17 +11,18 @@ use Rattle.layout.specs.Flash.{Op, applyAll}
 use Rattle.layout.specs.Hash.{Family}
 use Rattle.layout.specs.Calls.{Volume, Call, lookup, accepted, tooShort, format, formatted, call}
 use Rattle.layout.specs.FiniteMap.{emptyMap}
-use Rattle.history.specs.FlashLaws.{apply-append}
+use Rattle.laws.specs.FlashLaws.{apply-append}
 use Rattle.history.specs.Image.{History}
 use Rattle.history.specs.Live.{emptyHistory, live-start, findLive, lookupHistory}
 use Rattle.history.specs.Parts.{Beyond, beyond-then}
 use Rattle.history.specs.ByAddress.{main-by-address, spare-by-address, ram-by-address}
 use Rattle.history.specs.Season.{KeyWords, after, opsOf, Disciplined, stateOf, EachAgrees, historyOf, ImageOf, shown, liveReply}
 use Rattle.history.specs.Discipline.{disciplined, erases-disciplined, erased, erased-in}
-use Rattle.history.specs.Volumes as volumes
-use Rattle.history.specs.Volumes.{Sound, sound, volumeOf}
+use Rattle.history.specs.Volumes.{volumeOf}
 use Rattle.history.specs.Steps.{call-done}
 use Rattle.history.specs.SeasonLaws.{Ran, run, format-is, start-holds, start-beyond, start-spare}
+use Rattle.laws.specs.Sound.{Sound, sound}
+use Rattle.laws.specs.Sound as units
 
 module _ (h : Family) (v : Volume) (S R D : ℕ) (calls : List Call) (can : allowed S R D ≡ true)
     (long : tooShort (geometry S R D) (v .flash) (v .ram) ≡ false) (words : KeyWords calls) where
@@ -107,9 +108,9 @@ module _ (h : Family) (v : Volume) (S R D : ℕ) (calls : List Call) (can : allo
 
   image : ImageOf h g H v end
   image = record {
-    main = main-by-address h g (ok .e) (volumes.pow h S R D ok) H (end .flash) (end .ram) (ran .holds .parts) (ran .holds .work);
-    spare = spare-by-address h g (ok .e) (volumes.pow h S R D ok) H (end .flash) (end .ram) (ran .holds .parts) (ran .holds .work);
-    ram = ram-by-address h g (ok .e) (volumes.pow h S R D ok) H (end .flash) (end .ram) (ran .holds .parts) (ran .holds .work);
+    main = main-by-address h g (ok .e) (units.pow S R D ok) H (end .flash) (end .ram) (ran .holds .parts) (ran .holds .work);
+    spare = spare-by-address h g (ok .e) (units.pow S R D ok) H (end .flash) (end .ram) (ran .holds .parts) (ran .holds .work);
+    ram = ram-by-address h g (ok .e) (units.pow S R D ok) H (end .flash) (end .ram) (ran .holds .parts) (ran .holds .work);
     main-past = past .main;
     spare-past = past .spare;
     ram-past = past .ram;

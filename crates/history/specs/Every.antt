@@ -1,10 +1,10 @@
 -- Every call on every volume, whatever its state and lent bytes: a refusal hands everything back, bytes past the volume never change,
 -- and a lookup opens at most floor(n / (S/2)) pages.
 use mathlib.Core.Path.{_≡_, refl, sym, ap, _∙_}
-use mathlib.Core.Bool.{Bool, true, false, not, _||_, cond, true≢false, and-eq-true-iff}
+use mathlib.Core.Bool.{Bool, true, false, cond, true≢false}
 use mathlib.Core.Option.{Option, none, some}
 use mathlib.Core.List.{List, [], _++_}
-use Prim.Native.Nat.{ℕ, _+_, _*_, _/_, _%_, _^_, _≤_, _<_}
+use Prim.Native.Nat.{ℕ, _+_, _*_, _/_, _%_, _≤_, _<_}
 use native.Mathlib.Nat.{mul-le-mul-right}
 use native.Mathlib.Omega.{arith}
 use lib.ListN.{length, replicate, length-replicate}
@@ -13,18 +13,19 @@ use Rattle.memory.specs.Cases.{either, bool?}
 use Rattle.memory.specs.Lists.{length-write, getD-write-after}
 use Rattle.memory.specs.Numbers.{carry, div-lt}
 use Rattle.layout.specs.Geometry.{Geometry, geometry, geometryOf, allowed, blocks, kaBlocks, fullSets, recordCapacity, deletionCapacity, ramSize, entriesPerPage, workRam}
-use Rattle.layout.specs.Flash.{Flash, Op, applyAll, erases, allFresh}
+use Rattle.layout.specs.Flash.{Flash, erases, allFresh}
 use Rattle.layout.specs.Hash.{Family, fnvFamily}
 use Rattle.layout.specs.Items.{RA, KA, DA, entryBytes, deletionBytes, put, fills, itemOps, itemRam}
 use Rattle.layout.specs.Search.{Stop, found, corrupt}
 use Rattle.layout.specs.Calls.{Volume, Call, insert, update, delete, lookup, Outcome, accepted, hit, miss, refused, Result, refuse, badState, tooShort, judged, format, formatted, keyIndex, keyFilters, Draft, keyPositions, tryAt, maybeIn, search, deletion, pageFilter, summary, insertion, commit, noRoom, noDeletion, insertAfter, updateAfter, deleteAfter, lookupAfter, answer, call}
-use Rattle.history.specs.FlashLaws.{apply-main-length, apply-spare-length}
-use Rattle.history.specs.ItemLaws.{length-record, length-entry, length-deletion}
-use Rattle.history.specs.SearchLaws.{search-opened}
-use Rattle.history.specs.Parts.{places-suffice, Beyond, beyond-same}
-use Rattle.history.specs.Volumes.{Sound, sound}
-use Rattle.history.specs.Volumes as volumes
-use Rattle.history.specs.Inside.{Inside, inside-none, inside-append, inside-erases, main-past, spare-past, inside-item, inside-filter, Past, past-none, past-then, past-zero, past-item, past-filter}
+use Rattle.laws.specs.FlashLaws.{apply-main-length, apply-spare-length}
+use Rattle.laws.specs.ItemLaws.{length-record, length-entry, length-deletion}
+use Rattle.laws.specs.SearchLaws.{search-opened}
+use Rattle.history.specs.Parts.{Beyond, beyond-same}
+use Rattle.laws.specs.Inside.{Inside, inside-none, inside-append, inside-erases, main-past, spare-past, inside-item, inside-filter, Past, past-none, past-then, past-zero, past-item, past-filter}
+use Rattle.laws.specs.RowLaws.{places-suffice}
+use Rattle.laws.specs.Sound.{Sound, sound}
+use Rattle.laws.specs.Sound as units
 
 -- ---- a refusal hands everything back
 
@@ -146,7 +147,7 @@ module _ (h : Family) (S R D : ℕ) (ok : Sound S R D) where
   u = S / 16
 
   pu : 0 < S / 16
-  pu = volumes.pu h S R D ok
+  pu = units.pu S R D ok
 
   deletion-bounded : (d j : ℕ) (ram : List ℕ) → d < deletionCapacity g → Bounded g ram (deletion h g d j ram)
   unfolding deletion
@@ -192,7 +193,7 @@ module _ (h : Family) (S R D : ℕ) (ok : Sound S R D) where
     insertion-bounded =
         bounded-either g ram (fills (KA g) n) _ entered
         (λ a. record {
-          ops = inside-append u (blocks g) _ _ (entered-bounded .ops) (inside-filter u (ok .e) (volumes.pow h S R D ok) (blocks g) (keyIndex g) (fullSets g) (omega arith) (keyFilters g n) _ _ (sets-room n room (eqb-true (n % (8 * u) + 1) (8 * u) a)));
+          ops = inside-append u (blocks g) _ _ (entered-bounded .ops) (inside-filter u (ok .e) (units.pow S R D ok) (blocks g) (keyIndex g) (fullSets g) (omega arith) (keyFilters g n) _ _ (sets-room n room (eqb-true (n % (8 * u) + 1) (8 * u) a)));
           past = past-then (ramSize g) ram _ _ (entered-bounded .past) (past-filter u pu (keyIndex g) (keyFilters g n) (ramSize g) (pageFilter h g (put (KA g) n (entryBytes key n) (itemRam u (RA g) n bytes (t .ram)))) _ (omega arith));
         })
         (λ a. entered-bounded)

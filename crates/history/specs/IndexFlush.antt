@@ -6,22 +6,21 @@ use mathlib.Core.List.{List}
 use Prim.Native.Nat.{ℕ, _+_, _-_, _*_, _/_, _%_, _≤_, _<_}
 use native.Mathlib.Nat.{mul-le-mul-right, le-antisymm}
 use native.Mathlib.Omega.{arith}
-use lib.ListN.{length, getD, replicate, length-replicate, getD-replicate}
+use lib.ListN.{length, getD}
 use lib.Arith.{digits-div, digits-mod}
 use lib.Dec.{ltb}
 use borrow.Author.Tests.{lt-ltb, le-ltb}
-use Rattle.memory.specs.Lists.{pieces-in, pieces-out, length-pieces, getD-write-before, getD-write-in, getD-write-after}
+use Rattle.memory.specs.Lists.{pieces-in, pieces-out}
 use Rattle.memory.specs.Bits.{pack-ext}
 use Rattle.memory.specs.Cases.{lt?, eq?, either}
 use Rattle.memory.specs.Numbers.{euclid, div-lt}
 use Rattle.layout.specs.Geometry.{sector, page, block}
 use Rattle.layout.specs.Flash.{Flash, applyAll, programs, allFresh}
-use Rattle.layout.specs.Items.{zeroPage}
 use Rattle.layout.specs.Index.{Index, rowByte, fullFilters, sideBlock, fullBlock, withFilter}
 use Rattle.history.specs.Image.{l1Byte, IndexMain, IndexSpare}
-use Rattle.history.specs.FlashLaws.{fresh-programs, AllAllowed, programs-main-in, programs-main-out, programs-spare-in, programs-spare-out, programs-allowed, range-out}
-use Rattle.history.specs.RowLaws.{row-new, row-old, row-none}
-use Rattle.history.specs.IndexRead.{SkaIs, side-range}
+use Rattle.laws.specs.FlashLaws.{fresh-programs, AllAllowed, programs-main-in, programs-main-out, programs-spare-in, programs-spare-out, programs-allowed, range-out}
+use Rattle.laws.specs.RowLaws.{row-new, row-old, row-none, side-range}
+use Rattle.history.specs.IndexRead.{SkaIs}
 
 -- ---- the SKA page
 
@@ -64,32 +63,10 @@ module _ (u : ℕ) (pu : 0 < u) (ix : Index) where
       ∙ I i hi
       ∙ sym (row-old u pu (λ g. F (8 * flushes + g)) s (i / (16 * u) * (16 * u)) (i % (16 * u)) (a .1)))
 
-  -- what lies outside the page is kept
-  pub filter-out : (new : ℕ → Bool) (s : ℕ) (ram : List ℕ) (x : ℕ) → s < 8 → (x < ix .ska) ⊎ (ix .ska + page u ≤ x) → getD (withFilter u ix s new ram) x 0 ≡ getD ram x 0
-  filter-out new s ram x hs o =
-      let su : s * (2 * u) + 2 * u ≤ 16 * u = omega (arith, mul-le-mul-right (2 * u) hs) in
-      pieces-out (2 * u) (16 * u) (ix .ska + s * (2 * u)) 4 _ ram x 0
-      (λ j l. either o (λ a. inl (omega arith)) (λ a. inr (omega (arith, mul-le-mul-right (16 * u) l))))
-
-  pub filter-length : (new : ℕ → Bool) (s : ℕ) (ram : List ℕ) → length (withFilter u ix s new ram) ≡ length ram
-  filter-length new s ram = length-pieces (2 * u) (16 * u) (ix .ska + s * (2 * u)) 4 _ ram
-
   -- a zeroed page holds no filter
   pub ska-zero : (F : ℕ → ℕ → Bool) (flushes : ℕ) (ram : List ℕ) → ((x : ℕ) → ix .ska ≤ x → x < ix .ska + page u → getD ram x 0 ≡ 0) → SkaIs u ix F flushes 0 ram
   ska-zero F flushes ram z i h =
       z (ix .ska + i) (omega arith) (omega arith) ∙ sym (row-none (λ g. F (8 * flushes + g)) (16 * u) (i / (16 * u) * (16 * u)) (i % (16 * u)))
-
-  pub zero-in : (ram : List ℕ) (x : ℕ) → ix .ska + page u ≤ length ram → ix .ska ≤ x → x < ix .ska + page u → getD (zeroPage u (ix .ska) ram) x 0 ≡ 0
-  zero-in ram x fits lo hi =
-      let l : length (replicate {A = ℕ} (64 * u) 0) ≡ 64 * u = length-replicate {A = ℕ} (64 * u) 0 in
-      getD-write-in ram (ix .ska) (replicate (64 * u) 0) x 0 lo (omega arith) (omega arith) ∙ getD-replicate (64 * u) (x - ix .ska) 0 0 (omega arith)
-
-  pub zero-out : (ram : List ℕ) (x : ℕ) → (x < ix .ska) ⊎ (ix .ska + page u ≤ x) → getD (zeroPage u (ix .ska) ram) x 0 ≡ getD ram x 0
-  zero-out ram x o =
-      let l : length (replicate {A = ℕ} (64 * u) 0) ≡ 64 * u = length-replicate {A = ℕ} (64 * u) 0 in
-      either o
-      (λ a. getD-write-before ram (ix .ska) (replicate (64 * u) 0) x 0 a)
-      (λ a. getD-write-after ram (ix .ska) (replicate (64 * u) 0) x 0 (omega arith))
 
   -- a full page, sector by sector
   pub ska-sector : (F : ℕ → ℕ → Bool) (flushes : ℕ) (ram : List ℕ) → SkaIs u ix F flushes 8 ram

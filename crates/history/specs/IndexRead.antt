@@ -7,15 +7,15 @@ use native.Mathlib.Nat.{mul-le-mul-right, mod-lt}
 use native.Mathlib.Omega.{arith}
 use lib.ListN.{getD}
 use lib.Arith.{digits-div, digits-mod, digits-lt}
-use lib.Dec.{ltb, eqb}
+use lib.Dec.{ltb}
 use borrow.Author.Tests.{lt-ltb, le-ltb}
-use Rattle.memory.specs.Cases.{bool?, lt?, either}
+use Rattle.memory.specs.Cases.{lt?, either}
 use Rattle.memory.specs.Numbers.{euclid, div-lt}
 use Rattle.memory.specs.Power.{log2up, log2up-enough}
 use Rattle.layout.specs.Geometry.{page, block, sideBlocks}
 use Rattle.layout.specs.Index.{Index, bitAt, setPages, setWidth, setBlocks, fullFilters, sideBlock, fullBlock, skaPlace, l1Place, setPlace, flashPlace}
 use Rattle.history.specs.Image.{skaByte, l1Byte, partitionByte, sideByte, fullByte, IndexMain, IndexSpare}
-use Rattle.history.specs.RowLaws.{read-row, row-ext, unit-pos, set-whole, width-pos, blocks-fit, blocks-some}
+use Rattle.laws.specs.RowLaws.{read-row, row-ext, unit-pos, set-whole, width-pos, blocks-fit, blocks-some, side-range}
 
 -- the SKA page holds s filters after `flushes` flushes
 abbrev pub SkaIs : ℕ → Index → (ℕ → ℕ → Bool) → ℕ → ℕ → List ℕ → Type 0
@@ -178,10 +178,6 @@ module _ (u e : ℕ) (pow : u ≡ 2 ^ e) (ix : Index) where
 -- ---- bytes of the index that are kept, and bytes that are erased
 
 module _ (u : ℕ) (ix : Index) where
-  -- where a side lies
-  pub side-range : (c : ℕ) → (ix .first + 1 ≤ sideBlock u ix c) × (sideBlock u ix c + 4 * u ≤ ix .first + 1 + 8 * u)
-  side-range c = either (bool? (eqb (c % 2) 1)) (λ a. rw a (omega arith, omega arith)) (λ a. rw a (omega arith, omega arith))
-
   module _ (Z : ℕ) where
     -- the bytes, and the sectors, of the index
     abbrev pub InMain : ℕ → Type 0
@@ -195,7 +191,7 @@ module _ (u : ℕ) (ix : Index) where
 
     side-main : (c i : ℕ) → i < sideBlocks u * block u → InMain (sideBlock u ix c * block u + i)
     side-main c i h =
-        let r = side-range c in
+        let r = side-range u ix c in
         (omega (arith, mul-le-mul-right (1024 * u) (r .0)), omega (arith, mul-le-mul-right (1024 * u) (r .1)))
 
     full-main : (k i : ℕ) → k < Z → i < sideBlocks u * block u → InMain (fullBlock u ix k * block u + i)
@@ -205,7 +201,7 @@ module _ (u : ℕ) (ix : Index) where
     l1-spare i h = (omega arith, omega arith)
 
     side-spare : (c i : ℕ) → i < sideBlocks u * 64 → InSpare (sideBlock u ix c * 64 + i)
-    side-spare c i h = let r = side-range c in (omega arith, omega arith)
+    side-spare c i h = let r = side-range u ix c in (omega arith, omega arith)
 
     full-spare : (k i : ℕ) → k < Z → i < sideBlocks u * 64 → InSpare (fullBlock u ix k * 64 + i)
     full-spare k i l h = (omega arith, omega (arith, mul-le-mul-right (4 * u) l))

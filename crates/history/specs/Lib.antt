@@ -1,16 +1,11 @@
-pub mod FlashLaws
 pub mod Image
-pub mod RowLaws
 pub mod IndexRead
 pub mod IndexFlush
 pub mod IndexBuild
 pub mod IndexLaws
-pub mod AreaNumbers
 pub mod AreaLaws
 pub mod Live
-pub mod SearchLaws
 pub mod MapLaws
-pub mod ItemLaws
 pub mod Parts
 pub mod ByAddress
 pub mod Changes
@@ -21,5 +16,4 @@ pub mod Steps
 pub mod SeasonLaws
 pub mod DemandLaws
 pub mod Demands
-pub mod Inside
 pub mod Every

@@ -4,7 +4,7 @@ use mathlib.Core.Logic.{_⊎_, inl, inr}
 use mathlib.Core.Bool.{Bool, true}
 use mathlib.Core.List.{List}
 use Prim.Native.Nat.{ℕ, _+_, _*_, _/_, _^_, _≤_, _<_}
-use native.Mathlib.Nat.{mul-le-mul-right, div-mul-le-self, le-div-iff-mul-le, le-of-mul-le-mul-right}
+use native.Mathlib.Nat.{mul-le-mul-right}
 use native.Mathlib.Omega.{arith}
 use lib.ListN.{length, getD}
 use lib.Pow.{pow-pos}
@@ -16,22 +16,10 @@ use Rattle.layout.specs.Hash.{Family}
 use Rattle.layout.specs.Items.{Area, RA, KA, DA, itemOps, itemRam}
 use Rattle.layout.specs.Index.{Index, inSka, inFull, fullBlock, withFilter, filterOps, filterRam}
 use Rattle.layout.specs.Calls.{keyIndex}
-use Rattle.history.specs.FlashLaws.{AllAllowed, apply-main-length, apply-spare-length}
+use Rattle.laws.specs.FlashLaws.{AllAllowed, apply-main-length, apply-spare-length}
 use Rattle.history.specs.Image.{History, raItem, kaItem, daItem, keyFilter, AreaIs, IndexIs}
 use Rattle.history.specs.AreaLaws as area
 use Rattle.history.specs.IndexLaws as index
-
--- the places for full sets suffice: n records give n / (S/2) filters, 128 (S/4) of them to a full set
-pub places-suffice : (u R n : ℕ) → 0 < u → n ≤ 4 * R * (16 * u) → n / (8 * u) / 8 / 16 / (4 * u) ≤ R / (64 * u)
-places-suffice u R n pu h =
-    let f = div-mul-le-self n (8 * u) in
-    let t = div-mul-le-self (n / (8 * u)) 8 in
-    let c = div-mul-le-self (n / (8 * u) / 8) 16 in
-    let z = div-mul-le-self (n / (8 * u) / 8 / 16) (4 * u) in
-    let pos : 0 < 64 * u = omega arith in
-    let all : n / (8 * u) / 8 / 16 / (4 * u) * (64 * u) * (64 * u) ≤ R * (64 * u)
-    = omega (arith, mul-le-mul-right (16 * 8 * (8 * u)) z, mul-le-mul-right (8 * (8 * u)) c, mul-le-mul-right (8 * u) t, f) in
-    le-div-iff-mul-le pos .1 (le-of-mul-le-mul-right all pos)
 
 -- what lies past the volume, and the lengths, are kept
 pub record Beyond (g : Geometry) (C C′ : Flash) (r r′ : List ℕ) : Type 0 where

@@ -19,7 +19,7 @@ use Rattle.layout.specs.Hash.{Family}
 use Rattle.layout.specs.Items.{RA, KA, DA}
 use Rattle.layout.specs.Calls.{Volume, Call, insert, update, delete, lookup, Outcome, accepted, hit, miss, refused, keyIndex, tooShort, format, formatted, call}
 use Rattle.layout.specs.FiniteMap.{Map, Reply, accepts, hits, misses, refuses, mapOf}
-use Rattle.history.specs.FlashLaws.{AllAllowed, apply-append, allowed-append, erases-main-in, erases-main-out, erases-spare-in, erases-spare-out, apply-main-length, apply-spare-length}
+use Rattle.laws.specs.FlashLaws.{AllAllowed, apply-append, allowed-append, erases-main-in, erases-main-out, erases-spare-in, erases-spare-out, apply-main-length, apply-spare-length}
 use Rattle.history.specs.Image.{History, raItem, kaItem, daItem, keyFilter}
 use Rattle.history.specs.Live.{findLive, withRecord, withDeletion, emptyHistory, Live, stepHistory}
 use Rattle.history.specs.MapLaws.{step-same, Live-deletion}
@@ -28,9 +28,10 @@ use Rattle.history.specs.AreaLaws.{area-start}
 use Rattle.history.specs.IndexLaws.{index-start}
 use Rattle.history.specs.Season.{KeyWords, number, after, opsOf, shown, Agrees, EachAgrees, growIf, grow, historyOf}
 use Rattle.history.specs.Discipline.{Below, below-append}
-use Rattle.history.specs.Volumes as volumes
-use Rattle.history.specs.Volumes.{Sound, Holds, volumeOf}
+use Rattle.history.specs.Volumes.{Holds, volumeOf}
 use Rattle.history.specs.Steps.{Done, call-done}
+use Rattle.laws.specs.Sound.{Sound}
+use Rattle.laws.specs.Sound as units
 
 -- ---- the history grows by the accepted calls
 
@@ -78,7 +79,7 @@ module _ (h : Family) (S R D : ℕ) (ok : Sound S R D) (can : allowed S R D ≡ 
   g = geometry S R D
 
   pu : 0 < S / 16
-  pu = volumes.pu h S R D ok
+  pu = units.pu S R D ok
 
   -- ---- the format: the image of the empty history, whatever was handed in
 
@@ -122,7 +123,7 @@ module _ (h : Family) (S R D : ℕ) (ok : Sound S R D) (can : allowed S R D ≡ 
     no-filters : 0 / (8 * (S / 16)) ≡ 0
     no-filters = zero-div (8 * (S / 16))
 
-    start-parts : Parts h g (ok .e) (volumes.pow h S R D ok) emptyHistory 0 0 0 0 C ram
+    start-parts : Parts h g (ok .e) (units.pow S R D ok) emptyHistory 0 0 0 0 C ram
     start-parts = record {
       ra = area-start (S / 16) pu (RA g) R (omega arith) (omega (arith, pu)) (omega arith) (raItem emptyHistory) (C .main) (C .spare) ram
           (λ x l m. main-erased x (omega arith)) (λ x l m. spare-erased x (omega arith)) (λ x l m. ram-zero x (omega arith));
@@ -130,7 +131,7 @@ module _ (h : Family) (S R D : ℕ) (ok : Sound S R D) (can : allowed S R D ≡ 
           (λ x l m. main-erased x (omega arith)) (λ x l m. spare-erased x (omega arith)) (λ x l m. ram-zero x (omega arith));
       da = area-start (S / 16) pu (DA g) D (omega arith) (omega (arith, pu)) (omega arith) (daItem emptyHistory) (C .main) (C .spare) ram
           (λ x l m. main-erased x (omega arith)) (λ x l m. spare-erased x (omega arith)) (λ x l m. ram-zero x (omega arith));
-      filters = index-start (S / 16) (ok .e) (volumes.pow h S R D ok) (keyIndex g) (fullSets g) (keyFilter h g emptyHistory) (C .main) (C .spare) ram
+      filters = index-start (S / 16) (ok .e) (units.pow S R D ok) (keyIndex g) (fullSets g) (keyFilter h g emptyHistory) (C .main) (C .spare) ram
           (λ x l m. main-erased x (omega arith)) (λ x l m. spare-erased x (omega arith)) (λ x l m. ram-zero x (omega arith));
       main-fits = rw (apply-main-length (S / 16) (erases 0 (blocks g)) (v .flash)) (sizes .0);
       spare-fits = rw (apply-spare-length (S / 16) (erases 0 (blocks g)) (v .flash)) (sizes .1);

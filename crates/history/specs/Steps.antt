@@ -19,7 +19,7 @@ use Rattle.layout.specs.Items.{RA, KA, DA, zeroPage}
 use Rattle.layout.specs.Search.{found}
 use Rattle.layout.specs.Calls.{Volume, Call, insert, update, delete, lookup, Result, refuse, judged, Draft, keyIndex, keyFilters, deletion, insertion, commit, insertAfter, updateAfter, deleteAfter, lookupAfter, answer, call}
 use Rattle.layout.specs.FiniteMap.{accepts, hits, refuses}
-use Rattle.history.specs.FlashLaws.{AllAllowed}
+use Rattle.laws.specs.FlashLaws.{AllAllowed}
 use Rattle.history.specs.Image.{Record, History, recordAt, bytesOf, raItem, kaItem, daItem, keyFilter}
 use Rattle.history.specs.Live.{findLive, withRecord, withDeletion, HistoryStep, historyStep, insertHistory, updateHistory, deleteHistory, lookupHistory, stepHistory, found-below}
 use Rattle.history.specs.Parts.{Parts, Did, Frame, Beyond, beyond-same, beyond-then, frame-beyond, frame-area, frame-index}
@@ -27,7 +27,9 @@ use Rattle.history.specs.Changes.{Changed, deletion-did, deletion-parts,
 use Rattle.history.specs.Season.{KeyWord, shown, Possible, HandedOn}
 use Rattle.history.specs.Discipline.{Below, fresh-below}
 use Rattle.history.specs.Volumes as volumes
-use Rattle.history.specs.Volumes.{Sound, Holds, volumeOf}
+use Rattle.history.specs.Volumes.{Holds, volumeOf}
+use Rattle.laws.specs.Sound.{Sound}
+use Rattle.laws.specs.Sound as units
 
 no-ops : (spare : List ℕ) → allFresh spare [] ≡ true
 unfolding allFresh
@@ -50,11 +52,11 @@ module _ (h : Family) (S R D : ℕ) (ok : Sound S R D) (can : allowed S R D ≡ 
     pub count-le : r .count ≤ length (H .records) / entriesPerPage (S / 16)
 
   pub pu : 0 < S / 16
-  pu = volumes.pu h S R D ok
+  pu = units.pu S R D ok
 
   -- ---- the work page zeroed
 
-  module _ (H : History) (nr nk d N : ℕ) (C : Flash) (ram : List ℕ) (P : Parts h g (ok .e) (volumes.pow h S R D ok) H nr nk d N C ram) where
+  module _ (H : History) (nr nk d N : ℕ) (C : Flash) (ram : List ℕ) (P : Parts h g (ok .e) (units.pow S R D ok) H nr nk d N C ram) where
     abbrev ram′ : List ℕ
     ram′ = zeroPage (S / 16) (workRam (S / 16)) ram
 
@@ -71,12 +73,12 @@ module _ (h : Family) (S R D : ℕ) (ok : Sound S R D) (can : allowed S R D ≡ 
       ram-length = length-write ram (workRam (S / 16)) _;
     }
 
-    pub zeroed : Parts h g (ok .e) (volumes.pow h S R D ok) H nr nk d N C ram′
+    pub zeroed : Parts h g (ok .e) (units.pow S R D ok) H nr nk d N C ram′
     zeroed = record {
       ra = frame-area (S / 16) 0 0 (workRam (S / 16)) C C ram ram′ work-frame (RA g) R (raItem H) nr pu (omega arith) (omega (arith, pu)) (omega arith) (inr (omega arith)) (inl (omega arith)) (P .ra);
       ka = frame-area (S / 16) 0 0 (workRam (S / 16)) C C ram ram′ work-frame (KA g) (kaBlocks g) (kaItem H) nk pu (omega arith) (omega (arith, pu)) (omega arith) (inr (omega arith)) (inl (omega arith)) (P .ka);
       da = frame-area (S / 16) 0 0 (workRam (S / 16)) C C ram ram′ work-frame (DA g) D (daItem H) d pu (omega arith) (omega (arith, pu)) (omega arith) (inr (omega arith)) (inl (omega arith)) (P .da);
-      filters = frame-index (S / 16) 0 0 (workRam (S / 16)) C C ram ram′ work-frame (ok .e) (volumes.pow h S R D ok) (keyIndex g) (fullSets g) (keyFilter h g H) N (inr (omega arith)) (inl (omega arith)) (P .filters);
+      filters = frame-index (S / 16) 0 0 (workRam (S / 16)) C C ram ram′ work-frame (ok .e) (units.pow S R D ok) (keyIndex g) (fullSets g) (keyFilter h g H) N (inr (omega arith)) (inl (omega arith)) (P .filters);
       main-fits = P .main-fits;
       spare-fits = P .spare-fits;
       ram-fits = rw (work-frame .ram-length) (P .ram-fits);
@@ -120,7 +122,7 @@ module _ (h : Family) (S R D : ℕ) (ok : Sound S R D) (can : allowed S R D ≡ 
     -- ---- an accepted change
 
     commit-done : (H′ : History) (n′ d′ : ℕ) (T : Draft) → n′ ≡ length (H′ .records) → d′ ≡ length (H′ .deleted)
-        → Parts h g (ok .e) (volumes.pow h S R D ok) H′ n′ n′ d′ (keyFilters g n′) (applyAll (S / 16) (T .ops) C) (T .ram)
+        → Parts h g (ok .e) (units.pow S R D ok) H′ n′ n′ d′ (keyFilters g n′) (applyAll (S / 16) (T .ops) C) (T .ram)
         → AllAllowed (S / 16) (T .ops) C → Beyond g C (applyAll (S / 16) (T .ops) C) ram (T .ram) → allFresh (C .spare) (T .ops) ≡ true → Below (spareSize g) (T .ops)
         → n′ ≤ recordCapacity g → d′ ≤ deletionCapacity g → d′ ≤ n′
         → ((j : ℕ) → j < n′ → recordAt H′ j .key < 2 ^ 32) → ((i : ℕ) → i < d′ → getD (H′ .deleted) i 0 < n′)
@@ -181,8 +183,8 @@ module _ (h : Family) (S R D : ℕ) (ok : Sound S R D) (can : allowed S R D ≡ 
           → Done H C ram (commit h g v (n + 1) d (insertion h g C n (r .key) (bytesOf r) (record { ops = []; ram = ram }))) (historyStep accepts (withRecord H r))
       insert-accepted c =
           let room : length (H .records) < recordCapacity g = leb-false (recordCapacity g) (length (H .records)) c in
-          let X : Changed h g (ok .e) (volumes.pow h S R D ok) (withRecord H r) (n + 1) d C (record { ops = []; ram = ram }) (insertion h g C n (r .key) (bytesOf r) (record { ops = []; ram = ram }))
-          = insertion-changes h g (ok .e) (volumes.pow h S R D ok) H r d C (record { ops = []; ram = ram }) (I .parts) room word (I .keys) tt in
+          let X : Changed h g (ok .e) (units.pow S R D ok) (withRecord H r) (n + 1) d C (record { ops = []; ram = ram }) (insertion h g C n (r .key) (bytesOf r) (record { ops = []; ram = ram }))
+          = insertion-changes h g (ok .e) (units.pow S R D ok) H r d C (record { ops = []; ram = ram }) (I .parts) room word (I .keys) tt in
           commit-done (withRecord H r) (n + 1) d (insertion h g C n (r .key) (bytesOf r) (record { ops = []; ram = ram })) (length-record r) refl
           (X .grown) (X .allowed) (X .beyond) (X .fresh (C .spare) (λ x l o. refl) (no-ops (C .spare)))
           (fresh-below (spareSize g) (C .spare) _ (X .fresh (take (spareSize g) (C .spare)) (λ x l o. getD-take (spareSize g) (C .spare) x 0 l) (no-ops (take (spareSize g) (C .spare)))))
@@ -207,10 +209,10 @@ module _ (h : Family) (S R D : ℕ) (ok : Sound S R D) (can : allowed S R D ≡ 
       t = deletion h g d j ram
 
       did : Did (S / 16) (DA g .first) (DA g .first + D) (DA g .ram) C ram (t .ram) (t .ops)
-      did = deletion-did h g (ok .e) (volumes.pow h S R D ok) H n n (keyFilters g n) j C ram (I .parts) room-d
+      did = deletion-did h g (ok .e) (units.pow S R D ok) H n n (keyFilters g n) j C ram (I .parts) room-d
 
-      less-one : Parts h g (ok .e) (volumes.pow h S R D ok) (withDeletion H j) n n (d + 1) (keyFilters g n) (applyAll (S / 16) (t .ops) C) (t .ram)
-      less-one = deletion-parts h g (ok .e) (volumes.pow h S R D ok) H n n (keyFilters g n) j C ram (I .parts) room-d
+      less-one : Parts h g (ok .e) (units.pow S R D ok) (withDeletion H j) n n (d + 1) (keyFilters g n) (applyAll (S / 16) (t .ops) C) (t .ram)
+      less-one = deletion-parts h g (ok .e) (units.pow S R D ok) H n n (keyFilters g n) j C ram (I .parts) room-d
 
       past : Beyond g C (applyAll (S / 16) (t .ops) C) ram (t .ram)
       past = frame-beyond g (DA g .first) (DA g .first + D) (DA g .ram) C (applyAll (S / 16) (t .ops) C) ram (t .ram) (did .frame) (omega arith) (omega arith)
@@ -230,8 +232,8 @@ module _ (h : Family) (S R D : ℕ) (ok : Sound S R D) (can : allowed S R D ≡ 
           → Done H C ram (commit h g v (n + 1) (d + 1) (insertion h g C n (r .key) (bytesOf r) (deletion h g d j ram))) (historyStep accepts (withRecord (withDeletion H j) r))
       update-accepted r word c5 =
           let room : length (H .records) < recordCapacity g = leb-false (recordCapacity g) (length (H .records)) c5 in
-          let X : Changed h g (ok .e) (volumes.pow h S R D ok) (withRecord (withDeletion H j) r) (n + 1) (d + 1) C t (insertion h g C n (r .key) (bytesOf r) t)
-          = insertion-changes h g (ok .e) (volumes.pow h S R D ok) (withDeletion H j) r (d + 1) C t less-one room word (I .keys) (did .allowed) in
+          let X : Changed h g (ok .e) (units.pow S R D ok) (withRecord (withDeletion H j) r) (n + 1) (d + 1) C t (insertion h g C n (r .key) (bytesOf r) t)
+          = insertion-changes h g (ok .e) (units.pow S R D ok) (withDeletion H j) r (d + 1) C t less-one room word (I .keys) (did .allowed) in
           commit-done (withRecord (withDeletion H j) r) (n + 1) (d + 1) (insertion h g C n (r .key) (bytesOf r) t) (length-record r) (length-deletion j)
           (X .grown) (X .allowed) (beyond-then g C (applyAll (S / 16) (t .ops) C) _ ram (t .ram) _ past (X .beyond))
           (X .fresh (C .spare) (λ x l o. sym (did .frame .spare x o)) fresh₀)

@@ -1,6 +1,6 @@
 -- A volume that holds the image of a history: its search finds the history's live records.
-use mathlib.Core.Path.{_≡_, refl, sym, ap, _∙_}
-use mathlib.Core.Bool.{true, false, _&&_, cond, and-eq-true-iff}
+use mathlib.Core.Path.{_≡_, sym, ap, _∙_}
+use mathlib.Core.Bool.{true, false, cond}
 use mathlib.Core.Option.{none, some, Option·map}
 use mathlib.Core.List.{List}
 use Prim.Native.Nat.{ℕ, _+_, _*_, _/_, _%_, _^_, _≤_, _<_}
@@ -8,15 +8,13 @@ use native.Mathlib.Nat.{mul-le-mul-right, mod-lt}
 use native.Mathlib.Omega.{arith}
 use lib.ListN.{length, getD}
 use lib.Arith.{digits-lt}
-use lib.Pow.{pow-pos, pow-mono}
-use lib.Dec.{leb, eqb}
-use borrow.Author.Tests.{lt-leb, le-ltb, leb-true}
+use lib.Dec.{eqb}
+use borrow.Author.Tests.{lt-leb, le-ltb}
 use Rattle.memory.specs.Cases.{either, bool?}
 use Rattle.memory.specs.Numbers.{euclid}
-use Rattle.memory.specs.Lists.{tab, tabFrom}
 use Rattle.memory.specs.Ranges.{any-ext, any-at, memb}
 use Rattle.memory.specs.Words.{bytes4}
-use Rattle.layout.specs.Geometry.{Geometry, geometry, sectorSizes, allowed, page, block, filterBits, entriesPerPage, kaBlocks, fullSets, recordCapacity, deletionCapacity, workRam}
+use Rattle.layout.specs.Geometry.{Geometry, geometry, allowed, page, block, filterBits, entriesPerPage, kaBlocks, fullSets, recordCapacity, deletionCapacity, workRam}
 use Rattle.layout.specs.Flash.{Flash}
 use Rattle.layout.specs.Hash.{Family, positions}
 use Rattle.layout.specs.Items.{RA, KA, DA, itemWord, itemPlace, bytesAt}
@@ -25,65 +23,24 @@ use Rattle.layout.specs.Search.{found}
 use Rattle.layout.specs.Calls.{Volume, keyIndex, keyFilters, keyPositions, badState, tooShort, isDeleted, tryAt, maybeIn, search}
 use Rattle.history.specs.Image.{History, recordAt, bytesOf, raItem, kaItem, daItem, keyFilter}
 use Rattle.history.specs.Live.{liveAt, findLive, live-key}
-use Rattle.history.specs.SearchLaws.{search-all, search-opened, scan-live, any-memb, allOf-true, memb-tab-all}
+use Rattle.laws.specs.SearchLaws.{search-all, search-opened, scan-live, any-memb, allOf-true, memb-tab-all}
 use Rattle.history.specs.AreaLaws.{read-word, read-bytes}
 use Rattle.history.specs.IndexLaws.{read-filter}
-use Rattle.history.specs.ItemLaws.{entry-key, entry-number, deletion-number, tab-record}
-use Rattle.history.specs.Parts.{Parts, places-suffice}
-
--- ---- an allowed S, R and D
-
-pub record Sound (S R D : ℕ) : Type 0 where
-  pub e : ℕ
-  pub e-lt : e < 6
-  pub size : S ≡ 16 * 2 ^ e
-  pub R-pos : 1 ≤ R
-  pub R-le : R ≤ 4096
-  pub D-pos : 1 ≤ D
-  pub D-le : D ≤ 4096
-
--- the table's sizes are 16 times the first six powers of two
-sizes : sectorSizes ≡ tab 6 (λ e. 16 * 2 ^ e)
-unfolding tab tabFrom
-sizes = refl
-
-abbrev SizeIs : ℕ → Type 0
-SizeIs S = (e : ℕ) × (e < 6) × (S ≡ 16 * 2 ^ e)
-
-pub sound : (S R D : ℕ) → allowed S R D ≡ true → Sound S R D
-unfolding allowed
-sound S R D q =
-    let p = and-eq-true-iff (memb S sectorSizes) _ .0 q in
-    let m : memb S sectorSizes ≡ true = p .0 in
-    let s : SizeIs S = memb-tab-all SizeIs 6 (λ e. 16 * 2 ^ e) (λ e l. (e, l, refl)) S (rw sizes at m) in
-    let r = and-eq-true-iff ((leb 1 R) && (leb R 4096)) _ .0 (p .1) in
-    let rR = and-eq-true-iff (leb 1 R) _ .0 (r .0) in
-    let rD = and-eq-true-iff (leb 1 D) _ .0 (r .1) in
-    record {
-      e = s .0;
-      e-lt = s .1;
-      size = s .2;
-      R-pos = leb-true 1 R (rR .0);
-      R-le = leb-true R 4096 (rR .1);
-      D-pos = leb-true 1 D (rD .0);
-      D-le = leb-true D 4096 (rD .1);
-    }
+use Rattle.laws.specs.ItemLaws.{entry-key, entry-number, deletion-number, tab-record}
+use Rattle.history.specs.Parts.{Parts}
+use Rattle.laws.specs.RowLaws.{places-suffice}
+use Rattle.laws.specs.Sound.{Sound}
+use Rattle.laws.specs.Sound as units
 
 module _ (h : Family) (S R D : ℕ) (ok : Sound S R D) where
   abbrev pub g : Geometry
   g = geometry S R D
 
-  pub pow : S / 16 ≡ 2 ^ ok .e
-  pow = omega (arith, ok .size)
+  abbrev pow : S / 16 ≡ 2 ^ ok .e
+  pow = units.pow S R D ok
 
-  pub pu : 0 < S / 16
-  pu = rw pow (pow-pos (ok .e))
-
-  pub u-le : S / 16 ≤ 32
-  u-le =
-      let l : ok .e ≤ 5 = omega (arith, ok .e-lt) in
-      let p : 2 ^ ok .e ≤ 2 ^ 5 = pow-mono l in
-      omega (arith, pow)
+  abbrev pu : 0 < S / 16
+  pu = units.pu S R D ok
 
   -- ---- the image of a history, as an invariant
 
@@ -120,7 +77,7 @@ module _ (h : Family) (S R D : ℕ) (ok : Sound S R D) where
     n-word : length (H .records) < 2 ^ 32
     n-word =
         let a : R * (S / 16) ≤ 4096 * (S / 16) = mul-le-mul-right (S / 16) (ok .R-le) in
-        omega (arith, I .n-cap, u-le)
+        omega (arith, I .n-cap, units.u-le S R D ok)
 
     ka-room : length (H .records) * 8 ≤ kaBlocks g * block (S / 16)
     ka-room =

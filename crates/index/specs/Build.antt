@@ -6,7 +6,7 @@ use Prim.Native.Nat.{ℕ, _+_, _*_, _/_, _%_}
 use borrow.Author.Tests.{eq-eqb, ne-eqb}
 use Rattle.layout.specs.Flash.{Flash, Op, applyAll, programs, erases}
 use Rattle.layout.specs.Index.{Index, inL1, inSet, inFull, setPages, setBlocks, sideBlock, setBlock, setByte, flushOps, buildOps, flushAndBuild}
-use Rattle.history.specs.FlashLaws.{apply-append}
+use Rattle.laws.specs.FlashLaws.{apply-append}
 
 module _ (u : ℕ) (ix : Index) where
   -- the sectors of the set, then the erases of L1 and of the set before

@@ -7,8 +7,7 @@ use Rattle.memory.specs.Cases.{either, eq?}
 use Rattle.memory.specs.Numbers.{carry}
 use Rattle.layout.specs.Geometry.{page, block}
 use Rattle.layout.specs.Index.{Index, inSka, inL1, inSet, inFull, setPages, setBlocks, sideBlock, fullBlock, setBlock}
-use Rattle.history.specs.RowLaws.{unit-pos, blocks-fit}
-use Rattle.history.specs.IndexRead.{side-range}
+use Rattle.laws.specs.RowLaws.{unit-pos, blocks-fit, side-range}
 use Rattle.partition.specs.Indexes.{Unit?, SetFits}
 
 -- an index with Z places for full sets lies in a spare area of `sectors` sectors, and filter number F needs no more places

@@ -12,7 +12,7 @@ use Rattle.layout.specs.Geometry.{sector}
 use Rattle.layout.specs.Flash.{Flash, Op, applyAll, programs, erases, allFresh}
 use Rattle.layout.specs.Index.{Index, inSka, inL1, inSet, inFull, setPages, setBlocks, sideBlock, setBlock, setByte, flushOps, buildOps, flushAndBuild, filterOps}
 use Rattle.flash.specs.Fresh.{freshRun, fresh-programs, fresh-append}
-use Rattle.history.specs.FlashLaws.{fresh-erases}
+use Rattle.laws.specs.FlashLaws.{fresh-erases}
 
 -- the four sectors of the flush where filter F is the eighth, and those of the next set where that flush is the sixteenth
 unfoldable pub indexFresh : List ℕ → ℕ → Index → ℕ → Bool

@@ -18,10 +18,10 @@ use Rattle.layout.specs.Items.{Place, bytesAt, source}
 use Rattle.layout.specs.Hash.{Family}
 use Rattle.layout.specs.Search.{Stop, found, corrupt}
 use Rattle.layout.specs.Calls.{Volume, Outcome, accepted, hit, miss, refused, refuse, badState, tooShort, judged, lookup, lookupAfter, recordPlace, search, answer, call}
-use Rattle.history.specs.Volumes.{sound, pu}
 use Rattle.flash.specs.Parts.{tab-part}
 use Rattle.lookup.specs.Looked.{lookedOf, looked, partOf, whereOf}
 use Rattle.lookup.specs.declared.LookupResult.{LookupResult}
+use Rattle.laws.specs.Sound.{sound, pu}
 
 -- the place of an outcome, and its bytes
 abbrev placeOf : Place → Outcome → Place
@@ -69,7 +69,7 @@ module _ (h : Family) (v : Volume) where
       let flash = or-eq-false-iff (ltb (length (v .flash .main)) (layout.dataSize g)) _ .0 short in
       let rest = or-eq-false-iff (ltb (length (v .flash .spare)) (layout.spareSize g)) _ .0 (flash .1) in
       let ok = sound S (v .state .raBlocks) (v .state .daBlocks) (not-false _ (state .0)) in
-      let u-pos = pu h S (v .state .raBlocks) (v .state .daBlocks) ok in
+      let u-pos = pu S (v .state .raBlocks) (v .state .daBlocks) ok in
       let cap : v .state .records ≤ layout.recordCapacity g = ltb-false _ _ (counts .0) in
       let main-fits : layout.dataSize g ≤ length (v .flash .main) = ltb-false _ _ (flash .0) in
       let ram-fits : layout.ramSize g ≤ length (v .ram) = ltb-false _ _ (rest .1) in

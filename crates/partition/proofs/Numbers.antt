@@ -7,7 +7,7 @@ use lib.Pow.{pow-mono}
 use Rattle.memory.specs.Power.{log2up}
 use Rattle.memory.specs.Numbers.{euclid}
 use Rattle.layout.specs.Index.{Index, setPages, setWidth, sideBlock}
-use Rattle.history.specs.RowLaws.{unit-pos, width-is, width-pos, blocks-fit}
+use Rattle.laws.specs.RowLaws.{unit-pos, width-is, width-pos, blocks-fit}
 use Rattle.partition.specs.Indexes.{Unit?, unit-le}
 use Rattle.partition.specs.Sources.{sourceOf, rowOf}
 use Rattle.fields.specs.declared.Source.{Source}

@@ -12,9 +12,8 @@ use Rattle.memory.specs.Cases.{either, eq?}
 use Rattle.layout.specs.Geometry.{sector}
 use Rattle.layout.specs.Flash.{Flash, flashOf, program, apply, applyAll, programs}
 use Rattle.layout.specs.Index.{Index, setPages, setBlock, setByte}
-use Rattle.history.specs.FlashLaws.{apply-main-length, apply-spare-length, range-out}
-use Rattle.history.specs.RowLaws.{unit-pos, blocks-fit}
-use Rattle.history.specs.IndexRead.{side-range}
+use Rattle.laws.specs.FlashLaws.{apply-main-length, apply-spare-length, range-out}
+use Rattle.laws.specs.RowLaws.{unit-pos, blocks-fit, side-range}
 use Rattle.partition.specs.Indexes.{SetFits}
 use Rattle.partition.specs.Apart.{set-byte-same}
 use Rattle.partition.specs.Programs.{programs-more}

@@ -13,7 +13,7 @@ use Rattle.memory.specs.Numbers.{euclid, div-of, mod-of, div-lt}
 use Rattle.memory.specs.Bits.{bit, bitIn, pack, pack-ext}
 use Rattle.layout.specs.Geometry.{sector, page, block}
 use Rattle.layout.specs.Index.{Index, rowBit, rowByte, bitAt, setWidth, fullFilters, sideBlock, flashPlace, setByte}
-use Rattle.history.specs.RowLaws.{unit-pos, width-pos}
+use Rattle.laws.specs.RowLaws.{unit-pos, width-pos}
 use Rattle.fields.specs.declared.Source.{Source}
 use Rattle.fields.specs.Sources.{fieldByte}
 use Rattle.partition.specs.declared.Row.{Row}

@@ -6,7 +6,7 @@ use native.Mathlib.Omega.{arith}
 use lib.Pow.{pow-add}
 use Rattle.memory.specs.Power.{log2up, log2up-enough, log2up-least}
 use Rattle.layout.specs.Index.{setWidth}
-use Rattle.history.specs.RowLaws.{width-is, set-whole}
+use Rattle.laws.specs.RowLaws.{width-is, set-whole}
 use Rattle.fields.specs.Laws.{pow-whole}
 
 -- more rounds want no smaller power of two

@@ -7,7 +7,7 @@ use Rattle.layout.specs.Flash.{flashOf}
 use Rattle.layout.specs.Hash.{fnvFamily}
 use Rattle.geometry.specs.Shape.{shape, area}
 use Rattle.changes.proofs.PlanLaws.{deletion-flash, deletion-ram}
-use Rattle.history.specs.ItemLaws.{length-deletion}
+use Rattle.laws.specs.ItemLaws.{length-deletion}
 use Rattle.items.specs.Fits.{fits-deletions, spare-fits-deletions}
 use Rattle.changes.proofs.delete_record.Statement.{statement}
 use Rattle.changes.proofs.delete_record.Tie as tie

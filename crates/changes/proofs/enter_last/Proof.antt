@@ -6,7 +6,7 @@ use mathlib.Core.Path.{_≡_, ap, _∙_}
 use lib.ListN.{length}
 use Rattle.layout.specs.Items as layout
 use Rattle.layout.specs.Geometry.{ramSize}
-use Rattle.history.specs.ItemLaws.{length-entry}
+use Rattle.laws.specs.ItemLaws.{length-entry}
 use Rattle.geometry.specs.Shape.{shape, area}
 use Rattle.geometry.specs.Bounds.{record-capacity-le}
 use mathlib.Core.List.{[]}

@@ -8,7 +8,7 @@ use borrow.Author.Tests.{eq-eqb, ne-eqb}
 use Rattle.layout.specs.Items as layout
 use Rattle.layout.specs.Flash.{flashOf}
 use Rattle.layout.specs.Hash.{fnvFamily}
-use Rattle.history.specs.ItemLaws.{length-record, length-entry}
+use Rattle.laws.specs.ItemLaws.{length-record, length-entry}
 use Rattle.geometry.specs.Shape.{shape, area}
 use Rattle.geometry.specs.Bounds.{record-capacity-le}
 use Rattle.items.specs.Fits.{fits-records, spare-fits-records, fits-entries, spare-fits-entries}

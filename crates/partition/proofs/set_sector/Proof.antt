@@ -5,7 +5,7 @@ use mathlib.Core.Path.{_∙_}
 use lib.ListN.{length}
 use Rattle.sets.specs.Indexes.{indexOf}
 use Rattle.partition.specs.Reach.{row-fits}
-use Rattle.history.specs.RowLaws.{unit-pos}
+use Rattle.laws.specs.RowLaws.{unit-pos}
 use Rattle.partition.specs.Indexes.{unit-le}
 use Rattle.partition.proofs.Numbers.{pages-le}
 use Rattle.partition.proofs.Pages.{sector-is}

@@ -1,7 +1,7 @@
 -- Operations inside the first B blocks of a chip, and RAM written below byte N: what lies past these is kept.
 use mathlib.Core.Path.{_≡_, refl, _∙_}
 use mathlib.Core.Logic.{inr}
-use mathlib.Core.Bool.{Bool, true, false}
+use mathlib.Core.Bool.{Bool}
 use mathlib.Core.List.{List, [], _∷_, _++_}
 use Prim.Native.Nat.{ℕ, zero, suc, _+_, _*_, _/_, _%_, _^_, _≤_, _<_}
 use native.Mathlib.Nat.{mul-le-mul-right, mod-lt}
@@ -15,9 +15,8 @@ use Rattle.layout.specs.Geometry.{sector, page, block}
 use Rattle.layout.specs.Flash.{Flash, Op, program, erase, apply, applyAll, programs, erases}
 use Rattle.layout.specs.Items.{Area, put, fills, itemOps, itemRam, zeroPage}
 use Rattle.layout.specs.Index.{Index, inSka, inL1, inSet, inFull, setPages, setBlocks, sideBlock, fullBlock, setBlock, withFilter, flushOps, buildOps, flushAndBuild, filterOps, filterRam}
-use Rattle.history.specs.RowLaws.{unit-pos, blocks-fit}
-use Rattle.history.specs.IndexRead.{side-range}
-use Rattle.history.specs.IndexFlush.{filter-out, filter-length, zero-out}
+use Rattle.laws.specs.RowLaws.{unit-pos, blocks-fit, side-range}
+use Rattle.laws.specs.SkaLaws.{filter-out, filter-length}
 
 -- ---- operations
 

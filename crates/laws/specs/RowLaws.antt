@@ -1,19 +1,19 @@
--- Laws of rows of filter bits, and the widths of partition sets.
+-- Laws of rows of filter bits, and the widths and places of partition sets.
 use mathlib.Core.Path.{_≡_, refl, _∙_}
 use mathlib.Core.Logic.{_≢_}
 use mathlib.Core.Bool.{Bool, false, _&&_}
 use Prim.Native.Nat.{ℕ, zero, suc, _+_, _-_, _*_, _/_, _%_, _^_, _≤_, _<_, zero-le}
-use native.Mathlib.Nat.{mul-le-mul-right, mod-lt, not-suc-le-zero}
+use native.Mathlib.Nat.{mul-le-mul-right, mod-lt, not-suc-le-zero, div-mul-le-self, le-div-iff-mul-le, le-of-mul-le-mul-right}
 use native.Mathlib.Omega.{arith}
 use lib.Arith.{digits-div, digits-mod}
 use lib.Pow.{pow-pos}
-use lib.Dec.{ltb}
+use lib.Dec.{ltb, eqb}
 use borrow.Author.Tests.{lt-ltb, le-ltb}
 use Rattle.memory.specs.Bits.{bit, pack, bit-pack, pack-ext}
-use Rattle.memory.specs.Cases.{lt?, either}
+use Rattle.memory.specs.Cases.{lt?, either, bool?}
 use Rattle.memory.specs.Numbers.{euclid, div-of, mod-of}
 use Rattle.memory.specs.Power.{log2up, log2up-enough, width}
-use Rattle.layout.specs.Index.{rowBit, rowByte, setPages, setWidth, setBlocks}
+use Rattle.layout.specs.Index.{Index, rowBit, rowByte, setPages, setWidth, setBlocks, sideBlock}
 
 -- bit r of the w bits of filter g, read from the row's bytes
 pub read-row : (G : ℕ → ℕ → Bool) (N w lo g r : ℕ) → g < N → r < w → bit (rowByte G N w lo ((g * w + r) / 8)) ((g * w + r) % 8) ≡ G g (lo + r)
@@ -103,3 +103,19 @@ blocks-some u (suc c) h = refl
 pub blocks-le : (u c m : ℕ) → 2 ^ log2up c ≤ m → setBlocks u c ≤ m
 blocks-le u zero m h = zero-le
 blocks-le u (suc c) m h = h
+
+-- where a side lies
+pub side-range : (u : ℕ) (ix : Index) (c : ℕ) → (ix .first + 1 ≤ sideBlock u ix c) × (sideBlock u ix c + 4 * u ≤ ix .first + 1 + 8 * u)
+side-range u ix c = either (bool? (eqb (c % 2) 1)) (λ a. rw a (omega arith, omega arith)) (λ a. rw a (omega arith, omega arith))
+
+-- the places for full sets suffice: n records give n / (S/2) filters, 128 (S/4) of them to a full set
+pub places-suffice : (u R n : ℕ) → 0 < u → n ≤ 4 * R * (16 * u) → n / (8 * u) / 8 / 16 / (4 * u) ≤ R / (64 * u)
+places-suffice u R n pu h =
+    let f = div-mul-le-self n (8 * u) in
+    let t = div-mul-le-self (n / (8 * u)) 8 in
+    let c = div-mul-le-self (n / (8 * u) / 8) 16 in
+    let z = div-mul-le-self (n / (8 * u) / 8 / 16) (4 * u) in
+    let pos : 0 < 64 * u = omega arith in
+    let all : n / (8 * u) / 8 / 16 / (4 * u) * (64 * u) * (64 * u) ≤ R * (64 * u)
+    = omega (arith, mul-le-mul-right (16 * 8 * (8 * u)) z, mul-le-mul-right (8 * (8 * u)) c, mul-le-mul-right (8 * u) t, f) in
+    le-div-iff-mul-le pos .1 (le-of-mul-le-mul-right all pos)
