@@ -61,7 +61,7 @@ module _ (h : Family) (g : layout.Geometry) (v : Volume) where
     unfolding deleteAfter
     delete-nothing e = rw e
 
-    pub delete-there : (j : ℕ) (x : Left) → search h g v key .stop ≡ some (found j) → x ≡ seen (deleteAfter h g v (some (found j)))
+    pub delete-there : (j : ℕ) (x : Left) → search h g v key .stop ≡ some (found j) → x ≡ seen (deleteAfter g v (some (found j)))
         → x ≡ seen (answer h g v (delete key))
     delete-there j x e p = rw e p
 

@@ -43,12 +43,12 @@ module _ (h : Family) (g : Geometry) (v : Volume) where
   abbrev spare : List ℕ
   spare = v .flash .spare
 
-  stale : (n′ d′ : ℕ) (T : Draft) → allFresh (v .flash .spare) (T .ops) ≡ false → seen (commit h g v n′ d′ T) ≡ refusedLeft v 7
+  stale : (n′ d′ : ℕ) (T : Draft) → allFresh (v .flash .spare) (T .ops) ≡ false → seen (commit g v n′ d′ T) ≡ refusedLeft v 7
   unfolding commit
   stale n′ d′ T q = rw q
 
   done : (n′ d′ : ℕ) (T : Draft) (f : Flash) (r : List ℕ) → allFresh (v .flash .spare) (T .ops) ≡ true
-      → f ≡ applyAll (g .u) (T .ops) (v .flash) → r ≡ zeroPage (g .u) (workRam (g .u)) (T .ram) → acceptedLeft v n′ d′ f r ≡ seen (commit h g v n′ d′ T)
+      → f ≡ applyAll (g .u) (T .ops) (v .flash) → r ≡ zeroPage (g .u) (workRam (g .u)) (T .ram) → acceptedLeft v n′ d′ f r ≡ seen (commit g v n′ d′ T)
   unfolding commit
   done n′ d′ T f r q p e = rw (q, p, e)
 
@@ -83,31 +83,31 @@ module _ (h : Family) (g : Geometry) (v : Volume) where
   -- ---- delete of record j
 
   module _ (j : ℕ) where
-    fresh₁ : allFresh (v .flash .spare) (deletion h g d j (v .ram) .ops) ≡ itemFresh (v .flash .spare) (DA g) d
+    fresh₁ : allFresh (v .flash .spare) (deletion g d j (v .ram) .ops) ≡ itemFresh (v .flash .spare) (DA g) d
     unfolding deletion
     fresh₁ = item-fresh (g .u) (DA g) d (deletionBytes j) (v .ram) (v .flash .spare)
 
-    pub delete-full : leb (deletionCapacity g) (v .state .deletions) ≡ true → refusedLeft v 6 ≡ seen (deleteAfter h g v (some (found j)))
+    pub delete-full : leb (deletionCapacity g) (v .state .deletions) ≡ true → refusedLeft v 6 ≡ seen (deleteAfter g v (some (found j)))
     unfolding deleteAfter
     delete-full q = rw q
 
     pub delete-stale : leb (deletionCapacity g) (v .state .deletions) ≡ false → itemFresh (v .flash .spare) (DA g) (v .state .deletions) ≡ false
-        → refusedLeft v 7 ≡ seen (deleteAfter h g v (some (found j)))
+        → refusedLeft v 7 ≡ seen (deleteAfter g v (some (found j)))
     unfolding deleteAfter
-    delete-stale q f = rw q (sym (stale n (d + 1) (deletion h g d j (v .ram)) (fresh₁ ∙ f)))
+    delete-stale q f = rw q (sym (stale n (d + 1) (deletion g d j (v .ram)) (fresh₁ ∙ f)))
 
     pub delete-done : (f : Flash) (r r′ : List ℕ) → leb (deletionCapacity g) (v .state .deletions) ≡ false → itemFresh (v .flash .spare) (DA g) (v .state .deletions) ≡ true
-        → f ≡ applyAll (g .u) (deletion h g (v .state .deletions) j (v .ram) .ops) (v .flash) → r ≡ deletion h g (v .state .deletions) j (v .ram) .ram → r′ ≡ zeroPage (g .u) (workRam (g .u)) r
-        → acceptedLeft v (v .state .records) (v .state .deletions + 1) f r′ ≡ seen (deleteAfter h g v (some (found j)))
+        → f ≡ applyAll (g .u) (deletion g (v .state .deletions) j (v .ram) .ops) (v .flash) → r ≡ deletion g (v .state .deletions) j (v .ram) .ram → r′ ≡ zeroPage (g .u) (workRam (g .u)) r
+        → acceptedLeft v (v .state .records) (v .state .deletions + 1) f r′ ≡ seen (deleteAfter g v (some (found j)))
     unfolding deleteAfter
     delete-done f r r′ q fr p e z =
-        rw q (done n (d + 1) (deletion h g d j (v .ram)) f r′ (fresh₁ ∙ fr) p (z ∙ ap (zeroPage (g .u) (workRam (g .u))) e))
+        rw q (done n (d + 1) (deletion g d j (v .ram)) f r′ (fresh₁ ∙ fr) p (z ∙ ap (zeroPage (g .u) (workRam (g .u))) e))
 
     -- ---- update of record j
 
     module _ (key : ℕ) (bytes : List ℕ) where
       abbrev t₁ : Draft
-      t₁ = deletion h g d j (v .ram)
+      t₁ = deletion g d j (v .ram)
 
       fresh₂ : allFresh (v .flash .spare) (insertion h g (v .flash) n key bytes t₁ .ops) ≡ (itemFresh (v .flash .spare) (DA g) d && insertFresh (v .flash .spare) g n)
       fresh₂ = insertion-fresh h g (v .flash) n key bytes t₁ (v .flash .spare) ∙ ap (λ (b : Bool). b && insertFresh (v .flash .spare) g n) fresh₁
@@ -129,7 +129,7 @@ module _ (h : Family) (g : Geometry) (v : Volume) where
 
       pub update-done : (f f′ : Flash) (r r′ r″ : List ℕ) → leb (recordCapacity g) (v .state .records) ≡ false → leb (deletionCapacity g) (v .state .deletions) ≡ false
           → (itemFresh (v .flash .spare) (DA g) (v .state .deletions) && insertFresh (v .flash .spare) g (v .state .records)) ≡ true
-          → f ≡ applyAll (g .u) (deletion h g (v .state .deletions) j (v .ram) .ops) (v .flash) → r ≡ deletion h g (v .state .deletions) j (v .ram) .ram
+          → f ≡ applyAll (g .u) (deletion g (v .state .deletions) j (v .ram) .ops) (v .flash) → r ≡ deletion g (v .state .deletions) j (v .ram) .ram
           → f′ ≡ insertedFlash h g (v .state .records) key bytes r f → r′ ≡ insertedRam h g (v .state .records) key bytes r → r″ ≡ zeroPage (g .u) (workRam (g .u)) r′
           → acceptedLeft v (v .state .records + 1) (v .state .deletions + 1) f′ r″ ≡ seen (updateAfter h g v key bytes (some (found j)))
       unfolding updateAfter

@@ -125,11 +125,11 @@ module _ (h : Family) (g : Geometry) (flash : Flash) (n key : ℕ) (bytes : List
 -- ---- a deletion, by the area and the bytes that the code has
 
 module _ (h : Family) (g : Geometry) (d j : ℕ) (a : Area) (bytes ram : List ℕ) (p : a ≡ DA g) (q : bytes ≡ deletionBytes j) where
-  pub deletion-flash : (flash : Flash) → applyAll (g .u) (itemOps (g .u) a d bytes ram) flash ≡ applyAll (g .u) (deletion h g d j ram .ops) flash
+  pub deletion-flash : (flash : Flash) → applyAll (g .u) (itemOps (g .u) a d bytes ram) flash ≡ applyAll (g .u) (deletion g d j ram .ops) flash
   unfolding deletion
   deletion-flash flash = rw (p, q)
 
-  pub deletion-ram : itemRam (g .u) a d bytes ram ≡ deletion h g d j ram .ram
+  pub deletion-ram : itemRam (g .u) a d bytes ram ≡ deletion g d j ram .ram
   unfolding deletion
   deletion-ram = rw (p, q)
 

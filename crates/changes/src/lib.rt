@@ -111,8 +111,8 @@ pub fn delete_record(
     j: u32,
 )
     requires { ⌜ Sound g × (d < deletionCapacity (shape g)) × Long g (now main) (now spare) (now ram) ⌝ }
-    ensures { λ _. ⌜ flashOf (now (main .exit)) (now (spare .exit)) ≡ applyAll (g .unit) (deletion fnvFamily (shape g) d j (now (ram .entry)) .ops) (flashOf (now (main .entry)) (now (spare .entry))) ⌝ }
-    ensures { λ _. ⌜ now (ram .exit) ≡ deletion fnvFamily (shape g) d j (now (ram .entry)) .ram ⌝ }
+    ensures { λ _. ⌜ flashOf (now (main .exit)) (now (spare .exit)) ≡ applyAll (g .unit) (deletion (shape g) d j (now (ram .entry)) .ops) (flashOf (now (main .entry)) (now (spare .entry))) ⌝ }
+    ensures { λ _. ⌜ now (ram .exit) ≡ deletion (shape g) d j (now (ram .entry)) .ram ⌝ }
 {
     let unit = g.unit;
     let bytes = deletion_bytes(j);

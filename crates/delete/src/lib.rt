@@ -23,7 +23,7 @@ fn delete_found(
     ram: &mut [u8],
 ) -> Change
     requires { ⌜ Fits s (now main) (now spare) (now ram) g ⌝ }
-    ensures { λ r. ⌜ changed r (now (main .exit)) (now (spare .exit)) (now (ram .exit)) ≡ seen (deleteAfter fnvFamily (shape g) (volume s (now (main .entry)) (now (spare .entry)) (now (ram .entry))) (some (found j))) ⌝ }
+    ensures { λ r. ⌜ changed r (now (main .exit)) (now (spare .exit)) (now (ram .exit)) ≡ seen (deleteAfter (shape g) (volume s (now (main .entry)) (now (spare .entry)) (now (ram .entry))) (some (found j))) ⌝ }
 {
     let d = s.deletions as usize;
     if g.deletion_capacity() <= d { // 6 goes before 7

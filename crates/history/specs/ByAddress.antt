@@ -141,7 +141,7 @@ module _ (h : Family) (g : Geometry) (e : ℕ) (pow : g .u ≡ 2 ^ e) (H : Histo
   index-spare =
       in-index (g .u) 64 (omega (arith, pu h g e pow)) (keyIndex g) (fullSets g) c (C .spare)
       (λ x. cond (ltb (x % 16) (inL1 N)) 0 255)
-      (λ x. cond (ltb x (setBlocks (g .u) c * 64)) 0 255)
+      (λ x. cond (ltb x (setBlocks c * 64)) 0 255)
       (λ k x. cond (ltb k z) 0 255)
       (P .filters .on-spare .l1) (P .filters .on-spare .here) (P .filters .on-spare .there) (P .filters .on-spare .full)
 

@@ -62,12 +62,12 @@ module _ (h : Family) (g : Geometry) (e : ℕ) (pow : g .u ≡ 2 ^ e) where
     new : (b : ℕ) → b < 4 → getD (deletionBytes j) b 0 ≡ daItem (withDeletion H j) (length (H .deleted)) b
     new b l = ap (λ (x : ℕ). getD (deletionBytes x) b 0) (sym (getD-append-seam (H .deleted) j [] 0))
 
-    pub deletion-did : Did (g .u) (DA g .first) (DA g .first + g .D) (DA g .ram) C ram (deletion h g (length (H .deleted)) j ram .ram) (deletion h g (length (H .deleted)) j ram .ops)
+    pub deletion-did : Did (g .u) (DA g .first) (DA g .first + g .D) (DA g .ram) C ram (deletion g (length (H .deleted)) j ram .ram) (deletion g (length (H .deleted)) j ram .ops)
     unfolding deletion
     deletion-did = parts.da-did h g e pow (withDeletion H j) nr nk (length (H .deleted)) N C ram longer (deletionBytes j) (length-deletion j) new room
 
     pub deletion-parts : Parts h g e pow (withDeletion H j) nr nk (length (H .deleted) + 1) N
-        (applyAll (g .u) (deletion h g (length (H .deleted)) j ram .ops) C) (deletion h g (length (H .deleted)) j ram .ram)
+        (applyAll (g .u) (deletion g (length (H .deleted)) j ram .ops) C) (deletion g (length (H .deleted)) j ram .ram)
     unfolding deletion
     deletion-parts = parts.da-parts h g e pow (withDeletion H j) nr nk (length (H .deleted)) N C ram longer (deletionBytes j) (length-deletion j) new room
 

@@ -40,7 +40,7 @@ refuse-keeps : (v : Volume) (j : ℕ) → Keeps v (refuse v j)
 refuse-keeps v j i e = refl
 
 module _ (h : Family) (g : Geometry) (v : Volume) where
-  commit-keeps : (n d : ℕ) (t : Draft) → Keeps v (commit h g v n d t)
+  commit-keeps : (n d : ℕ) (t : Draft) → Keeps v (commit g v n d t)
   unfolding commit
   commit-keeps n d t = keeps-either v (allFresh (v .flash .spare) (t .ops)) _ _ (λ i e. absurd (let z : true ≡ false = cc in true≢false z)) (refuse-keeps v 7)
 
@@ -48,21 +48,21 @@ module _ (h : Family) (g : Geometry) (v : Volume) where
   unfolding insertAfter
   insert-keeps key bytes (some corrupt) = refuse-keeps v 8
   insert-keeps key bytes (some (found j)) = refuse-keeps v 3
-  insert-keeps key bytes none = keeps-either v (noRoom h g v) _ _ (refuse-keeps v 5) (commit-keeps _ _ _)
+  insert-keeps key bytes none = keeps-either v (noRoom g v) _ _ (refuse-keeps v 5) (commit-keeps _ _ _)
 
   update-keeps : (key : ℕ) (bytes : List ℕ) (s : Option Stop) → Keeps v (updateAfter h g v key bytes s)
   unfolding updateAfter
   update-keeps key bytes (some corrupt) = refuse-keeps v 8
   update-keeps key bytes none = refuse-keeps v 4
-  update-keeps key bytes (some (found j)) = keeps-either v (noRoom h g v) _ _ (refuse-keeps v 5) (keeps-either v (noDeletion h g v) _ _ (refuse-keeps v 6) (commit-keeps _ _ _))
+  update-keeps key bytes (some (found j)) = keeps-either v (noRoom g v) _ _ (refuse-keeps v 5) (keeps-either v (noDeletion g v) _ _ (refuse-keeps v 6) (commit-keeps _ _ _))
 
-  delete-keeps : (s : Option Stop) → Keeps v (deleteAfter h g v s)
+  delete-keeps : (s : Option Stop) → Keeps v (deleteAfter g v s)
   unfolding deleteAfter
   delete-keeps (some corrupt) = refuse-keeps v 8
   delete-keeps none = refuse-keeps v 4
-  delete-keeps (some (found j)) = keeps-either v (noDeletion h g v) _ _ (refuse-keeps v 6) (commit-keeps _ _ _)
+  delete-keeps (some (found j)) = keeps-either v (noDeletion g v) _ _ (refuse-keeps v 6) (commit-keeps _ _ _)
 
-  lookup-keeps : (opened : ℕ) (s : Option Stop) → Keeps v (lookupAfter h g v opened s)
+  lookup-keeps : (opened : ℕ) (s : Option Stop) → Keeps v (lookupAfter g v opened s)
   unfolding lookupAfter
   lookup-keeps opened (some corrupt) = refuse-keeps v 8
   lookup-keeps opened none = λ i e. refl
@@ -112,7 +112,7 @@ accepted-can v S R D e =
 
 -- ---- the count of a lookup: "It is at most floor(n / (S/2))"
 
-count-after : (h : Family) (g : Geometry) (v : Volume) (opened m : ℕ) (s : Option Stop) → opened ≤ m → lookupAfter h g v opened s .count ≤ m
+count-after : (h : Family) (g : Geometry) (v : Volume) (opened m : ℕ) (s : Option Stop) → opened ≤ m → lookupAfter g v opened s .count ≤ m
 unfolding lookupAfter
 count-after h g v opened m (some corrupt) l = omega arith
 count-after h g v opened m none l = l
@@ -126,7 +126,7 @@ count-most h v key =
     (λ a. either (bool? (tooShort (geometryOf (v .state)) (v .flash) (v .ram)))
     (λ b. rw (a, b) (omega arith))
     (λ b. rw (a, b) (count-after h (geometryOf (v .state)) v _ _ _
-    (search-opened (maybeIn h (geometryOf (v .state)) v (keyPositions h (geometryOf (v .state)) key)) (tryAt h (geometryOf (v .state)) v key) (8 * (v .state .sectorSize / 16)) (v .state .records)))))
+    (search-opened (maybeIn (geometryOf (v .state)) v (keyPositions h (geometryOf (v .state)) key)) (tryAt (geometryOf (v .state)) v key) (8 * (v .state .sectorSize / 16)) (v .state .records)))))
 
 -- ---- "bytes past the volume and past the desk's 20S never change"
 
@@ -149,7 +149,7 @@ module _ (h : Family) (S R D : ℕ) (ok : Sound S R D) where
   pu : 0 < S / 16
   pu = units.pu S R D ok
 
-  deletion-bounded : (d j : ℕ) (ram : List ℕ) → d < deletionCapacity g → Bounded g ram (deletion h g d j ram)
+  deletion-bounded : (d j : ℕ) (ram : List ℕ) → d < deletionCapacity g → Bounded g ram (deletion g d j ram)
   unfolding deletion
   deletion-bounded d j ram l = record {
     ops = inside-item u (blocks g) (DA g) D d (deletionBytes j) ram (omega arith) (div-lt d (16 * u) (D * 16) (omega (arith, pu)) (omega arith));
@@ -209,7 +209,7 @@ module _ (h : Family) (S R D : ℕ) (ok : Sound S R D) where
   refuse-kept : (v : Volume) (i : ℕ) → Kept v (refuse v i)
   refuse-kept v i = beyond-same g (v .flash) (v .ram)
 
-  commit-kept : (v : Volume) (n d : ℕ) (t : Draft) → Bounded g (v .ram) t → Kept v (commit h g v n d t)
+  commit-kept : (v : Volume) (n d : ℕ) (t : Draft) → Bounded g (v .ram) t → Kept v (commit g v n d t)
   unfolding commit
   commit-kept v n d t b =
       kept-either v (allFresh (v .flash .spare) (t .ops)) _ _
@@ -234,7 +234,7 @@ module _ (h : Family) (S R D : ℕ) (ok : Sound S R D) where
     insert-kept key bytes (some corrupt) size = refuse-kept v 8
     insert-kept key bytes (some (found j)) size = refuse-kept v 3
     insert-kept key bytes none size =
-        kept-either v (noRoom h g v) _ _ (λ a. refuse-kept v 5)
+        kept-either v (noRoom g v) _ _ (λ a. refuse-kept v 5)
         (λ a. commit-kept v _ _ _ (insertion-bounded (v .flash) (v .state .records) key bytes (v .ram) _ (leb-false (recordCapacity g) (v .state .records) a) size start-bounded))
 
     update-kept : (key : ℕ) (bytes : List ℕ) (s : Option Stop) → length bytes ≡ 16 → Kept v (updateAfter h g v key bytes s)
@@ -242,21 +242,21 @@ module _ (h : Family) (S R D : ℕ) (ok : Sound S R D) where
     update-kept key bytes (some corrupt) size = refuse-kept v 8
     update-kept key bytes none size = refuse-kept v 4
     update-kept key bytes (some (found j)) size =
-        kept-either v (noRoom h g v) _ _ (λ a. refuse-kept v 5)
-        (λ a. kept-either v (noDeletion h g v) _ _ (λ b. refuse-kept v 6)
+        kept-either v (noRoom g v) _ _ (λ a. refuse-kept v 5)
+        (λ a. kept-either v (noDeletion g v) _ _ (λ b. refuse-kept v 6)
         (λ b. commit-kept v _ _ _
         (insertion-bounded (v .flash) (v .state .records) key bytes (v .ram) _ (leb-false (recordCapacity g) (v .state .records) a) size
         (deletion-bounded (v .state .deletions) j (v .ram) (leb-false (deletionCapacity g) (v .state .deletions) b)))))
 
-    delete-kept : (s : Option Stop) → Kept v (deleteAfter h g v s)
+    delete-kept : (s : Option Stop) → Kept v (deleteAfter g v s)
     unfolding deleteAfter
     delete-kept (some corrupt) = refuse-kept v 8
     delete-kept none = refuse-kept v 4
     delete-kept (some (found j)) =
-        kept-either v (noDeletion h g v) _ _ (λ b. refuse-kept v 6)
+        kept-either v (noDeletion g v) _ _ (λ b. refuse-kept v 6)
         (λ b. commit-kept v _ _ _ (deletion-bounded (v .state .deletions) j (v .ram) (leb-false (deletionCapacity g) (v .state .deletions) b)))
 
-    lookup-kept : (opened : ℕ) (s : Option Stop) → Kept v (lookupAfter h g v opened s)
+    lookup-kept : (opened : ℕ) (s : Option Stop) → Kept v (lookupAfter g v opened s)
     unfolding lookupAfter
     lookup-kept opened (some corrupt) = refuse-kept v 8
     lookup-kept opened none = refuse-kept v 0

@@ -75,7 +75,7 @@ module _ (u : ℕ) where
 
   -- byte i of the side that holds the set of c rounds; past its pages it is erased
   abbrev pub sideByte : (ℕ → ℕ → Bool) → ℕ → ℕ → ℕ → ℕ
-  sideByte F base c i = cond (ltb i (setBlocks u c * block u)) (partitionByte F base (128 * c) (setWidth u c) i) 255
+  sideByte F base c i = cond (ltb i (setBlocks c * block u)) (partitionByte F base (128 * c) (setWidth u c) i) 255
 
   -- byte i of place k for full sets, of which z are taken
   abbrev pub fullByte : (ℕ → ℕ → Bool) → ℕ → ℕ → ℕ → ℕ
@@ -91,7 +91,7 @@ module _ (u : ℕ) where
 
     pub record IndexSpare (z c t : ℕ) (spare : List ℕ) : Type 0 where
       pub l1 : (x : ℕ) → x < 64 → getD spare (ix .first * 64 + x) 0 ≡ cond (ltb (x % 16) t) 0 255
-      pub here : (x : ℕ) → x < sideBlocks u * 64 → getD spare (sideBlock u ix c * 64 + x) 0 ≡ cond (ltb x (setBlocks u c * 64)) 0 255
+      pub here : (x : ℕ) → x < sideBlocks u * 64 → getD spare (sideBlock u ix c * 64 + x) 0 ≡ cond (ltb x (setBlocks c * 64)) 0 255
       pub there : (x : ℕ) → x < sideBlocks u * 64 → getD spare (sideBlock u ix (c + 1) * 64 + x) 0 ≡ 255
       pub full : (k x : ℕ) → k < Z → x < sideBlocks u * 64 → getD spare (fullBlock u ix k * 64 + x) 0 ≡ cond (ltb k z) 0 255
 
@@ -150,8 +150,8 @@ module _ (h : Family) (g : Geometry) (H : History) where
   abbrev pub indexSpareByte : ℕ → ℕ
   indexSpareByte x =
       cond (ltb x 64) (cond (ltb (x % 16) (inL1 N)) 0 255)
-      (cond (ltb x ((1 + sideBlocks (g .u)) * 64)) (cond (eqb (c % 2) 1) (cond (ltb (x - 64) (setBlocks (g .u) c * 64)) 0 255) 255)
-      (cond (ltb x ((1 + 2 * sideBlocks (g .u)) * 64)) (cond (eqb (c % 2) 1) 255 (cond (ltb (x - (1 + sideBlocks (g .u)) * 64) (setBlocks (g .u) c * 64)) 0 255))
+      (cond (ltb x ((1 + sideBlocks (g .u)) * 64)) (cond (eqb (c % 2) 1) (cond (ltb (x - 64) (setBlocks c * 64)) 0 255) 255)
+      (cond (ltb x ((1 + 2 * sideBlocks (g .u)) * 64)) (cond (eqb (c % 2) 1) 255 (cond (ltb (x - (1 + sideBlocks (g .u)) * 64) (setBlocks c * 64)) 0 255))
       (cond (ltb ((x - (1 + 2 * sideBlocks (g .u)) * 64) / (sideBlocks (g .u) * 64)) z) 0 255)))
 
   -- byte a of the main area, below `dataSize g`

@@ -208,7 +208,7 @@ module _ (u e : ℕ) (pow : u ≡ 2 ^ e) (ix : Index) (Z : ℕ) (F : ℕ → ℕ
     (I : IndexMain u ix Z F z c 16 (C .main)) (M : IndexSpare u ix Z z c 16 (C .spare)) (hc : c < 4 * u) (hz : z ≤ Z)
     (main-fits : fullBlock u ix Z * block u ≤ length (C .main)) (spare-fits : fullBlock u ix Z * 64 ≤ length (C .spare)) where
   -- the bits as they stand are those of the filters
-  row-is : (p y : ℕ) → p < setPages u (c + 1)
+  row-is : (p y : ℕ) → p < setPages (c + 1)
       → rowByte (λ g x. bitAt (C .main) [] (flashPlace u ix z c (z * fullFilters u + g) x)) (128 * (c + 1)) (setWidth u (c + 1)) (p * setWidth u (c + 1)) y
       ≡ rowByte (λ g. F (z * fullFilters u + g)) (128 * (c + 1)) (setWidth u (c + 1)) (p * setWidth u (c + 1)) y
   row-is p y h =
@@ -230,7 +230,7 @@ module _ (u e : ℕ) (pow : u ≡ 2 ^ e) (ix : Index) (Z : ℕ) (F : ℕ → ℕ
       let m4 = mul-le-mul-right (16 * u) r4 in
       let d : i / (64 * u) ≡ i / (16 * u) / 4 = div-of i (64 * u) (i / (16 * u) / 4) (i / (16 * u) % 4 * (16 * u) + i % (16 * u)) (omega arith) (omega arith) in
       let m : i % (64 * u) ≡ i / (16 * u) % 4 * (16 * u) + i % (16 * u) = mod-of i (64 * u) (i / (16 * u) / 4) (i / (16 * u) % 4 * (16 * u) + i % (16 * u)) (omega arith) (omega arith) in
-      let p-lt : i / (64 * u) < setPages u (c + 1) = div-lt i (64 * u) (setPages u (c + 1)) (omega arith) (omega arith) in
+      let p-lt : i / (64 * u) < setPages (c + 1) = div-lt i (64 * u) (setPages (c + 1)) (omega arith) (omega arith) in
       rw (← d, ← m) (row-is (i / (64 * u)) (i % (64 * u)) p-lt)
 
   -- a place for the new set: past L1, apart from the old side, in the index
@@ -238,7 +238,7 @@ module _ (u e : ℕ) (pow : u ≡ 2 ^ e) (ix : Index) (Z : ℕ) (F : ℕ → ℕ
     new-fit : 2 ^ log2up (c + 1) ≤ 4 * u
     new-fit = blocks-fit u e pow (c + 1) (omega arith)
 
-    old-fit : setBlocks u c ≤ 4 * u
+    old-fit : setBlocks c ≤ 4 * u
     old-fit = blocks-le u c (4 * u) (blocks-fit u e pow c (omega arith))
 
     old-after : ix .first + 1 ≤ sideBlock u ix c
@@ -250,9 +250,9 @@ module _ (u e : ℕ) (pow : u ≡ 2 ^ e) (ix : Index) (Z : ℕ) (F : ℕ → ℕ
       dest = dest;
       new = 2 ^ log2up (c + 1);
       old = sideBlock u ix c;
-      gone = setBlocks u c;
+      gone = setBlocks c;
       end = fullBlock u ix Z;
-      sectors = setPages u (c + 1) * 4;
+      sectors = setPages (c + 1) * 4;
       sectors-are = omega arith;
       after = after;
       after-old = old-after;
@@ -262,7 +262,7 @@ module _ (u e : ℕ) (pow : u ≡ 2 ^ e) (ix : Index) (Z : ℕ) (F : ℕ → ℕ
     }
 
     abbrev buildTo : List Op
-    buildTo = programs u 1 (dest * 64) (setPages u (c + 1) * 4) (setByte u ix (C .main) z c) ++ (erases (ix .first) 1 ++ erases (sideBlock u ix c) (setBlocks u c))
+    buildTo = programs u 1 (dest * 64) (setPages (c + 1) * 4) (setByte u ix (C .main) z c) ++ (erases (ix .first) 1 ++ erases (sideBlock u ix c) (setBlocks c))
 
     -- the new set, then L1 and the old side, erased
     to-new : (i : ℕ) → i < 2 ^ log2up (c + 1) * block u
@@ -273,12 +273,12 @@ module _ (u e : ℕ) (pow : u ≡ 2 ^ e) (ix : Index) (Z : ℕ) (F : ℕ → ℕ
     to-l1 = main-first u (unit-pos u e pow) plan (setByte u ix (C .main) z c) C main-fits
 
     to-same : (x : ℕ) → (x < dest * block u) ⊎ ((dest + 2 ^ log2up (c + 1)) * block u ≤ x) → (ix .first + 1) * block u ≤ x
-        → (x < sideBlock u ix c * block u) ⊎ ((sideBlock u ix c + setBlocks u c) * block u ≤ x) → getD (applyAll u buildTo C .main) x 0 ≡ getD (C .main) x 0
+        → (x < sideBlock u ix c * block u) ⊎ ((sideBlock u ix c + setBlocks c) * block u ≤ x) → getD (applyAll u buildTo C .main) x 0 ≡ getD (C .main) x 0
     to-same x a b d = main-same u (unit-pos u e pow) plan (setByte u ix (C .main) z c) C x a (inr b) d
 
     to-old : (i : ℕ) → i < sideBlocks u * block u → getD (applyAll u buildTo C .main) (sideBlock u ix c * block u + i) 0 ≡ 255
     to-old i h =
-        either (lt? i (setBlocks u c * block u))
+        either (lt? i (setBlocks c * block u))
         (λ a. main-old u (unit-pos u e pow) plan (setByte u ix (C .main) z c) C main-fits i (a .1))
         (λ a.
         to-same (sideBlock u ix c * block u + i)
@@ -294,12 +294,12 @@ module _ (u e : ℕ) (pow : u ≡ 2 ^ e) (ix : Index) (Z : ℕ) (F : ℕ → ℕ
     to-spare-l1 = spare-first u (unit-pos u e pow) plan (setByte u ix (C .main) z c) C spare-fits
 
     to-spare-same : (x : ℕ) → (x < dest * 64) ⊎ ((dest + 2 ^ log2up (c + 1)) * 64 ≤ x) → (ix .first + 1) * 64 ≤ x
-        → (x < sideBlock u ix c * 64) ⊎ ((sideBlock u ix c + setBlocks u c) * 64 ≤ x) → getD (applyAll u buildTo C .spare) x 0 ≡ getD (C .spare) x 0
+        → (x < sideBlock u ix c * 64) ⊎ ((sideBlock u ix c + setBlocks c) * 64 ≤ x) → getD (applyAll u buildTo C .spare) x 0 ≡ getD (C .spare) x 0
     to-spare-same x a b d = spare-same u (unit-pos u e pow) plan (setByte u ix (C .main) z c) C x a (inr b) d
 
     to-spare-old : (x : ℕ) → x < sideBlocks u * 64 → getD (applyAll u buildTo C .spare) (sideBlock u ix c * 64 + x) 0 ≡ 255
     to-spare-old x h =
-        either (lt? x (setBlocks u c * 64))
+        either (lt? x (setBlocks c * 64))
         (λ a. spare-old u (unit-pos u e pow) plan (setByte u ix (C .main) z c) C spare-fits x (a .1))
         (λ a.
         to-spare-same (sideBlock u ix c * 64 + x)
@@ -337,7 +337,7 @@ module _ (u e : ℕ) (pow : u ≡ 2 ^ e) (ix : Index) (Z : ℕ) (F : ℕ → ℕ
     abbrev side : List Op
     side = buildTo other other-after (sides-apart u ix c) other-in
 
-    blocks-next : setBlocks u (c + 1) ≡ 2 ^ log2up (c + 1)
+    blocks-next : setBlocks (c + 1) ≡ 2 ^ log2up (c + 1)
     blocks-next = blocks-some u (c + 1) (omega arith)
 
     back : sideBlock u ix (c + 1 + 1) ≡ sideBlock u ix c
@@ -367,7 +367,7 @@ module _ (u e : ℕ) (pow : u ≡ 2 ^ e) (ix : Index) (Z : ℕ) (F : ℕ → ℕ
           ∙ I .full k i l h;
     }
 
-    side-spare-here : (x : ℕ) → x < sideBlocks u * 64 → getD (applyAll u side C .spare) (sideBlock u ix (c + 1) * 64 + x) 0 ≡ cond (ltb x (setBlocks u (c + 1) * 64)) 0 255
+    side-spare-here : (x : ℕ) → x < sideBlocks u * 64 → getD (applyAll u side C .spare) (sideBlock u ix (c + 1) * 64 + x) 0 ≡ cond (ltb x (setBlocks (c + 1) * 64)) 0 255
     side-spare-here x h =
         either (lt? x (2 ^ log2up (c + 1) * 64))
         (λ a. rw (blocks-next, a .0) (to-spare-new other other-after (sides-apart u ix c) other-in x (a .1)))

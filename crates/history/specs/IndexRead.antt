@@ -66,7 +66,7 @@ module _ (u e : ℕ) (pow : u ≡ 2 ^ e) (ix : Index) where
   -- P pages of a set from block b on
   pub read-set : (F : ℕ → ℕ → Bool) (base N P w b : ℕ) (main ram : List ℕ) → 0 < w → P * w ≡ 64 * u → N ≤ 8 * P
       → ((i : ℕ) → i < P * page u → getD main (b * block u + i) 0 ≡ partitionByte u F base N w i)
-      → (g x : ℕ) → g < N → x < 64 * u → bitAt main ram (setPlace u ix b w g x) ≡ F (base + g) x
+      → (g x : ℕ) → g < N → x < 64 * u → bitAt main ram (setPlace u b w g x) ≡ F (base + g) x
   unfolding bitAt
   read-set F base N P w b main ram pw Pw small I g x hg hx =
       let E = euclid x w pw in
@@ -83,7 +83,7 @@ module _ (u e : ℕ) (pow : u ≡ 2 ^ e) (ix : Index) where
 
   module _ (Z : ℕ) (F : ℕ → ℕ → Bool) (z c t : ℕ) (main : List ℕ) (I : IndexMain u ix Z F z c t main) (hc : c < 4 * u) (hz : z ≤ Z) (ht : t ≤ 16) where
     read-full : (ram : List ℕ) (f x : ℕ) → f < z * fullFilters u → x < 64 * u
-        → bitAt main ram (setPlace u ix (fullBlock u ix (f / fullFilters u)) 1 (f % fullFilters u) x) ≡ F f x
+        → bitAt main ram (setPlace u (fullBlock u ix (f / fullFilters u)) 1 (f % fullFilters u) x) ≡ F f x
     read-full ram f x hf hx =
         let E = euclid f (128 * (4 * u)) (omega arith) in
         let k-lt : f / (128 * (4 * u)) < z = div-lt f (128 * (4 * u)) z (omega arith) hf in
@@ -92,14 +92,14 @@ module _ (u e : ℕ) (pow : u ≡ 2 ^ e) (ix : Index) where
         (f % (128 * (4 * u))) x (E .small) hx
         ∙ rw (E .whole)
 
-    read-side : (ram : List ℕ) (g x : ℕ) → g < 128 * c → x < 64 * u → bitAt main ram (setPlace u ix (sideBlock u ix c) (setWidth u c) g x) ≡ F (z * fullFilters u + g) x
+    read-side : (ram : List ℕ) (g x : ℕ) → g < 128 * c → x < 64 * u → bitAt main ram (setPlace u (sideBlock u ix c) (setWidth u c) g x) ≡ F (z * fullFilters u + g) x
     read-side ram g x hg hx =
         let pc : 0 < c = omega arith in
         let fit = blocks-fit u e pow c (omega arith) in
-        read-set F (z * fullFilters u) (128 * c) (setPages u c) (setWidth u c) (sideBlock u ix c) main ram (width-pos u e pow c (omega arith)) (set-whole u e pow c (omega arith))
+        read-set F (z * fullFilters u) (128 * c) (setPages c) (setWidth u c) (sideBlock u ix c) main ram (width-pos u e pow c (omega arith)) (set-whole u e pow c (omega arith))
         (omega (arith, log2up-enough c))
         (λ i h.
-        let b-is : setBlocks u c ≡ 2 ^ log2up c = blocks-some u c pc in
+        let b-is : setBlocks c ≡ 2 ^ log2up c = blocks-some u c pc in
         I .here i (omega (arith, mul-le-mul-right (1024 * u) fit)) ∙ rw (b-is, lt-ltb i (2 ^ log2up c * (1024 * u)) (omega arith)))
         g x hg hx
 
@@ -147,16 +147,16 @@ module _ (u e : ℕ) (pow : u ≡ 2 ^ e) (ix : Index) where
 
     side-ext : (base c i : ℕ) → c < 4 * u → ((f x : ℕ) → f < base + 128 * c → x < 64 * u → F f x ≡ G f x) → sideByte u F base c i ≡ sideByte u G base c i
     side-ext base c i hc same =
-        either (lt? i (setBlocks u c * block u))
+        either (lt? i (setBlocks c * block u))
         (λ a. rw (a .0) (either (lt? 0 c)
         (λ p.
-        let b-is : setBlocks u c ≡ 2 ^ log2up c = blocks-some u c (p .1) in
-        let b-by : setBlocks u c * (1024 * u) ≡ 2 ^ log2up c * (1024 * u) = ap (λ (n : ℕ). n * (1024 * u)) b-is in
-        partition-ext base (128 * c) (setPages u c) (setWidth u c) i (width-pos u e pow c (omega arith)) (set-whole u e pow c (omega arith)) same (omega arith))
+        let b-is : setBlocks c ≡ 2 ^ log2up c = blocks-some u c (p .1) in
+        let b-by : setBlocks c * (1024 * u) ≡ 2 ^ log2up c * (1024 * u) = ap (λ (n : ℕ). n * (1024 * u)) b-is in
+        partition-ext base (128 * c) (setPages c) (setWidth u c) i (width-pos u e pow c (omega arith)) (set-whole u e pow c (omega arith)) same (omega arith))
         (λ p. absurd (none c (omega arith) (a .1)))))
         (λ a. rw (a .0))
       where
-        none : (c : ℕ) → c ≡ 0 → i < setBlocks u c * (1024 * u) → ⊥
+        none : (c : ℕ) → c ≡ 0 → i < setBlocks c * (1024 * u) → ⊥
         none c e h = let h′ : i < 0 * (1024 * u) = rw e at h in omega arith
 
     full-ext : (z k i : ℕ) → ((f x : ℕ) → f < z * fullFilters u → x < 64 * u → F f x ≡ G f x) → i < sideBlocks u * block u → fullByte u F z k i ≡ fullByte u G z k i

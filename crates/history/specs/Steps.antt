@@ -126,7 +126,7 @@ module _ (h : Family) (S R D : ℕ) (ok : Sound S R D) (can : allowed S R D ≡ 
         → AllAllowed (S / 16) (T .ops) C → Beyond g C (applyAll (S / 16) (T .ops) C) ram (T .ram) → allFresh (C .spare) (T .ops) ≡ true → Below (spareSize g) (T .ops)
         → n′ ≤ recordCapacity g → d′ ≤ deletionCapacity g → d′ ≤ n′
         → ((j : ℕ) → j < n′ → recordAt H′ j .key < 2 ^ 32) → ((i : ℕ) → i < d′ → getD (H′ .deleted) i 0 < n′)
-        → Done H C ram (commit h g v n′ d′ T) (historyStep accepts H′)
+        → Done H C ram (commit g v n′ d′ T) (historyStep accepts H′)
     unfolding commit
     commit-done H′ n′ d′ T n-is d-is P allow past fresh low n-cap d-cap d-le keys gone =
         rw fresh
@@ -180,7 +180,7 @@ module _ (h : Family) (S R D : ℕ) (ok : Sound S R D) (can : allowed S R D ≡ 
 
     module _ (r : Record) (word : r .key < 2 ^ 32) where
       insert-accepted : leb (recordCapacity g) (length (H .records)) ≡ false
-          → Done H C ram (commit h g v (n + 1) d (insertion h g C n (r .key) (bytesOf r) (record { ops = []; ram = ram }))) (historyStep accepts (withRecord H r))
+          → Done H C ram (commit g v (n + 1) d (insertion h g C n (r .key) (bytesOf r) (record { ops = []; ram = ram }))) (historyStep accepts (withRecord H r))
       insert-accepted c =
           let room : length (H .records) < recordCapacity g = leb-false (recordCapacity g) (length (H .records)) c in
           let X : Changed h g (ok .e) (units.pow S R D ok) (withRecord H r) (n + 1) d C (record { ops = []; ram = ram }) (insertion h g C n (r .key) (bytesOf r) (record { ops = []; ram = ram }))
@@ -206,7 +206,7 @@ module _ (h : Family) (S R D : ℕ) (ok : Sound S R D) (can : allowed S R D ≡ 
       room-d = leb-false (deletionCapacity g) (length (H .deleted)) c6
 
       abbrev t : Draft
-      t = deletion h g d j ram
+      t = deletion g d j ram
 
       did : Did (S / 16) (DA g .first) (DA g .first + D) (DA g .ram) C ram (t .ram) (t .ops)
       did = deletion-did h g (ok .e) (units.pow S R D ok) H n n (keyFilters g n) j C ram (I .parts) room-d
@@ -223,13 +223,13 @@ module _ (h : Family) (S R D : ℕ) (ok : Sound S R D) (can : allowed S R D ≡ 
       inside₀ : allFresh (take (spareSize g) (C .spare)) (t .ops) ≡ true
       inside₀ = did .fresh (take (spareSize g) (C .spare)) (λ x l m. getD-take (spareSize g) (C .spare) x 0 (omega arith))
 
-      delete-accepted : length (H .deleted) < length (H .records) → Done H C ram (commit h g v n (d + 1) (deletion h g d j ram)) (historyStep accepts (withDeletion H j))
+      delete-accepted : length (H .deleted) < length (H .records) → Done H C ram (commit g v n (d + 1) (deletion g d j ram)) (historyStep accepts (withDeletion H j))
       delete-accepted less =
           commit-done (withDeletion H j) n (d + 1) t refl (length-deletion j) less-one (did .allowed) past fresh₀ (fresh-below (spareSize g) (C .spare) (t .ops) inside₀)
           (I .n-cap) (omega (arith, room-d)) (omega arith) (I .keys) (gone-deletion j below)
 
       update-accepted : (r : Record) → r .key < 2 ^ 32 → leb (recordCapacity g) (length (H .records)) ≡ false
-          → Done H C ram (commit h g v (n + 1) (d + 1) (insertion h g C n (r .key) (bytesOf r) (deletion h g d j ram))) (historyStep accepts (withRecord (withDeletion H j) r))
+          → Done H C ram (commit g v (n + 1) (d + 1) (insertion h g C n (r .key) (bytesOf r) (deletion g d j ram))) (historyStep accepts (withRecord (withDeletion H j) r))
       update-accepted r word c5 =
           let room : length (H .records) < recordCapacity g = leb-false (recordCapacity g) (length (H .records)) c5 in
           let X : Changed h g (ok .e) (units.pow S R D ok) (withRecord (withDeletion H j) r) (n + 1) (d + 1) C t (insertion h g C n (r .key) (bytesOf r) t)
@@ -252,7 +252,7 @@ module _ (h : Family) (S R D : ℕ) (ok : Sound S R D) (can : allowed S R D ≡ 
         (λ c6. rw (c, c6) (update-accepted j (found-below H (r .key) j q .0) c6 r word c)))
 
     delete-done : (k : ℕ) → ((j : ℕ) → findLive H k ≡ some j → length (H .deleted) < length (H .records)) → (o : Option ℕ) → findLive H k ≡ o
-        → Done H C ram (deleteAfter h g v (Option·map found o)) (deleteHistory (recordCapacity g) (deletionCapacity g) H o)
+        → Done H C ram (deleteAfter g v (Option·map found o)) (deleteHistory (recordCapacity g) (deletionCapacity g) H o)
     unfolding deleteAfter
     delete-done k less none q = refuse-done 4 (omega arith, omega arith, omega arith, omega arith)
     delete-done k less (some j) q =
@@ -263,7 +263,7 @@ module _ (h : Family) (S R D : ℕ) (ok : Sound S R D) (can : allowed S R D ≡ 
     -- ---- lookup
 
     lookup-done : (k opened : ℕ) → opened ≤ length (H .records) / entriesPerPage (S / 16) → (o : Option ℕ) → findLive H k ≡ o
-        → Done H C ram (lookupAfter h g v opened (Option·map found o)) (lookupHistory (recordCapacity g) (deletionCapacity g) H o)
+        → Done H C ram (lookupAfter g v opened (Option·map found o)) (lookupHistory (recordCapacity g) (deletionCapacity g) H o)
     unfolding lookupAfter
     lookup-done k opened le none q = record {
       says = refl;

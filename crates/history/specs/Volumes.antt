@@ -99,13 +99,13 @@ module _ (h : Family) (S R D : ℕ) (ok : Sound S R D) where
         read-word (S / 16) pu (DA g) D (omega arith) (omega (arith, pu)) (omega arith) (daItem H) d (C .main) (C .spare) ram (I .parts .da) (omega (arith, I .d-cap))
         i 0 (getD (H .deleted) i 0) l (omega arith) (omega (arith, I .gone i l, n-word)) (λ b m. deletion-number (getD (H .deleted) i 0) b m)
 
-    deleted-is : (j : ℕ) → isDeleted h g v j ≡ memb j (H .deleted)
+    deleted-is : (j : ℕ) → isDeleted g v j ≡ memb j (H .deleted)
     unfolding isDeleted
     deleted-is j =
         any-ext _ (λ i. eqb (getD (H .deleted) i 0) j) (length (H .deleted)) (λ i l. ap (λ (x : ℕ). eqb x j) (deletion-at i l))
         ∙ any-memb j (H .deleted)
 
-    try-is : (k j : ℕ) → j < length (H .records) → tryAt h g v k j ≡ cond (liveAt H k j) (some (found j)) none
+    try-is : (k j : ℕ) → j < length (H .records) → tryAt g v k j ≡ cond (liveAt H k j) (some (found j)) none
     unfolding tryAt liveAt
     try-is k j l =
         rw (key-at j l, number-at j l, lt-leb (length (H .records)) j l, deleted-is j)
@@ -131,15 +131,15 @@ module _ (h : Family) (S R D : ℕ) (ok : Sound S R D) where
         x q
 
     -- a page that holds a live record of the key has all its bits: no false negatives
-    passes : (k f i : ℕ) → f < length (H .records) / (8 * (S / 16)) → i < 8 * (S / 16) → recordAt H (f * (8 * (S / 16)) + i) .key ≡ k → maybeIn h g v (keyPositions h g k) f ≡ true
+    passes : (k f i : ℕ) → f < length (H .records) / (8 * (S / 16)) → i < 8 * (S / 16) → recordAt H (f * (8 * (S / 16)) + i) .key ≡ k → maybeIn g v (keyPositions h g k) f ≡ true
     unfolding maybeIn keyFilter
     passes k f i l m q =
         allOf-true _ (keyPositions h g k) (λ x a.
         filter-is f x l (position-lt k x a)
         ∙ any-at (λ i. memb x (keyPositions h g (recordAt H (f * (8 * (S / 16)) + i) .key))) (8 * (S / 16)) i m (rw q a))
 
-    skipped : (k f i : ℕ) → f < length (H .records) / (8 * (S / 16)) → i < 8 * (S / 16) → maybeIn h g v (keyPositions h g k) f ≡ false
-        → tryAt h g v k (f * (8 * (S / 16)) + i) ≡ none
+    skipped : (k f i : ℕ) → f < length (H .records) / (8 * (S / 16)) → i < 8 * (S / 16) → maybeIn g v (keyPositions h g k) f ≡ false
+        → tryAt g v k (f * (8 * (S / 16)) + i) ≡ none
     skipped k f i l m c =
         let E = euclid (length (H .records)) (8 * (S / 16)) (omega (arith, pu)) in
         let j : f * (8 * (S / 16)) + i < length (H .records) = omega (arith, mul-le-mul-right (8 * (S / 16)) l) in
@@ -152,12 +152,12 @@ module _ (h : Family) (S R D : ℕ) (ok : Sound S R D) where
     pub search-is : (k : ℕ) → search h g v k .stop ≡ Option·map found (findLive H k)
     unfolding search
     search-is k =
-        search-all (maybeIn h g v (keyPositions h g k)) (tryAt h g v k) (8 * (S / 16)) (length (H .records)) (omega (arith, pu)) (λ f i a b c. skipped k f i a b c)
-        ∙ scan-live (tryAt h g v k) (liveAt H k) (length (H .records)) (λ j l. try-is k j l)
+        search-all (maybeIn g v (keyPositions h g k)) (tryAt g v k) (8 * (S / 16)) (length (H .records)) (omega (arith, pu)) (λ f i a b c. skipped k f i a b c)
+        ∙ scan-live (tryAt g v k) (liveAt H k) (length (H .records)) (λ j l. try-is k j l)
 
     pub count-is : (k : ℕ) → search h g v k .opened ≤ length (H .records) / entriesPerPage (S / 16)
     unfolding search
-    count-is k = search-opened (maybeIn h g v (keyPositions h g k)) (tryAt h g v k) (8 * (S / 16)) (length (H .records))
+    count-is k = search-opened (maybeIn g v (keyPositions h g k)) (tryAt g v k) (8 * (S / 16)) (length (H .records))
 
     -- the bytes of a record where it lies
     pub record-is : (j : ℕ) → j < length (H .records) → bytesAt (C .main) ram (itemPlace (S / 16) (RA g) n j) 16 ≡ bytesOf (recordAt H j)

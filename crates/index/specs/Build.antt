@@ -10,14 +10,14 @@ use Rattle.laws.specs.FlashLaws.{apply-append}
 
 module _ (u : ℕ) (ix : Index) where
   -- the sectors of the set, then the erases of L1 and of the set before
-  pub build-is : (z c b k : ℕ) (C C₁ C₂ C₃ : Flash) → b ≡ sideBlock u ix c → k ≡ setBlocks u c
-      → C₁ ≡ applyAll u (programs u 1 (setBlock u ix z c * 64) (setPages u (c + 1) * 4) (setByte u ix (C .main) z c)) C
+  pub build-is : (z c b k : ℕ) (C C₁ C₂ C₃ : Flash) → b ≡ sideBlock u ix c → k ≡ setBlocks c
+      → C₁ ≡ applyAll u (programs u 1 (setBlock u ix z c * 64) (setPages (c + 1) * 4) (setByte u ix (C .main) z c)) C
       → C₂ ≡ applyAll u (erases (ix .first) 1) C₁ → C₃ ≡ applyAll u (erases b k) C₂
       → C₃ ≡ applyAll u (buildOps u ix (C .main) z c) C
   build-is z c b k C C₁ C₂ C₃ b-is k-is e₁ e₂ e₃ =
-      let set : List Op = programs u 1 (setBlock u ix z c * 64) (setPages u (c + 1) * 4) (setByte u ix (C .main) z c) in
+      let set : List Op = programs u 1 (setBlock u ix z c * 64) (setPages (c + 1) * 4) (setByte u ix (C .main) z c) in
       let l1 : List Op = erases (ix .first) 1 in
-      let old : List Op = erases (sideBlock u ix c) (setBlocks u c) in
+      let old : List Op = erases (sideBlock u ix c) (setBlocks c) in
       e₃
       ∙ ap (λ (n : ℕ). applyAll u (erases n k) C₂) b-is
       ∙ ap (λ (n : ℕ). applyAll u (erases (sideBlock u ix c) n) C₂) k-is

@@ -32,7 +32,7 @@ pub record SetSectors (u : ℕ) (ix : Index) (z c sectors : ℕ) : Type 0 where
   pub rounds : c < 4 * u
   pub sets : z ≤ 1024
   pub first : ix .first ≤ 20000
-  pub inside : setBlock u ix z c * 64 + setPages u (c + 1) * 4 ≤ sectors
+  pub inside : setBlock u ix z c * 64 + setPages (c + 1) * 4 ≤ sectors
 
 pub unit-some : (u : ℕ) → Unit? u → 0 < u
 unit-some u U = unit-pos u (U .e) (U .is)
@@ -40,7 +40,7 @@ unit-some u U = unit-pos u (U .e) (U .is)
 -- ---- the erases after a set
 
 -- the set before the next one lies on its side
-pub side-inside : (u : ℕ) (ix : Index) (c : ℕ) → Unit? u → c < 4 * u → sideBlock u ix c + setBlocks u c ≤ fullBlock u ix 0
+pub side-inside : (u : ℕ) (ix : Index) (c : ℕ) → Unit? u → c < 4 * u → sideBlock u ix c + setBlocks c ≤ fullBlock u ix 0
 side-inside u ix zero U h = omega (arith, side-range u ix zero .1)
 side-inside u ix (suc c) U h = omega (arith, side-range u ix (suc c) .1, blocks-fit u (U .e) (U .is) (suc c) (omega arith))
 
@@ -51,7 +51,7 @@ module _ (u : ℕ) (ix : Index) (z c len sectors : ℕ) (P : SetFits u ix z c le
       let l : ix .first + 1 ≤ fullBlock u ix 0 = omega arith in
       (omega (arith, mul-le-mul-right (1024 * u) l, P .sides), omega (arith, l, P .spare-sides))
 
-  pub old-inside : (b k : ℕ) → b ≡ sideBlock u ix c → k ≡ setBlocks u c → ((b + k) * (1024 * u) ≤ len) × ((b + k) * 64 ≤ sectors)
+  pub old-inside : (b k : ℕ) → b ≡ sideBlock u ix c → k ≡ setBlocks c → ((b + k) * (1024 * u) ≤ len) × ((b + k) * 64 ≤ sectors)
   old-inside b k b-is k-is =
       let s = side-inside u ix c (P .unit) (P .rounds) in
       let l : b + k ≤ fullBlock u ix 0 = rw (b-is, k-is) s in
@@ -96,7 +96,7 @@ module _ (u : ℕ) (ix : Index) (F sectors : ℕ) (P : SpareFits u ix F sectors)
         either (carry (F / 8 / 16) (4 * u) four-pos) (λ d. omega (arith, d .1, r)) (λ d. absurd (d .0 last))
 
     -- the next set's sectors
-    set-on-spare : setBlock u ix (inFull u F) (inSet u F) * 64 + setPages u (inSet u F + 1) * 4 ≤ sectors
+    set-on-spare : setBlock u ix (inFull u F) (inSet u F) * 64 + setPages (inSet u F + 1) * 4 ≤ sectors
     set-on-spare =
         let U = P .unit in
         let b = blocks-fit u (U .e) (U .is) (inSet u F + 1) (omega (arith, rounds-lt)) in

@@ -19,25 +19,25 @@ unfoldable pub indexFresh : List ℕ → ℕ → Index → ℕ → Bool
 indexFresh spare u ix F =
     cond (eqb (inSka F + 1) 8)
     (freshRun spare 16 (ix .first * 64 + inL1 F) 4
-    && cond (eqb (inL1 F + 1) 16) (freshRun spare 1 (setBlock u ix (inFull u F) (inSet u F) * 64) (setPages u (inSet u F + 1) * 4)) true)
+    && cond (eqb (inL1 F + 1) 16) (freshRun spare 1 (setBlock u ix (inFull u F) (inSet u F) * 64) (setPages (inSet u F + 1) * 4)) true)
     true
 
 module _ (spare : List ℕ) (u : ℕ) (ix : Index) where
   -- a set asks for its sectors
-  build-fresh : (main : List ℕ) (z c : ℕ) → allFresh spare (buildOps u ix main z c) ≡ freshRun spare 1 (setBlock u ix z c * 64) (setPages u (c + 1) * 4)
+  build-fresh : (main : List ℕ) (z c : ℕ) → allFresh spare (buildOps u ix main z c) ≡ freshRun spare 1 (setBlock u ix z c * 64) (setPages (c + 1) * 4)
   build-fresh main z c =
-      let set : List Op = programs u 1 (setBlock u ix z c * 64) (setPages u (c + 1) * 4) (setByte u ix main z c) in
+      let set : List Op = programs u 1 (setBlock u ix z c * 64) (setPages (c + 1) * 4) (setByte u ix main z c) in
       let l1 : List Op = erases (ix .first) 1 in
-      let old : List Op = erases (sideBlock u ix c) (setBlocks u c) in
+      let old : List Op = erases (sideBlock u ix c) (setBlocks c) in
       let none : allFresh spare (l1 ++ old) ≡ true =
-      fresh-append l1 old spare ∙ ap₂ (λ (s t : Bool). s && t) (fresh-erases spare (ix .first) 1) (fresh-erases spare (sideBlock u ix c) (setBlocks u c)) in
+      fresh-append l1 old spare ∙ ap₂ (λ (s t : Bool). s && t) (fresh-erases spare (ix .first) 1) (fresh-erases spare (sideBlock u ix c) (setBlocks c)) in
       fresh-append set (l1 ++ old) spare
-      ∙ ap₂ (λ (s t : Bool). s && t) (fresh-programs u 1 (setBlock u ix z c * 64) (setPages u (c + 1) * 4) (setByte u ix main z c) spare) none
-      ∙ and-true (freshRun spare 1 (setBlock u ix z c * 64) (setPages u (c + 1) * 4))
+      ∙ ap₂ (λ (s t : Bool). s && t) (fresh-programs u 1 (setBlock u ix z c * 64) (setPages (c + 1) * 4) (setByte u ix main z c) spare) none
+      ∙ and-true (freshRun spare 1 (setBlock u ix z c * 64) (setPages (c + 1) * 4))
 
   -- what may follow a flush
   rest-fresh : (t : Bool) (main : List ℕ) (z c : ℕ)
-      → allFresh spare (cond t (buildOps u ix main z c) []) ≡ cond t (freshRun spare 1 (setBlock u ix z c * 64) (setPages u (c + 1) * 4)) true
+      → allFresh spare (cond t (buildOps u ix main z c) []) ≡ cond t (freshRun spare 1 (setBlock u ix z c * 64) (setPages (c + 1) * 4)) true
   unfolding allFresh
   rest-fresh true main z c = build-fresh main z c
   rest-fresh false main z c = refl
@@ -45,7 +45,7 @@ module _ (spare : List ℕ) (u : ℕ) (ix : Index) where
   flush-fresh : (C : Flash) (F : ℕ) (ram : List ℕ)
       → allFresh spare (flushAndBuild u ix C F ram)
       ≡ (freshRun spare 16 (ix .first * 64 + inL1 F) 4
-      && cond (eqb (inL1 F + 1) 16) (freshRun spare 1 (setBlock u ix (inFull u F) (inSet u F) * 64) (setPages u (inSet u F + 1) * 4)) true)
+      && cond (eqb (inL1 F + 1) 16) (freshRun spare 1 (setBlock u ix (inFull u F) (inSet u F) * 64) (setPages (inSet u F + 1) * 4)) true)
   unfolding flushAndBuild
   flush-fresh C F ram =
       let main : List ℕ = applyAll u (flushOps u ix (inL1 F) ram) C .main in
@@ -76,7 +76,7 @@ module _ (spare : List ℕ) (u : ℕ) (ix : Index) where
     unfolding indexFresh
     fresh-flush h less = rw (eq-eqb (F % 8 + 1) 8 eight, ← run, not-false r h, ne-eqb (F / 8 % 16 + 1) 16 less)
 
-    pub fresh-set : not r ≡ false → inL1 F + 1 ≡ 16 → (s : Bool) → s ≡ freshRun spare 1 (setBlock u ix (inFull u F) (inSet u F) * 64) (setPages u (inSet u F + 1) * 4)
+    pub fresh-set : not r ≡ false → inL1 F + 1 ≡ 16 → (s : Bool) → s ≡ freshRun spare 1 (setBlock u ix (inFull u F) (inSet u F) * 64) (setPages (inSet u F + 1) * 4)
         → s ≡ indexFresh spare u ix F
     unfolding indexFresh
     fresh-set h sixteen s set = rw (eq-eqb (F % 8 + 1) 8 eight, ← run, not-false r h, eq-eqb (F / 8 % 16 + 1) 16 sixteen) set

@@ -89,7 +89,7 @@ pub fn add_filter(
 // Are the sectors of the next set fresh.
 fn set_fresh(spare: &[u8], unit: usize, ix: Index, z: usize, c: usize) -> bool
     requires { ⌜ SetSectors unit (indexOf ix) z c (length (now spare)) ⌝ }
-    ensures { λ r. ⌜ r ≡ freshRun (now (spare .entry)) 1 (setBlock unit (indexOf ix) z c * 64) (setPages unit (c + 1) * 4) ⌝ }
+    ensures { λ r. ⌜ r ≡ freshRun (now (spare .entry)) 1 (setBlock unit (indexOf ix) z c * 64) (setPages (c + 1) * 4) ⌝ }
 {
     let s = sets::set_block(unit, ix, z, c) * BLOCK_SECTORS;
     let n = sets::set_pages(c + 1) * PAGE_SECTORS;

@@ -88,22 +88,22 @@ module _ (u e : ℕ) (pow : u ≡ 2 ^ e) (B : ℕ) (ix : Index) (Z : ℕ) (end :
   inside-flush t ram h = inside-programs u B 16 (ix .first * 64 + t) 4 (λ i y. getD ram (ix .ska + (i * sector u + y)) 0) (λ j l. omega (arith, end))
 
   -- the set of c + 1 rounds at its place, and that of c rounds on its side
-  new-inside : (z c : ℕ) → c < 4 * u → (c + 1 ≡ 4 * u → z < Z) → setBlock u ix z c * 64 + setPages u (c + 1) * 4 ≤ B * 64
+  new-inside : (z c : ℕ) → c < 4 * u → (c + 1 ≡ 4 * u → z < Z) → setBlock u ix z c * 64 + setPages (c + 1) * 4 ≤ B * 64
   new-inside z c hc hz =
       let b = blocks-fit u e pow (c + 1) (omega (arith, hc)) in
       either (eq? (c + 1) (4 * u))
       (λ a. rw (a .0) (omega (arith, b, end, mul-le-mul-right (4 * u) (hz (a .1)))))
       (λ a. rw (a .0) (omega (arith, b, end, side-range u ix (c + 1) .1)))
 
-  old-inside : (c : ℕ) → c < 4 * u → sideBlock u ix c + setBlocks u c ≤ B
+  old-inside : (c : ℕ) → c < 4 * u → sideBlock u ix c + setBlocks c ≤ B
   old-inside zero h = omega (arith, end, side-range u ix zero .1)
   old-inside (suc c) h = omega (arith, end, side-range u ix (suc c) .1, blocks-fit u e pow (suc c) (omega arith))
 
   inside-build : (main : List ℕ) (z c : ℕ) → c < 4 * u → (c + 1 ≡ 4 * u → z < Z) → Inside u B (buildOps u ix main z c)
   inside-build main z c hc hz =
       let n = new-inside z c hc hz in
-      inside-append u B _ _ (inside-programs u B 1 (setBlock u ix z c * 64) (setPages u (c + 1) * 4) _ (λ j l. omega (arith, n)))
-      (inside-append u B _ _ (inside-erases u B (ix .first) 1 (omega (arith, end))) (inside-erases u B (sideBlock u ix c) (setBlocks u c) (old-inside c hc)))
+      inside-append u B _ _ (inside-programs u B 1 (setBlock u ix z c * 64) (setPages (c + 1) * 4) _ (λ j l. omega (arith, n)))
+      (inside-append u B _ _ (inside-erases u B (ix .first) 1 (omega (arith, end))) (inside-erases u B (sideBlock u ix c) (setBlocks c) (old-inside c hc)))
 
   -- the last round of a set takes one more place
   place-left : (N : ℕ) → inFull u (N + 1) ≤ Z → N % 8 + 1 ≡ 8 → N / 8 % 16 + 1 ≡ 16 → inSet u N + 1 ≡ 4 * u → inFull u N < Z

@@ -78,7 +78,7 @@ module _ (u e : ℕ) (pow : u ≡ 2 ^ e) where
       let w = width e c (omega arith) in
       div-of (64 * u) (16 * 2 ^ log2up c) (2 ^ (e + 2 - log2up c)) 0 (omega arith) (omega (arith, pow-pos (log2up c)))
 
-  pub set-whole : (c : ℕ) → c ≤ 4 * u → setPages u c * setWidth u c ≡ 64 * u
+  pub set-whole : (c : ℕ) → c ≤ 4 * u → setPages c * setWidth u c ≡ 64 * u
   set-whole c h = rw (width-is c h) (omega (arith, width e c (omega arith)))
 
   pub width-pos : (c : ℕ) → c ≤ 4 * u → 0 < setWidth u c
@@ -96,11 +96,11 @@ module _ (u e : ℕ) (pow : u ≡ 2 ^ e) where
   full-width = div-of (64 * u) (16 * 2 ^ log2up (4 * u)) 1 0 (omega (arith, full-blocks)) (omega (arith, pow-pos (log2up (4 * u))))
 
 -- blocks of a set, by its rounds
-pub blocks-some : (u c : ℕ) → 0 < c → setBlocks u c ≡ 2 ^ log2up c
+pub blocks-some : (u c : ℕ) → 0 < c → setBlocks c ≡ 2 ^ log2up c
 blocks-some u zero h = absurd (not-suc-le-zero h)
 blocks-some u (suc c) h = refl
 
-pub blocks-le : (u c m : ℕ) → 2 ^ log2up c ≤ m → setBlocks u c ≤ m
+pub blocks-le : (u c m : ℕ) → 2 ^ log2up c ≤ m → setBlocks c ≤ m
 blocks-le u zero m h = zero-le
 blocks-le u (suc c) m h = h
 

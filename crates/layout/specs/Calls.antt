@@ -100,40 +100,56 @@ pub record Draft : Type 0 where
   pub ops : List Op
   pub ram : List ℕ
 
+-- ---- the search on a volume
+
+-- record numbers in DA
+unfoldable pub isDeleted : Geometry → Volume → ℕ → Bool
+isDeleted g v j = any (λ i. eqb (itemWord (g .u) (DA g) (v .state .deletions) (v .flash .main) (v .ram) i 0) j) (v .state .deletions)
+
+-- entry j of KA
+unfoldable pub tryAt : Geometry → Volume → ℕ → ℕ → Option Stop
+tryAt g v key j =
+    tryEntry (v .state .records) (isDeleted g v) key
+    (itemWord (g .u) (KA g) (v .state .records) (v .flash .main) (v .ram) j 0)
+    (itemWord (g .u) (KA g) (v .state .records) (v .flash .main) (v .ram) j 1)
+
+-- has the filter of full page f all bits of these positions, "read from the bytes lent"
+unfoldable pub maybeIn : Geometry → Volume → List ℕ → ℕ → Bool
+maybeIn g v ps f = allOf (filterBit (g .u) (keyIndex g) (v .flash .main) (v .ram) (keyFilters g (v .state .records)) f) ps
+
+-- the positions of a key: those of its four bytes
+abbrev pub keyPositions : Family → Geometry → ℕ → List ℕ
+keyPositions h g key = positions h positionCount (g .u) (bytes4 key)
+
+unfoldable pub search : Family → Geometry → Volume → ℕ → Found
+search h g v key = searchFrom (maybeIn g v (keyPositions h g key)) (tryAt g v key) (entriesPerPage (g .u)) (v .state .records)
+
+-- ---- what an accepted change does
+
+-- "A deletion appends the 4-byte record number to DA"
+unfoldable pub deletion : Geometry → ℕ → ℕ → List ℕ → Draft
+deletion g d j ram = record { ops = itemOps (g .u) (DA g) d (deletionBytes j) ram; ram = itemRam (g .u) (DA g) d (deletionBytes j) ram }
+
+-- 7 if a sector to be programmed is not fresh; else the operations are done, the work page is zeroed and the counts rise
+unfoldable pub commit : Geometry → Volume → ℕ → ℕ → Draft → Result
+commit g v n d t =
+    cond (allFresh (v .flash .spare) (t .ops))
+    (record {
+      outcome = accepted;
+      count = 0;
+      volume = record {
+        state = record { sectorSize = v .state .sectorSize; raBlocks = v .state .raBlocks; daBlocks = v .state .daBlocks; records = n; deletions = d };
+        flash = applyAll (g .u) (t .ops) (v .flash);
+        ram = zeroPage (g .u) (workRam (g .u)) (t .ram);
+      };
+      ops = t .ops;
+    })
+    (refuse v 7)
+
 module _ (h : Family) where
-  -- the positions of a key: those of its four bytes
-  abbrev pub keyPositions : Geometry → ℕ → List ℕ
-  keyPositions g key = positions h positionCount (g .u) (bytes4 key)
-
-  -- ---- the search on a volume
-
-  -- record numbers in DA
-  unfoldable pub isDeleted : Geometry → Volume → ℕ → Bool
-  isDeleted g v j = any (λ i. eqb (itemWord (g .u) (DA g) (v .state .deletions) (v .flash .main) (v .ram) i 0) j) (v .state .deletions)
-
-  -- entry j of KA
-  unfoldable pub tryAt : Geometry → Volume → ℕ → ℕ → Option Stop
-  tryAt g v key j =
-      tryEntry (v .state .records) (isDeleted g v) key
-      (itemWord (g .u) (KA g) (v .state .records) (v .flash .main) (v .ram) j 0)
-      (itemWord (g .u) (KA g) (v .state .records) (v .flash .main) (v .ram) j 1)
-
-  -- has the filter of full page f all bits of these positions, "read from the bytes lent"
-  unfoldable pub maybeIn : Geometry → Volume → List ℕ → ℕ → Bool
-  maybeIn g v ps f = allOf (filterBit (g .u) (keyIndex g) (v .flash .main) (v .ram) (keyFilters g (v .state .records)) f) ps
-
-  unfoldable pub search : Geometry → Volume → ℕ → Found
-  search g v key = searchFrom (maybeIn g v (keyPositions g key)) (tryAt g v key) (entriesPerPage (g .u)) (v .state .records)
-
-  -- ---- what an accepted change does
-
-  -- "A deletion appends the 4-byte record number to DA"
-  unfoldable pub deletion : Geometry → ℕ → ℕ → List ℕ → Draft
-  deletion g d j ram = record { ops = itemOps (g .u) (DA g) d (deletionBytes j) ram; ram = itemRam (g .u) (DA g) d (deletionBytes j) ram }
-
   -- "A full KA page gives one filter of m bits with the positions of all its keys set"; the keys in the page's bytes
   unfoldable pub pageFilter : Geometry → List ℕ → ℕ → Bool
-  pageFilter g ram x = any (λ i. memb x (keyPositions g (word ram (kaRam (g .u) + i * 8)))) (entriesPerPage (g .u))
+  pageFilter g ram x = any (λ i. memb x (keyPositions h g (word ram (kaRam (g .u) + i * 8)))) (entriesPerPage (g .u))
 
   -- a full KA page's filter, of the RAM page `keys` as it was programmed
   unfoldable pub summary : Geometry → Flash → ℕ → List ℕ → Draft → Draft
@@ -155,38 +171,40 @@ module _ (h : Family) where
       (summary g flash (keyFilters g n) (put (KA g) n (entryBytes key n) ram₁) (record { ops = ops₂; ram = ram₂ }))
       (record { ops = ops₂; ram = ram₂ })
 
-  -- 7 if a sector to be programmed is not fresh; else the operations are done, the work page is zeroed and the counts rise
-  unfoldable pub commit : Geometry → Volume → ℕ → ℕ → Draft → Result
-  commit g v n d t =
-      cond (allFresh (v .flash .spare) (t .ops))
-      (record {
-        outcome = accepted;
-        count = 0;
-        volume = record {
-          state = record { sectorSize = v .state .sectorSize; raBlocks = v .state .raBlocks; daBlocks = v .state .daBlocks; records = n; deletions = d };
-          flash = applyAll (g .u) (t .ops) (v .flash);
-          ram = zeroPage (g .u) (workRam (g .u)) (t .ram);
-        };
-        ops = t .ops;
-      })
-      (refuse v 7)
+-- ---- the calls after 1 and 2, by what the search met: "Checked in the order 1, 2, 8, 3, 4, 5, 6, 7"
 
-  -- ---- the calls after 1 and 2, by what the search met: "Checked in the order 1, 2, 8, 3, 4, 5, 6, 7"
+-- 5: "insert or update, n at capacity"; 6: "update or delete, d at capacity"
+abbrev pub noRoom : Geometry → Volume → Bool
+noRoom g v = leb (recordCapacity g) (v .state .records)
 
-  -- 5: "insert or update, n at capacity"; 6: "update or delete, d at capacity"
-  abbrev pub noRoom : Geometry → Volume → Bool
-  noRoom g v = leb (recordCapacity g) (v .state .records)
+abbrev pub noDeletion : Geometry → Volume → Bool
+noDeletion g v = leb (deletionCapacity g) (v .state .deletions)
 
-  abbrev pub noDeletion : Geometry → Volume → Bool
-  noDeletion g v = leb (deletionCapacity g) (v .state .deletions)
+unfoldable pub deleteAfter : Geometry → Volume → Option Stop → Result
+deleteAfter g v (some corrupt) = refuse v 8
+deleteAfter g v none = refuse v 4
+deleteAfter g v (some (found j)) =
+    cond (noDeletion g v) (refuse v 6)
+    (commit g v (v .state .records) (v .state .deletions + 1) (deletion g (v .state .deletions) j (v .ram)))
 
+-- "hit, count and the 16 record bytes .. on the chip or in the desk, wherever that record is"
+abbrev pub recordPlace : Geometry → Volume → ℕ → Place
+recordPlace g v j = itemPlace (g .u) (RA g) (v .state .records) j
+
+unfoldable pub lookupAfter : Geometry → Volume → ℕ → Option Stop → Result
+lookupAfter g v opened (some corrupt) = refuse v 8
+lookupAfter g v opened none = record { outcome = miss; count = opened; volume = v; ops = [] }
+lookupAfter g v opened (some (found j)) =
+    record { outcome = hit (recordPlace g v j) (bytesAt (v .flash .main) (v .ram) (recordPlace g v j) 16); count = opened; volume = v; ops = [] }
+
+module _ (h : Family) where
   unfoldable pub insertAfter : Geometry → Volume → ℕ → List ℕ → Option Stop → Result
   insertAfter g v key bytes (some corrupt) = refuse v 8
   insertAfter g v key bytes (some (found j)) = refuse v 3
   insertAfter g v key bytes none =
       cond (noRoom g v) (refuse v 5)
       (commit g v (v .state .records + 1) (v .state .deletions)
-      (insertion g (v .flash) (v .state .records) key bytes (record { ops = []; ram = v .ram })))
+      (insertion h g (v .flash) (v .state .records) key bytes (record { ops = []; ram = v .ram })))
 
   -- "An update is a deletion followed by an insertion, in one call"
   unfoldable pub updateAfter : Geometry → Volume → ℕ → List ℕ → Option Stop → Result
@@ -196,30 +214,13 @@ module _ (h : Family) where
       cond (noRoom g v) (refuse v 5)
       (cond (noDeletion g v) (refuse v 6)
       (commit g v (v .state .records + 1) (v .state .deletions + 1)
-      (insertion g (v .flash) (v .state .records) key bytes (deletion g (v .state .deletions) j (v .ram)))))
-
-  unfoldable pub deleteAfter : Geometry → Volume → Option Stop → Result
-  deleteAfter g v (some corrupt) = refuse v 8
-  deleteAfter g v none = refuse v 4
-  deleteAfter g v (some (found j)) =
-      cond (noDeletion g v) (refuse v 6)
-      (commit g v (v .state .records) (v .state .deletions + 1) (deletion g (v .state .deletions) j (v .ram)))
-
-  -- "hit, count and the 16 record bytes .. on the chip or in the desk, wherever that record is"
-  abbrev pub recordPlace : Geometry → Volume → ℕ → Place
-  recordPlace g v j = itemPlace (g .u) (RA g) (v .state .records) j
-
-  unfoldable pub lookupAfter : Geometry → Volume → ℕ → Option Stop → Result
-  lookupAfter g v opened (some corrupt) = refuse v 8
-  lookupAfter g v opened none = record { outcome = miss; count = opened; volume = v; ops = [] }
-  lookupAfter g v opened (some (found j)) =
-      record { outcome = hit (recordPlace g v j) (bytesAt (v .flash .main) (v .ram) (recordPlace g v j) 16); count = opened; volume = v; ops = [] }
+      (insertion h g (v .flash) (v .state .records) key bytes (deletion g (v .state .deletions) j (v .ram)))))
 
   abbrev pub answer : Geometry → Volume → Call → Result
-  answer g v (insert key moves goal free) = insertAfter g v key (recordBytes key moves goal free) (search g v key .stop)
-  answer g v (update key moves goal free) = updateAfter g v key (recordBytes key moves goal free) (search g v key .stop)
-  answer g v (delete key) = deleteAfter g v (search g v key .stop)
-  answer g v (lookup key) = let f : Found = search g v key in lookupAfter g v (f .opened) (f .stop)
+  answer g v (insert key moves goal free) = insertAfter g v key (recordBytes key moves goal free) (search h g v key .stop)
+  answer g v (update key moves goal free) = updateAfter g v key (recordBytes key moves goal free) (search h g v key .stop)
+  answer g v (delete key) = deleteAfter g v (search h g v key .stop)
+  answer g v (lookup key) = let f : Found = search h g v key in lookupAfter g v (f .opened) (f .stop)
 
   -- a call on a volume
   unfoldable pub call : Volume → Call → Result

@@ -51,7 +51,7 @@ index = record { first = 0; ska = 0 }
 
 -- set 3 is made of two rounds; position 13 of filter 200 at S = 16
 abbrev partition : BitPlace
-partition = setPlace 1 index 0 (setWidth 1 2) 200 13
+partition = setPlace 1 0 (setWidth 1 2) 200 13
 
 -- the third sector of flush 6 at S = 16: as programmed, and as read for filter 48 of the round, bit 2S
 abbrev flushed : ℕ
@@ -89,11 +89,11 @@ examples h key bytes =
     -- S = 512, R = 2048, D = 1
     ∷ row (B 512 2048 1) 3458
     -- P for i = 2 to 6; set i has i - 1 rounds
-    ∷ row (setPages 1 (2 - 1)) 16
-    ∷ row (setPages 1 (3 - 1)) 32
-    ∷ row (setPages 1 (4 - 1)) 64
-    ∷ row (setPages 1 (5 - 1)) 64
-    ∷ row (setPages 1 (6 - 1)) 128
+    ∷ row (setPages (2 - 1)) 16
+    ∷ row (setPages (3 - 1)) 32
+    ∷ row (setPages (4 - 1)) 64
+    ∷ row (setPages (5 - 1)) 64
+    ∷ row (setPages (6 - 1)) 128
     -- S = 16, set 3, position 13, filter 200: page 6, byte 50, bit 1
     ∷ row (partition .row / page 1) 6
     ∷ row (partition .at / 8) 50

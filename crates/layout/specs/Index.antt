@@ -44,6 +44,15 @@ inSka F = F % 8
 abbrev pub inL1 : ℕ → ℕ
 inL1 F = F / 8 % 16
 
+-- "P being 16 times the least power of two not below i - 1": pages of set number c + 1
+abbrev pub setPages : ℕ → ℕ
+setPages c = 16 * 2 ^ log2up c
+
+-- blocks of set number c + 1; none for c = 0: "Set 2 has no earlier set"
+abbrev pub setBlocks : ℕ → ℕ
+setBlocks zero = 0
+setBlocks (suc c) = 2 ^ log2up (suc c)
+
 module _ (u : ℕ) where
   -- rounds in the current set, of S/4; c rounds make set number c + 1
   abbrev pub inSet : ℕ → ℕ
@@ -53,22 +62,17 @@ module _ (u : ℕ) where
   abbrev pub inFull : ℕ → ℕ
   inFull F = F / 8 / 16 / sideBlocks u
 
-  -- "P being 16 times the least power of two not below i - 1": pages of set number c + 1
-  abbrev pub setPages : ℕ → ℕ
-  setPages c = 16 * 2 ^ log2up c
-
   -- "w = m/P"
   abbrev pub setWidth : ℕ → ℕ
   setWidth c = filterBits u / setPages c
 
-  -- blocks of set number c + 1; none for c = 0: "Set 2 has no earlier set"
-  abbrev pub setBlocks : ℕ → ℕ
-  setBlocks zero = 0
-  setBlocks (suc c) = 2 ^ log2up (suc c)
-
   -- filters of a full set: 128 of each round
   abbrev pub fullFilters : ℕ
   fullFilters = 128 * sideBlocks u
+
+  -- filter g of a set from block b on: "page p holds bits pw to pw+w-1"
+  abbrev pub setPlace : ℕ → ℕ → ℕ → ℕ → BitPlace
+  setPlace b w g x = record { inRam = false; row = b * block u + x / w * page u; at = g * w + x % w }
 
   module _ (ix : Index) where
     -- "An even i goes to side A, an odd one to side B": first block of set number c + 1
@@ -89,10 +93,6 @@ module _ (u : ℕ) where
     abbrev pub l1Place : ℕ → ℕ → BitPlace
     l1Place f x =
         record { inRam = false; row = ix .first * block u + ((4 * (x / sector u) + f / 8 / 4) * page u + f / 8 % 4 * sector u); at = f % 8 * sector u + x % sector u }
-
-    -- filter g of a set from block b on: "page p holds bits pw to pw+w-1"
-    abbrev pub setPlace : ℕ → ℕ → ℕ → ℕ → BitPlace
-    setPlace b w g x = record { inRam = false; row = b * block u + x / w * page u; at = g * w + x % w }
 
     -- filter f on flash, with z full sets and c rounds in the current one
     abbrev pub flashPlace : ℕ → ℕ → ℕ → ℕ → BitPlace

@@ -61,7 +61,7 @@ module _ (h : Family) (v : Volume) where
   g = layout.geometryOf (v .state)
 
   place-inside : badState (v .state) ≡ false → tooShort g (v .flash) (v .ram) ≡ false → (j : ℕ)
-      → recordPlace h g v j .at + 16 ≤ length (source (v .flash .main) (v .ram) (recordPlace h g v j))
+      → recordPlace g v j .at + 16 ≤ length (source (v .flash .main) (v .ram) (recordPlace g v j))
   unfolding badState tooShort
   place-inside bad short j =
       let state = or-eq-false-iff (not (layout.allowed S (v .state .raBlocks) (v .state .daBlocks))) _ .0 bad in
@@ -78,13 +78,13 @@ module _ (h : Family) (v : Volume) where
       (λ a. rw (a .0) (omega (arith, mul-le-mul-right 16 (mod-lt j {m = 4 * (S / 16)} (omega (arith, u-pos))), ram-fits)))
 
   after-inside : badState (v .state) ≡ false → tooShort g (v .flash) (v .ram) ≡ false → (opened : ℕ) (o : Option Stop) (p : Place) (b : List ℕ)
-      → lookupAfter h g v opened o .outcome ≡ hit p b → Inside (v .flash .main) (v .ram) p b
+      → lookupAfter g v opened o .outcome ≡ hit p b → Inside (v .flash .main) (v .ram) p b
   unfolding lookupAfter
   after-inside bad short opened none p b e = absurd (false≢true (ap isHit e))
   after-inside bad short opened (some corrupt) p b e = absurd (false≢true (ap isHit e))
   after-inside bad short opened (some (found j)) p b e =
-      let q : recordPlace h g v j ≡ p = ap (placeOf p) e in
-      let r : bytesAt (v .flash .main) (v .ram) (recordPlace h g v j) 16 ≡ b = ap (bytesOf b) e in
+      let q : recordPlace g v j ≡ p = ap (placeOf p) e in
+      let r : bytesAt (v .flash .main) (v .ram) (recordPlace g v j) 16 ≡ b = ap (bytesOf b) e in
       (sym r ∙ ap (λ (x : Place). bytesAt (v .flash .main) (v .ram) x 16) q, rw q at (place-inside bad short j))
 
   pub call-inside : (key : ℕ) (p : Place) (b : List ℕ) → call h v (lookup key) .outcome ≡ hit p b → Inside (v .flash .main) (v .ram) p b

@@ -38,13 +38,13 @@ num-back true = refl
 num-back false = refl
 
 module _ (h : Family) (g : Geometry) (v : Volume) (opened : ℕ) where
-  after-looked : (s : Option Stop) → lookedLeft v (looked (lookupAfter h g v opened s)) (partOf (lookupAfter h g v opened s .outcome)) ≡ seen (lookupAfter h g v opened s)
+  after-looked : (s : Option Stop) → lookedLeft v (looked (lookupAfter g v opened s)) (partOf (lookupAfter g v opened s .outcome)) ≡ seen (lookupAfter g v opened s)
   unfolding lookupAfter
   after-looked (some corrupt) = refl
   after-looked none = refl
   after-looked (some (found j)) = rw (num-back _)
 
-  after-found : (s : Option Stop) → foundLeft v (looked (lookupAfter h g v opened s)) ≡ seen (lookupAfter h g v opened s)
+  after-found : (s : Option Stop) → foundLeft v (looked (lookupAfter g v opened s)) ≡ seen (lookupAfter g v opened s)
   unfolding lookupAfter
   after-found (some corrupt) = refl
   after-found none = refl

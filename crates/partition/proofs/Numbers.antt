@@ -52,7 +52,7 @@ pub sector-le : (u c : ℕ) → Unit? u → c ≤ 4 * u → setWidth u c ≤ 16 
 sector-le u c U h =
     part-le (16 * u / setWidth u c) (setWidth u c) (16 * u) (sector-whole u (U .e) (U .is) c h) (omega (arith, unit-pos u (U .e) (U .is)))
 
-pub pages-le : (u c : ℕ) → Unit? u → c ≤ 4 * u → setPages u c ≤ 2048
+pub pages-le : (u c : ℕ) → Unit? u → c ≤ 4 * u → setPages c ≤ 2048
 pages-le u c U h = omega (arith, unit-le u U, blocks-fit u (U .e) (U .is) c h)
 
 -- the row that the code makes

@@ -33,18 +33,18 @@ module _ (u e : ℕ) (pow : u ≡ 2 ^ e) (ix : Index) (z c : ℕ) (hc : c < 4 * 
   spare-length main spare j h = ap (λ (C : Flash). length (C .spare)) h ∙ apply-spare-length u (programs u 1 s j f₀) (flashOf main₀ spare₀)
 
   -- the set's bytes by what the flash holds now
-  same-now : (main spare : List ℕ) (j : ℕ) → j < setPages u (c + 1) * 4 → flashOf main spare ≡ After j → tab (sector u) (setByte u ix main z c j) ≡ tab (sector u) (f₀ j)
+  same-now : (main spare : List ℕ) (j : ℕ) → j < setPages (c + 1) * 4 → flashOf main spare ≡ After j → tab (sector u) (setByte u ix main z c j) ≡ tab (sector u) (f₀ j)
   same-now main spare j h eq =
       tab-ext (sector u) (setByte u ix main z c j) (f₀ j) (λ y hy. set-byte-same u e pow ix z c hc main main₀ outside j y h hy)
     where
-      outside : (x : ℕ) → (x < setBlock u ix z c * (1024 * u)) ⊎ (setBlock u ix z c * (1024 * u) + setPages u (c + 1) * (64 * u) ≤ x) → getD main x 0 ≡ getD main₀ x 0
+      outside : (x : ℕ) → (x < setBlock u ix z c * (1024 * u)) ⊎ (setBlock u ix z c * (1024 * u) + setPages (c + 1) * (64 * u) ≤ x) → getD main x 0 ≡ getD main₀ x 0
       outside x o =
           let m = mul-le-mul-right (16 * u) h in
           let t = ap (λ (n : ℕ). n * (16 * u)) s-is in
           ap (λ (C : Flash). getD (C .main) x 0) eq
           ∙ range-out u 1 s j s (s + j) f₀ (flashOf main₀ spare₀) x (omega (arith, unit-pos u e pow)) (λ i l. (omega arith, omega arith)) (either o (λ a. inl (omega arith)) (λ a. inr (omega arith)))
 
-  pub after-more : (main spare main′ spare′ bytes : List ℕ) (j : ℕ) → j < setPages u (c + 1) * 4 → flashOf main spare ≡ After j
+  pub after-more : (main spare main′ spare′ bytes : List ℕ) (j : ℕ) → j < setPages (c + 1) * 4 → flashOf main spare ≡ After j
       → bytes ≡ tab (sector u) (setByte u ix main z c j) → flashOf main′ spare′ ≡ apply u (program (s + j) bytes) (flashOf main spare)
       → flashOf main′ spare′ ≡ After (j + 1)
   after-more main spare main′ spare′ bytes j h eq b p =
@@ -57,9 +57,9 @@ module _ (u e : ℕ) (pow : u ≡ 2 ^ e) (ix : Index) (z c : ℕ) (hc : c < 4 * 
       ∙ sym (programs-more u 1 s j f₀ (flashOf main₀ spare₀))
       ∙ ap After (sym (add-one j))
 
-  pub after-all : (main spare : List ℕ) (n : ℕ) → n ≡ setPages u (c + 1) * 4 → flashOf main spare ≡ After n
-      → flashOf main spare ≡ applyAll u (programs u 1 (setBlock u ix z c * 64) (setPages u (c + 1) * 4) f₀) (flashOf main₀ spare₀)
-  after-all main spare n a h = h ∙ ap After a ∙ ap (λ (m : ℕ). applyAll u (programs u 1 m (setPages u (c + 1) * 4) f₀) (flashOf main₀ spare₀)) s-is
+  pub after-all : (main spare : List ℕ) (n : ℕ) → n ≡ setPages (c + 1) * 4 → flashOf main spare ≡ After n
+      → flashOf main spare ≡ applyAll u (programs u 1 (setBlock u ix z c * 64) (setPages (c + 1) * 4) f₀) (flashOf main₀ spare₀)
+  after-all main spare n a h = h ∙ ap After a ∙ ap (λ (m : ℕ). applyAll u (programs u 1 m (setPages (c + 1) * 4) f₀) (flashOf main₀ spare₀)) s-is
 
 -- the next set's place lies in the index
 pub set-inside : (u e : ℕ) (pow : u ≡ 2 ^ e) (ix : Index) (z c len sectors : ℕ) → SetFits u ix z c len sectors
@@ -74,7 +74,7 @@ set-inside u e pow ix z c len sectors P =
 
 -- sector j of it in bytes and in sectors
 pub sector-inside : (u e : ℕ) (pow : u ≡ 2 ^ e) (ix : Index) (z c s j len sectors : ℕ) → s ≡ setBlock u ix z c * 64 → SetFits u ix z c len sectors
-    → j < setPages u (c + 1) * 4 → ((s + j) * (16 * u) + 16 * u ≤ len) × (s + j < sectors)
+    → j < setPages (c + 1) * 4 → ((s + j) * (16 * u) + 16 * u ≤ len) × (s + j < sectors)
 sector-inside u e pow ix z c s j len sectors s-is P hj =
     let i = set-inside u e pow ix z c len sectors P in
     let b = blocks-fit u e pow (c + 1) (omega (arith, P .rounds)) in

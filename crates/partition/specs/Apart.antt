@@ -18,7 +18,7 @@ use Rattle.partition.specs.Widths.{filters-fit}
 
 module _ (u : ℕ) (ix : Index) where
   -- filter g of the set before the next one
-  pub place-old : (z c g x : ℕ) → g < 128 * c → flashPlace u ix z c (z * fullFilters u + g) x ≡ setPlace u ix (sideBlock u ix c) (setWidth u c) g x
+  pub place-old : (z c g x : ℕ) → g < 128 * c → flashPlace u ix z c (z * fullFilters u + g) x ≡ setPlace u (sideBlock u ix c) (setWidth u c) g x
   place-old z c g x h =
       let s : z * fullFilters u + g - z * fullFilters u ≡ g = omega arith in
       rw (le-ltb (z * fullFilters u + g) (z * fullFilters u) (omega arith), lt-ltb (z * fullFilters u + g) (z * fullFilters u + 128 * c) (omega arith), s)
@@ -51,7 +51,7 @@ module _ (u e : ℕ) (pow : u ≡ 2 ^ e) (ix : Index) where
       let w : ℕ = setWidth u c in
       let E = euclid x (setWidth u c) (width-pos u e pow c (omega arith)) in
       let y-lt : (g * setWidth u c + x % setWidth u c) / 8 < 64 * u = omega (arith, mul-le-mul-right (setWidth u c) hg, filters-fit u e pow c (omega arith)) in
-      let p-lt : x / setWidth u c < setPages u c = div-lt x (setWidth u c) (setPages u c) (width-pos u e pow c (omega arith)) (omega (arith, set-whole u e pow c (omega arith))) in
+      let p-lt : x / setWidth u c < setPages c = div-lt x (setWidth u c) (setPages c) (width-pos u e pow c (omega arith)) (omega (arith, set-whole u e pow c (omega arith))) in
       omega (arith, mul-le-mul-right (64 * u) p-lt, mul-le-mul-right (1024 * u) (blocks-fit u e pow c (omega arith)))
 
   -- that of a bit of L1 in L1's
@@ -67,7 +67,7 @@ module _ (u e : ℕ) (pow : u ≡ 2 ^ e) (ix : Index) where
       omega (arith, mul-le-mul-right u i4, mul-le-mul-right u f4, mul-le-mul-right u s4, mul-le-mul-right u f8)
 
   module _ (z c : ℕ) (hc : c < 4 * u) (main main′ : List ℕ)
-      (same : (x : ℕ) → (x < setBlock u ix z c * block u) ⊎ (setBlock u ix z c * block u + setPages u (c + 1) * page u ≤ x) → getD main x 0 ≡ getD main′ x 0) where
+      (same : (x : ℕ) → (x < setBlock u ix z c * block u) ⊎ (setBlock u ix z c * block u + setPages (c + 1) * page u ≤ x) → getD main x 0 ≡ getD main′ x 0) where
     bit-same : (g x : ℕ) → g < 128 * (c + 1) → x < 64 * u
         → bitAt main [] (flashPlace u ix z c (z * fullFilters u + g) x) ≡ bitAt main′ [] (flashPlace u ix z c (z * fullFilters u + g) x)
     unfolding bitAt
@@ -88,11 +88,11 @@ module _ (u e : ℕ) (pow : u ≡ 2 ^ e) (ix : Index) where
         (ap (λ (v : ℕ). bit v ((f % 8 * (16 * u) + x % (16 * u)) % 8)) (same at (inl (omega (arith, mul-le-mul-right (1024 * u) (next-after u ix z c)))))))
 
     -- main areas that agree outside the next set's place give the same set
-    pub set-byte-same : (j y : ℕ) → j < setPages u (c + 1) * 4 → y < sector u → setByte u ix main z c j y ≡ setByte u ix main′ z c j y
+    pub set-byte-same : (j y : ℕ) → j < setPages (c + 1) * 4 → y < sector u → setByte u ix main z c j y ≡ setByte u ix main′ z c j y
     unfolding setByte
     set-byte-same j y hj hy =
         let w-pos = width-pos u e pow (c + 1) (omega arith) in
-        let p-lt : j / 4 < setPages u (c + 1) = omega arith in
+        let p-lt : j / 4 < setPages (c + 1) = omega arith in
         row-ext (λ g x. bitAt main [] (flashPlace u ix z c (z * fullFilters u + g) x)) (λ g x. bitAt main′ [] (flashPlace u ix z c (z * fullFilters u + g) x))
         (128 * (c + 1)) (setWidth u (c + 1)) (j / 4 * setWidth u (c + 1)) (j % 4 * sector u + y) w-pos
         (λ g r hg hr. bit-same g (j / 4 * setWidth u (c + 1) + r) hg (omega (arith, mul-le-mul-right (setWidth u (c + 1)) p-lt, set-whole u e pow (c + 1) (omega arith))))

@@ -27,7 +27,7 @@ fewer : (w v m P Q T p : ℕ) → 0 < w → m * w ≡ v → P * w ≡ T → Q * 
 fewer w v m P Q T p pw wh e f h =
     either (lt? p (Q * m)) (λ a. a .1) (λ a. absurd (omega (arith, mul-le-mul-right w (a .1), mul-le-mul-right w h, ap (λ (n : ℕ). Q * n) wh)))
 
-module _ (u e : ℕ) (pow : u ≡ 2 ^ e) (small : e < 6) (ix : Index) (c p len : ℕ) (hc : c < 4 * u) (hp : p < setPages u (c + 1))
+module _ (u e : ℕ) (pow : u ≡ 2 ^ e) (small : e < 6) (ix : Index) (c p len : ℕ) (hc : c < 4 * u) (hp : p < setPages (c + 1))
     (fits : fullBlock u ix 0 * block u ≤ len) where
   abbrev w : ℕ
   w = setWidth u (c + 1)
@@ -47,15 +47,15 @@ module _ (u e : ℕ) (pow : u ≡ 2 ^ e) (small : e < 6) (ix : Index) (c p len :
   sp : 0 < 16 * u
   sp = omega (arith, unit-pos u e pow)
 
-  old-page : p / m < setPages u c
+  old-page : p / m < setPages c
   old-page =
-      div-lt p m (setPages u c) (pages-pos w (setWidth u c) m (old-whole u e pow c hc) wp vp)
-      (fewer w (setWidth u c) m (setPages u (c + 1)) (setPages u c) (64 * u) p wp (old-whole u e pow c hc) (set-whole u e pow (c + 1) (omega arith)) (set-whole u e pow c (omega arith)) hp)
+      div-lt p m (setPages c) (pages-pos w (setWidth u c) m (old-whole u e pow c hc) wp vp)
+      (fewer w (setWidth u c) m (setPages (c + 1)) (setPages c) (64 * u) p wp (old-whole u e pow c hc) (set-whole u e pow (c + 1) (omega arith)) (set-whole u e pow c (omega arith)) hp)
 
   l1-group : p / K < 4
   l1-group =
       div-lt p K 4 (pages-pos w (16 * u) K (sector-whole u e pow (c + 1) (omega arith)) wp sp)
-      (fewer w (16 * u) K (setPages u (c + 1)) 4 (64 * u) p wp (sector-whole u e pow (c + 1) (omega arith)) (set-whole u e pow (c + 1) (omega arith)) (omega arith) hp)
+      (fewer w (16 * u) K (setPages (c + 1)) 4 (64 * u) p wp (sector-whole u e pow (c + 1) (omega arith)) (set-whole u e pow (c + 1) (omega arith)) (omega arith) hp)
 
   old-reach : (y : ℕ) → y < 16 * c * w → Reaches len (oldOf u ix c p) w y
   old-reach y h =

@@ -100,7 +100,7 @@ fn page_bytes(main: &[u8], r: Row, y: usize, out: &mut [u8])
 
 // Sector j of the set that c rounds and L1 make, with z full sets.
 pub fn set_sector(main: &[u8], unit: usize, ix: Index, z: usize, c: usize, j: usize, out: &mut [u8])
-    requires { ⌜ Unit? unit × (c < 4 * unit) × (z ≤ 1024) × (j < setPages unit (c + 1) * 4) × (fullBlock unit (indexOf ix) 0 * block unit ≤ length (now main)) × (ix .first ≤ 20000) × (length (now out) ≡ sector unit) ⌝ }
+    requires { ⌜ Unit? unit × (c < 4 * unit) × (z ≤ 1024) × (j < setPages (c + 1) * 4) × (fullBlock unit (indexOf ix) 0 * block unit ≤ length (now main)) × (ix .first ≤ 20000) × (length (now out) ≡ sector unit) ⌝ }
     ensures { λ _. ⌜ now (out .exit) ≡ tab (sector unit) (setByte unit (indexOf ix) (now (main .entry)) z c j) ⌝ }
 {
     let size = 16 * unit;
@@ -119,7 +119,7 @@ fn program_sectors(
     buf: &mut [u8],
 )
     requires { ⌜ SetFits unit (indexOf ix) z c (length (now main)) (length (now spare)) × (length (now buf) ≡ sector unit) ⌝ }
-    ensures { λ _. ⌜ flashOf (now (main .exit)) (now (spare .exit)) ≡ applyAll unit (programs unit 1 (setBlock unit (indexOf ix) z c * 64) (setPages unit (c + 1) * 4) (setByte unit (indexOf ix) (now (main .entry)) z c)) (flashOf (now (main .entry)) (now (spare .entry))) ⌝ }
+    ensures { λ _. ⌜ flashOf (now (main .exit)) (now (spare .exit)) ≡ applyAll unit (programs unit 1 (setBlock unit (indexOf ix) z c * 64) (setPages (c + 1) * 4) (setByte unit (indexOf ix) (now (main .entry)) z c)) (flashOf (now (main .entry)) (now (spare .entry))) ⌝ }
 {
     let b = sets::set_block(unit, ix, z, c);
     let first = b * 64;
@@ -136,7 +136,7 @@ fn program_sectors(
 // The set that c rounds and L1 make, with z full sets, is programmed.
 pub fn program_set(main: &mut [u8], spare: &mut [u8], unit: usize, ix: Index, z: usize, c: usize)
     requires { ⌜ SetFits unit (indexOf ix) z c (length (now main)) (length (now spare)) ⌝ }
-    ensures { λ _. ⌜ flashOf (now (main .exit)) (now (spare .exit)) ≡ applyAll unit (programs unit 1 (setBlock unit (indexOf ix) z c * 64) (setPages unit (c + 1) * 4) (setByte unit (indexOf ix) (now (main .entry)) z c)) (flashOf (now (main .entry)) (now (spare .entry))) ⌝ }
+    ensures { λ _. ⌜ flashOf (now (main .exit)) (now (spare .exit)) ≡ applyAll unit (programs unit 1 (setBlock unit (indexOf ix) z c * 64) (setPages (c + 1) * 4) (setByte unit (indexOf ix) (now (main .entry)) z c)) (flashOf (now (main .entry)) (now (spare .entry))) ⌝ }
 {
     let size = 16 * unit;
     let mut buf = [0u8; 512];

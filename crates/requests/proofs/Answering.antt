@@ -67,13 +67,13 @@ Looks (refused i) = i ≢ 0
 Looks accepted = ⊥
 
 module _ (h : Family) where
-  after-looks : (g : Geometry) (v : Volume) (opened : ℕ) (o : Option Stop) → Looks (lookupAfter h g v opened o .outcome)
+  after-looks : (g : Geometry) (v : Volume) (opened : ℕ) (o : Option Stop) → Looks (lookupAfter g v opened o .outcome)
   unfolding lookupAfter
   after-looks g v opened none = tt
   after-looks g v opened (some corrupt) = λ e. omega arith
   after-looks g v opened (some (found j)) = length-tab 16 _
 
-  after-keeps : (g : Geometry) (v : Volume) (opened : ℕ) (o : Option Stop) → lookupAfter h g v opened o .volume ≡ v
+  after-keeps : (g : Geometry) (v : Volume) (opened : ℕ) (o : Option Stop) → lookupAfter g v opened o .volume ≡ v
   unfolding lookupAfter
   after-keeps g v opened none = refl
   after-keeps g v opened (some corrupt) = refl

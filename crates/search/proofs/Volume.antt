@@ -35,14 +35,14 @@ abbrev pub perPage : Geometry → ℕ
 perPage g = layout.entriesPerPage (g .unit)
 
 abbrev pub deletedOf : Geometry → ℕ → ℕ → List ℕ → List ℕ → ℕ → Bool
-deletedOf g n d main ram = isDeleted fnvFamily (shape g) (volumeAt n d main ram)
+deletedOf g n d main ram = isDeleted (shape g) (volumeAt n d main ram)
 
 module _ (g : Geometry) (n d : ℕ) (main ram : List ℕ) (key : ℕ) where
   abbrev pub gateOf : ℕ → Bool
-  gateOf = maybeIn fnvFamily (shape g) (volumeAt n d main ram) (keyPositions fnvFamily (shape g) key)
+  gateOf = maybeIn (shape g) (volumeAt n d main ram) (keyPositions fnvFamily (shape g) key)
 
   abbrev pub tryOf : ℕ → Option Stop
-  tryOf = tryAt fnvFamily (shape g) (volumeAt n d main ram) key
+  tryOf = tryAt (shape g) (volumeAt n d main ram) key
 
   try-is : (j : ℕ) → tryOf j ≡ tryEntry n (deletedOf g n d main ram) key (itemWord (g .unit) (KA (shape g)) n main ram j 0) (itemWord (g .unit) (KA (shape g)) n main ram j 1)
   unfolding tryAt
@@ -83,7 +83,7 @@ module _ (g : Geometry) (n d : ℕ) (main ram : List ℕ) (key : ℕ) where
       rw e at (G .all-is (grp .start + i) (omega arith) (omega arith))
 
   -- deletions do not depend on the count of records
-  pub deleted-is : (j : ℕ) → isDeleted fnvFamily (shape g) (volumeAt 0 d main ram) j ≡ deletedOf g n d main ram j
+  pub deleted-is : (j : ℕ) → isDeleted (shape g) (volumeAt 0 d main ram) j ≡ deletedOf g n d main ram j
   unfolding isDeleted
   deleted-is j = refl
 

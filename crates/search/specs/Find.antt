@@ -36,7 +36,7 @@ search-at h g v key = refl
 -- the search of the full pages below a number
 abbrev pub pagesBelow : Geometry → ℕ → ℕ → List ℕ → List ℕ → ℕ → ℕ → find.Found
 pagesBelow g n d main ram key below =
-    find.searchPages (maybeIn fnvFamily (shape g) (at n d main ram) (keyPositions fnvFamily (shape g) key)) (tryAt fnvFamily (shape g) (at n d main ram) key) (layout.entriesPerPage (g .unit)) below
+    find.searchPages (maybeIn (shape g) (at n d main ram) (keyPositions fnvFamily (shape g) key)) (tryAt (shape g) (at n d main ram) key) (layout.entriesPerPage (g .unit)) below
 
 -- what is found in all by a search that ended so after k pages, if it ended nowhere with what the search of older pages finds
 abbrev pub onward : Option find.Stop → ℕ → find.Found → find.Found

@@ -47,7 +47,7 @@ fn number_at(s: &[u8], at: usize, k: usize) -> u32
 // Is record j among the d deletions?
 fn deleted(g: Geometry, main: &[u8], ram: &[u8], d: usize, j: u32) -> bool
     requires { ⌜ Ready g 0 d (now main) (now ram) ⌝ }
-    ensures { λ r. ⌜ r ≡ isDeleted fnvFamily (shape g) (at 0 d (now (main .entry)) (now (ram .entry))) j ⌝ }
+    ensures { λ r. ⌜ r ≡ isDeleted (shape g) (at 0 d (now (main .entry)) (now (ram .entry))) j ⌝ }
 {
     items::is_deleted(main, ram, g.unit, geometry::deletion_area(g), d, j)
 }
@@ -57,7 +57,7 @@ fn deleted(g: Geometry, main: &[u8], ram: &[u8], d: usize, j: u32) -> bool
 // Those of the page that is not full, newest first.
 fn in_ram(g: Geometry, main: &[u8], ram: &[u8], n: usize, d: usize, key: u32) -> Stop
     requires { ⌜ Ready g n d (now main) (now ram) ⌝ }
-    ensures { λ r. ⌜ stopOf r ≡ scan (tryAt fnvFamily (shape g) (at n d (now (main .entry)) (now (ram .entry))) key) (n / entriesPerPage (g .unit) * entriesPerPage (g .unit)) (n % entriesPerPage (g .unit)) ⌝ }
+    ensures { λ r. ⌜ stopOf r ≡ scan (tryAt (shape g) (at n d (now (main .entry)) (now (ram .entry))) key) (n / entriesPerPage (g .unit) * entriesPerPage (g .unit)) (n % entriesPerPage (g .unit)) ⌝ }
 {
     let page = g.ka_ram();
     let count = n % g.entries_per_page();

@@ -27,7 +27,7 @@ pub fn set_pages(c: usize) -> usize
 // Blocks of that set; before the first round there is none.
 pub fn set_blocks(unit: usize, c: usize) -> usize
     requires { ⌜ c ≤ 128 ⌝ }
-    ensures { λ r. ⌜ r ≡ setBlocks unit c ⌝ }
+    ensures { λ r. ⌜ r ≡ setBlocks c ⌝ }
 {
     if c == 0 {
         return 0;

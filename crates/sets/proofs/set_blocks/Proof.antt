@@ -8,7 +8,7 @@ use borrow.Author.Needs.{needs}
 use Rattle.sets.proofs.set_blocks.Statement.{statement}
 use Rattle.sets.proofs.set_blocks.Tie as tie
 
-blocks-of : (u c P : ℕ) → c ≢ 0 → P ≡ setPages u c → P / 16 ≡ setBlocks u c
+blocks-of : (u c P : ℕ) → c ≢ 0 → P ≡ setPages c → P / 16 ≡ setBlocks c
 blocks-of u zero P h e = absurd (h refl)
 blocks-of u (suc c) P h e = omega (arith, e)
 
