@@ -4,6 +4,7 @@ ghost use mathlib.Core.List.{[], _∷_, _++_};
 ghost use Prim.Native.Nat.{_+_, _≤_};
 ghost use lib.ListN.{length};
 ghost use Rattle.memory.specs.Lists.{write};
+ghost use Rattle.memory.specs.Lent.{before, after};
 ghost use Rattle.script.specs.Answers.{decimal, text};
 ghost use Rattle.answers.specs.Answered.{answered};
 
@@ -33,7 +34,7 @@ fn digits_of(n: u32) -> usize
 fn put_decimal(out: &mut [u8], at: usize, n: u32) -> usize
     requires { ⌜ at + 10 ≤ length (now out) ⌝ }
     ensures { λ r. ⌜ r ≡ at + length (decimal n) ⌝ }
-    ensures { λ _. ⌜ now (out .exit) ≡ write (now (out .entry)) at (decimal n) ⌝ }
+    ensures { λ _. ⌜ after out ≡ write (before out) at (decimal n) ⌝ }
 {
     let end = at + digits_of(n);
     let mut left = n;
@@ -51,7 +52,7 @@ fn put_decimal(out: &mut [u8], at: usize, n: u32) -> usize
 fn put_number(out: &mut [u8], at: usize, n: u32, mark: u8) -> usize
     requires { ⌜ at + 11 ≤ length (now out) ⌝ }
     ensures { λ r. ⌜ (r ≡ at + length (decimal n ++ (mark ∷ []))) × (r ≤ at + 11) ⌝ }
-    ensures { λ _. ⌜ now (out .exit) ≡ write (now (out .entry)) at (decimal n ++ (mark ∷ [])) ⌝ }
+    ensures { λ _. ⌜ after out ≡ write (before out) at (decimal n ++ (mark ∷ [])) ⌝ }
 {
     let mark_at = put_decimal(out, at, n);
     out[mark_at] = mark;
@@ -61,8 +62,8 @@ fn put_number(out: &mut [u8], at: usize, n: u32, mark: u8) -> usize
 // Writes a word and a number as a line.
 fn put_one(out: &mut [u8], word: &[u8], n: u32) -> usize
     requires { ⌜ length (now word) + 11 ≤ length (now out) ⌝ }
-    ensures { λ r. ⌜ (r ≡ length (now (word .entry) ++ (decimal n ++ (10 ∷ [])))) × (r ≤ length (now (word .entry)) + 11) ⌝ }
-    ensures { λ _. ⌜ now (out .exit) ≡ write (now (out .entry)) 0 (now (word .entry) ++ (decimal n ++ (10 ∷ []))) ⌝ }
+    ensures { λ r. ⌜ (r ≡ length (before word ++ (decimal n ++ (10 ∷ [])))) × (r ≤ length (before word) + 11) ⌝ }
+    ensures { λ _. ⌜ after out ≡ write (before out) 0 (before word ++ (decimal n ++ (10 ∷ []))) ⌝ }
 {
     words::copy_at(out, 0, word);
     put_number(out, word.len(), n, b'\n')
@@ -71,8 +72,8 @@ fn put_one(out: &mut [u8], word: &[u8], n: u32) -> usize
 // Writes a word and two numbers as a line.
 fn put_two(out: &mut [u8], word: &[u8], n: u32, m: u32) -> usize
     requires { ⌜ length (now word) + 22 ≤ length (now out) ⌝ }
-    ensures { λ r. ⌜ (r ≡ length (now (word .entry) ++ (decimal n ++ (32 ∷ (decimal m ++ (10 ∷ [])))))) × (r ≤ length (now (word .entry)) + 22) ⌝ }
-    ensures { λ _. ⌜ now (out .exit) ≡ write (now (out .entry)) 0 (now (word .entry) ++ (decimal n ++ (32 ∷ (decimal m ++ (10 ∷ []))))) ⌝ }
+    ensures { λ r. ⌜ (r ≡ length (before word ++ (decimal n ++ (32 ∷ (decimal m ++ (10 ∷ [])))))) × (r ≤ length (before word) + 22) ⌝ }
+    ensures { λ _. ⌜ after out ≡ write (before out) 0 (before word ++ (decimal n ++ (32 ∷ (decimal m ++ (10 ∷ []))))) ⌝ }
 {
     words::copy_at(out, 0, word);
     let at = put_number(out, word.len(), n, b' ');
@@ -84,7 +85,7 @@ pub fn put_answer(out: &mut [u8], a: Answer) -> usize
     requires { ⌜ 32 ≤ length (now out) ⌝ }
     ensures { λ r. ⌜ r ≡ length (text (answered a)) ⌝ }
     ensures { λ r. ⌜ r ≤ 32 ⌝ }
-    ensures { λ _. ⌜ now (out .exit) ≡ write (now (out .entry)) 0 (text (answered a)) ⌝ }
+    ensures { λ _. ⌜ after out ≡ write (before out) 0 (text (answered a)) ⌝ }
 {
     match a {
         Answer::Ok(n, d) => put_two(out, b"ok ", n, d),

@@ -2,6 +2,7 @@
 ghost use mathlib.Core.Path.{_≡_};
 ghost use Prim.Native.Nat.{_≤_};
 ghost use lib.ListN.{length};
+ghost use Rattle.memory.specs.Lent.{before, after};
 ghost use Rattle.layout.specs.Geometry.{ramSize, workRam};
 ghost use Rattle.layout.specs.Items.{zeroPage};
 ghost use Rattle.geometry.specs.Shape.{shape, Sound};
@@ -12,8 +13,17 @@ use state::State;
 // An accepted change: the work page is zeroed and the counts are these.
 pub fn finish(ram: &mut [u8], g: Geometry, s: State, n: u32, d: u32) -> Change
     requires { ⌜ Sound g × (ramSize (shape g) ≤ length (now ram)) ⌝ }
-    ensures { λ r. ⌜ r ≡ record { refusal = 0; state = record { «sector_size» = s .«sector_size»; «ra_blocks» = s .«ra_blocks»; «da_blocks» = s .«da_blocks»; records = n; deletions = d } } ⌝ }
-    ensures { λ _. ⌜ now (ram .exit) ≡ zeroPage (g .unit) (workRam (g .unit)) (now (ram .entry)) ⌝ }
+    ensures { λ r. ⌜ r ≡ record {
+      refusal = 0;
+      state = record {
+        «sector_size» = s .«sector_size»;
+        «ra_blocks» = s .«ra_blocks»;
+        «da_blocks» = s .«da_blocks»;
+        records = n;
+        deletions = d;
+      };
+    } ⌝ }
+    ensures { λ _. ⌜ after ram ≡ zeroPage (g .unit) (workRam (g .unit)) (before ram) ⌝ }
 {
     words::fill_at(ram, g.work_ram(), g.page(), 0);
     let next = State {

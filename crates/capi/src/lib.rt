@@ -3,7 +3,7 @@
 ghost use mathlib.Core.Path.{_≡_};
 ghost use Rattle.layout.specs.Hash.{fnvFamily};
 ghost use Rattle.layout.specs.Calls.{format, insert, update, delete, lookup, call};
-ghost use Rattle.state.specs.Contract.{volume, seen, changed};
+ghost use Rattle.state.specs.Contract.{seen, given, leftBy};
 ghost use Rattle.lookup.specs.Looked.{looked};
 use lookup::LookupResult;
 use state::Change;
@@ -19,7 +19,7 @@ pub extern "C" fn level_store_format(
     spare: &mut [u8],
     ram: &mut [u8],
 ) -> Change
-    ensures { λ r. ⌜ changed r (now («data» .exit)) (now (spare .exit)) (now (ram .exit)) ≡ seen (format (volume old (now («data» .entry)) (now (spare .entry)) (now (ram .entry))) «sector_size» «ra_blocks» «da_blocks») ⌝ }
+    ensures { λ r. ⌜ leftBy r «data» spare ram ≡ seen (format (given old «data» spare ram) «sector_size» «ra_blocks» «da_blocks») ⌝ }
 {
     format::format(old, sector_size, ra_blocks, da_blocks, data, spare, ram)
 }
@@ -35,7 +35,7 @@ pub extern "C" fn level_store_insert(
     spare: &mut [u8],
     ram: &mut [u8],
 ) -> Change
-    ensures { λ r. ⌜ changed r (now («data» .exit)) (now (spare .exit)) (now (ram .exit)) ≡ seen (call fnvFamily (volume state (now («data» .entry)) (now (spare .entry)) (now (ram .entry))) (insert key moves goal word)) ⌝ }
+    ensures { λ r. ⌜ leftBy r «data» spare ram ≡ seen (call fnvFamily (given state «data» spare ram) (insert key moves goal word)) ⌝ }
 {
     insert::insert(state, key, moves, goal, word, data, spare, ram)
 }
@@ -51,7 +51,7 @@ pub extern "C" fn level_store_update(
     spare: &mut [u8],
     ram: &mut [u8],
 ) -> Change
-    ensures { λ r. ⌜ changed r (now («data» .exit)) (now (spare .exit)) (now (ram .exit)) ≡ seen (call fnvFamily (volume state (now («data» .entry)) (now (spare .entry)) (now (ram .entry))) (update key moves goal word)) ⌝ }
+    ensures { λ r. ⌜ leftBy r «data» spare ram ≡ seen (call fnvFamily (given state «data» spare ram) (update key moves goal word)) ⌝ }
 {
     update::update(state, key, moves, goal, word, data, spare, ram)
 }
@@ -64,7 +64,7 @@ pub extern "C" fn level_store_delete(
     spare: &mut [u8],
     ram: &mut [u8],
 ) -> Change
-    ensures { λ r. ⌜ changed r (now («data» .exit)) (now (spare .exit)) (now (ram .exit)) ≡ seen (call fnvFamily (volume state (now («data» .entry)) (now (spare .entry)) (now (ram .entry))) (delete key)) ⌝ }
+    ensures { λ r. ⌜ leftBy r «data» spare ram ≡ seen (call fnvFamily (given state «data» spare ram) (delete key)) ⌝ }
 {
     delete::delete(state, key, data, spare, ram)
 }
@@ -77,7 +77,7 @@ pub extern "C" fn level_store_lookup(
     spare: &[u8],
     ram: &[u8],
 ) -> LookupResult
-    ensures { λ r. ⌜ r ≡ looked (call fnvFamily (volume state (now («data» .entry)) (now (spare .entry)) (now (ram .entry))) (lookup key)) ⌝ }
+    ensures { λ r. ⌜ r ≡ looked (call fnvFamily (given state «data» spare ram) (lookup key)) ⌝ }
 {
     lookup::find(state, key, data, spare, ram)
 }

@@ -4,8 +4,10 @@ use mathlib.Core.Bool.{Bool, true, cond}
 use mathlib.Core.List.{List, [], _∷_}
 use Prim.Native.Nat.{ℕ, _≤_}
 use lib.ListN.{length, take}
+use Rattle.memory.specs.Lent.{Lent, after}
 use Rattle.layout.specs.Flash.{flashOf}
 use Rattle.layout.specs.Calls.{Volume}
+use Rattle.state.specs.declared.State.{State}
 use Rattle.state.specs.Contract.{volume}
 use Rattle.stream.specs.Kept.{Kept, keptFeed, keptClose}
 use Rattle.stream.specs.Stream.{into}
@@ -23,6 +25,9 @@ pub record Left : Type 0 where
 abbrev pub turned : Turn → List ℕ → List ℕ → List ℕ → List ℕ → List ℕ → Left
 turned r line main spare ram out = record { volume = volume (r .progress .state) main spare ram; buffer = line; fill = r .progress .fill; out = out }
 
+abbrev pub turnedAfter : Turn → Lent → Lent → Lent → Lent → Lent → Left
+turnedAfter r line main spare ram out = turned r (after line) (after main) (after spare) (after ram) (after out)
+
 -- what is kept after the chunk's bytes; where a read or a write failed, an unfinished line is dropped
 abbrev pub fed : Bool → Kept → Left
 fed more k = record { volume = k .volume; buffer = k .buffer; fill = cond more (k .fill) 0; out = k .out }
@@ -34,8 +39,11 @@ Took r k chunk l = (n : ℕ) × (n ≤ length chunk) × (r .more ≡ true → r 
 -- ---- a run
 
 -- "Before any format the state is all zero"
+abbrev pub noState : State
+noState = record { «sector_size» = 0; «ra_blocks» = 0; «da_blocks» = 0; records = 0; deletions = 0 }
+
 abbrev pub blank : List ℕ → List ℕ → List ℕ → Volume
-blank main spare ram = record { state = record { sectorSize = 0; raBlocks = 0; daBlocks = 0; records = 0; deletions = 0 }; flash = flashOf main spare; ram = ram }
+blank main spare ram = volume noState main spare ram
 
 -- before the first chunk
 abbrev pub first : List ℕ → List ℕ → List ℕ → List ℕ → List ℕ → Kept

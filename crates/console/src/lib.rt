@@ -5,11 +5,12 @@ ghost use mathlib.Core.Bool.{true, false, cond};
 ghost use mathlib.Core.List.{List};
 ghost use Prim.Native.Nat.{ℕ, _*_, _-_, _≤_, _<_};
 ghost use lib.ListN.{length, take};
-ghost use Rattle.layout.specs.Flash.{flashOf};
+ghost use Rattle.memory.specs.Lent.{before, after};
+ghost use Rattle.laws.specs.LentFlash.{flashAfter};
 ghost use Rattle.stream.specs.Kept.{keptFeed, keptClose};
-ghost use Rattle.stream.specs.Contract.{kept};
+ghost use Rattle.stream.specs.Contract.{keptBefore};
 ghost use Rattle.stream.specs.Stream.{leaves};
-ghost use Rattle.console.specs.Turns.{turned, fed, Took, blank, first, turns, ends, Short, Leaves};
+ghost use Rattle.console.specs.Turns.{turnedAfter, fed, Took, noState, blank, first, turns, ends, Short, Leaves};
 use libc::STDERR_FILENO;
 use libc::STDIN_FILENO;
 use libc::STDOUT_FILENO;
@@ -25,7 +26,7 @@ struct Turn {
 
 // "Before any format the state is all zero."
 fn begin() -> Progress
-    ensures { λ r. ⌜ r ≡ record { state = record { «sector_size» = 0; «ra_blocks» = 0; «da_blocks» = 0; records = 0; deletions = 0 }; fill = 0; printed = 0 } ⌝ }
+    ensures { λ r. ⌜ r ≡ record { state = noState; fill = 0; printed = 0 } ⌝ }
     ensures { λ r. ⌜ (r .fill ≡ 0) × (r .printed ≡ 0) ⌝ }
 {
     let state = State {
@@ -56,7 +57,8 @@ fn turns_left(turns: u64, more: bool) -> u64
 
 // Between two chunks: the state and the bytes of an unfinished line; nothing is left to be written.
 fn between(state: State, fill: usize, more: bool) -> Turn
-    ensures { λ r. ⌜ (r .more ≡ more) × (r .progress .state ≡ state) × (r .progress .fill ≡ fill) × (r .progress .printed ≡ 0) × (r .whole ≡ true) ⌝ }
+    ensures { λ r. ⌜ (r .more ≡ more) × (r .progress .state ≡ state) × (r .progress .fill ≡ fill) × (r .progress .printed ≡ 0)
+        × (r .whole ≡ true) ⌝ }
 {
     let progress = Progress {
         state,
@@ -72,7 +74,8 @@ fn between(state: State, fill: usize, more: bool) -> Turn
 
 // After a byte could not be read or written: the reason is told, and an unfinished line is not answered.
 fn fail(state: State, reason: &[u8]) -> Turn
-    ensures { λ r. ⌜ (r .more ≡ false) × (r .progress .state ≡ state) × (r .progress .fill ≡ 0) × (r .progress .printed ≡ 0) × (r .whole ≡ false) ⌝ }
+    ensures { λ r. ⌜ (r .more ≡ false) × (r .progress .state ≡ state) × (r .progress .fill ≡ 0) × (r .progress .printed ≡ 0)
+        × (r .whole ≡ false) ⌝ }
 {
     io::write_all(STDERR_FILENO, reason);
     let progress = Progress {
@@ -90,7 +93,8 @@ fn fail(state: State, reason: &[u8]) -> Turn
 // The answers of a chunk are written.
 fn tell(q: Progress, out: &[u8]) -> Turn
     requires { ⌜ q .printed ≤ length (now out) ⌝ }
-    ensures { λ r. ⌜ (r .progress .state ≡ q .state) × (r .progress .fill ≡ cond (r .more) (q .fill) 0) × (r .progress .printed ≡ 0) × (r .whole ≡ r .more) ⌝ }
+    ensures { λ r. ⌜ (r .progress .state ≡ q .state) × (r .progress .fill ≡ cond (r .more) (q .fill) 0) × (r .progress .printed ≡ 0)
+        × (r .whole ≡ r .more) ⌝ }
 {
     let printed = q.printed;
     let state = q.state;
@@ -111,9 +115,11 @@ fn answer_chunk(
     ram: &mut [u8],
     out: &mut [u8],
 ) -> Turn
-    requires { ⌜ (p .fill ≤ length (now line)) × (p .printed ≡ 0) × (n ≤ length (now chunk)) × (length (now chunk) * 32 ≤ length (now out)) ⌝ }
-    ensures { λ r. ⌜ (r .progress .fill ≤ length (now (line .entry))) × (r .progress .printed ≡ 0) ⌝ }
-    ensures { λ r. ⌜ turned r (now (line .exit)) (now (main .exit)) (now (spare .exit)) (now (ram .exit)) (now (out .exit)) ≡ fed (r .more) (keptFeed (kept p (now (line .entry)) (now (main .entry)) (now (spare .entry)) (now (ram .entry)) (now (out .entry))) (take n (now (chunk .entry)))) ⌝ }
+    requires { ⌜ (p .fill ≤ length (now line)) × (p .printed ≡ 0) × (n ≤ length (now chunk))
+        × (length (now chunk) * 32 ≤ length (now out)) ⌝ }
+    ensures { λ r. ⌜ (r .progress .fill ≤ length (before line)) × (r .progress .printed ≡ 0) ⌝ }
+    ensures { λ r. ⌜ turnedAfter r line main spare ram out
+        ≡ fed (r .more) (keptFeed (keptBefore p line main spare ram out) (take n (before chunk))) ⌝ }
     ensures { λ r. ⌜ r .whole ≡ r .more ⌝ }
 {
     let q = stream::feed(p, &chunk[0..n], line, main, spare, ram, out);
@@ -131,8 +137,8 @@ fn take_turn(
     out: &mut [u8],
 ) -> Turn
     requires { ⌜ (p .fill ≤ length (now line)) × (p .printed ≡ 0) × (length (now chunk) * 32 ≤ length (now out)) ⌝ }
-    ensures { λ r. ⌜ (r .progress .fill ≤ length (now (line .entry))) × (r .progress .printed ≡ 0) ⌝ }
-    ensures { λ r. ⌜ Took r (kept p (now (line .entry)) (now (main .entry)) (now (spare .entry)) (now (ram .entry)) (now (out .entry))) (now (chunk .exit)) (turned r (now (line .exit)) (now (main .exit)) (now (spare .exit)) (now (ram .exit)) (now (out .exit))) ⌝ }
+    ensures { λ r. ⌜ (r .progress .fill ≤ length (before line)) × (r .progress .printed ≡ 0) ⌝ }
+    ensures { λ r. ⌜ Took r (keptBefore p line main spare ram out) (after chunk) (turnedAfter r line main spare ram out) ⌝ }
 {
     let got = libc::read(STDIN_FILENO, chunk);
     let state = p.state;
@@ -156,7 +162,9 @@ fn finish(
     out: &mut [u8],
 )
     requires { ⌜ (p .fill ≤ length (now line)) × (p .printed ≡ 0) × (32 ≤ length (now out)) ⌝ }
-    ensures { λ _. ⌜ (flashOf (now (main .exit)) (now (spare .exit)) ≡ keptClose (kept p (now (line .entry)) (now (main .entry)) (now (spare .entry)) (now (ram .entry)) (now (out .entry))) .volume .flash) × (now (ram .exit) ≡ keptClose (kept p (now (line .entry)) (now (main .entry)) (now (spare .entry)) (now (ram .entry)) (now (out .entry))) .volume .ram) × (now (out .exit) ≡ keptClose (kept p (now (line .entry)) (now (main .entry)) (now (spare .entry)) (now (ram .entry)) (now (out .entry))) .out) ⌝ }
+    ensures { λ _. ⌜ (flashAfter main spare ≡ keptClose (keptBefore p line main spare ram out) .volume .flash)
+        × (after ram ≡ keptClose (keptBefore p line main spare ram out) .volume .ram)
+        × (after out ≡ keptClose (keptBefore p line main spare ram out) .out) ⌝ }
 {
     let q = stream::close(p, line, main, spare, ram, out);
     tell(q, out);
@@ -173,8 +181,12 @@ pub fn run(
     out: &mut [u8],
 ) -> bool
     requires { ⌜ (length (now chunk) * 32 ≤ length (now out)) × (32 ≤ length (now out)) ⌝ }
-    ensures { λ r. ⌜ ((chunks : List (List ℕ)) × Short (length (now (chunk .entry))) chunks × Leaves (ends r (turns (first (now (line .entry)) (now (main .entry)) (now (spare .entry)) (now (ram .entry)) (now (out .entry))) chunks)) (now (line .exit)) (now (main .exit)) (now (spare .exit)) (now (ram .exit)) (now (out .exit))) ⌝ }
-    ensures { λ r. ⌜ (length (now (line .entry)) ≡ 64 → ((input : List ℕ) × (flashOf (now (main .exit)) (now (spare .exit)) ≡ leaves r (blank (now (main .entry)) (now (spare .entry)) (now (ram .entry))) input .flash) × (now (ram .exit) ≡ leaves r (blank (now (main .entry)) (now (spare .entry)) (now (ram .entry))) input .ram))) ⌝ }
+    ensures { λ r. ⌜ ((chunks : List (List ℕ)) × Short (length (before chunk)) chunks
+        × Leaves (ends r (turns (first (before line) (before main) (before spare) (before ram) (before out)) chunks))
+        (after line) (after main) (after spare) (after ram) (after out)) ⌝ }
+    ensures { λ r. ⌜ (length (before line) ≡ 64 → ((input : List ℕ)
+        × (flashAfter main spare ≡ leaves r (blank (before main) (before spare) (before ram)) input .flash)
+        × (after ram ≡ leaves r (blank (before main) (before spare) (before ram)) input .ram))) ⌝ }
 {
     let mut p = begin();
     let mut turns = u64::MAX;

@@ -5,7 +5,7 @@ ghost use Rattle.layout.specs.Hash.{fnvFamily};
 ghost use Rattle.layout.specs.Search.{found};
 ghost use Rattle.layout.specs.Calls.{delete, call, answer, deleteAfter};
 ghost use Rattle.geometry.specs.Shape.{shape};
-ghost use Rattle.state.specs.Contract.{volume, seen, changed};
+ghost use Rattle.state.specs.Contract.{seen, given, leftBy};
 ghost use Rattle.state.specs.Judge.{Fits};
 use geometry::Geometry;
 use search::Stop;
@@ -23,7 +23,7 @@ fn delete_found(
     ram: &mut [u8],
 ) -> Change
     requires { ⌜ Fits s (now main) (now spare) (now ram) g ⌝ }
-    ensures { λ r. ⌜ changed r (now (main .exit)) (now (spare .exit)) (now (ram .exit)) ≡ seen (deleteAfter (shape g) (volume s (now (main .entry)) (now (spare .entry)) (now (ram .entry))) (some (found j))) ⌝ }
+    ensures { λ r. ⌜ leftBy r main spare ram ≡ seen (deleteAfter (shape g) (given s main spare ram) (some (found j))) ⌝ }
 {
     let d = s.deletions as usize;
     if g.deletion_capacity() <= d { // 6 goes before 7
@@ -45,7 +45,7 @@ fn delete_in(
     ram: &mut [u8],
 ) -> Change
     requires { ⌜ Fits s (now main) (now spare) (now ram) g ⌝ }
-    ensures { λ r. ⌜ changed r (now (main .exit)) (now (spare .exit)) (now (ram .exit)) ≡ seen (answer fnvFamily (shape g) (volume s (now (main .entry)) (now (spare .entry)) (now (ram .entry))) (delete key)) ⌝ }
+    ensures { λ r. ⌜ leftBy r main spare ram ≡ seen (answer fnvFamily (shape g) (given s main spare ram) (delete key)) ⌝ }
 {
     let f = search::search(g, main, ram, s.records as usize, s.deletions as usize, key);
     let stop = f.stop;
@@ -64,7 +64,7 @@ fn delete_in(
 
 // Takes a level out.
 pub fn delete(s: State, key: u32, main: &mut [u8], spare: &mut [u8], ram: &mut [u8]) -> Change
-    ensures { λ r. ⌜ changed r (now (main .exit)) (now (spare .exit)) (now (ram .exit)) ≡ seen (call fnvFamily (volume s (now (main .entry)) (now (spare .entry)) (now (ram .entry))) (delete key)) ⌝ }
+    ensures { λ r. ⌜ leftBy r main spare ram ≡ seen (call fnvFamily (given s main spare ram) (delete key)) ⌝ }
 {
     match state::judge(s, main, spare, ram) {
         Judged::Refused(i) => {

@@ -4,6 +4,7 @@ ghost use mathlib.Core.Logic.{_⊎_};
 ghost use Prim.Native.Nat.{ℕ, _+_, _*_, _^_, _<_, _≤_};
 ghost use lib.ListN.{length};
 ghost use Rattle.memory.specs.Lists.{tab};
+ghost use Rattle.memory.specs.Lent.{before, after};
 ghost use Rattle.fields.specs.Sources.{fieldByte, runByte, Aligned, Reaches, Run, Runs};
 ghost use Rattle.fields.specs.Halves.{Narrow, Half};
 
@@ -18,7 +19,7 @@ pub struct Source {
 
 fn copy_run(bytes: &[u8], s: Source, w: usize, y: usize, out: &mut [u8])
     requires { ⌜ Aligned s w × (s .step ≡ w) × (0 < length (now out)) × Run (length (now bytes)) s w y (length (now out)) ⌝ }
-    ensures { λ _. ⌜ now (out .exit) ≡ tab (length (now (out .entry))) (λ (i : ℕ). fieldByte (now (bytes .entry)) s w (y + i)) ⌝ }
+    ensures { λ _. ⌜ after out ≡ tab (length (before out)) (λ (i : ℕ). fieldByte (before bytes) s w (y + i)) ⌝ }
 {
     let a = s.at + y;
     let b = a + out.len();
@@ -41,7 +42,7 @@ fn lesser(a: usize, b: usize) -> usize
 // their byte y on. The first run may be begun, and the last one be left, in its middle.
 fn copy_runs(bytes: &[u8], at: usize, stride: usize, n: usize, y: usize, out: &mut [u8])
     requires { ⌜ (0 < n) × (stride < 2 ^ 61) × (0 < length (now out)) × Runs (length (now bytes)) at stride n y (length (now out)) ⌝ }
-    ensures { λ _. ⌜ now (out .exit) ≡ tab (length (now (out .entry))) (λ (i : ℕ). runByte (now (bytes .entry)) at stride n (y + i)) ⌝ }
+    ensures { λ _. ⌜ after out ≡ tab (length (before out)) (λ (i : ℕ). runByte (before bytes) at stride n (y + i)) ⌝ }
 {
     let mut a = at + y / n * stride;
     let mut k = y % n;
@@ -60,7 +61,7 @@ fn copy_runs(bytes: &[u8], at: usize, stride: usize, n: usize, y: usize, out: &m
 
 fn wide_run(bytes: &[u8], s: Source, w: usize, y: usize, out: &mut [u8])
     requires { ⌜ Aligned s w × (8 ≤ w) × (0 < length (now out)) × Run (length (now bytes)) s w y (length (now out)) ⌝ }
-    ensures { λ _. ⌜ now (out .exit) ≡ tab (length (now (out .entry))) (λ (i : ℕ). fieldByte (now (bytes .entry)) s w (y + i)) ⌝ }
+    ensures { λ _. ⌜ after out ≡ tab (length (before out)) (λ (i : ℕ). fieldByte (before bytes) s w (y + i)) ⌝ }
 {
     let at = s.at + s.low / 8;
     copy_runs(bytes, at, s.step / 8, w / 8, y, out);
@@ -87,7 +88,7 @@ fn even_fields(x: u8, w: usize) -> u8
 
 fn halved_byte(bytes: &[u8], s: Source, w: usize, y: usize) -> u8
     requires { ⌜ Aligned s w × Reaches (length (now bytes)) s w y × (w < 8) × (s .step ≡ 2 * w) ⌝ }
-    ensures { λ r. ⌜ r ≡ fieldByte (now (bytes .entry)) s w y ⌝ }
+    ensures { λ r. ⌜ r ≡ fieldByte (before bytes) s w y ⌝ }
 {
     let a = s.at + 2 * y;
     let low = s.low;
@@ -99,7 +100,7 @@ fn halved_byte(bytes: &[u8], s: Source, w: usize, y: usize) -> u8
 // Fields of one bit. The width is a constant in each of these loops, so that no turn tests it.
 fn halve_bits(bytes: &[u8], s: Source, y: usize, out: &mut [u8])
     requires { ⌜ Aligned s 1 × (s .step ≡ 2) × Run (length (now bytes)) s 1 y (length (now out)) ⌝ }
-    ensures { λ _. ⌜ now (out .exit) ≡ tab (length (now (out .entry))) (λ (i : ℕ). fieldByte (now (bytes .entry)) s 1 (y + i)) ⌝ }
+    ensures { λ _. ⌜ after out ≡ tab (length (before out)) (λ (i : ℕ). fieldByte (before bytes) s 1 (y + i)) ⌝ }
 {
     let mut i = 0;
     while i < out.len() {
@@ -111,7 +112,7 @@ fn halve_bits(bytes: &[u8], s: Source, y: usize, out: &mut [u8])
 // Fields of two bits.
 fn halve_pairs(bytes: &[u8], s: Source, y: usize, out: &mut [u8])
     requires { ⌜ Aligned s 2 × (s .step ≡ 4) × Run (length (now bytes)) s 2 y (length (now out)) ⌝ }
-    ensures { λ _. ⌜ now (out .exit) ≡ tab (length (now (out .entry))) (λ (i : ℕ). fieldByte (now (bytes .entry)) s 2 (y + i)) ⌝ }
+    ensures { λ _. ⌜ after out ≡ tab (length (before out)) (λ (i : ℕ). fieldByte (before bytes) s 2 (y + i)) ⌝ }
 {
     let mut i = 0;
     while i < out.len() {
@@ -123,7 +124,7 @@ fn halve_pairs(bytes: &[u8], s: Source, y: usize, out: &mut [u8])
 // Fields of four bits.
 fn halve_nibbles(bytes: &[u8], s: Source, y: usize, out: &mut [u8])
     requires { ⌜ Aligned s 4 × (s .step ≡ 8) × Run (length (now bytes)) s 4 y (length (now out)) ⌝ }
-    ensures { λ _. ⌜ now (out .exit) ≡ tab (length (now (out .entry))) (λ (i : ℕ). fieldByte (now (bytes .entry)) s 4 (y + i)) ⌝ }
+    ensures { λ _. ⌜ after out ≡ tab (length (before out)) (λ (i : ℕ). fieldByte (before bytes) s 4 (y + i)) ⌝ }
 {
     let mut i = 0;
     while i < out.len() {
@@ -134,7 +135,7 @@ fn halve_nibbles(bytes: &[u8], s: Source, y: usize, out: &mut [u8])
 
 fn halve_run(bytes: &[u8], s: Source, w: usize, y: usize, out: &mut [u8])
     requires { ⌜ Aligned s w × (w < 8) × (s .step ≡ 2 * w) × Run (length (now bytes)) s w y (length (now out)) ⌝ }
-    ensures { λ _. ⌜ now (out .exit) ≡ tab (length (now (out .entry))) (λ (i : ℕ). fieldByte (now (bytes .entry)) s w (y + i)) ⌝ }
+    ensures { λ _. ⌜ after out ≡ tab (length (before out)) (λ (i : ℕ). fieldByte (before bytes) s w (y + i)) ⌝ }
 {
     if w == 1 {
         halve_bits(bytes, s, y, out);
@@ -158,7 +159,7 @@ fn wide(x: u8) -> u32
 // Byte y, its last field first.
 fn narrow_byte(bytes: &[u8], s: Source, w: usize, y: usize) -> u8
     requires { ⌜ Aligned s w × Reaches (length (now bytes)) s w y × (w < 8) ⌝ }
-    ensures { λ r. ⌜ r ≡ fieldByte (now (bytes .entry)) s w y ⌝ }
+    ensures { λ r. ⌜ r ≡ fieldByte (before bytes) s w y ⌝ }
 {
     let at = s.at;
     let step = s.step;
@@ -179,7 +180,7 @@ fn narrow_byte(bytes: &[u8], s: Source, w: usize, y: usize) -> u8
 
 fn narrow_run(bytes: &[u8], s: Source, w: usize, y: usize, out: &mut [u8])
     requires { ⌜ Aligned s w × (w < 8) × Run (length (now bytes)) s w y (length (now out)) ⌝ }
-    ensures { λ _. ⌜ now (out .exit) ≡ tab (length (now (out .entry))) (λ (i : ℕ). fieldByte (now (bytes .entry)) s w (y + i)) ⌝ }
+    ensures { λ _. ⌜ after out ≡ tab (length (before out)) (λ (i : ℕ). fieldByte (before bytes) s w (y + i)) ⌝ }
 {
     let mut i = 0;
     while i < out.len() {
@@ -193,7 +194,7 @@ fn narrow_run(bytes: &[u8], s: Source, w: usize, y: usize, out: &mut [u8])
 // Bytes of the fields of a source, w bits of each, from byte y on.
 pub fn field_run(bytes: &[u8], s: Source, w: usize, y: usize, out: &mut [u8])
     requires { ⌜ Aligned s w × Run (length (now bytes)) s w y (length (now out)) ⌝ }
-    ensures { λ _. ⌜ now (out .exit) ≡ tab (length (now (out .entry))) (λ (i : ℕ). fieldByte (now (bytes .entry)) s w (y + i)) ⌝ }
+    ensures { λ _. ⌜ after out ≡ tab (length (before out)) (λ (i : ℕ). fieldByte (before bytes) s w (y + i)) ⌝ }
 {
     if out.len() == 0 {
         return;

@@ -9,6 +9,7 @@ ghost use Rattle.memory.specs.Lists.{write};
 ghost use Rattle.memory.specs.Power.{log2up};
 ghost use Rattle.memory.specs.Ranges.{any, memb};
 ghost use Rattle.memory.specs.Words.{word, bytes4};
+ghost use Rattle.memory.specs.Lent.{before, after};
 ghost use Rattle.layout.specs.Geometry.{page};
 ghost use Rattle.layout.specs.Hash.{fnvFamily, positions, positionCount};
 ghost use Rattle.layout.specs.Index.{withFilter, inFull};
@@ -60,7 +61,7 @@ fn bit_place(x: usize) -> usize
 // Sets bit p.
 fn set_bit(bits: &mut [u8], p: u32)
     requires { ⌜ (length (now bits) ≡ 256) × (p < 2048) ⌝ }
-    ensures { λ _. ⌜ ((x : ℕ) → x < 2048 → arrayBit (now (bits .exit)) x ≡ (eqb p x || arrayBit (now (bits .entry)) x)) ⌝ }
+    ensures { λ _. ⌜ ((x : ℕ) → x < 2048 → arrayBit (after bits) x ≡ (eqb p x || arrayBit (before bits) x)) ⌝ }
 {
     let x = p as usize;
     let i = x / 8;
@@ -70,7 +71,7 @@ fn set_bit(bits: &mut [u8], p: u32)
 // Sets the bits of a key's positions.
 fn set_positions(bits: &mut [u8], ps: [u32; 3])
     requires { ⌜ (length (now bits) ≡ 256) × Below 2048 ps ⌝ }
-    ensures { λ _. ⌜ ((x : ℕ) → x < 2048 → arrayBit (now (bits .exit)) x ≡ (memb x ps || arrayBit (now (bits .entry)) x)) ⌝ }
+    ensures { λ _. ⌜ ((x : ℕ) → x < 2048 → arrayBit (after bits) x ≡ (memb x ps || arrayBit (before bits) x)) ⌝ }
 {
     set_bit(bits, ps[2]);
     set_bit(bits, ps[1]);
@@ -87,7 +88,8 @@ fn no_bits() -> [u8; 256]
 // The bloom filter of the page of entries from byte `at` on: the positions of all its keys set, and no other of the 2048 bits.
 pub fn page_filter(ram: &[u8], at: usize, unit: usize) -> [u8; 256]
     requires { ⌜ (0 < unit) × (unit ≤ 32) × (at + page unit ≤ length (now ram)) ⌝ }
-    ensures { λ r. ⌜ ((x : ℕ) → x < 2048 → arrayBit r x ≡ any (λ i. memb x (positions fnvFamily positionCount unit (bytes4 (word (now (ram .entry)) (at + i * 8))))) (8 * unit)) ⌝ }
+    ensures { λ r. ⌜ ((x : ℕ) → x < 2048 → arrayBit r x
+        ≡ any (λ i. memb x (positions fnvFamily positionCount unit (bytes4 (word (before ram) (at + i * 8))))) (8 * unit)) ⌝ }
 {
     let mut bits = no_bits();
     let mut i = 0;
@@ -103,7 +105,7 @@ pub fn page_filter(ram: &[u8], at: usize, unit: usize) -> [u8; 256]
 // The i-th fourth of a filter is written from `at` on.
 fn put_fourth(ram: &mut [u8], at: usize, unit: usize, bits: &[u8], i: usize)
     requires { ⌜ (unit ≤ 32) × (i < 4) × (at + 2 * unit ≤ length (now ram)) × (length (now bits) ≡ 256) ⌝ }
-    ensures { λ _. ⌜ now (ram .exit) ≡ write (now (ram .entry)) at (fourthOf unit (arrayBit (now (bits .entry))) i) ⌝ }
+    ensures { λ _. ⌜ after ram ≡ write (before ram) at (fourthOf unit (arrayBit (before bits)) i) ⌝ }
 {
     let n = 2 * unit;
     let lo = i * n;
@@ -114,7 +116,7 @@ fn put_fourth(ram: &mut [u8], at: usize, unit: usize, bits: &[u8], i: usize)
 // Filter s of the SKA page becomes `bits`: a fourth of it, 2 unit bytes, in each of the four sectors.
 pub fn put_filter(ram: &mut [u8], unit: usize, ix: Index, s: usize, bits: [u8; 256])
     requires { ⌜ (0 < unit) × (unit ≤ 32) × (s < 8) × (ix .ska + page unit ≤ length (now ram)) ⌝ }
-    ensures { λ _. ⌜ now (ram .exit) ≡ withFilter unit (indexOf ix) s (arrayBit bits) (now (ram .entry)) ⌝ }
+    ensures { λ _. ⌜ after ram ≡ withFilter unit (indexOf ix) s (arrayBit bits) (before ram) ⌝ }
 {
     let sector = 16 * unit;
     let at0 = ix.ska + s * (2 * unit);
@@ -245,7 +247,8 @@ fn stage_of(unit: usize, e: usize, filters: usize) -> Stage
 
 // The level that has filter `below` - 1.
 fn level_below(unit: usize, e: usize, ix: Index, st: Stage, below: usize) -> Level
-    requires { ⌜ UnitIs unit e × (ix .first ≤ 20000) × (st .rounds < 4 * unit) × (st .parted ≡ st .full + 128 * st .rounds) × (0 < below) × (below ≤ 2 ^ 20) ⌝ }
+    requires { ⌜ UnitIs unit e × (ix .first ≤ 20000) × (st .rounds < 4 * unit) × (st .parted ≡ st .full + 128 * st .rounds)
+        × (0 < below) × (below ≤ 2 ^ 20) ⌝ }
     ensures { λ r. ⌜ r ≡ levelBelow unit e (indexOf ix) st below ⌝ }
 {
     if below > st.flash {
@@ -293,9 +296,10 @@ pub fn group_below(
     ps: [u32; 8],
     count: usize,
 ) -> Group
-    requires { ⌜ ((Z : ℕ) × (inFull unit filters ≤ Z) × Fits unit (indexOf ix) Z (now main) (now ram)) × (filters ≤ 2 ^ 20) × (0 < below) × (below ≤ filters) ⌝ }
+    requires { ⌜ ((Z : ℕ) × (inFull unit filters ≤ Z) × Fits unit (indexOf ix) Z (now main) (now ram)) × (filters ≤ 2 ^ 20)
+        × (0 < below) × (below ≤ filters) ⌝ }
     requires { ⌜ (1 ≤ count) × (count ≤ 8) × ((i : ℕ) → i < count → getD ps i 0 < 64 * unit) ⌝ }
-    ensures { λ r. ⌜ GroupAt unit (indexOf ix) (now (main .entry)) (now (ram .entry)) filters below (take count ps) r ⌝ }
+    ensures { λ r. ⌜ GroupAt unit (indexOf ix) (before main) (before ram) filters below (take count ps) r ⌝ }
 {
     let e = exponent(unit);
     let l = level_below(unit, e, ix, stage_of(unit, e, filters), below);
@@ -310,7 +314,7 @@ pub fn group_below(
 // key's positions have, go by plain numbers.
 fn newest_of(bytes: &[u8], k: Rows, n: usize) -> usize
     requires { ⌜ Within k n (length (now bytes)) ⌝ }
-    ensures { λ r. ⌜ r ≡ candidate (allIn (now (bytes .entry)) (k .at) (k .low) (k .w) (k .count)) n ⌝ }
+    ensures { λ r. ⌜ r ≡ candidate (allIn (before bytes) (k .at) (k .low) (k .w) (k .count)) n ⌝ }
 {
     if k.count != 3 {
         return kernels::newest(bytes, k, n);
@@ -330,7 +334,7 @@ fn newest_of(bytes: &[u8], k: Rows, n: usize) -> usize
 // The newest of the group's first n filters that has all positions' bits, plus one; 0 if none has.
 pub fn newest_in(main: &[u8], ram: &[u8], g: Group, n: usize) -> usize
     requires { ⌜ Within (g .rows) n (length (bytesOf g (now main) (now ram))) ⌝ }
-    ensures { λ r. ⌜ r ≡ candidate (groupHas g (now (main .entry)) (now (ram .entry))) n ⌝ }
+    ensures { λ r. ⌜ r ≡ candidate (groupHas g (before main) (before ram)) n ⌝ }
 {
     if g.in_ram {
         return newest_of(ram, g.rows, n);

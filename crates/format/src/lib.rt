@@ -2,11 +2,13 @@
 ghost use mathlib.Core.Path.{_≡_};
 ghost use lib.ListN.{replicate};
 ghost use Rattle.memory.specs.Lists.{write};
+ghost use Rattle.memory.specs.Lent.{before, after};
 ghost use Rattle.layout.specs.Geometry.{blocks, ramSize};
-ghost use Rattle.layout.specs.Flash.{flashOf, applyAll, erases};
+ghost use Rattle.layout.specs.Flash.{applyAll, erases};
 ghost use Rattle.layout.specs.Calls.{format};
+ghost use Rattle.laws.specs.LentFlash.{flashBefore, flashAfter};
 ghost use Rattle.geometry.specs.Shape.{shape, Sound};
-ghost use Rattle.state.specs.Contract.{volume, seen, changed};
+ghost use Rattle.state.specs.Contract.{seen, given, leftBy};
 ghost use Rattle.state.specs.Judge.{Long};
 use geometry::Geometry;
 use state::Change;
@@ -16,8 +18,8 @@ use state::State;
 // All blocks erased and the RAM zeroed.
 fn erase_volume(g: Geometry, main: &mut [u8], spare: &mut [u8], ram: &mut [u8])
     requires { ⌜ Sound g × Long g (now main) (now spare) (now ram) ⌝ }
-    ensures { λ _. ⌜ flashOf (now (main .exit)) (now (spare .exit)) ≡ applyAll (g .unit) (erases 0 (blocks (shape g))) (flashOf (now (main .entry)) (now (spare .entry))) ⌝ }
-    ensures { λ _. ⌜ now (ram .exit) ≡ write (now (ram .entry)) 0 (replicate (ramSize (shape g)) 0) ⌝ }
+    ensures { λ _. ⌜ flashAfter main spare ≡ applyAll (g .unit) (erases 0 (blocks (shape g))) (flashBefore main spare) ⌝ }
+    ensures { λ _. ⌜ after ram ≡ write (before ram) 0 (replicate (ramSize (shape g)) 0) ⌝ }
 {
     let unit = g.unit;
     flash::erase_blocks(main, spare, unit, 0, g.blocks());
@@ -34,7 +36,7 @@ pub fn format(
     spare: &mut [u8],
     ram: &mut [u8],
 ) -> Change
-    ensures { λ r. ⌜ changed r (now (main .exit)) (now (spare .exit)) (now (ram .exit)) ≡ seen (format (volume old (now (main .entry)) (now (spare .entry)) (now (ram .entry))) «sector_size» «ra_blocks» «da_blocks») ⌝ }
+    ensures { λ r. ⌜ leftBy r main spare ram ≡ seen (format (given old main spare ram) «sector_size» «ra_blocks» «da_blocks») ⌝ }
 {
     match state::judge_new(sector_size, ra_blocks, da_blocks, main, spare, ram) {
         Judged::Refused(i) => {

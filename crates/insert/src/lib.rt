@@ -5,7 +5,7 @@ ghost use Rattle.layout.specs.Hash.{fnvFamily};
 ghost use Rattle.layout.specs.Items.{recordBytes};
 ghost use Rattle.layout.specs.Calls.{insert, call, answer, insertAfter};
 ghost use Rattle.geometry.specs.Shape.{shape};
-ghost use Rattle.state.specs.Contract.{volume, seen, changed};
+ghost use Rattle.state.specs.Contract.{seen, given, leftBy};
 ghost use Rattle.state.specs.Judge.{Fits};
 use geometry::Geometry;
 use search::Stop;
@@ -26,7 +26,8 @@ fn insert_new(
     ram: &mut [u8],
 ) -> Change
     requires { ⌜ Fits s (now main) (now spare) (now ram) g ⌝ }
-    ensures { λ r. ⌜ changed r (now (main .exit)) (now (spare .exit)) (now (ram .exit)) ≡ seen (insertAfter fnvFamily (shape g) (volume s (now (main .entry)) (now (spare .entry)) (now (ram .entry))) key (recordBytes key moves goal word) none) ⌝ }
+    ensures { λ r. ⌜ leftBy r main spare ram
+        ≡ seen (insertAfter fnvFamily (shape g) (given s main spare ram) key (recordBytes key moves goal word) none) ⌝ }
 {
     let n = s.records as usize;
     if g.record_capacity() <= n { // 5 goes before 7
@@ -51,7 +52,7 @@ fn insert_in(
     ram: &mut [u8],
 ) -> Change
     requires { ⌜ Fits s (now main) (now spare) (now ram) g ⌝ }
-    ensures { λ r. ⌜ changed r (now (main .exit)) (now (spare .exit)) (now (ram .exit)) ≡ seen (answer fnvFamily (shape g) (volume s (now (main .entry)) (now (spare .entry)) (now (ram .entry))) (insert key moves goal word)) ⌝ }
+    ensures { λ r. ⌜ leftBy r main spare ram ≡ seen (answer fnvFamily (shape g) (given s main spare ram) (insert key moves goal word)) ⌝ }
 {
     let f = search::search(g, main, ram, s.records as usize, s.deletions as usize, key);
     let stop = f.stop;
@@ -79,7 +80,7 @@ pub fn insert(
     spare: &mut [u8],
     ram: &mut [u8],
 ) -> Change
-    ensures { λ r. ⌜ changed r (now (main .exit)) (now (spare .exit)) (now (ram .exit)) ≡ seen (call fnvFamily (volume s (now (main .entry)) (now (spare .entry)) (now (ram .entry))) (insert key moves goal word)) ⌝ }
+    ensures { λ r. ⌜ leftBy r main spare ram ≡ seen (call fnvFamily (given s main spare ram) (insert key moves goal word)) ⌝ }
 {
     match state::judge(s, main, spare, ram) {
         Judged::Refused(i) => {

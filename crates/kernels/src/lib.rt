@@ -5,6 +5,7 @@ ghost use Prim.Native.Nat.{ℕ, _+_, _*_, _/_, _%_, _^_, _≤_, _<_};
 ghost use lib.Count.{leadingZeros};
 ghost use lib.ListN.{length, getD};
 ghost use Rattle.memory.specs.Bits.{bit, bitIn};
+ghost use Rattle.memory.specs.Lent.{before};
 ghost use Rattle.kernels.specs.Candidate.{candidate};
 ghost use Rattle.kernels.specs.Rows.{allIn, Word, Words, Within, WordIn, BytesIn};
 ghost use Rattle.kernels.specs.Width.{IsWidth};
@@ -29,7 +30,7 @@ fn wide(x: u32) -> u64
 // The eight bytes from `at` on, the lowest first: one load.
 pub fn get64(s: &[u8], at: usize) -> u64
     requires { ⌜ at + 8 ≤ length (now s) ⌝ }
-    ensures { λ r. ⌜ Word (now (s .entry)) at r ⌝ }
+    ensures { λ r. ⌜ Word (before s) at r ⌝ }
 {
     wide(words::get32(s, at)) + wide(words::get32(s, at + 4)) * 4294967296
 }
@@ -44,7 +45,7 @@ pub fn zeros(y: u64) -> usize
 // Word q of all rows.
 fn and_words(bytes: &[u8], at: [usize; 8], count: usize, q: usize) -> u64
     requires { ⌜ WordIn at count q (length (now bytes)) ⌝ }
-    ensures { λ r. ⌜ Words (now (bytes .entry)) at [] count q r ⌝ }
+    ensures { λ r. ⌜ Words (before bytes) at [] count q r ⌝ }
 {
     let o = q * 8;
     let mut r = get64(bytes, at[0] + o);
@@ -61,7 +62,7 @@ fn and_words(bytes: &[u8], at: [usize; 8], count: usize, q: usize) -> u64
 // `newest` at w = 1. What lies past the bound in the last word is shifted out at the top.
 fn last_and(bytes: &[u8], at: [usize; 8], count: usize, n: usize) -> usize
     requires { ⌜ (0 < count) × (count ≤ 8) × ((i : ℕ) → i < count → getD at i 0 + (n + 63) / 64 * 8 ≤ length (now bytes)) ⌝ }
-    ensures { λ r. ⌜ r ≡ candidate (allIn (now (bytes .entry)) at [] 1 count) n ⌝ }
+    ensures { λ r. ⌜ r ≡ candidate (allIn (before bytes) at [] 1 count) n ⌝ }
 {
     let mut k = n;
     while k > 0 {
@@ -138,7 +139,7 @@ pub fn down(x: usize, l: u32, w: usize) -> usize
 // Word q of all rows, each moved down by its `low`.
 fn field_words(bytes: &[u8], at: [usize; 8], low: [usize; 8], count: usize, q: usize) -> u64
     requires { ⌜ WordIn at count q (length (now bytes)) × ((i : ℕ) → i < count → getD low i 0 < 64) ⌝ }
-    ensures { λ r. ⌜ Words (now (bytes .entry)) at low count q r ⌝ }
+    ensures { λ r. ⌜ Words (before bytes) at low count q r ⌝ }
 {
     let o = q * 8;
     let mut r = get64(bytes, at[0] + o) >> low[0];
@@ -161,7 +162,7 @@ fn last_field(
 ) -> usize
     requires { ⌜ IsWidth f × (0 < count) × (count ≤ 8) × (n < 2 ^ 60) ⌝ }
     requires { ⌜ ((i : ℕ) → i < count → (getD low i 0 < f .w) × (getD at i 0 + (n * f .w + 63) / 64 * 8 ≤ length (now bytes))) ⌝ }
-    ensures { λ r. ⌜ r ≡ candidate (allIn (now (bytes .entry)) at low (f .w) count) n ⌝ }
+    ensures { λ r. ⌜ r ≡ candidate (allIn (before bytes) at low (f .w) count) n ⌝ }
 {
     let lw = f.lw;
     let lp = f.lp;
@@ -193,7 +194,7 @@ fn bit_place(x: usize) -> usize
 // The byte that has bit x of the row from byte `row` on, moved down so that this bit is its lowest.
 pub fn byte_of(bytes: &[u8], row: usize, x: usize) -> u8
     requires { ⌜ row + x / 8 < length (now bytes) ⌝ }
-    ensures { λ r. ⌜ (r ≡ getD (now (bytes .entry)) (row + x / 8) 0 / 2 ^ (x % 8)) × (bit r 0 ≡ bitIn (now (bytes .entry)) row x) ⌝ }
+    ensures { λ r. ⌜ (r ≡ getD (before bytes) (row + x / 8) 0 / 2 ^ (x % 8)) × (bit r 0 ≡ bitIn (before bytes) row x) ⌝ }
 {
     bytes[row + x / 8] >> bit_place(x)
 }
@@ -201,7 +202,7 @@ pub fn byte_of(bytes: &[u8], row: usize, x: usize) -> u8
 // Has the filter whose bits begin o bytes after each row all of its bits?
 fn all_at(bytes: &[u8], at: [usize; 8], low: [usize; 8], count: usize, o: usize) -> bool
     requires { ⌜ BytesIn at low count o (length (now bytes)) ⌝ }
-    ensures { λ r. ⌜ r ≡ allIn (now (bytes .entry)) at low 1 count (o * 8) ⌝ }
+    ensures { λ r. ⌜ r ≡ allIn (before bytes) at low 1 count (o * 8) ⌝ }
 {
     let mut r = byte_of(bytes, at[0] + o, low[0]);
     let mut i = 1;
@@ -223,7 +224,7 @@ fn last_plain(
 ) -> usize
     requires { ⌜ (0 < count) × (count ≤ 8) × (w % 8 ≡ 0) × (n * w < 2 ^ 60) ⌝ }
     requires { ⌜ ((i : ℕ) → i < count → (getD low i 0 < w) × (getD at i 0 + (n * w + 63) / 64 * 8 ≤ length (now bytes))) ⌝ }
-    ensures { λ r. ⌜ r ≡ candidate (allIn (now (bytes .entry)) at low w count) n ⌝ }
+    ensures { λ r. ⌜ r ≡ candidate (allIn (before bytes) at low w count) n ⌝ }
 {
     let step = w / 8;
     let mut g = n;
@@ -242,7 +243,7 @@ fn last_plain(
 // The newest of n filters that has all its bits, plus one; 0 if none has.
 pub fn newest(bytes: &[u8], k: Rows, n: usize) -> usize
     requires { ⌜ Within k n (length (now bytes)) ⌝ }
-    ensures { λ r. ⌜ r ≡ candidate (allIn (now (bytes .entry)) (k .at) (k .low) (k .w) (k .count)) n ⌝ }
+    ensures { λ r. ⌜ r ≡ candidate (allIn (before bytes) (k .at) (k .low) (k .w) (k .count)) n ⌝ }
 {
     let at = k.at;
     let count = k.count;

@@ -6,3 +6,4 @@ pub mod SearchLaws
 pub mod SkaLaws
 pub mod Sound
 pub mod Inside
+pub mod LentFlash

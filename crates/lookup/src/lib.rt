@@ -3,7 +3,7 @@ ghost use mathlib.Core.Path.{_≡_};
 ghost use Rattle.layout.specs.Hash.{fnvFamily};
 ghost use Rattle.layout.specs.Calls.{lookup, call, answer};
 ghost use Rattle.geometry.specs.Shape.{shape};
-ghost use Rattle.state.specs.Contract.{volume};
+ghost use Rattle.state.specs.Contract.{given};
 ghost use Rattle.state.specs.Judge.{Fits};
 ghost use Rattle.lookup.specs.Looked.{looked, partOf, whereOf};
 use geometry::Geometry;
@@ -36,7 +36,7 @@ fn refuse_lookup(i: u32) -> LookupResult
 
 fn find_in(g: Geometry, s: State, key: u32, main: &[u8], spare: &[u8], ram: &[u8]) -> LookupResult
     requires { ⌜ Fits s (now main) (now spare) (now ram) g ⌝ }
-    ensures { λ r. ⌜ r ≡ looked (answer fnvFamily (shape g) (volume s (now (main .entry)) (now (spare .entry)) (now (ram .entry))) (lookup key)) ⌝ }
+    ensures { λ r. ⌜ r ≡ looked (answer fnvFamily (shape g) (given s main spare ram) (lookup key)) ⌝ }
 {
     let n = s.records as usize;
     let f = search::search(g, main, ram, n, s.deletions as usize, key);
@@ -81,7 +81,7 @@ fn find_in(g: Geometry, s: State, key: u32, main: &[u8], spare: &[u8], ram: &[u8
 
 // Where a level's record lies, in numbers.
 pub fn find(s: State, key: u32, main: &[u8], spare: &[u8], ram: &[u8]) -> LookupResult
-    ensures { λ r. ⌜ r ≡ looked (call fnvFamily (volume s (now (main .entry)) (now (spare .entry)) (now (ram .entry))) (lookup key)) ⌝ }
+    ensures { λ r. ⌜ r ≡ looked (call fnvFamily (given s main spare ram) (lookup key)) ⌝ }
 {
     match state::judge(s, main, spare, ram) {
         Judged::Refused(i) => {
@@ -104,8 +104,11 @@ pub fn lookup<'a>(
     found: &mut u32,
     count: &mut u32,
 ) -> &'a [u8]
-    ensures { λ r. ⌜ (now r ≡ partOf (call fnvFamily (volume s (now (main .entry)) (now (spare .entry)) (now (ram .entry))) (lookup key) .outcome)) × (r .ptr ≡ whereOf ((main .entry) .ptr) ((ram .entry) .ptr) (call fnvFamily (volume s (now (main .entry)) (now (spare .entry)) (now (ram .entry))) (lookup key) .outcome)) ⌝ }
-    ensures { λ r. ⌜ (now (refusal .exit) ≡ looked (call fnvFamily (volume s (now (main .entry)) (now (spare .entry)) (now (ram .entry))) (lookup key)) .refusal) × (now (found .exit) ≡ looked (call fnvFamily (volume s (now (main .entry)) (now (spare .entry)) (now (ram .entry))) (lookup key)) .found) × (now (count .exit) ≡ looked (call fnvFamily (volume s (now (main .entry)) (now (spare .entry)) (now (ram .entry))) (lookup key)) .count) ⌝ }
+    ensures { λ r. ⌜ (now r ≡ partOf (call fnvFamily (given s main spare ram) (lookup key) .outcome))
+        × (r .ptr ≡ whereOf ((main .entry) .ptr) ((ram .entry) .ptr) (call fnvFamily (given s main spare ram) (lookup key) .outcome)) ⌝ }
+    ensures { λ r. ⌜ (now (refusal .exit) ≡ looked (call fnvFamily (given s main spare ram) (lookup key)) .refusal)
+        × (now (found .exit) ≡ looked (call fnvFamily (given s main spare ram) (lookup key)) .found)
+        × (now (count .exit) ≡ looked (call fnvFamily (given s main spare ram) (lookup key)) .count) ⌝ }
 {
     let f = find(s, key, main, spare, ram);
     *refusal = f.refusal;

@@ -6,3 +6,4 @@ pub mod Numbers
 pub mod Power
 pub mod Words
 pub mod Ranges
+pub mod Lent

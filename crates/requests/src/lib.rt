@@ -2,8 +2,9 @@
 ghost use mathlib.Core.Path.{_≡_};
 ghost use Prim.Native.Nat.{_≤_};
 ghost use lib.ListN.{length};
+ghost use Rattle.memory.specs.Lent.{before, after};
 ghost use Rattle.layout.specs.Calls.{lookup};
-ghost use Rattle.state.specs.Contract.{volume};
+ghost use Rattle.state.specs.Contract.{given};
 ghost use Rattle.script.specs.Lines as lines;
 ghost use Rattle.script.specs.Asked.{asked};
 ghost use Rattle.answers.specs.Answered.{answered};
@@ -41,7 +42,7 @@ fn after_change(c: Change) -> Performed
 
 // The answer to a lookup; a hit's moves are its record's second word.
 fn lookup<'a>(s: State, key: u32, main: &'a [u8], spare: &[u8], ram: &'a [u8]) -> Answer
-    ensures { λ r. ⌜ answered r ≡ perform (volume s (now (main .entry)) (now (spare .entry)) (now (ram .entry))) (lines.call (lookup key)) .answer ⌝ }
+    ensures { λ r. ⌜ answered r ≡ perform (given s main spare ram) (lines.call (lookup key)) .answer ⌝ }
 {
     let mut refusal: u32 = 0;
     let mut found: u32 = 0;
@@ -67,7 +68,7 @@ fn lookup<'a>(s: State, key: u32, main: &'a [u8], spare: &[u8], ram: &'a [u8]) -
 
 // A request on a volume; goal and free word of a record are 0.
 pub fn perform(s: State, q: Request, main: &mut [u8], spare: &mut [u8], ram: &mut [u8]) -> Performed
-    ensures { λ r. ⌜ performed r (now (main .exit)) (now (spare .exit)) (now (ram .exit)) ≡ perform (volume s (now (main .entry)) (now (spare .entry)) (now (ram .entry))) (asked q) ⌝ }
+    ensures { λ r. ⌜ performed r (after main) (after spare) (after ram) ≡ perform (given s main spare ram) (asked q) ⌝ }
 {
     match q {
         Request::Format(sector_size, ra_blocks, da_blocks) => {
@@ -117,7 +118,8 @@ pub fn answer_line(
     out: &mut [u8],
 ) -> Step
     requires { ⌜ 32 ≤ length (now out) ⌝ }
-    ensures { λ r. ⌜ stepped r (now (main .exit)) (now (spare .exit)) (now (ram .exit)) (now (out .exit)) ≡ answeredLine (volume s (now (main .entry)) (now (spare .entry)) (now (ram .entry))) (now (line .entry)) (now (out .entry)) ⌝ }
+    ensures { λ r. ⌜ stepped r (after main) (after spare) (after ram) (after out)
+        ≡ answeredLine (given s main spare ram) (before line) (before out) ⌝ }
 {
     let q = script::parse_line(line);
     let p = perform(s, q, main, spare, ram);

@@ -2,6 +2,7 @@
 ghost use mathlib.Core.Path.{_≡_};
 ghost use Prim.Native.Nat.{_+_, _-_, _≤_, _<_};
 ghost use lib.ListN.{length, take, drop};
+ghost use Rattle.memory.specs.Lent.{before};
 ghost use Rattle.script.specs.Lines.{digitsFrom, small, number, fields, one, two, three, lettered, request};
 ghost use Rattle.script.specs.FirstWord.{wordLength};
 ghost use Rattle.script.specs.Asked.{numberOf, asked};
@@ -34,7 +35,7 @@ fn digit_value(c: u8) -> u64
 
 // The value of a word of digits, if it is below 2^32. It stops at 2^32, so that no word is too long.
 fn read_digits(word: &[u8]) -> Number
-    ensures { λ r. ⌜ numberOf r ≡ small (digitsFrom 0 (now (word .entry))) ⌝ }
+    ensures { λ r. ⌜ numberOf r ≡ small (digitsFrom 0 (before word)) ⌝ }
 {
     let mut v: u64 = 0;
     let mut i = 0;
@@ -57,7 +58,7 @@ fn read_digits(word: &[u8]) -> Number
 
 // A word as a number: digits, below 2^32, without leading zeros.
 fn read_number(word: &[u8]) -> Number
-    ensures { λ r. ⌜ numberOf r ≡ number (now (word .entry)) ⌝ }
+    ensures { λ r. ⌜ numberOf r ≡ number (before word) ⌝ }
 {
     if word.len() == 0 {
         return Number::No;
@@ -131,7 +132,7 @@ fn three_numbers(letter: u8, x: Number, y: Number, z: Number) -> Request
 
 // How many bytes stand before the first space.
 fn word_length(line: &[u8]) -> usize
-    ensures { λ r. ⌜ (r ≡ wordLength (now (line .entry))) × (r ≤ length (now (line .entry))) ⌝ }
+    ensures { λ r. ⌜ (r ≡ wordLength (before line)) × (r ≤ length (before line)) ⌝ }
 {
     let mut i = 0;
     while i < line.len() {
@@ -146,7 +147,7 @@ fn word_length(line: &[u8]) -> usize
 // The number in the first n bytes.
 fn number_in(line: &[u8], n: usize) -> Number
     requires { ⌜ n ≤ length (now line) ⌝ }
-    ensures { λ r. ⌜ numberOf r ≡ number (take n (now (line .entry))) ⌝ }
+    ensures { λ r. ⌜ numberOf r ≡ number (take n (before line)) ⌝ }
 {
     read_number(&line[0..n])
 }
@@ -154,7 +155,7 @@ fn number_in(line: &[u8], n: usize) -> Number
 // What follows n bytes and a space.
 fn after_space(line: &[u8], n: usize) -> &[u8]
     requires { ⌜ n < length (now line) ⌝ }
-    ensures { λ r. ⌜ now r ≡ drop (n + 1) (now (line .entry)) ⌝ }
+    ensures { λ r. ⌜ now r ≡ drop (n + 1) (before line) ⌝ }
 {
     let from = n + 1;
     &line[from..]
@@ -162,7 +163,7 @@ fn after_space(line: &[u8], n: usize) -> &[u8]
 
 // What a letter asks for with the words after it.
 fn parse_words(letter: u8, words: &[u8]) -> Request
-    ensures { λ r. ⌜ asked r ≡ lettered letter (fields (now (words .entry))) ⌝ }
+    ensures { λ r. ⌜ asked r ≡ lettered letter (fields (before words)) ⌝ }
 {
     let a = word_length(words);
     let x = number_in(words, a);
@@ -186,7 +187,7 @@ fn parse_words(letter: u8, words: &[u8]) -> Request
 
 // A letter and up to three numbers, between single spaces; any other line is bad.
 pub fn parse_line(line: &[u8]) -> Request
-    ensures { λ r. ⌜ asked r ≡ request (now (line .entry)) ⌝ }
+    ensures { λ r. ⌜ asked r ≡ request (before line) ⌝ }
 {
     let n = word_length(line);
     if n != 1 {

@@ -4,6 +4,7 @@ ghost use mathlib.Core.Path.{_≡_};
 ghost use Prim.Native.Nat.{ℕ, _+_, _*_, _/_, _%_, _≤_, _<_};
 ghost use lib.ListN.{length, getD, take};
 ghost use Rattle.memory.specs.Words.{word, bytes4};
+ghost use Rattle.memory.specs.Lent.{before};
 ghost use Rattle.layout.specs.Geometry.{page, block, entriesPerPage, recordCapacity, deletionCapacity, dataSize, ramSize, kaBlock};
 ghost use Rattle.layout.specs.Hash.{fnvFamily, positions, positionCount};
 ghost use Rattle.layout.specs.Calls.{keyIndex, keyPositions, isDeleted, tryAt, search};
@@ -39,7 +40,7 @@ fn wide(x: u32) -> usize
 // The record number of entry k of those from byte `at` on: its second word.
 fn number_at(s: &[u8], at: usize, k: usize) -> u32
     requires { ⌜ at + k * 8 + 8 ≤ length (now s) ⌝ }
-    ensures { λ r. ⌜ r ≡ word (now (s .entry)) (at + k * 8 + 4) ⌝ }
+    ensures { λ r. ⌜ r ≡ word (before s) (at + k * 8 + 4) ⌝ }
 {
     words::get32(s, at + k * 8 + 4)
 }
@@ -47,7 +48,7 @@ fn number_at(s: &[u8], at: usize, k: usize) -> u32
 // Is record j among the d deletions?
 fn deleted(g: Geometry, main: &[u8], ram: &[u8], d: usize, j: u32) -> bool
     requires { ⌜ Ready g 0 d (now main) (now ram) ⌝ }
-    ensures { λ r. ⌜ r ≡ isDeleted (shape g) (at 0 d (now (main .entry)) (now (ram .entry))) j ⌝ }
+    ensures { λ r. ⌜ r ≡ isDeleted (shape g) (at 0 d (before main) (before ram)) j ⌝ }
 {
     items::is_deleted(main, ram, g.unit, geometry::deletion_area(g), d, j)
 }
@@ -57,7 +58,8 @@ fn deleted(g: Geometry, main: &[u8], ram: &[u8], d: usize, j: u32) -> bool
 // Those of the page that is not full, newest first.
 fn in_ram(g: Geometry, main: &[u8], ram: &[u8], n: usize, d: usize, key: u32) -> Stop
     requires { ⌜ Ready g n d (now main) (now ram) ⌝ }
-    ensures { λ r. ⌜ stopOf r ≡ scan (tryAt (shape g) (at n d (now (main .entry)) (now (ram .entry))) key) (n / entriesPerPage (g .unit) * entriesPerPage (g .unit)) (n % entriesPerPage (g .unit)) ⌝ }
+    ensures { λ r. ⌜ stopOf r ≡ scan (tryAt (shape g) (at n d (before main) (before ram)) key)
+        (n / entriesPerPage (g .unit) * entriesPerPage (g .unit)) (n % entriesPerPage (g .unit)) ⌝ }
 {
     let page = g.ka_ram();
     let count = n % g.entries_per_page();
@@ -99,8 +101,11 @@ fn in_group(
     below: usize,
 ) -> Found
     requires { ⌜ Ready g n d (now main) (now ram) ⌝ }
-    requires { ⌜ (below ≤ n / entriesPerPage (g .unit)) × GroupAt (g .unit) (keyIndex (shape g)) (now main) (now ram) (n / entriesPerPage (g .unit)) below (keyPositions fnvFamily (shape g) key) grp ⌝ }
-    ensures { λ r. ⌜ pagesBelow g n d (now (main .entry)) (now (ram .entry)) key below ≡ onward (stopOf (r .stop)) (r .opened) (pagesBelow g n d (now (main .entry)) (now (ram .entry)) key (grp .start)) ⌝ }
+    requires { ⌜ (below ≤ n / entriesPerPage (g .unit))
+        × GroupAt (g .unit) (keyIndex (shape g)) (now main) (now ram) (n / entriesPerPage (g .unit)) below
+        (keyPositions fnvFamily (shape g) key) grp ⌝ }
+    ensures { λ r. ⌜ pagesBelow g n d (before main) (before ram) key below
+        ≡ onward (stopOf (r .stop)) (r .opened) (pagesBelow g n d (before main) (before ram) key (grp .start)) ⌝ }
 {
     let per_page = g.entries_per_page();
     let first = grp.start;
@@ -142,7 +147,7 @@ fn positions_of(unit: usize, key: u32) -> [u32; 8]
 // Full pages, a group of filters after another, the newest first.
 fn in_pages(g: Geometry, main: &[u8], ram: &[u8], n: usize, d: usize, key: u32) -> Found
     requires { ⌜ Ready g n d (now main) (now ram) ⌝ }
-    ensures { λ r. ⌜ foundOf r ≡ pagesBelow g n d (now (main .entry)) (now (ram .entry)) key (n / entriesPerPage (g .unit)) ⌝ }
+    ensures { λ r. ⌜ foundOf r ≡ pagesBelow g n d (before main) (before ram) key (n / entriesPerPage (g .unit)) ⌝ }
 {
     let ps = positions_of(g.unit, key);
     let ix = Index {
@@ -188,7 +193,7 @@ pub fn search(g: Geometry, main: &[u8], ram: &[u8], n: usize, d: usize, key: u32
     requires { ⌜ ramSize (shape g) ≤ length (now ram) ⌝ }
     requires { ⌜ n ≤ recordCapacity (shape g) ⌝ }
     requires { ⌜ d ≤ deletionCapacity (shape g) ⌝ }
-    ensures { λ r. ⌜ foundOf r ≡ search fnvFamily (shape g) (at n d (now (main .entry)) (now (ram .entry))) key ⌝ }
+    ensures { λ r. ⌜ foundOf r ≡ search fnvFamily (shape g) (at n d (before main) (before ram)) key ⌝ }
 {
     let s = in_ram(g, main, ram, n, d, key);
     match s {

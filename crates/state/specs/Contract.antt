@@ -3,6 +3,7 @@ use mathlib.Core.Bool.{cond}
 use mathlib.Core.List.{List}
 use Prim.Native.Nat.{ℕ}
 use lib.Dec.{eqb}
+use Rattle.memory.specs.Lent.{Lent, before, after}
 use Rattle.layout.specs.Geometry as layout
 use Rattle.layout.specs.Flash.{flashOf}
 use Rattle.layout.specs.Calls.{Volume, Outcome, accepted, refused, Result}
@@ -16,6 +17,10 @@ stateOf s = record { sectorSize = s .«sector_size»; raBlocks = s .«ra_blocks�
 -- the volume that is handed in: state, main area, spare area and RAM
 abbrev pub volume : State → List ℕ → List ℕ → List ℕ → Volume
 volume s main spare ram = record { state = stateOf s; flash = flashOf main spare; ram = ram }
+
+-- the same of the slices lent to a call
+abbrev pub given : State → Lent → Lent → Lent → Volume
+given s main spare ram = volume s (before main) (before spare) (before ram)
 
 -- all that a caller sees of a call: a layout's result but for its operations
 pub record Left : Type 0 where
@@ -33,3 +38,6 @@ outcomeOf i = cond (eqb i 0) accepted (refused i)
 -- what a changing call answers and leaves
 abbrev pub changed : Change → List ℕ → List ℕ → List ℕ → Left
 changed c main spare ram = record { outcome = outcomeOf (c .refusal); count = 0; left = volume (c .state) main spare ram }
+
+abbrev pub leftBy : Change → Lent → Lent → Lent → Left
+leftBy c main spare ram = changed c (after main) (after spare) (after ram)

@@ -3,9 +3,10 @@
 ghost use mathlib.Core.Path.{_≡_};
 ghost use mathlib.Core.Bool.{_||_};
 ghost use lib.Dec.{ltb};
+ghost use Rattle.memory.specs.Lent.{before};
 ghost use Rattle.layout.specs.Geometry.{recordCapacity, deletionCapacity};
-ghost use Rattle.layout.specs.Flash.{flashOf};
 ghost use Rattle.layout.specs.Calls.{tooShort};
+ghost use Rattle.laws.specs.LentFlash.{flashBefore};
 ghost use Rattle.geometry.specs.Shape.{shape, Sound};
 ghost use Rattle.state.specs.Judge.{judgedOf, judgedNew, GoodFits, NewFits};
 use geometry::Geometry;
@@ -51,7 +52,7 @@ fn counts_bad(g: Geometry, n: u32, d: u32) -> bool
 // Are the lent bytes too few for the volume?
 fn too_short(g: Geometry, main: &[u8], spare: &[u8], ram: &[u8]) -> bool
     requires { ⌜ Sound g ⌝ }
-    ensures { λ r. ⌜ r ≡ tooShort (shape g) (flashOf (now (main .entry)) (now (spare .entry))) (now (ram .entry)) ⌝ }
+    ensures { λ r. ⌜ r ≡ tooShort (shape g) (flashBefore main spare) (before ram) ⌝ }
 {
     if main.len() < g.data_size() {
         return true;
@@ -64,8 +65,8 @@ fn too_short(g: Geometry, main: &[u8], spare: &[u8], ram: &[u8]) -> bool
 
 // Refusals 1 and 2 of a state that is handed in.
 pub fn judge(s: State, main: &[u8], spare: &[u8], ram: &[u8]) -> Judged
-    ensures { λ r. ⌜ r ≡ judgedOf s (now (main .entry)) (now (spare .entry)) (now (ram .entry)) ⌝ }
-    ensures { λ r. ⌜ GoodFits s (now (main .entry)) (now (spare .entry)) (now (ram .entry)) r ⌝ }
+    ensures { λ r. ⌜ r ≡ judgedOf s (before main) (before spare) (before ram) ⌝ }
+    ensures { λ r. ⌜ GoodFits s (before main) (before spare) (before ram) r ⌝ }
 {
     match geometry::geometry_for(s.sector_size, s.ra_blocks, s.da_blocks) {
         Shaped::Bad => {
@@ -92,8 +93,8 @@ pub fn judge_new(
     spare: &[u8],
     ram: &[u8],
 ) -> Judged
-    ensures { λ r. ⌜ r ≡ judgedNew «sector_size» «ra_blocks» «da_blocks» (now (main .entry)) (now (spare .entry)) (now (ram .entry)) ⌝ }
-    ensures { λ r. ⌜ NewFits «sector_size» «ra_blocks» «da_blocks» (now (main .entry)) (now (spare .entry)) (now (ram .entry)) r ⌝ }
+    ensures { λ r. ⌜ r ≡ judgedNew «sector_size» «ra_blocks» «da_blocks» (before main) (before spare) (before ram) ⌝ }
+    ensures { λ r. ⌜ NewFits «sector_size» «ra_blocks» «da_blocks» (before main) (before spare) (before ram) r ⌝ }
 {
     match geometry::geometry_for(sector_size, ra_blocks, da_blocks) {
         Shaped::Bad => {

@@ -7,8 +7,9 @@ ghost use Prim.Native.Nat.{_+_, _*_, _≤_};
 ghost use lib.Dec.{ltb};
 ghost use lib.ListN.{length};
 ghost use Rattle.memory.specs.Lists.{write};
+ghost use Rattle.memory.specs.Lent.{before, after};
 ghost use Rattle.stream.specs.Kept.{endKept, keptByte, keptFeed, keptClose};
-ghost use Rattle.stream.specs.Contract.{kept};
+ghost use Rattle.stream.specs.Contract.{kept, keptBefore, keptAfter};
 use state::State;
 
 // What is kept from one chunk to the next beside the buffers.
@@ -21,8 +22,8 @@ pub struct Progress {
 // A byte of a line is kept as long as the buffer has room.
 fn add_byte(line: &mut [u8], fill: usize, c: u8) -> usize
     requires { ⌜ fill ≤ length (now line) ⌝ }
-    ensures { λ r. ⌜ (r ≡ cond (ltb fill (length (now (line .entry)))) (fill + 1) fill) × (now (line .exit) ≡ write (now (line .entry)) fill (c ∷ [])) ⌝ }
-    ensures { λ r. ⌜ r ≤ length (now (line .entry)) ⌝ }
+    ensures { λ r. ⌜ (r ≡ cond (ltb fill (length (before line))) (fill + 1) fill) × (after line ≡ write (before line) fill (c ∷ [])) ⌝ }
+    ensures { λ r. ⌜ r ≤ length (before line) ⌝ }
 {
     if fill >= line.len() {
         return fill;
@@ -41,7 +42,7 @@ fn end_line(
     out: &mut [u8],
 ) -> Progress
     requires { ⌜ (p .fill ≤ length (now line)) × (p .printed + 32 ≤ length (now out)) ⌝ }
-    ensures { λ r. ⌜ kept r (now (line .entry)) (now (main .exit)) (now (spare .exit)) (now (ram .exit)) (now (out .exit)) ≡ endKept (kept p (now (line .entry)) (now (main .entry)) (now (spare .entry)) (now (ram .entry)) (now (out .entry))) ⌝ }
+    ensures { λ r. ⌜ kept r (before line) (after main) (after spare) (after ram) (after out) ≡ endKept (keptBefore p line main spare ram out) ⌝ }
     ensures { λ r. ⌜ (r .fill ≡ 0) × (r .printed ≤ p .printed + 32) ⌝ }
 {
     let state = p.state;
@@ -68,8 +69,8 @@ fn next_byte(
     out: &mut [u8],
 ) -> Progress
     requires { ⌜ (p .fill ≤ length (now line)) × (p .printed + 32 ≤ length (now out)) ⌝ }
-    ensures { λ r. ⌜ kept r (now (line .exit)) (now (main .exit)) (now (spare .exit)) (now (ram .exit)) (now (out .exit)) ≡ keptByte (kept p (now (line .entry)) (now (main .entry)) (now (spare .entry)) (now (ram .entry)) (now (out .entry))) c ⌝ }
-    ensures { λ r. ⌜ (r .fill ≤ length (now (line .entry))) × (r .printed ≤ p .printed + 32) ⌝ }
+    ensures { λ r. ⌜ keptAfter r line main spare ram out ≡ keptByte (keptBefore p line main spare ram out) c ⌝ }
+    ensures { λ r. ⌜ (r .fill ≤ length (before line)) × (r .printed ≤ p .printed + 32) ⌝ }
 {
     if c == b'\n' {
         return end_line(p, line, main, spare, ram, out);
@@ -94,8 +95,8 @@ pub fn feed(
     out: &mut [u8],
 ) -> Progress
     requires { ⌜ (p .fill ≤ length (now line)) × (p .printed + length (now chunk) * 32 ≤ length (now out)) ⌝ }
-    ensures { λ r. ⌜ kept r (now (line .exit)) (now (main .exit)) (now (spare .exit)) (now (ram .exit)) (now (out .exit)) ≡ keptFeed (kept p (now (line .entry)) (now (main .entry)) (now (spare .entry)) (now (ram .entry)) (now (out .entry))) (now (chunk .entry)) ⌝ }
-    ensures { λ r. ⌜ (r .fill ≤ length (now (line .entry))) × (r .printed ≤ length (now (out .entry))) ⌝ }
+    ensures { λ r. ⌜ keptAfter r line main spare ram out ≡ keptFeed (keptBefore p line main spare ram out) (before chunk) ⌝ }
+    ensures { λ r. ⌜ (r .fill ≤ length (before line)) × (r .printed ≤ length (before out)) ⌝ }
 {
     let mut q = p;
     let mut i = 0;
@@ -116,8 +117,8 @@ pub fn close(
     out: &mut [u8],
 ) -> Progress
     requires { ⌜ (p .fill ≤ length (now line)) × (p .printed + 32 ≤ length (now out)) ⌝ }
-    ensures { λ r. ⌜ kept r (now (line .entry)) (now (main .exit)) (now (spare .exit)) (now (ram .exit)) (now (out .exit)) ≡ keptClose (kept p (now (line .entry)) (now (main .entry)) (now (spare .entry)) (now (ram .entry)) (now (out .entry))) ⌝ }
-    ensures { λ r. ⌜ r .printed ≤ length (now (out .entry)) ⌝ }
+    ensures { λ r. ⌜ kept r (before line) (after main) (after spare) (after ram) (after out) ≡ keptClose (keptBefore p line main spare ram out) ⌝ }
+    ensures { λ r. ⌜ r .printed ≤ length (before out) ⌝ }
 {
     if p.fill == 0 {
         return p;

@@ -3,6 +3,7 @@ ghost use mathlib.Core.Path.{_≡_};
 ghost use mathlib.Core.List.{[], _∷_};
 ghost use Prim.Native.Nat.{_+_, _*_, _/_, _%_, _^_, _<_};
 ghost use lib.ListN.{length};
+ghost use Rattle.memory.specs.Lent.{before};
 ghost use Rattle.kernels.specs.Candidate.{candidate};
 ghost use Rattle.kernels.specs.Rows.{allIn, Words};
 ghost use Rattle.kernels.specs.Width.{IsWidth};
@@ -25,7 +26,7 @@ pub struct Triple {
 // Word q of the rows.
 fn and_words(bytes: &[u8], a: usize, b: usize, c: usize, q: usize) -> u64
     requires { ⌜ Rooms a b c (q * 8 + 8) (length (now bytes)) ⌝ }
-    ensures { λ r. ⌜ Words (now (bytes .entry)) (a ∷ b ∷ c ∷ []) [] 3 q r ⌝ }
+    ensures { λ r. ⌜ Words (before bytes) (a ∷ b ∷ c ∷ []) [] 3 q r ⌝ }
 {
     let o = q * 8;
     kernels::get64(bytes, a + o) & kernels::get64(bytes, b + o) & kernels::get64(bytes, c + o)
@@ -34,7 +35,7 @@ fn and_words(bytes: &[u8], a: usize, b: usize, c: usize, q: usize) -> u64
 // `newest` at w = 1. What lies past the bound in the last word is shifted out at the top.
 fn last_and(bytes: &[u8], a: usize, b: usize, c: usize, n: usize) -> usize
     requires { ⌜ Rooms a b c ((n + 63) / 64 * 8) (length (now bytes)) ⌝ }
-    ensures { λ r. ⌜ r ≡ candidate (allIn (now (bytes .entry)) (a ∷ b ∷ c ∷ []) [] 1 3) n ⌝ }
+    ensures { λ r. ⌜ r ≡ candidate (allIn (before bytes) (a ∷ b ∷ c ∷ []) [] 1 3) n ⌝ }
 {
     let mut k = n;
     while k > 0 {
@@ -62,7 +63,7 @@ fn field_words(
     q: usize,
 ) -> u64
     requires { ⌜ Rooms a b c (q * 8 + 8) (length (now bytes)) × Lows la lb lc 64 ⌝ }
-    ensures { λ r. ⌜ Words (now (bytes .entry)) (a ∷ b ∷ c ∷ []) (la ∷ lb ∷ lc ∷ []) 3 q r ⌝ }
+    ensures { λ r. ⌜ Words (before bytes) (a ∷ b ∷ c ∷ []) (la ∷ lb ∷ lc ∷ []) 3 q r ⌝ }
 {
     let o = q * 8;
     let x = kernels::get64(bytes, a + o) >> la;
@@ -84,7 +85,7 @@ fn last_field(
     n: usize,
 ) -> usize
     requires { ⌜ IsWidth f × (n < 2 ^ 60) × Lows la lb lc (f .w) × Rooms a b c ((n * f .w + 63) / 64 * 8) (length (now bytes)) ⌝ }
-    ensures { λ r. ⌜ r ≡ candidate (allIn (now (bytes .entry)) (a ∷ b ∷ c ∷ []) (la ∷ lb ∷ lc ∷ []) (f .w) 3) n ⌝ }
+    ensures { λ r. ⌜ r ≡ candidate (allIn (before bytes) (a ∷ b ∷ c ∷ []) (la ∷ lb ∷ lc ∷ []) (f .w) 3) n ⌝ }
 {
     let lw = f.lw;
     let lp = f.lp;
@@ -118,7 +119,7 @@ fn all_at(
     o: usize,
 ) -> bool
     requires { ⌜ (a + o + la / 8 < length (now bytes)) × (b + o + lb / 8 < length (now bytes)) × (c + o + lc / 8 < length (now bytes)) ⌝ }
-    ensures { λ r. ⌜ r ≡ allIn (now (bytes .entry)) (a ∷ b ∷ c ∷ []) (la ∷ lb ∷ lc ∷ []) 1 3 (o * 8) ⌝ }
+    ensures { λ r. ⌜ r ≡ allIn (before bytes) (a ∷ b ∷ c ∷ []) (la ∷ lb ∷ lc ∷ []) 1 3 (o * 8) ⌝ }
 {
     let x = kernels::byte_of(bytes, a + o, la);
     let y = kernels::byte_of(bytes, b + o, lb);
@@ -139,7 +140,7 @@ fn last_plain(
     n: usize,
 ) -> usize
     requires { ⌜ (w % 8 ≡ 0) × (n * w < 2 ^ 60) × Lows la lb lc w × Rooms a b c ((n * w + 63) / 64 * 8) (length (now bytes)) ⌝ }
-    ensures { λ r. ⌜ r ≡ candidate (allIn (now (bytes .entry)) (a ∷ b ∷ c ∷ []) (la ∷ lb ∷ lc ∷ []) w 3) n ⌝ }
+    ensures { λ r. ⌜ r ≡ candidate (allIn (before bytes) (a ∷ b ∷ c ∷ []) (la ∷ lb ∷ lc ∷ []) w 3) n ⌝ }
 {
     let step = w / 8;
     let mut g = n;
@@ -158,7 +159,7 @@ fn last_plain(
 // The newest of n filters that has all its bits, plus one; 0 if none has.
 pub fn newest(bytes: &[u8], t: Triple, n: usize) -> usize
     requires { ⌜ Within3 t n (length (now bytes)) ⌝ }
-    ensures { λ r. ⌜ r ≡ candidate (allIn (now (bytes .entry)) (t .a ∷ t .b ∷ t .c ∷ []) (t .la ∷ t .lb ∷ t .lc ∷ []) (t .w) 3) n ⌝ }
+    ensures { λ r. ⌜ r ≡ candidate (allIn (before bytes) (t .a ∷ t .b ∷ t .c ∷ []) (t .la ∷ t .lb ∷ t .lc ∷ []) (t .w) 3) n ⌝ }
 {
     let w = t.w;
     if w == 1 {

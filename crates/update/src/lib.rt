@@ -6,7 +6,7 @@ ghost use Rattle.layout.specs.Items.{recordBytes};
 ghost use Rattle.layout.specs.Search.{found};
 ghost use Rattle.layout.specs.Calls.{update, call, answer, updateAfter};
 ghost use Rattle.geometry.specs.Shape.{shape};
-ghost use Rattle.state.specs.Contract.{volume, seen, changed};
+ghost use Rattle.state.specs.Contract.{seen, given, leftBy};
 ghost use Rattle.state.specs.Judge.{Fits};
 use geometry::Geometry;
 use search::Stop;
@@ -28,7 +28,8 @@ fn update_found(
     ram: &mut [u8],
 ) -> Change
     requires { ⌜ Fits s (now main) (now spare) (now ram) g ⌝ }
-    ensures { λ r. ⌜ changed r (now (main .exit)) (now (spare .exit)) (now (ram .exit)) ≡ seen (updateAfter fnvFamily (shape g) (volume s (now (main .entry)) (now (spare .entry)) (now (ram .entry))) key (recordBytes key moves goal word) (some (found j))) ⌝ }
+    ensures { λ r. ⌜ leftBy r main spare ram
+        ≡ seen (updateAfter fnvFamily (shape g) (given s main spare ram) key (recordBytes key moves goal word) (some (found j))) ⌝ }
 {
     let n = s.records as usize;
     let d = s.deletions as usize;
@@ -61,7 +62,7 @@ fn update_in(
     ram: &mut [u8],
 ) -> Change
     requires { ⌜ Fits s (now main) (now spare) (now ram) g ⌝ }
-    ensures { λ r. ⌜ changed r (now (main .exit)) (now (spare .exit)) (now (ram .exit)) ≡ seen (answer fnvFamily (shape g) (volume s (now (main .entry)) (now (spare .entry)) (now (ram .entry))) (update key moves goal word)) ⌝ }
+    ensures { λ r. ⌜ leftBy r main spare ram ≡ seen (answer fnvFamily (shape g) (given s main spare ram) (update key moves goal word)) ⌝ }
 {
     let f = search::search(g, main, ram, s.records as usize, s.deletions as usize, key);
     let stop = f.stop;
@@ -89,7 +90,7 @@ pub fn update(
     spare: &mut [u8],
     ram: &mut [u8],
 ) -> Change
-    ensures { λ r. ⌜ changed r (now (main .exit)) (now (spare .exit)) (now (ram .exit)) ≡ seen (call fnvFamily (volume s (now (main .entry)) (now (spare .entry)) (now (ram .entry))) (update key moves goal word)) ⌝ }
+    ensures { λ r. ⌜ leftBy r main spare ram ≡ seen (call fnvFamily (given s main spare ram) (update key moves goal word)) ⌝ }
 {
     match state::judge(s, main, spare, ram) {
         Judged::Refused(i) => {

@@ -2,7 +2,8 @@
 ghost use mathlib.Core.Path.{_≡_};
 ghost use Prim.Native.Nat.{_≤_};
 ghost use lib.ListN.{length};
-ghost use Rattle.state.specs.Contract.{volume};
+ghost use Rattle.memory.specs.Lent.{before, after};
+ghost use Rattle.state.specs.Contract.{volume, given};
 ghost use Rattle.requests.specs.Contract.{stepped, answeredLine};
 use requests::Step;
 use state::State;
@@ -22,7 +23,8 @@ pub fn answer_on(
     out: &mut [u8],
 ) -> usize
     requires { ⌜ 32 ≤ length (now out) ⌝ }
-    ensures { λ r. ⌜ record { length = r; volume = volume (now (v .exit) .state) (now (main .exit)) (now (spare .exit)) (now (ram .exit)); out = now (out .exit) } ≡ answeredLine (volume (now (v .entry) .state) (now (main .entry)) (now (spare .entry)) (now (ram .entry))) (now (line .entry)) (now (out .entry)) ⌝ }
+    ensures { λ r. ⌜ record { length = r; volume = volume (now (v .exit) .state) (after main) (after spare) (after ram); out = after out }
+        ≡ answeredLine (given (now (v .entry) .state) main spare ram) (before line) (before out) ⌝ }
 {
     let c = requests::answer_line(v.state, line, main, spare, ram, out);
     v.state = c.state;
@@ -39,7 +41,8 @@ pub fn answer_next(
     out: &mut [u8],
 ) -> Step
     requires { ⌜ 32 ≤ length (now out) ⌝ }
-    ensures { λ r. ⌜ stepped r (now (main .exit)) (now (spare .exit)) (now (ram .exit)) (now (out .exit)) ≡ answeredLine (volume s (now (main .entry)) (now (spare .entry)) (now (ram .entry))) (now (line .entry)) (now (out .entry)) ⌝ }
+    ensures { λ r. ⌜ stepped r (after main) (after spare) (after ram) (after out)
+        ≡ answeredLine (given s main spare ram) (before line) (before out) ⌝ }
 {
     let mut v = Volume { state: s };
     let length = answer_on(&mut v, line, main, spare, ram, out);
