@@ -63,7 +63,7 @@ def check_document(path):
 def contract(source, name):
     """What the contract of a function ensures; nothing if there is no such function."""
     found = re.search(rf"^( *)(?:pub )?(?:extern \"C\" )?fn {name}\b.*?\n\1\{{", source, re.M | re.S)
-    return found and " ".join(re.findall(r"^ *ensures.*", found.group(0), re.M))
+    return found and " ".join(re.findall(r"^ *ensures\b.*?⌝ \}", found.group(0), re.M | re.S))
 
 
 def items(cell):
