@@ -15,7 +15,8 @@ use Rattle.memory.specs.Numbers.{euclid, div-of, mod-of, carry}
 use Rattle.memory.specs.Words.{word, byteOf, bytes-word}
 use Rattle.layout.specs.Geometry.{sector, page, block}
 use Rattle.layout.specs.Flash.{Flash, Op, applyAll, allFresh}
-use Rattle.layout.specs.Items.{Area, itemPlace, source, bytesAt, itemWord, put, fills, pageOps, itemOps, itemRam}
+use Rattle.layout.specs.Items.{Area, itemPlace, source, bytesAt, itemWord, put, fills, itemRam}
+use Rattle.laws.specs.Operations.{pageOps, itemOps}
 use Rattle.laws.specs.FlashLaws.{fresh-programs, AllAllowed, programs-spare-out, programs-spare-in, programs-allowed, range-out, row-main}
 use Rattle.history.specs.Image.{AreaIs, areaByte, areaRamByte, areaSpareByte}
 use Rattle.laws.specs.AreaNumbers.{start, room-left, in-page, flat, flat-at, flat-ext, flat-new}

@@ -17,9 +17,10 @@ use Rattle.memory.specs.Words.{word}
 use Rattle.layout.specs.Geometry.{Geometry, filterBits, kaBlocks, indexBlock, fullSets, recordCapacity, deletionCapacity, spareSize, kaRam}
 use Rattle.layout.specs.Flash.{Flash, Op, applyAll, allFresh}
 use Rattle.layout.specs.Hash.{Family}
-use Rattle.layout.specs.Items.{RA, KA, DA, entryBytes, deletionBytes, itemOps, itemRam, put, fills}
-use Rattle.layout.specs.Index.{inSka, inFull, fullBlock, withFilter, filterOps, filterRam}
+use Rattle.layout.specs.Items.{RA, KA, DA, entryBytes, deletionBytes, itemRam, put, fills}
+use Rattle.layout.specs.Index.{inSka, inFull, fullBlock, withFilter, filterRam}
 use Rattle.layout.specs.Calls.{Draft, keyIndex, keyFilters, keyPositions, pageFilter, deletion, summary, insertion}
+use Rattle.laws.specs.Operations.{itemOps, filterOps}
 use Rattle.laws.specs.FlashLaws.{fresh-append, AllAllowed, apply-append, allowed-append}
 use Rattle.history.specs.Image.{Record, History, recordAt, bytesOf, raItem, kaItem, daItem, keyFilter}
 use Rattle.history.specs.Live.{withRecord, withDeletion}

@@ -15,9 +15,10 @@ use Rattle.memory.specs.Numbers.{carry, div-lt}
 use Rattle.layout.specs.Geometry.{Geometry, geometry, geometryOf, allowed, blocks, kaBlocks, fullSets, recordCapacity, deletionCapacity, ramSize, entriesPerPage, workRam}
 use Rattle.layout.specs.Flash.{Flash, erases, allFresh}
 use Rattle.layout.specs.Hash.{Family, fnvFamily}
-use Rattle.layout.specs.Items.{RA, KA, DA, entryBytes, deletionBytes, put, fills, itemOps, itemRam}
+use Rattle.layout.specs.Items.{RA, KA, DA, entryBytes, deletionBytes, put, fills, itemRam}
 use Rattle.layout.specs.Search.{Stop, found, corrupt}
 use Rattle.layout.specs.Calls.{Volume, Call, insert, update, delete, lookup, Outcome, accepted, hit, miss, refused, Result, refuse, badState, tooShort, judged, format, formatted, keyIndex, keyFilters, Draft, keyPositions, tryAt, maybeIn, search, deletion, pageFilter, summary, insertion, commit, noRoom, noDeletion, insertAfter, updateAfter, deleteAfter, lookupAfter, answer, call}
+use Rattle.laws.specs.Operations.{itemOps}
 use Rattle.laws.specs.FlashLaws.{apply-main-length, apply-spare-length}
 use Rattle.laws.specs.ItemLaws.{length-record, length-entry, length-deletion}
 use Rattle.laws.specs.SearchLaws.{search-opened}

@@ -14,7 +14,8 @@ use Rattle.memory.specs.Numbers.{euclid, carry, div-of, mod-of}
 use Rattle.layout.specs.Geometry.{sector, page, block, filterBits}
 use Rattle.layout.specs.Flash.{Flash, Op, applyAll, allFresh}
 use Rattle.layout.specs.Items.{zeroPage}
-use Rattle.layout.specs.Index.{Index, rowByte, inSka, inL1, inSet, inFull, fullFilters, fullBlock, filterBit, withFilter, flushOps, buildOps, flushAndBuild, filterOps, filterRam}
+use Rattle.layout.specs.Index.{Index, rowByte, inSka, inL1, inSet, inFull, fullFilters, fullBlock, filterBit, withFilter, filterRam}
+use Rattle.laws.specs.Operations.{flushOps, buildOps, flushAndBuildOps, filterOps}
 use Rattle.history.specs.Image.{IndexMain, IndexSpare, IndexIs}
 use Rattle.laws.specs.FlashLaws.{fresh-append, AllAllowed, apply-append, allowed-append, apply-main-length, apply-spare-length}
 use Rattle.laws.specs.RowLaws.{unit-pos}
@@ -168,26 +169,26 @@ module _ (u e : ℕ) (pow : u ≡ 2 ^ e) (ix : Index) (Z : ℕ) where
       ska-8 : SkaIs u ix F (N / 8) 8 ram₁
       ska-8 = rw eight at ska-one
 
-      by-flush : N / 8 % 16 + 1 ≢ 16 → IndexAfter u ix Z F (ix .first) (inFull u N) (inSet u N) (inL1 N + 1) (flushAndBuild u ix C N ram₁) C
-      unfolding flushAndBuild
+      by-flush : N / 8 % 16 + 1 ≢ 16 → IndexAfter u ix Z F (ix .first) (inFull u N) (inSet u N) (inL1 N + 1) (flushAndBuildOps u ix C N ram₁) C
+      unfolding flushAndBuildOps
       by-flush less =
           rw (ne-eqb (N / 8 % 16 + 1) 16 less)
           (after-flush F (inFull u N) (inSet u N) (inL1 N) (N / 8) C ram₁ (I .on-main) (I .on-spare) ska-8 (flash-count N) (mod-lt (N / 8 / 16) four-pos) hz (omega arith) main-fits spare-fits)
 
-      by-side : N / 8 % 16 + 1 ≡ 16 → inSet u N + 1 ≢ 4 * u → IndexAfter u ix Z F (ix .first) (inFull u N) (inSet u N + 1) 0 (flushAndBuild u ix C N ram₁) C
-      unfolding flushAndBuild
+      by-side : N / 8 % 16 + 1 ≡ 16 → inSet u N + 1 ≢ 4 * u → IndexAfter u ix Z F (ix .first) (inFull u N) (inSet u N + 1) 0 (flushAndBuildOps u ix C N ram₁) C
+      unfolding flushAndBuildOps
       by-side sixteen more =
           let hc : inSet u N < 4 * u = mod-lt (N / 8 / 16) four-pos in
           rw (eq-eqb (N / 8 % 16 + 1) 16 sixteen)
           (after-side F (inFull u N) (inSet u N) (inL1 N) (N / 8) C ram₁ (I .on-main) (I .on-spare) ska-8 (flash-count N) hc hz (omega arith) main-fits spare-fits sixteen (omega arith))
 
-      by-full : N / 8 % 16 + 1 ≡ 16 → inSet u N + 1 ≡ 4 * u → inFull u N < Z → IndexAfter u ix Z F (ix .first) (inFull u N + 1) 0 0 (flushAndBuild u ix C N ram₁) C
-      unfolding flushAndBuild
+      by-full : N / 8 % 16 + 1 ≡ 16 → inSet u N + 1 ≡ 4 * u → inFull u N < Z → IndexAfter u ix Z F (ix .first) (inFull u N + 1) 0 0 (flushAndBuildOps u ix C N ram₁) C
+      unfolding flushAndBuildOps
       by-full sixteen last less =
           rw (eq-eqb (N / 8 % 16 + 1) 16 sixteen)
           (after-full F (inFull u N) (inSet u N) (inL1 N) (N / 8) C ram₁ (I .on-main) (I .on-spare) ska-8 (flash-count N) (mod-lt (N / 8 / 16) four-pos) hz (omega arith) main-fits spare-fits sixteen last less)
 
-    after-page : N % 8 + 1 ≡ 8 → (N + 1) / 8 ≡ N / 8 + 1 → IndexAfter u ix Z F (ix .first) (inFull u (N + 1)) (inSet u (N + 1)) (inL1 (N + 1)) (flushAndBuild u ix C N ram₁) C
+    after-page : N % 8 + 1 ≡ 8 → (N + 1) / 8 ≡ N / 8 + 1 → IndexAfter u ix Z F (ix .first) (inFull u (N + 1)) (inSet u (N + 1)) (inL1 (N + 1)) (flushAndBuildOps u ix C N ram₁) C
     after-page eight up =
         either (carry (N / 8) 16 (omega arith))
         (λ b. either (carry (N / 8 / 16) (4 * u) four-pos)
@@ -195,19 +196,19 @@ module _ (u e : ℕ) (pow : u ≡ 2 ^ e) (ix : Index) (Z : ℕ) where
         let z-is : inFull u (N + 1) ≡ inFull u N + 1 = rw (up, b .1) (d .1) in
         let c-is : inSet u (N + 1) ≡ 0 = rw (up, b .1) (d .2) in
         let t-is : inL1 (N + 1) ≡ 0 = rw up (b .2) in
-        after-as F (ix .first) (inFull u N + 1) (inFull u (N + 1)) 0 (inSet u (N + 1)) 0 (inL1 (N + 1)) (flushAndBuild u ix C N ram₁) C z-is c-is t-is
+        after-as F (ix .first) (inFull u N + 1) (inFull u (N + 1)) 0 (inSet u (N + 1)) 0 (inL1 (N + 1)) (flushAndBuildOps u ix C N ram₁) C z-is c-is t-is
         (by-full eight (omega arith) (b .0) (d .0) (omega arith)))
         (λ d.
         let z-is : inFull u (N + 1) ≡ inFull u N = rw (up, b .1) (d .1) in
         let c-is : inSet u (N + 1) ≡ inSet u N + 1 = rw (up, b .1) (d .2) in
         let t-is : inL1 (N + 1) ≡ 0 = rw up (b .2) in
-        after-as F (ix .first) (inFull u N) (inFull u (N + 1)) (inSet u N + 1) (inSet u (N + 1)) 0 (inL1 (N + 1)) (flushAndBuild u ix C N ram₁) C z-is c-is t-is
+        after-as F (ix .first) (inFull u N) (inFull u (N + 1)) (inSet u N + 1) (inSet u (N + 1)) 0 (inL1 (N + 1)) (flushAndBuildOps u ix C N ram₁) C z-is c-is t-is
         (by-side eight (omega arith) (b .0) (d .0))))
         (λ b.
         let z-is : inFull u (N + 1) ≡ inFull u N = rw (up, b .1) in
         let c-is : inSet u (N + 1) ≡ inSet u N = rw (up, b .1) in
         let t-is : inL1 (N + 1) ≡ inL1 N + 1 = rw up (b .2) in
-        after-as F (ix .first) (inFull u N) (inFull u (N + 1)) (inSet u N) (inSet u (N + 1)) (inL1 N + 1) (inL1 (N + 1)) (flushAndBuild u ix C N ram₁) C z-is c-is t-is
+        after-as F (ix .first) (inFull u N) (inFull u (N + 1)) (inSet u N) (inSet u (N + 1)) (inL1 N + 1) (inL1 (N + 1)) (flushAndBuildOps u ix C N ram₁) C z-is c-is t-is
         (by-flush eight (omega arith) (b .0)))
 
     -- no operation: the filter stays in the SKA page

@@ -13,9 +13,10 @@ use Rattle.memory.specs.Numbers.{div-lt}
 use Rattle.layout.specs.Geometry.{Geometry, page, block, filterBits, kaBlocks, blocks, indexBlock, fullSets, recordCapacity, deletionCapacity, dataSize, spareSize, ramSize}
 use Rattle.layout.specs.Flash.{Flash, Op, applyAll, allFresh}
 use Rattle.layout.specs.Hash.{Family}
-use Rattle.layout.specs.Items.{Area, RA, KA, DA, itemOps, itemRam}
-use Rattle.layout.specs.Index.{Index, inSka, inFull, fullBlock, withFilter, filterOps, filterRam}
+use Rattle.layout.specs.Items.{Area, RA, KA, DA, itemRam}
+use Rattle.layout.specs.Index.{Index, inSka, inFull, fullBlock, withFilter, filterRam}
 use Rattle.layout.specs.Calls.{keyIndex}
+use Rattle.laws.specs.Operations.{itemOps, filterOps}
 use Rattle.laws.specs.FlashLaws.{AllAllowed, apply-main-length, apply-spare-length}
 use Rattle.history.specs.Image.{History, raItem, kaItem, daItem, keyFilter, AreaIs, IndexIs}
 use Rattle.history.specs.AreaLaws as area

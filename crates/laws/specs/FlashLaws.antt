@@ -12,7 +12,8 @@ use lib.Dec.{eqb}
 use Rattle.memory.specs.Lists.{write, length-write, getD-write-before, getD-write-in, getD-write-after, tab, length-tab, getD-tab}
 use Rattle.memory.specs.Numbers.{euclid, div-lt}
 use Rattle.memory.specs.Cases.{lt?, eq?, either}
-use Rattle.layout.specs.Flash.{Op, program, erase, Flash, apply, applyAll, programs, erases, fresh, allFresh}
+use Rattle.layout.specs.Flash.{Op, program, erase, Flash, apply, applyAll, erases, fresh, allFresh}
+use Rattle.laws.specs.Operations.{programs}
 
 -- ---- refusal 7: the sectors to be programmed are fresh, by the marks before the first operation
 

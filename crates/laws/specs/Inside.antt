@@ -12,9 +12,10 @@ use Rattle.memory.specs.Cases.{either, bool?, eq?}
 use Rattle.memory.specs.Lists.{length-tab, length-write, getD-write-after}
 use Rattle.memory.specs.Numbers.{carry}
 use Rattle.layout.specs.Geometry.{sector, page, block}
-use Rattle.layout.specs.Flash.{Flash, Op, program, erase, apply, applyAll, programs, erases}
-use Rattle.layout.specs.Items.{Area, put, fills, itemOps, itemRam, zeroPage}
-use Rattle.layout.specs.Index.{Index, inSka, inL1, inSet, inFull, setPages, setBlocks, sideBlock, fullBlock, setBlock, withFilter, flushOps, buildOps, flushAndBuild, filterOps, filterRam}
+use Rattle.layout.specs.Flash.{Flash, Op, program, erase, apply, applyAll, erases}
+use Rattle.layout.specs.Items.{Area, put, fills, itemRam, zeroPage}
+use Rattle.layout.specs.Index.{Index, inSka, inL1, inSet, inFull, setPages, setBlocks, sideBlock, fullBlock, setBlock, withFilter, filterRam}
+use Rattle.laws.specs.Operations.{programs, itemOps, flushOps, buildOps, flushAndBuildOps, filterOps}
 use Rattle.laws.specs.RowLaws.{unit-pos, blocks-fit, side-range}
 use Rattle.laws.specs.SkaLaws.{filter-out, filter-length}
 
@@ -114,13 +115,13 @@ module _ (u e : ℕ) (pow : u ≡ 2 ^ e) (B : ℕ) (ix : Index) (Z : ℕ) (end :
       either (carry (N / 8 / 16) (4 * u) four-pos) (λ d. omega (arith, d .1, r)) (λ d. absurd (d .0 last))
 
   pub inside-filter : (N : ℕ) (C : Flash) (ram : List ℕ) → inFull u (N + 1) ≤ Z → Inside u B (filterOps u ix C N ram)
-  unfolding flushAndBuild
+  unfolding flushAndBuildOps
   inside-filter N C ram room =
       either (eq? (N % 8 + 1) 8)
       (λ a. rw (a .0) (flushed (a .1)))
       (λ a. rw (a .0) (inside-none u B))
     where
-      flushed : N % 8 + 1 ≡ 8 → Inside u B (flushAndBuild u ix C N ram)
+      flushed : N % 8 + 1 ≡ 8 → Inside u B (flushAndBuildOps u ix C N ram)
       flushed eight =
           inside-append u B _ _ (inside-flush (inL1 N) ram (omega arith))
           (either (eq? (N / 8 % 16 + 1) 16)

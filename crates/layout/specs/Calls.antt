@@ -9,10 +9,10 @@ use Rattle.memory.specs.Lists.{write}
 use Rattle.memory.specs.Words.{word, bytes4}
 use Rattle.memory.specs.Ranges.{any, memb, allOf}
 use Rattle.layout.specs.Geometry.{State, Geometry, geometry, geometryOf, allowed, recordCapacity, deletionCapacity, dataSize, spareSize, ramSize, blocks, indexBlock, entriesPerPage, kaRam, skaRam, workRam}
-use Rattle.layout.specs.Flash.{Flash, Op, applyAll, erases, allFresh}
+use Rattle.layout.specs.Flash.{Flash, Op, applyAll, erases, Planned, planOps, allFresh}
 use Rattle.layout.specs.Hash.{Family, positions, positionCount}
-use Rattle.layout.specs.Index.{Index, filterBit, withFilter, filterOps, filterRam, inSka}
-use Rattle.layout.specs.Items.{RA, KA, DA, recordBytes, entryBytes, deletionBytes, Place, itemPlace, bytesAt, itemWord, put, fills, itemOps, itemRam, zeroPage}
+use Rattle.layout.specs.Index.{Index, filterBit, withFilter, filterPlan, filterRam, inSka}
+use Rattle.layout.specs.Items.{RA, KA, DA, recordBytes, entryBytes, deletionBytes, Place, itemPlace, bytesAt, itemWord, put, fills, itemPlan, itemRam, zeroPage}
 use Rattle.layout.specs.Search.{Stop, found, corrupt, Found, tryEntry, searchFrom}
 
 -- ---- what is handed in and what comes back
@@ -95,11 +95,6 @@ keyIndex g = record { first = indexBlock g; ska = skaRam (g .u) }
 abbrev pub keyFilters : Geometry → ℕ → ℕ
 keyFilters g n = n / entriesPerPage (g .u)
 
--- operations of a change so far, and the RAM after them
-pub record Draft : Type 0 where
-  pub ops : List Op
-  pub ram : List ℕ
-
 -- ---- the search on a volume
 
 -- record numbers in DA
@@ -124,52 +119,57 @@ keyPositions h g key = positions h positionCount (g .u) (bytes4 key)
 unfoldable pub search : Family → Geometry → Volume → ℕ → Found
 search h g v key = searchFrom (maybeIn g v (keyPositions h g key)) (tryAt g v key) (entriesPerPage (g .u)) (v .state .records)
 
--- ---- what an accepted change does
+-- ---- what an accepted change plans, and the RAM after it. Every sector is planned out of the RAM handed in, which no change touches
+-- before its last operation
 
 -- "A deletion appends the 4-byte record number to DA"
-unfoldable pub deletion : Geometry → ℕ → ℕ → List ℕ → Draft
-deletion g d j ram = record { ops = itemOps (g .u) (DA g) d (deletionBytes j) ram; ram = itemRam (g .u) (DA g) d (deletionBytes j) ram }
+unfoldable pub deletionPlan : Geometry → ℕ → ℕ → List ℕ → List Planned
+deletionPlan g d j ram = itemPlan (g .u) (DA g) d (deletionBytes j) ram
 
--- 7 if a sector to be programmed is not fresh; else the operations are done, the work page is zeroed and the counts rise
-unfoldable pub commit : Geometry → Volume → ℕ → ℕ → Draft → Result
-commit g v n d t =
-    cond (allFresh (v .flash .spare) (t .ops))
-    (record {
-      outcome = accepted;
-      count = 0;
-      volume = record {
-        state = record { sectorSize = v .state .sectorSize; raBlocks = v .state .raBlocks; daBlocks = v .state .daBlocks; records = n; deletions = d };
-        flash = applyAll (g .u) (t .ops) (v .flash);
-        ram = zeroPage (g .u) (workRam (g .u)) (t .ram);
-      };
-      ops = t .ops;
-    })
-    (refuse v 7)
+unfoldable pub deletionRam : Geometry → ℕ → ℕ → List ℕ → List ℕ
+deletionRam g d j ram = itemRam (g .u) (DA g) d (deletionBytes j) ram
 
 module _ (h : Family) where
   -- "A full KA page gives one filter of m bits with the positions of all its keys set"; the keys in the page's bytes
   unfoldable pub pageFilter : Geometry → List ℕ → ℕ → Bool
   pageFilter g ram x = any (λ i. memb x (keyPositions h g (word ram (kaRam (g .u) + i * 8)))) (entriesPerPage (g .u))
 
-  -- a full KA page's filter, of the RAM page `keys` as it was programmed
-  unfoldable pub summary : Geometry → Flash → ℕ → List ℕ → Draft → Draft
-  summary g flash F keys t =
-      let ram : List ℕ = withFilter (g .u) (keyIndex g) (inSka F) (pageFilter g keys) (t .ram) in
-      record {
-        ops = t .ops ++ filterOps (g .u) (keyIndex g) (applyAll (g .u) (t .ops) flash) F ram;
-        ram = filterRam (g .u) (keyIndex g) F ram;
-      }
+  -- the filter of the page that entry n fills
+  abbrev pub newFilter : Geometry → ℕ → ℕ → List ℕ → ℕ → Bool
+  newFilter g n key ram = pageFilter g (put (KA g) n (entryBytes key n) ram)
+
+  -- the SKA page with this filter in its place
+  abbrev pub summarized : Geometry → ℕ → ℕ → List ℕ → List ℕ → List ℕ
+  summarized g n key keys ram = withFilter (g .u) (keyIndex g) (inSka (keyFilters g n)) (newFilter g n key keys) ram
 
   -- record n and its entry: "RA page, KA page, SKA sectors, set pages, .. last the erases"
-  unfoldable pub insertion : Geometry → Flash → ℕ → ℕ → List ℕ → Draft → Draft
-  insertion g flash n key bytes t =
-      let ops₁ : List Op = t .ops ++ itemOps (g .u) (RA g) n bytes (t .ram) in
-      let ram₁ : List ℕ = itemRam (g .u) (RA g) n bytes (t .ram) in
-      let ops₂ : List Op = ops₁ ++ itemOps (g .u) (KA g) n (entryBytes key n) ram₁ in
-      let ram₂ : List ℕ = itemRam (g .u) (KA g) n (entryBytes key n) ram₁ in
-      cond (fills (KA g) n)
-      (summary g flash (keyFilters g n) (put (KA g) n (entryBytes key n) ram₁) (record { ops = ops₂; ram = ram₂ }))
-      (record { ops = ops₂; ram = ram₂ })
+  unfoldable pub insertionPlan : Geometry → ℕ → ℕ → List ℕ → List ℕ → List Planned
+  insertionPlan g n key bytes ram =
+      itemPlan (g .u) (RA g) n bytes ram
+      ++ (itemPlan (g .u) (KA g) n (entryBytes key n) ram
+      ++ cond (fills (KA g) n) (filterPlan (g .u) (keyIndex g) (keyFilters g n) (summarized g n key ram ram)) [])
+
+  unfoldable pub insertionRam : Geometry → ℕ → ℕ → List ℕ → List ℕ → List ℕ
+  insertionRam g n key bytes ram =
+      let entered : List ℕ = itemRam (g .u) (KA g) n (entryBytes key n) (itemRam (g .u) (RA g) n bytes ram) in
+      cond (fills (KA g) n) (filterRam (g .u) (keyIndex g) (keyFilters g n) (summarized g n key ram entered)) entered
+
+-- 7 if a sector to be programmed is not fresh; else the plan's operations are done, the work page is zeroed and the counts rise
+unfoldable pub commit : Geometry → Volume → ℕ → ℕ → List Planned → List ℕ → Result
+commit g v n d plan ram =
+    let ops : List Op = planOps (g .u) plan (v .flash) in
+    cond (allFresh (v .flash .spare) ops)
+    (record {
+      outcome = accepted;
+      count = 0;
+      volume = record {
+        state = record { sectorSize = v .state .sectorSize; raBlocks = v .state .raBlocks; daBlocks = v .state .daBlocks; records = n; deletions = d };
+        flash = applyAll (g .u) ops (v .flash);
+        ram = zeroPage (g .u) (workRam (g .u)) ram;
+      };
+      ops = ops;
+    })
+    (refuse v 7)
 
 -- ---- the calls after 1 and 2, by what the search met: "Checked in the order 1, 2, 8, 3, 4, 5, 6, 7"
 
@@ -185,7 +185,8 @@ deleteAfter g v (some corrupt) = refuse v 8
 deleteAfter g v none = refuse v 4
 deleteAfter g v (some (found j)) =
     cond (noDeletion g v) (refuse v 6)
-    (commit g v (v .state .records) (v .state .deletions + 1) (deletion g (v .state .deletions) j (v .ram)))
+    (commit g v (v .state .records) (v .state .deletions + 1)
+    (deletionPlan g (v .state .deletions) j (v .ram)) (deletionRam g (v .state .deletions) j (v .ram)))
 
 -- "hit, count and the 16 record bytes .. on the chip or in the desk, wherever that record is"
 abbrev pub recordPlace : Geometry → Volume → ℕ → Place
@@ -204,7 +205,7 @@ module _ (h : Family) where
   insertAfter g v key bytes none =
       cond (noRoom g v) (refuse v 5)
       (commit g v (v .state .records + 1) (v .state .deletions)
-      (insertion h g (v .flash) (v .state .records) key bytes (record { ops = []; ram = v .ram })))
+      (insertionPlan h g (v .state .records) key bytes (v .ram)) (insertionRam h g (v .state .records) key bytes (v .ram)))
 
   -- "An update is a deletion followed by an insertion, in one call"
   unfoldable pub updateAfter : Geometry → Volume → ℕ → List ℕ → Option Stop → Result
@@ -214,7 +215,8 @@ module _ (h : Family) where
       cond (noRoom g v) (refuse v 5)
       (cond (noDeletion g v) (refuse v 6)
       (commit g v (v .state .records + 1) (v .state .deletions + 1)
-      (insertion h g (v .flash) (v .state .records) key bytes (deletion g (v .state .deletions) j (v .ram)))))
+      (deletionPlan g (v .state .deletions) j (v .ram) ++ insertionPlan h g (v .state .records) key bytes (v .ram))
+      (insertionRam h g (v .state .records) key bytes (deletionRam g (v .state .deletions) j (v .ram)))))
 
   abbrev pub answer : Geometry → Volume → Call → Result
   answer g v (insert key moves goal free) = insertAfter g v key (recordBytes key moves goal free) (search h g v key .stop)

@@ -6,11 +6,11 @@ use Prim.Native.Nat.{ℕ, _+_, _-_, _*_, _/_, _%_}
 use lib.ListN.{length, getD}
 use Rattle.memory.specs.Power.{log2up}
 use Rattle.layout.specs.Geometry.{Geometry, geometry, blocks, indexBlock, recordCapacity, sectorSizes, sector, page, recordsPerPage, entriesPerPage, filterBits}
-use Rattle.layout.specs.Flash.{Op, program, erase}
+use Rattle.layout.specs.Flash.{Planned, known, made, wipe, plannedFrom}
 use Rattle.layout.specs.Hash.{Family, fnvFrom, fnv1a}
-use Rattle.layout.specs.Index.{Index, BitPlace, inSka, inL1, setPages, setWidth, setPlace, l1Place, flushOps, flushAndBuild}
+use Rattle.layout.specs.Index.{Index, BitPlace, inSka, inL1, setPages, setWidth, setPlace, l1Place, flushSector, flushAndBuild}
 use Rattle.layout.specs.Items.{RA, Place, itemPlace}
-use Rattle.layout.specs.Calls.{keyFilters, summary, insertion}
+use Rattle.layout.specs.Calls.{keyFilters, insertionPlan}
 
 -- a row: what the definitions give, and what the document says
 pub record Row : Type 0 where
@@ -34,16 +34,18 @@ num t = cond t 1 0
 abbrev B : ℕ → ℕ → ℕ → ℕ
 B S R D = blocks (geometry S R D)
 
--- the sectors that operations program, and the blocks that they erase, in order
-abbrev pub sectorsOf : List Op → List ℕ
+-- the sectors that a plan programs, and the blocks that it erases, in order
+abbrev pub sectorsOf : List Planned → List ℕ
 sectorsOf [] = []
-sectorsOf (program s bytes ∷ os) = s ∷ sectorsOf os
-sectorsOf (erase b ∷ os) = sectorsOf os
+sectorsOf (known s bytes ∷ ps) = s ∷ sectorsOf ps
+sectorsOf (made s bytes ∷ ps) = s ∷ sectorsOf ps
+sectorsOf (wipe b ∷ ps) = sectorsOf ps
 
-abbrev pub blocksOf : List Op → List ℕ
+abbrev pub blocksOf : List Planned → List ℕ
 blocksOf [] = []
-blocksOf (program s bytes ∷ os) = blocksOf os
-blocksOf (erase b ∷ os) = b ∷ blocksOf os
+blocksOf (known s bytes ∷ ps) = blocksOf ps
+blocksOf (made s bytes ∷ ps) = blocksOf ps
+blocksOf (wipe b ∷ ps) = b ∷ blocksOf ps
 
 -- an index that starts at block 0
 abbrev index : Index
@@ -55,7 +57,7 @@ partition = setPlace 1 0 (setWidth 1 2) 200 13
 
 -- the third sector of flush 6 at S = 16: as programmed, and as read for filter 48 of the round, bit 2S
 abbrev flushed : ℕ
-flushed = getD (sectorsOf (flushOps 1 index 6 [])) 2 0
+flushed = getD (sectorsOf (plannedFrom (flushSector 1 index 6 []) 0 4)) 2 0
 
 abbrev flushRead : ℕ
 flushRead = l1Place 1 index 48 (2 * sector 1) .row / sector 1
@@ -71,8 +73,8 @@ g16 = geometry 16 16 1
 abbrev filters : ℕ
 filters = keyFilters g16 1023
 
-abbrev oneMore : Family → ℕ → List ℕ → List Op
-oneMore h key bytes = insertion h g16 (record { main = []; spare = [] }) 1023 key bytes (record { ops = []; ram = [] }) .ops
+abbrev oneMore : Family → ℕ → List ℕ → List Planned
+oneMore h key bytes = insertionPlan h g16 1023 key bytes []
 
 -- the last line's insert is of any record, whatever the hash functions
 abbrev pub examples : Family → ℕ → List ℕ → List Row
@@ -120,7 +122,7 @@ examples h key bytes =
     ∷ []
 
 pub examples-hold : (h : Family) (key : ℕ) (bytes : List ℕ) → computed (examples h key bytes) ≡ expected (examples h key bytes)
-unfolding fnvFrom log2up insertion summary flushAndBuild
+unfolding fnvFrom log2up insertionPlan flushAndBuild
 examples-hold h key bytes = refl
 
 -- ---- the table of sector sizes: "records a page (S/4)", "entries a page (S/2)", "filter bits m (4S)"

@@ -37,7 +37,18 @@ blocksAllowed b = leb 1 b && leb b 4096
 unfoldable pub allowed : ℕ → ℕ → ℕ → Bool
 allowed S R D = memb S sectorSizes && (blocksAllowed R && blocksAllowed D)
 
--- ---- sizes in bytes: "A page is always four sectors, a block always sixteen pages"
+-- ---- sizes: "A page is always four sectors, a block always sixteen pages"
+
+abbrev pub sectorsPerPage : ℕ
+sectorsPerPage = 4
+
+abbrev pub pagesPerBlock : ℕ
+pagesPerBlock = 16
+
+abbrev pub sectorsPerBlock : ℕ
+sectorsPerBlock = pagesPerBlock * sectorsPerPage
+
+-- in bytes
 
 module _ (u : ℕ) where
   abbrev pub sector : ℕ
@@ -105,7 +116,7 @@ module _ (g : Geometry) where
   dataSize = blocks * block (g .u)
 
   abbrev pub spareSize : ℕ
-  spareSize = blocks * 64
+  spareSize = blocks * sectorsPerBlock
 
   abbrev pub ramSize : ℕ
   ramSize = 5 * page (g .u)

@@ -5,11 +5,11 @@ use mathlib.Core.List.{List, [], _++_}
 use Prim.Native.Nat.{ℕ, zero, suc, _+_, _-_, _*_, _/_, _%_, _^_}
 use lib.ListN.{getD}
 use lib.Dec.{ltb, eqb}
-use Rattle.memory.specs.Lists.{pieces}
+use Rattle.memory.specs.Lists.{pieces, tab}
 use Rattle.memory.specs.Bits.{bit, pack}
 use Rattle.memory.specs.Power.{log2up}
-use Rattle.layout.specs.Geometry.{sector, page, block, filterBits, sideBlocks}
-use Rattle.layout.specs.Flash.{Flash, Op, applyAll, programs, erases}
+use Rattle.layout.specs.Geometry.{sectorsPerPage, pagesPerBlock, sectorsPerBlock, sector, page, block, filterBits, sideBlocks}
+use Rattle.layout.specs.Flash.{Planned, known, made, wipe, plannedFrom}
 use Rattle.layout.specs.Items.{zeroPage}
 
 pub record Index : Type 0 where
@@ -37,16 +37,26 @@ bitAt main ram p = bit (getD (cond (p .inRam) ram main) (p .row + p .at / 8) 0) 
 
 -- ---- the configuration that F filters make
 
-abbrev pub inSka : ℕ → ℕ
-inSka F = F % 8
+-- "Eight filters fill the SKA page"; flushes 0 to 15 make a round
+abbrev pub filtersPerFlush : ℕ
+filtersPerFlush = 8
 
--- flushes in L1, of 16
+abbrev pub flushesPerRound : ℕ
+flushesPerRound = 16
+
+abbrev pub filtersPerRound : ℕ
+filtersPerRound = flushesPerRound * filtersPerFlush
+
+abbrev pub inSka : ℕ → ℕ
+inSka F = F % filtersPerFlush
+
+-- flushes in L1
 abbrev pub inL1 : ℕ → ℕ
-inL1 F = F / 8 % 16
+inL1 F = F / filtersPerFlush % flushesPerRound
 
 -- "P being 16 times the least power of two not below i - 1": pages of set number c + 1
 abbrev pub setPages : ℕ → ℕ
-setPages c = 16 * 2 ^ log2up c
+setPages c = pagesPerBlock * 2 ^ log2up c
 
 -- blocks of set number c + 1; none for c = 0: "Set 2 has no earlier set"
 abbrev pub setBlocks : ℕ → ℕ
@@ -56,19 +66,19 @@ setBlocks (suc c) = 2 ^ log2up (suc c)
 module _ (u : ℕ) where
   -- rounds in the current set, of S/4; c rounds make set number c + 1
   abbrev pub inSet : ℕ → ℕ
-  inSet F = F / 8 / 16 % sideBlocks u
+  inSet F = F / filtersPerFlush / flushesPerRound % sideBlocks u
 
   -- full sets
   abbrev pub inFull : ℕ → ℕ
-  inFull F = F / 8 / 16 / sideBlocks u
+  inFull F = F / filtersPerFlush / flushesPerRound / sideBlocks u
 
   -- "w = m/P"
   abbrev pub setWidth : ℕ → ℕ
   setWidth c = filterBits u / setPages c
 
-  -- filters of a full set: 128 of each round
+  -- filters of a full set
   abbrev pub fullFilters : ℕ
-  fullFilters = 128 * sideBlocks u
+  fullFilters = filtersPerRound * sideBlocks u
 
   -- filter g of a set from block b on: "page p holds bits pw to pw+w-1"
   abbrev pub setPlace : ℕ → ℕ → ℕ → ℕ → BitPlace
@@ -89,21 +99,21 @@ module _ (u : ℕ) where
     abbrev pub skaPlace : ℕ → ℕ → BitPlace
     skaPlace s x = record { inRam = true; row = ix .ska + x / sector u * sector u; at = s * sector u + x % sector u }
 
-    -- filter f of the round in L1: "sector t mod 4 of page 4i + floor(t/4)" for flush t = f / 8
+    -- filter f of the round in L1: "sector t mod 4 of page 4i + floor(t/4)" for flush t = f / 8, slot f mod 8
     abbrev pub l1Place : ℕ → ℕ → BitPlace
     l1Place f x =
-        record { inRam = false; row = ix .first * block u + ((4 * (x / sector u) + f / 8 / 4) * page u + f / 8 % 4 * sector u); at = f % 8 * sector u + x % sector u }
+        record { inRam = false; row = ix .first * block u + ((4 * (x / sector u) + f / filtersPerFlush / 4) * page u + f / filtersPerFlush % 4 * sector u); at = f % filtersPerFlush * sector u + x % sector u }
 
     -- filter f on flash, with z full sets and c rounds in the current one
     abbrev pub flashPlace : ℕ → ℕ → ℕ → ℕ → BitPlace
     flashPlace z c f x =
         cond (ltb f (z * fullFilters)) (setPlace (fullBlock (f / fullFilters)) 1 (f % fullFilters) x)
-        (cond (ltb f (z * fullFilters + 128 * c)) (setPlace (sideBlock c) (setWidth c) (f - z * fullFilters) x)
-        (l1Place (f - (z * fullFilters + 128 * c)) x))
+        (cond (ltb f (z * fullFilters + filtersPerRound * c)) (setPlace (sideBlock c) (setWidth c) (f - z * fullFilters) x)
+        (l1Place (f - (z * fullFilters + filtersPerRound * c)) x))
 
     -- filter f of F
     abbrev pub filterPlace : ℕ → ℕ → ℕ → BitPlace
-    filterPlace F f x = cond (ltb f (F / 8 * 8)) (flashPlace (inFull F) (inSet F) f x) (skaPlace (f - F / 8 * 8) x)
+    filterPlace F f x = cond (ltb f (F / filtersPerFlush * filtersPerFlush)) (flashPlace (inFull F) (inSet F) f x) (skaPlace (f - F / filtersPerFlush * filtersPerFlush) x)
 
     unfoldable pub filterBit : List ℕ → List ℕ → ℕ → ℕ → ℕ → Bool
     filterBit main ram F f x = bitAt main ram (filterPlace F f x)
@@ -114,34 +124,38 @@ module _ (u : ℕ) where
     abbrev pub withFilter : ℕ → (ℕ → Bool) → List ℕ → List ℕ
     withFilter s new ram = pieces (2 * u) (sector u) (ix .ska + s * (2 * u)) 4 (λ i y. pack 8 (λ b. new (i * sector u + (y * 8 + b)))) ram
 
-    -- flush t: sector t mod 4 of page 4i + floor(t/4), which is sector t + 16 i, for i = 0 to 3
-    abbrev pub flushOps : ℕ → List ℕ → List Op
-    flushOps t ram = programs u 16 (ix .first * 64 + t) 4 (λ i y. getD ram (ix .ska + (i * sector u + y)) 0)
+    -- sector i of flush t: sector t mod 4 of page 4i + floor(t/4), which is sector t + 16 i of L1
+    abbrev pub flushSector : ℕ → List ℕ → ℕ → Planned
+    flushSector t ram i = known (ix .first * sectorsPerBlock + t + i * 16) (tab (sector u) (λ y. getD ram (ix .ska + (i * sector u + y)) 0))
 
     -- byte y of the j-th sector of set number c + 2, "built out of L1 and set i-1" as their bits stand
     unfoldable pub setByte : List ℕ → ℕ → ℕ → ℕ → ℕ → ℕ
     setByte main z c j y =
-        rowByte (λ g x. bitAt main [] (flashPlace z c (z * fullFilters + g) x)) (128 * (c + 1)) (setWidth (c + 1)) (j / 4 * setWidth (c + 1)) (j % 4 * sector u + y)
+        rowByte (λ g x. bitAt main [] (flashPlace z c (z * fullFilters + g) x)) (filtersPerRound * (c + 1)) (setWidth (c + 1)) (j / 4 * setWidth (c + 1)) (j % 4 * sector u + y)
 
     -- "Set S/4 + 1 is full at m pages and goes to the next sealed place instead"
     abbrev pub setBlock : ℕ → ℕ → ℕ
     setBlock z c = cond (eqb (c + 1) (sideBlocks u)) (fullBlock z) (sideBlock (c + 1))
 
+    -- sector j of the next set, with the bits as they stand when it is programmed
+    abbrev pub setSector : ℕ → ℕ → ℕ → Planned
+    setSector z c j = made (setBlock z c * sectorsPerBlock + j) (λ main. tab (sector u) (setByte main z c j))
+
     -- "set pages, each rising; last the erases, L1, then the blocks of set i-1"
-    abbrev pub buildOps : List ℕ → ℕ → ℕ → List Op
-    buildOps main z c =
-        programs u 1 (setBlock z c * 64) (setPages (c + 1) * 4) (setByte main z c)
-        ++ (erases (ix .first) 1 ++ erases (sideBlock c) (setBlocks c))
+    abbrev pub buildPlan : ℕ → ℕ → List Planned
+    buildPlan z c =
+        plannedFrom (setSector z c) 0 (setPages (c + 1) * sectorsPerPage)
+        ++ (plannedFrom (λ j. wipe (ix .first + j)) 0 1 ++ plannedFrom (λ j. wipe (sideBlock c + j)) 0 (setBlocks c))
 
     -- flush t of a round, and after flush 15 the next set
-    unfoldable pub flushAndBuild : Flash → ℕ → List ℕ → List Op
-    flushAndBuild flash F ram =
-        let flushed : List Op = flushOps (inL1 F) ram in
-        flushed ++ cond (eqb (inL1 F + 1) 16) (buildOps (applyAll u flushed flash .main) (inFull F) (inSet F)) []
+    unfoldable pub flushAndBuild : ℕ → List ℕ → List Planned
+    flushAndBuild F ram =
+        plannedFrom (flushSector (inL1 F) ram) 0 4 ++ cond (eqb (inL1 F + 1) flushesPerRound) (buildPlan (inFull F) (inSet F)) []
 
-    -- operations of filter F, which the RAM holds already, and the RAM after them: "Eight filters fill the SKA page"
-    abbrev pub filterOps : Flash → ℕ → List ℕ → List Op
-    filterOps flash F ram = cond (eqb (inSka F + 1) 8) (flushAndBuild flash F ram) []
+    -- what filter F plans, which the RAM holds already: "Eight filters fill the SKA page"
+    abbrev pub filterPlan : ℕ → List ℕ → List Planned
+    filterPlan F ram = cond (eqb (inSka F + 1) filtersPerFlush) (flushAndBuild F ram) []
 
+    -- and the RAM after it
     abbrev pub filterRam : ℕ → List ℕ → List ℕ
-    filterRam F ram = cond (eqb (inSka F + 1) 8) (zeroPage u (ix .ska) ram) ram
+    filterRam F ram = cond (eqb (inSka F + 1) filtersPerFlush) (zeroPage u (ix .ska) ram) ram

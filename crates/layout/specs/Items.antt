@@ -4,10 +4,10 @@ use mathlib.Core.List.{List, [], _∷_}
 use Prim.Native.Nat.{ℕ, _+_, _*_, _/_, _%_}
 use lib.ListN.{getD, replicate}
 use lib.Dec.{ltb, eqb}
-use Rattle.memory.specs.Lists.{write, part}
+use Rattle.memory.specs.Lists.{write, part, tab}
 use Rattle.memory.specs.Words.{word, wordsBytes}
-use Rattle.layout.specs.Geometry.{Geometry, sector, page, block, recordsPerPage, entriesPerPage, deletionsPerPage, raBlock, kaBlock, daBlock, raRam, kaRam, daRam}
-use Rattle.layout.specs.Flash.{Op, programs}
+use Rattle.layout.specs.Geometry.{Geometry, sectorsPerPage, sectorsPerBlock, sector, page, block, recordsPerPage, entriesPerPage, deletionsPerPage, raBlock, kaBlock, daBlock, raRam, kaRam, daRam}
+use Rattle.layout.specs.Flash.{Planned, known, plannedFrom}
 
 -- items of `size` bytes, `perPage` to a page, from block `first` on; the page that is not full yet is in RAM from byte `ram` on
 pub record Area : Type 0 where
@@ -72,17 +72,20 @@ put a n item ram = write ram (a .ram + n % a .perPage * a .size) item
 abbrev pub fills : Area → ℕ → Bool
 fills a n = eqb (n % a .perPage + 1) (a .perPage)
 
--- "A page is programmed by the call that fills it": its four sectors, from the bytes of its RAM page
-abbrev pub pageOps : ℕ → Area → ℕ → List ℕ → List Op
-pageOps u a n ram = programs u 1 (a .first * 64 + n / a .perPage * 4) 4 (λ j y. getD ram (a .ram + (j * sector u + y)) 0)
+-- sector j of the page of item n, with the bytes of its RAM page
+abbrev pub pageSector : ℕ → Area → ℕ → List ℕ → ℕ → Planned
+pageSector u a n ram j =
+    known (a .first * sectorsPerBlock + n / a .perPage * sectorsPerPage + j) (tab (sector u) (λ y. getD ram (a .ram + (j * sector u + y)) 0))
 
 -- a RAM page from byte `at` on zeroed
 abbrev pub zeroPage : ℕ → ℕ → List ℕ → List ℕ
 zeroPage u at ram = write ram at (replicate (page u) 0)
 
--- operations of item n, and the RAM after them: "zeroes each desk page it has programmed"
-abbrev pub itemOps : ℕ → Area → ℕ → List ℕ → List ℕ → List Op
-itemOps u a n item ram = cond (fills a n) (pageOps u a n (put a n item ram)) []
+-- what item n plans: "A page is programmed by the call that fills it", its four sectors, out of the RAM handed in with the item in its place
+abbrev pub itemPlan : ℕ → Area → ℕ → List ℕ → List ℕ → List Planned
+itemPlan u a n item ram = cond (fills a n) (plannedFrom (pageSector u a n (put a n item ram)) 0 sectorsPerPage) []
+
+-- the RAM after it: "zeroes each desk page it has programmed"
 
 abbrev pub itemRam : ℕ → Area → ℕ → List ℕ → List ℕ → List ℕ
 itemRam u a n item ram = cond (fills a n) (zeroPage u (a .ram) (put a n item ram)) (put a n item ram)

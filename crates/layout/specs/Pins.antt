@@ -12,9 +12,9 @@ use Rattle.memory.specs.Power.{log2up}
 use Rattle.memory.specs.Words.{bytes4, wordsBytes}
 use Rattle.memory.specs.Ranges.{any, memb}
 use Rattle.layout.specs.Geometry.{State, geometry, allowed, indexBlock, sector, page, block}
-use Rattle.layout.specs.Flash.{flashOf, Op, program, erase, fresh, apply}
+use Rattle.layout.specs.Flash.{flashOf, program, fresh, apply, Planned, known, made, wipe, planOps}
 use Rattle.layout.specs.Hash.{fnvFrom, fnvFamily, positions, positionCount}
-use Rattle.layout.specs.Index.{BitPlace, rowBit, rowByte, withFilter, filterPlace, filterOps, flushAndBuild}
+use Rattle.layout.specs.Index.{BitPlace, rowBit, rowByte, withFilter, filterPlace, filterPlan, flushAndBuild}
 use Rattle.layout.specs.Items.{recordBytes, entryBytes, deletionBytes}
 use Rattle.layout.specs.Search.{Stop, found, corrupt, tryEntry, scan, searchPages, searchFrom}
 use Rattle.layout.specs.Calls.{Call, insert, update, delete, lookup, keyIndex, badState, tooShort, pageFilter}
@@ -24,14 +24,15 @@ use Rattle.layout.specs.Examples.{sectorsOf, blocksOf}
 -- ---- "set pages, each rising; last the erases, L1, then the blocks of set i-1"
 
 -- how many operations come before the first erase
-abbrev beforeErase : List Op → ℕ
+abbrev beforeErase : List Planned → ℕ
 beforeErase [] = 0
-beforeErase (program s bytes ∷ os) = suc (beforeErase os)
-beforeErase (erase b ∷ os) = 0
+beforeErase (known s bytes ∷ ps) = suc (beforeErase ps)
+beforeErase (made s bytes ∷ ps) = suc (beforeErase ps)
+beforeErase (wipe b ∷ ps) = 0
 
 -- set 3 is built when filter 255 is there, at S = 16, R = 32: 4 sectors of the flush and 32 pages on side B, then L1 and the one block of set 2 on side A
-abbrev third : List Op
-third = filterOps 1 (keyIndex (geometry 16 32 1)) (flashOf [] []) 255 []
+abbrev third : List Planned
+third = filterPlan 1 (keyIndex (geometry 16 32 1)) 255 []
 
 abbrev L1 : ℕ
 L1 = indexBlock (geometry 16 32 1)
@@ -42,8 +43,8 @@ unfolding log2up flushAndBuild
 build-order = refl
 
 -- the fifth set at S = 16 is full: it goes to the first place for full sets and frees the four blocks of set 4 on side A
-abbrev fifth : List Op
-fifth = filterOps 1 (keyIndex (geometry 16 64 1)) (flashOf [] []) 511 []
+abbrev fifth : List Planned
+fifth = filterPlan 1 (keyIndex (geometry 16 64 1)) 511 []
 
 pub full-set : length (sectorsOf fifth) ∷ getD (sectorsOf fifth) 4 0 ∷ blocksOf fifth
     ≡ (4 + 64 * 4) ∷ ((indexBlock (geometry 16 64 1) + 9) * 64) ∷ indexBlock (geometry 16 64 1) ∷ (indexBlock (geometry 16 64 1) + 1)
@@ -88,6 +89,12 @@ freshness = refl
 
 pub programmed : apply 1 (program 2 (replicate 16 7)) (flashOf (replicate 64 255) (replicate 4 255)) .spare ≡ 255 ∷ 255 ∷ 0 ∷ 255 ∷ []
 programmed = refl
+
+-- a set's sector takes its bytes when it is programmed: the second sees what the first left
+pub made-late : planOps 1 (made 0 (λ main. replicate 16 1) ∷ made 1 (λ main. tab 16 (λ y. getD main 0 0 + y)) ∷ []) (flashOf (replicate 64 255) (replicate 4 255))
+    ≡ program 0 (replicate 16 1) ∷ program 1 (tab 16 (λ y. 1 + y)) ∷ []
+unfolding write tab tabFrom
+made-late = refl
 
 -- ---- the search
 

@@ -1,0 +1,44 @@
+-- The chip operations that the layout's plans are on a chip, written out.
+use mathlib.Core.Bool.{cond}
+use mathlib.Core.List.{List, [], _∷_, _++_}
+use Prim.Native.Nat.{ℕ, zero, suc, _+_, _*_, _/_}
+use lib.ListN.{getD}
+use lib.Dec.{eqb}
+use Rattle.memory.specs.Lists.{tab}
+use Rattle.layout.specs.Geometry.{sector}
+use Rattle.layout.specs.Flash.{Flash, Op, program, erases, applyAll}
+use Rattle.layout.specs.Items.{Area, put, fills}
+use Rattle.layout.specs.Index.{Index, inSka, inL1, inSet, inFull, setPages, setBlocks, sideBlock, setBlock, setByte}
+
+module _ (u : ℕ) where
+  -- k sectors, the j-th being s + j * d; byte y of the j-th is f j y
+  abbrev pub programs : ℕ → ℕ → ℕ → (ℕ → ℕ → ℕ) → List Op
+  programs d s zero f = []
+  programs d s (suc k) f = program s (tab (sector u) (f zero)) ∷ programs d (s + d) k (λ j. f (suc j))
+
+  -- the page that item n fills
+  abbrev pub pageOps : Area → ℕ → List ℕ → List Op
+  pageOps a n ram = programs 1 (a .first * 64 + n / a .perPage * 4) 4 (λ j y. getD ram (a .ram + (j * sector u + y)) 0)
+
+  abbrev pub itemOps : Area → ℕ → List ℕ → List ℕ → List Op
+  itemOps a n item ram = cond (fills a n) (pageOps a n (put a n item ram)) []
+
+  module _ (ix : Index) where
+    -- flush t
+    abbrev pub flushOps : ℕ → List ℕ → List Op
+    flushOps t ram = programs 16 (ix .first * 64 + t) 4 (λ i y. getD ram (ix .ska + (i * sector u + y)) 0)
+
+    -- the next set out of the main area as it is before the set's first sector, and the erases
+    abbrev pub buildOps : List ℕ → ℕ → ℕ → List Op
+    buildOps main z c =
+        programs 1 (setBlock u ix z c * 64) (setPages (c + 1) * 4) (setByte u ix main z c)
+        ++ (erases (ix .first) 1 ++ erases (sideBlock u ix c) (setBlocks c))
+
+    unfoldable pub flushAndBuildOps : Flash → ℕ → List ℕ → List Op
+    flushAndBuildOps flash F ram =
+        let flushed : List Op = flushOps (inL1 F) ram in
+        flushed ++ cond (eqb (inL1 F + 1) 16) (buildOps (applyAll u flushed flash .main) (inFull u F) (inSet u F)) []
+
+    -- filter F, which the RAM holds already
+    abbrev pub filterOps : Flash → ℕ → List ℕ → List Op
+    filterOps flash F ram = cond (eqb (inSka F + 1) 8) (flushAndBuildOps flash F ram) []
