@@ -1,26 +1,26 @@
 -- What an accepted deletion and an accepted insertion leave: the parts of the longer history.
 use mathlib.Core.Path.{_≡_, refl, sym, ap, _∙_}
 use mathlib.Core.Logic.{_≢_, _⊎_, inl, inr}
-use mathlib.Core.Bool.{true}
+use mathlib.Core.Bool.{Bool, true, false, cond}
 use mathlib.Core.List.{List, [], _∷_, _++_}
 use Prim.Native.Nat.{ℕ, _+_, _*_, _/_, _%_, _^_, _≤_, _<_}
 use native.Mathlib.Nat.{mul-le-mul-right}
 use native.Mathlib.Omega.{arith}
 use lib.ListN.{length, getD, List·getD-append}
 use lib.Seq.{getD-append-seam}
-use borrow.Author.Tests.{eq-eqb, ne-eqb}
-use Rattle.memory.specs.Booleans.{cond-pos, cond-neg}
-use Rattle.memory.specs.Cases.{either, lt?, eq?}
+use borrow.Author.Tests.{eqb-true, eqb-false}
+use Rattle.memory.specs.Cases.{either, lt?}
 use Rattle.memory.specs.Numbers.{carry, euclid}
 use Rattle.memory.specs.Ranges.{any-ext, memb}
 use Rattle.memory.specs.Words.{word}
 use Rattle.layout.specs.Geometry.{Geometry, filterBits, kaBlocks, indexBlock, fullSets, recordCapacity, deletionCapacity, spareSize, kaRam}
-use Rattle.layout.specs.Flash.{Flash, Op, applyAll, allFresh}
+use Rattle.layout.specs.Flash.{Flash, Op, applyAll, planOps, allFresh}
 use Rattle.layout.specs.Hash.{Family}
-use Rattle.layout.specs.Items.{RA, KA, DA, entryBytes, deletionBytes, itemRam, put, fills}
-use Rattle.layout.specs.Index.{inSka, inFull, fullBlock, withFilter, filterRam}
-use Rattle.layout.specs.Calls.{Draft, keyIndex, keyFilters, keyPositions, pageFilter, deletion, summary, insertion}
-use Rattle.laws.specs.Operations.{itemOps, filterOps}
+use Rattle.layout.specs.Items.{RA, KA, DA, entryBytes, deletionBytes, put, fills}
+use Rattle.layout.specs.Index.{inFull, fullBlock, filterRam}
+use Rattle.layout.specs.Calls.{keyIndex, keyFilters, keyPositions, pageFilter, deletionPlan, deletionRam, insertionPlan, insertionRam}
+use Rattle.laws.specs.Operations.{filterOps, recordOps, recordRam, entryOps, entryRam, entered, filteredRam}
+use Rattle.laws.specs.ChangeLaws.{deletion-ops, insertion-ops, insertion-ram}
 use Rattle.laws.specs.FlashLaws.{fresh-append, AllAllowed, apply-append, allowed-append}
 use Rattle.history.specs.Image.{Record, History, recordAt, bytesOf, raItem, kaItem, daItem, keyFilter}
 use Rattle.history.specs.Live.{withRecord, withDeletion}
@@ -63,30 +63,33 @@ module _ (h : Family) (g : Geometry) (e : ℕ) (pow : g .u ≡ 2 ^ e) where
     new : (b : ℕ) → b < 4 → getD (deletionBytes j) b 0 ≡ daItem (withDeletion H j) (length (H .deleted)) b
     new b l = ap (λ (x : ℕ). getD (deletionBytes x) b 0) (sym (getD-append-seam (H .deleted) j [] 0))
 
-    pub deletion-did : Did (g .u) (DA g .first) (DA g .first + g .D) (DA g .ram) C ram (deletion g (length (H .deleted)) j ram .ram) (deletion g (length (H .deleted)) j ram .ops)
-    unfolding deletion
-    deletion-did = parts.da-did h g e pow (withDeletion H j) nr nk (length (H .deleted)) N C ram longer (deletionBytes j) (length-deletion j) new room
+    pub deletion-did : Did (g .u) (DA g .first) (DA g .first + g .D) (DA g .ram) C ram (deletionRam g (length (H .deleted)) j ram) (planOps (g .u) (deletionPlan g (length (H .deleted)) j ram) C)
+    unfolding deletionRam
+    deletion-did =
+        rw (deletion-ops g (length (H .deleted)) j ram C)
+        (parts.da-did h g e pow (withDeletion H j) nr nk (length (H .deleted)) N C ram longer (deletionBytes j) (length-deletion j) new room)
 
     pub deletion-parts : Parts h g e pow (withDeletion H j) nr nk (length (H .deleted) + 1) N
-        (applyAll (g .u) (deletion g (length (H .deleted)) j ram .ops) C) (deletion g (length (H .deleted)) j ram .ram)
-    unfolding deletion
-    deletion-parts = parts.da-parts h g e pow (withDeletion H j) nr nk (length (H .deleted)) N C ram longer (deletionBytes j) (length-deletion j) new room
+        (applyAll (g .u) (planOps (g .u) (deletionPlan g (length (H .deleted)) j ram) C) C) (deletionRam g (length (H .deleted)) j ram)
+    unfolding deletionRam
+    deletion-parts =
+        rw (deletion-ops g (length (H .deleted)) j ram C)
+        (parts.da-parts h g e pow (withDeletion H j) nr nk (length (H .deleted)) N C ram longer (deletionBytes j) (length-deletion j) new room)
 
   -- ---- an insertion
 
-  -- what a change leaves behind: from draft t to draft T on `flash`, n records, d deletions
-  pub record Changed (H : History) (n d : ℕ) (flash : Flash) (t T : Draft) : Type 0 where
-    pub grown : Parts h g e pow H n n d (keyFilters g n) (applyAll (g .u) (T .ops) flash) (T .ram)
-    pub allowed : AllAllowed (g .u) (T .ops) flash
-    pub beyond : Beyond g (applyAll (g .u) (t .ops) flash) (applyAll (g .u) (T .ops) flash) (t .ram) (T .ram)
-    -- by marks that agree outside DA with those that t leaves
-    pub fresh : (spare : List ℕ) → ((x : ℕ) → x < spareSize g → (x < DA g .first * 64) ⊎ ((DA g .first + g .D) * 64 ≤ x) → getD spare x 0 ≡ getD (applyAll (g .u) (t .ops) flash .spare) x 0)
-        → allFresh spare (t .ops) ≡ true → allFresh spare (T .ops) ≡ true
+  -- what it leaves behind: n records, d deletions
+  pub record Changed (H : History) (n d : ℕ) (C : Flash) (ram : List ℕ) (ops : List Op) (ram′ : List ℕ) : Type 0 where
+    pub grown : Parts h g e pow H n n d (keyFilters g n) (applyAll (g .u) ops C) ram′
+    pub allowed : AllAllowed (g .u) ops C
+    pub beyond : Beyond g C (applyAll (g .u) ops C) ram ram′
+    -- by marks that agree with the chip's outside DA
+    pub fresh : (spare : List ℕ) → ((x : ℕ) → x < spareSize g → (x < DA g .first * 64) ⊎ ((DA g .first + g .D) * 64 ≤ x) → getD spare x 0 ≡ getD (C .spare) x 0)
+        → allFresh spare ops ≡ true
 
-  module _ (H : History) (r : Record) (d : ℕ) (flash : Flash) (t : Draft)
-      (P : Parts h g e pow H (length (H .records)) (length (H .records)) d (keyFilters g (length (H .records))) (applyAll (g .u) (t .ops) flash) (t .ram))
-      (room : length (H .records) < recordCapacity g) (key-word : r .key < 2 ^ 32) (words : (j : ℕ) → j < length (H .records) → recordAt H j .key < 2 ^ 32)
-      (before : AllAllowed (g .u) (t .ops) flash) where
+  module _ (H : History) (r : Record) (d : ℕ) (C : Flash) (ram : List ℕ)
+      (P : Parts h g e pow H (length (H .records)) (length (H .records)) d (keyFilters g (length (H .records))) C ram)
+      (room : length (H .records) < recordCapacity g) (key-word : r .key < 2 ^ 32) (words : (j : ℕ) → j < length (H .records) → recordAt H j .key < 2 ^ 32) where
     abbrev n : ℕ
     n = length (H .records)
 
@@ -95,9 +98,6 @@ module _ (h : Family) (g : Geometry) (e : ℕ) (pow : g .u ≡ 2 ^ e) where
 
     abbrev N : ℕ
     N = keyFilters g (length (H .records))
-
-    abbrev C : Flash
-    C = applyAll (g .u) (t .ops) flash
 
     old : (j : ℕ) → j < length (H .records) → recordAt H j ≡ recordAt (withRecord H r) j
     old j l = sym (List·getD-append (H .records) (r ∷ []) (record { key = 0; moves = 0; goal = 0; free = 0 }) j l)
@@ -114,14 +114,14 @@ module _ (h : Family) (g : Geometry) (e : ℕ) (pow : g .u ≡ 2 ^ e) where
     sets-fit : inFull (g .u) (length (H .records) / (8 * g .u)) ≤ fullSets g
     sets-fit = places-suffice (g .u) (g .R) (length (H .records)) pu (omega arith)
 
-    longer-record : Parts h g e pow (withRecord H r) n n d N C (t .ram)
+    longer-record : Parts h g e pow (withRecord H r) n n d N C ram
     longer-record = record {
-      ra = area-ext (g .u) pu (RA g) (g .R) (omega arith) (omega (arith, pu)) (omega arith) (raItem H) (raItem (withRecord H r)) n (C .main) (C .spare) (t .ram)
+      ra = area-ext (g .u) pu (RA g) (g .R) (omega arith) (omega (arith, pu)) (omega arith) (raItem H) (raItem (withRecord H r)) n (C .main) (C .spare) ram
           (λ j b l m. ap (λ (o : Record). getD (bytesOf o) b 0) (old j l)) (P .ra);
-      ka = area-ext (g .u) pu (KA g) (kaBlocks g) (omega arith) (omega (arith, pu)) (omega arith) (kaItem H) (kaItem (withRecord H r)) n (C .main) (C .spare) (t .ram)
+      ka = area-ext (g .u) pu (KA g) (kaBlocks g) (omega arith) (omega (arith, pu)) (omega arith) (kaItem H) (kaItem (withRecord H r)) n (C .main) (C .spare) ram
           (λ j b l m. ap (λ (o : Record). getD (entryBytes (o .key) j) b 0) (old j l)) (P .ka);
       da = P .da;
-      filters = index-ext (g .u) e pow (keyIndex g) (fullSets g) (keyFilter h g H) (keyFilter h g (withRecord H r)) N (C .main) (C .spare) (t .ram) filter-old sets-fit (P .filters);
+      filters = index-ext (g .u) e pow (keyIndex g) (fullSets g) (keyFilter h g H) (keyFilter h g (withRecord H r)) N (C .main) (C .spare) ram filter-old sets-fit (P .filters);
       main-fits = P .main-fits;
       spare-fits = P .spare-fits;
       ram-fits = P .ram-fits;
@@ -133,22 +133,25 @@ module _ (h : Family) (g : Geometry) (e : ℕ) (pow : g .u ≡ 2 ^ e) where
     entry = entryBytes (r .key) (length (H .records))
 
     abbrev raOps : List Op
-    raOps = itemOps (g .u) (RA g) (length (H .records)) (bytesOf r) (t .ram)
+    raOps = recordOps g (length (H .records)) (bytesOf r) ram
 
     abbrev ram₁ : List ℕ
-    ram₁ = itemRam (g .u) (RA g) (length (H .records)) (bytesOf r) (t .ram)
+    ram₁ = recordRam g (length (H .records)) (bytesOf r) ram
 
     abbrev C₁ : Flash
     C₁ = applyAll (g .u) raOps C
 
     abbrev kaOps : List Op
-    kaOps = itemOps (g .u) (KA g) (length (H .records)) entry ram₁
+    kaOps = entryOps g (length (H .records)) (r .key) (bytesOf r) ram
 
     abbrev ram₂ : List ℕ
-    ram₂ = itemRam (g .u) (KA g) (length (H .records)) entry ram₁
+    ram₂ = entryRam g (length (H .records)) (r .key) (bytesOf r) ram
 
     abbrev C₂ : Flash
-    C₂ = applyAll (g .u) kaOps C₁
+    C₂ = entered g (length (H .records)) (r .key) (bytesOf r) ram C
+
+    bytes-size : length (bytesOf r) ≡ 16
+    bytes-size = length-record (r .key) (r .moves) (r .goal) (r .free)
 
     record-new : (b : ℕ) → b < 16 → getD (bytesOf r) b 0 ≡ raItem (withRecord H r) (length (H .records)) b
     record-new b l = ap (λ (o : Record). getD (bytesOf o) b 0) last
@@ -156,11 +159,11 @@ module _ (h : Family) (g : Geometry) (e : ℕ) (pow : g .u ≡ 2 ^ e) where
     entry-new : (b : ℕ) → b < 8 → getD (entryBytes (r .key) (length (H .records))) b 0 ≡ kaItem (withRecord H r) (length (H .records)) b
     entry-new b l = ap (λ (o : Record). getD (entryBytes (o .key) (length (H .records))) b 0) last
 
-    did₁ : Did (g .u) (RA g .first) (RA g .first + g .R) (RA g .ram) C (t .ram) ram₁ raOps
-    did₁ = parts.ra-did h g e pow H′ n n d N C (t .ram) longer-record (bytesOf r) (length-record (r .key) (r .moves) (r .goal) (r .free)) record-new room
+    did₁ : Did (g .u) (RA g .first) (RA g .first + g .R) (RA g .ram) C ram ram₁ raOps
+    did₁ = parts.ra-did h g e pow H′ n n d N C ram longer-record (bytesOf r) bytes-size record-new room
 
     parts₁ : Parts h g e pow H′ (n + 1) n d N C₁ ram₁
-    parts₁ = parts.ra-parts h g e pow H′ n n d N C (t .ram) longer-record (bytesOf r) (length-record (r .key) (r .moves) (r .goal) (r .free)) record-new room
+    parts₁ = parts.ra-parts h g e pow H′ n n d N C ram longer-record (bytesOf r) bytes-size record-new room
 
     did₂ : Did (g .u) (KA g .first) (KA g .first + kaBlocks g) (KA g .ram) C₁ ram₁ ram₂ kaOps
     did₂ = parts.ka-did h g e pow H′ (n + 1) n d N C₁ ram₁ parts₁ entry (length-entry (r .key) n) entry-new room
@@ -203,7 +206,7 @@ module _ (h : Family) (g : Geometry) (e : ℕ) (pow : g .u ≡ 2 ^ e) where
       sets-fit′ = rw (← next) (places-suffice (g .u) (g .R) (length (H .records) + 1) pu (omega arith))
 
       abbrev filterIn : List ℕ
-      filterIn = withFilter (g .u) (keyIndex g) (inSka N) (pageFilter h g keys) ram₂
+      filterIn = filteredRam h g (length (H .records)) (r .key) (bytesOf r) ram
 
       did₃ : Did (g .u) (indexBlock g) (fullBlock (g .u) (keyIndex g) (fullSets g)) (keyIndex g .ska) C₂ ram₂ (filterRam (g .u) (keyIndex g) N filterIn) (filterOps (g .u) (keyIndex g) C₂ N filterIn)
       did₃ = parts.index-did h g e pow H′ (n + 1) (n + 1) d N C₂ ram₂ parts₂ (pageFilter h g keys) same sets-fit′
@@ -213,52 +216,37 @@ module _ (h : Family) (g : Geometry) (e : ℕ) (pow : g .u ≡ 2 ^ e) where
 
     -- ---- all of it
 
-    abbrev ops₂ : List Op
-    ops₂ = t .ops ++ raOps ++ kaOps
-
-    done₂ : applyAll (g .u) ops₂ flash ≡ C₂
-    done₂ = apply-append (g .u) (t .ops ++ raOps) kaOps flash ∙ ap (applyAll (g .u) kaOps) (apply-append (g .u) (t .ops) raOps flash)
-
-    allowed₂ : AllAllowed (g .u) ops₂ flash
-    allowed₂ =
-        allowed-append (g .u) (t .ops ++ raOps) kaOps flash (allowed-append (g .u) (t .ops) raOps flash before (did₁ .allowed))
-        (rw (apply-append (g .u) (t .ops) raOps flash) (did₂ .allowed))
-
-    beyond₂ : Beyond g C C₂ (t .ram) ram₂
+    beyond₂ : Beyond g C C₂ ram ram₂
     beyond₂ =
-        beyond-then g C C₁ C₂ (t .ram) ram₁ ram₂
-        (frame-beyond g (RA g .first) (RA g .first + g .R) (RA g .ram) C C₁ (t .ram) ram₁ (did₁ .frame) (omega arith) (omega arith))
+        beyond-then g C C₁ C₂ ram ram₁ ram₂
+        (frame-beyond g (RA g .first) (RA g .first + g .R) (RA g .ram) C C₁ ram ram₁ (did₁ .frame) (omega arith) (omega arith))
         (frame-beyond g (KA g .first) (KA g .first + kaBlocks g) (KA g .ram) C₁ C₂ ram₁ ram₂ (did₂ .frame) (omega arith) (omega arith))
 
-    module _ (spare : List ℕ) (agree : (x : ℕ) → x < spareSize g → (x < DA g .first * 64) ⊎ ((DA g .first + g .D) * 64 ≤ x) → getD spare x 0 ≡ getD (C .spare) x 0)
-        (fresh₀ : allFresh spare (t .ops) ≡ true) where
-      fresh₂ : allFresh spare ops₂ ≡ true
-      fresh₂ =
-          fresh-append spare (t .ops ++ raOps) kaOps
-          (fresh-append spare (t .ops) raOps fresh₀ (did₁ .fresh spare (λ x l m. agree x (omega arith) (inl (omega arith)))))
-          (did₂ .fresh spare (λ x l m. agree x (omega arith) (inl (omega arith)) ∙ sym (did₁ .frame .spare x (inr (omega arith)))))
+    module _ (ops : List Op) where
+      done : applyAll (g .u) (raOps ++ (kaOps ++ ops)) C ≡ applyAll (g .u) ops C₂
+      done = apply-append (g .u) raOps (kaOps ++ ops) C ∙ apply-append (g .u) kaOps ops C₁
 
-      fresh₃ : (full : length (H .records) % (8 * g .u) + 1 ≡ 8 * g .u) → allFresh spare (ops₂ ++ filterOps (g .u) (keyIndex g) C₂ N (filterIn full)) ≡ true
-      fresh₃ full =
-          fresh-append spare ops₂ (filterOps (g .u) (keyIndex g) C₂ N (filterIn full)) fresh₂
-          (did₃ full .fresh spare (λ x l m. agree x (omega arith) (inr (omega arith)) ∙ sym (did₂ .frame .spare x (inr (omega arith)) ∙ did₁ .frame .spare x (inr (omega arith)))))
+      allowed-all : AllAllowed (g .u) ops C₂ → AllAllowed (g .u) (raOps ++ (kaOps ++ ops)) C
+      allowed-all a = allowed-append (g .u) raOps (kaOps ++ ops) C (did₁ .allowed) (allowed-append (g .u) kaOps ops C₁ (did₂ .allowed) a)
+
+      fresh-all : (spare : List ℕ) → ((x : ℕ) → x < spareSize g → (x < DA g .first * 64) ⊎ ((DA g .first + g .D) * 64 ≤ x) → getD spare x 0 ≡ getD (C .spare) x 0)
+          → allFresh spare ops ≡ true → allFresh spare (raOps ++ (kaOps ++ ops)) ≡ true
+      fresh-all spare agree a =
+          fresh-append spare raOps (kaOps ++ ops) (did₁ .fresh spare (λ x l m. agree x (omega arith) (inl (omega arith))))
+          (fresh-append spare kaOps ops (did₂ .fresh spare (λ x l m. agree x (omega arith) (inl (omega arith)) ∙ sym (did₁ .frame .spare x (inr (omega arith))))) a)
 
     -- no page of entries is full
-    drafted-part : length (H .records) % (8 * g .u) + 1 ≢ 8 * g .u → insertion h g flash n (r .key) (bytesOf r) t ≡ record { ops = ops₂; ram = ram₂ }
-    unfolding insertion
-    drafted-part part = cond-neg (fills (KA g) n) _ _ (ne-eqb (length (H .records) % (8 * g .u) + 1) (8 * g .u) part)
-
-    changed-part : length (H .records) % (8 * g .u) + 1 ≢ 8 * g .u → Changed H′ (n + 1) d flash t (insertion h g flash n (r .key) (bytesOf r) t)
+    changed-part : length (H .records) % (8 * g .u) + 1 ≢ 8 * g .u → Changed H′ (n + 1) d C ram (raOps ++ (kaOps ++ [])) ram₂
+    unfolding allFresh
     changed-part part =
         let same-filters : (length (H .records) + 1) / (8 * g .u) ≡ length (H .records) / (8 * g .u)
         = either (carry (length (H .records)) (8 * g .u) (omega (arith, pu))) (λ c. absurd (part (c .0))) (λ c. c .1) in
-        rw (drafted-part part)
-        (record {
-          grown = rw (done₂, same-filters) parts₂;
-          allowed = allowed₂;
-          beyond = rw done₂ beyond₂;
-          fresh = fresh₂;
-        })
+        record {
+          grown = rw (done [], same-filters) parts₂;
+          allowed = allowed-all [] tt;
+          beyond = rw (done []) beyond₂;
+          fresh = λ spare agree. fresh-all [] spare agree refl;
+        }
 
     -- one is, and gives its filter
     module _ (full : length (H .records) % (8 * g .u) + 1 ≡ 8 * g .u) where
@@ -271,26 +259,23 @@ module _ (h : Family) (g : Geometry) (e : ℕ) (pow : g .u ≡ 2 ^ e) where
       abbrev C₃ : Flash
       C₃ = applyAll (g .u) ixOps C₂
 
-      drafted-full : insertion h g flash n (r .key) (bytesOf r) t ≡ record { ops = ops₂ ++ ixOps; ram = ram₃ }
-      unfolding insertion summary
-      drafted-full =
-          cond-pos (fills (KA g) n) _ _ (eq-eqb (length (H .records) % (8 * g .u) + 1) (8 * g .u) full)
-          ∙ ap (λ (c : Flash). record { ops = ops₂ ++ filterOps (g .u) (keyIndex g) c N (filterIn full); ram = filterRam (g .u) (keyIndex g) N (filterIn full) }) done₂
+      changed-full : Changed H′ (n + 1) d C ram (raOps ++ (kaOps ++ ixOps)) ram₃
+      changed-full = record {
+        grown = rw (done ixOps, next full) (parts₃ full);
+        allowed = allowed-all ixOps (did₃ full .allowed);
+        beyond = rw (done ixOps)
+            (beyond-then g C C₂ C₃ ram ram₂ ram₃ beyond₂
+            (frame-beyond g (indexBlock g) (fullBlock (g .u) (keyIndex g) (fullSets g)) (keyIndex g .ska) C₂ C₃ ram₂ ram₃ (did₃ full .frame) (omega arith) (omega arith)));
+        fresh = λ spare agree. fresh-all ixOps spare agree
+            (did₃ full .fresh spare (λ x l m. agree x (omega arith) (inr (omega arith)) ∙ sym (did₂ .frame .spare x (inr (omega arith)) ∙ did₁ .frame .spare x (inr (omega arith)))));
+      }
 
-      done₃ : applyAll (g .u) (ops₂ ++ ixOps) flash ≡ C₃
-      done₃ = apply-append (g .u) ops₂ ixOps flash ∙ ap (applyAll (g .u) ixOps) done₂
+    by-page : (b : Bool) (os : List Op) (r₃ : List ℕ) → (b ≡ true → Changed H′ (n + 1) d C ram (raOps ++ (kaOps ++ os)) r₃)
+        → (b ≡ false → Changed H′ (n + 1) d C ram (raOps ++ (kaOps ++ [])) ram₂) → Changed H′ (n + 1) d C ram (raOps ++ (kaOps ++ cond b os [])) (cond b r₃ ram₂)
+    by-page true os r₃ full part = full refl
+    by-page false os r₃ full part = part refl
 
-      changed-full : Changed H′ (n + 1) d flash t (insertion h g flash n (r .key) (bytesOf r) t)
-      changed-full =
-          rw drafted-full
-          (record {
-            grown = rw (done₃, next full) (parts₃ full);
-            allowed = allowed-append (g .u) ops₂ ixOps flash allowed₂ (rw done₂ (did₃ full .allowed));
-            beyond = rw done₃
-                (beyond-then g C C₂ C₃ (t .ram) ram₂ ram₃ beyond₂
-                (frame-beyond g (indexBlock g) (fullBlock (g .u) (keyIndex g) (fullSets g)) (keyIndex g .ska) C₂ C₃ ram₂ ram₃ (did₃ full .frame) (omega arith) (omega arith)));
-            fresh = λ spare agree fresh₀. fresh₃ spare agree fresh₀ full;
-          })
-
-    pub insertion-changes : Changed H′ (n + 1) d flash t (insertion h g flash n (r .key) (bytesOf r) t)
-    insertion-changes = either (eq? (length (H .records) % (8 * g .u) + 1) (8 * g .u)) (λ c. changed-full (c .1)) (λ c. changed-part (c .1))
+    pub insertion-changes : Changed H′ (n + 1) d C ram (planOps (g .u) (insertionPlan h g n (r .key) (bytesOf r) ram) C) (insertionRam h g n (r .key) (bytesOf r) ram)
+    insertion-changes =
+        rw (insertion-ops h g n (r .key) (bytesOf r) e pow bytes-size ram C, insertion-ram h g n (r .key) (bytesOf r) pu bytes-size ram)
+        (by-page (fills (KA g) n) _ _ (λ q. changed-full (eqb-true _ _ q)) (λ q. changed-part (eqb-false _ _ q)))

@@ -13,17 +13,19 @@ use Rattle.memory.specs.Cases.{either, bool?}
 use Rattle.memory.specs.Lists.{length-write, getD-write-after}
 use Rattle.memory.specs.Numbers.{carry, div-lt}
 use Rattle.layout.specs.Geometry.{Geometry, geometry, geometryOf, allowed, blocks, kaBlocks, fullSets, recordCapacity, deletionCapacity, ramSize, entriesPerPage, workRam}
-use Rattle.layout.specs.Flash.{Flash, erases, allFresh}
+use Rattle.layout.specs.Flash.{Flash, Op, applyAll, erases, Planned, planOps, allFresh}
 use Rattle.layout.specs.Hash.{Family, fnvFamily}
-use Rattle.layout.specs.Items.{RA, KA, DA, entryBytes, deletionBytes, put, fills, itemRam}
+use Rattle.layout.specs.Items.{RA, KA, DA, entryBytes, deletionBytes, fills}
 use Rattle.layout.specs.Search.{Stop, found, corrupt}
-use Rattle.layout.specs.Calls.{Volume, Call, insert, update, delete, lookup, Outcome, accepted, hit, miss, refused, Result, refuse, badState, tooShort, judged, format, formatted, keyIndex, keyFilters, Draft, keyPositions, tryAt, maybeIn, search, deletion, pageFilter, summary, insertion, commit, noRoom, noDeletion, insertAfter, updateAfter, deleteAfter, lookupAfter, answer, call}
-use Rattle.laws.specs.Operations.{itemOps}
+use Rattle.layout.specs.Calls.{Volume, Call, insert, update, delete, lookup, Outcome, accepted, hit, miss, refused, Result, refuse, badState, tooShort, judged, format, formatted, keyIndex, keyFilters, keyPositions, tryAt, maybeIn, search, deletionPlan, deletionRam, newFilter, insertionPlan, insertionRam, commit, noRoom, noDeletion, insertAfter, updateAfter, deleteAfter, lookupAfter, answer, call}
+use Rattle.laws.specs.Operations.{recordRam, entryOps, entryRam, entered}
 use Rattle.laws.specs.FlashLaws.{apply-main-length, apply-spare-length}
 use Rattle.laws.specs.ItemLaws.{length-record, length-entry, length-deletion}
 use Rattle.laws.specs.SearchLaws.{search-opened}
+use Rattle.laws.specs.PlanLaws.{ops-append}
+use Rattle.laws.specs.ChangeLaws.{deletion-ops, insertion-after, insertion-ops, insertion-ram}
 use Rattle.history.specs.Parts.{Beyond, beyond-same}
-use Rattle.laws.specs.Inside.{Inside, inside-none, inside-append, inside-erases, main-past, spare-past, inside-item, inside-filter, Past, past-none, past-then, past-zero, past-item, past-filter}
+use Rattle.laws.specs.Inside.{Inside, inside-none, inside-append, inside-erases, main-past, spare-past, inside-item, inside-filter, Past, past-then, past-zero, past-item, past-filter}
 use Rattle.laws.specs.RowLaws.{places-suffice}
 use Rattle.laws.specs.Sound.{Sound, sound}
 use Rattle.laws.specs.Sound as units
@@ -41,27 +43,27 @@ refuse-keeps : (v : Volume) (j : ℕ) → Keeps v (refuse v j)
 refuse-keeps v j i e = refl
 
 module _ (h : Family) (g : Geometry) (v : Volume) where
-  commit-keeps : (n d : ℕ) (t : Draft) → Keeps v (commit g v n d t)
+  commit-keeps : (n d : ℕ) (plan : List Planned) (ram : List ℕ) → Keeps v (commit g v n d plan ram)
   unfolding commit
-  commit-keeps n d t = keeps-either v (allFresh (v .flash .spare) (t .ops)) _ _ (λ i e. absurd (let z : true ≡ false = cc in true≢false z)) (refuse-keeps v 7)
+  commit-keeps n d plan ram = keeps-either v (allFresh (v .flash .spare) (planOps (g .u) plan (v .flash))) _ _ (λ i e. absurd (let z : true ≡ false = cc in true≢false z)) (refuse-keeps v 7)
 
   insert-keeps : (key : ℕ) (bytes : List ℕ) (s : Option Stop) → Keeps v (insertAfter h g v key bytes s)
   unfolding insertAfter
   insert-keeps key bytes (some corrupt) = refuse-keeps v 8
   insert-keeps key bytes (some (found j)) = refuse-keeps v 3
-  insert-keeps key bytes none = keeps-either v (noRoom g v) _ _ (refuse-keeps v 5) (commit-keeps _ _ _)
+  insert-keeps key bytes none = keeps-either v (noRoom g v) _ _ (refuse-keeps v 5) (commit-keeps _ _ _ _)
 
   update-keeps : (key : ℕ) (bytes : List ℕ) (s : Option Stop) → Keeps v (updateAfter h g v key bytes s)
   unfolding updateAfter
   update-keeps key bytes (some corrupt) = refuse-keeps v 8
   update-keeps key bytes none = refuse-keeps v 4
-  update-keeps key bytes (some (found j)) = keeps-either v (noRoom g v) _ _ (refuse-keeps v 5) (keeps-either v (noDeletion g v) _ _ (refuse-keeps v 6) (commit-keeps _ _ _))
+  update-keeps key bytes (some (found j)) = keeps-either v (noRoom g v) _ _ (refuse-keeps v 5) (keeps-either v (noDeletion g v) _ _ (refuse-keeps v 6) (commit-keeps _ _ _ _))
 
   delete-keeps : (s : Option Stop) → Keeps v (deleteAfter g v s)
   unfolding deleteAfter
   delete-keeps (some corrupt) = refuse-keeps v 8
   delete-keeps none = refuse-keeps v 4
-  delete-keeps (some (found j)) = keeps-either v (noDeletion g v) _ _ (refuse-keeps v 6) (commit-keeps _ _ _)
+  delete-keeps (some (found j)) = keeps-either v (noDeletion g v) _ _ (refuse-keeps v 6) (commit-keeps _ _ _ _)
 
   lookup-keeps : (opened : ℕ) (s : Option Stop) → Keeps v (lookupAfter g v opened s)
   unfolding lookupAfter
@@ -132,13 +134,9 @@ count-most h v key =
 -- ---- "bytes past the volume and past the desk's 20S never change"
 
 -- operations inside the volume, and a RAM that keeps what is past its pages
-record Bounded (g : Geometry) (ram : List ℕ) (t : Draft) : Type 0 where
-  ops : Inside (g .u) (blocks g) (t .ops)
-  past : Past (ramSize g) ram (t .ram)
-
-bounded-either : (g : Geometry) (ram : List ℕ) (b : Bool) (s t : Draft) → (b ≡ true → Bounded g ram s) → (b ≡ false → Bounded g ram t) → Bounded g ram (cond b s t)
-bounded-either g ram true s t a b = a refl
-bounded-either g ram false s t a b = b refl
+record Bounded (g : Geometry) (ram : List ℕ) (ops : List Op) (ram′ : List ℕ) : Type 0 where
+  inside : Inside (g .u) (blocks g) ops
+  past : Past (ramSize g) ram ram′
 
 module _ (h : Family) (S R D : ℕ) (ok : Sound S R D) where
   abbrev g : Geometry
@@ -150,10 +148,11 @@ module _ (h : Family) (S R D : ℕ) (ok : Sound S R D) where
   pu : 0 < S / 16
   pu = units.pu S R D ok
 
-  deletion-bounded : (d j : ℕ) (ram : List ℕ) → d < deletionCapacity g → Bounded g ram (deletion g d j ram)
-  unfolding deletion
-  deletion-bounded d j ram l = record {
-    ops = inside-item u (blocks g) (DA g) D d (deletionBytes j) ram (omega arith) (div-lt d (16 * u) (D * 16) (omega (arith, pu)) (omega arith));
+  deletion-bounded : (d j : ℕ) (ram : List ℕ) (C : Flash) → d < deletionCapacity g → Bounded g ram (planOps u (deletionPlan g d j ram) C) (deletionRam g d j ram)
+  unfolding deletionRam
+  deletion-bounded d j ram C l = record {
+    inside = rw (deletion-ops g d j ram C)
+        (inside-item u (blocks g) (DA g) D d (deletionBytes j) ram (omega arith) (div-lt d (16 * u) (D * 16) (omega (arith, pu)) (omega arith)));
     past = past-item u (DA g) d (ramSize g) (deletionBytes j) ram (omega (arith, pu)) (omega arith) (length-deletion j) (omega arith);
   }
 
@@ -169,35 +168,42 @@ module _ (h : Family) (S R D : ℕ) (ok : Sound S R D) where
       = either (carry n (8 * u) (omega (arith, pu))) (λ c. c .1) (λ c. absurd (c .0 full)) in
       rw (← next) (places-suffice u R (n + 1) pu (omega arith))
 
-  module _ (flash : Flash) (n key : ℕ) (bytes ram : List ℕ) (t : Draft) (room : n < recordCapacity g) (size : length bytes ≡ 16) (b : Bounded g ram t) where
-    -- after the record and the entry
-    abbrev entered : Draft
-    entered = record {
-      ops = (t .ops ++ itemOps u (RA g) n bytes (t .ram)) ++ itemOps u (KA g) n (entryBytes key n) (itemRam u (RA g) n bytes (t .ram));
-      ram = itemRam u (KA g) n (entryBytes key n) (itemRam u (RA g) n bytes (t .ram));
+  module _ (n key : ℕ) (bytes ram : List ℕ) (C : Flash) (room : n < recordCapacity g) (size : length bytes ≡ 16) where
+    inside-if : (b : Bool) (ops : List Op) → (b ≡ true → Inside u (blocks g) ops) → Inside u (blocks g) (cond b ops [])
+    inside-if true ops a = a refl
+    inside-if false ops a = inside-none u (blocks g)
+
+    past-if : (b : Bool) (r s : List ℕ) → Past (ramSize g) ram r → Past (ramSize g) ram s → Past (ramSize g) ram (cond b r s)
+    past-if true r s p q = p
+    past-if false r s p q = q
+
+    entry-past : Past (ramSize g) ram (entryRam g n key bytes ram)
+    entry-past =
+        past-then (ramSize g) ram _ _ (past-item u (RA g) n (ramSize g) bytes ram (omega (arith, pu)) (omega arith) size (omega arith))
+        (past-item u (KA g) n (ramSize g) (entryBytes key n) _ (omega (arith, pu)) (omega arith) (length-entry key n) (omega arith))
+
+    insertion-bounded : Bounded g ram (planOps u (insertionPlan h g n key bytes ram) C) (insertionRam h g n key bytes ram)
+    insertion-bounded = record {
+      inside = rw (insertion-ops h g n key bytes (ok .e) (units.pow S R D ok) size ram C)
+          (inside-append u (blocks g) _ _ (inside-item u (blocks g) (RA g) R n bytes ram (omega arith) (div-lt n (4 * u) (R * 16) (omega (arith, pu)) (omega arith)))
+          (inside-append u (blocks g) (entryOps g n key bytes ram) _ (inside-item u (blocks g) (KA g) (kaBlocks g) n (entryBytes key n) (recordRam g n bytes ram) (omega arith) (ka-room n room))
+          (inside-if (fills (KA g) n) _ (λ a.
+          inside-filter u (ok .e) (units.pow S R D ok) (blocks g) (keyIndex g) (fullSets g) (omega arith) (keyFilters g n) (entered g n key bytes ram C) _ (sets-room n room (eqb-true (n % (8 * u) + 1) (8 * u) a))))));
+      past = rw (insertion-ram h g n key bytes pu size ram)
+          (past-if (fills (KA g) n) _ _
+          (past-then (ramSize g) ram _ _ entry-past (past-filter u pu (keyIndex g) (keyFilters g n) (ramSize g) (newFilter h g n key (recordRam g n bytes ram)) _ (omega arith))) entry-past);
     }
 
-    entered-bounded : Bounded g ram entered
-    entered-bounded = record {
-      ops =
-          inside-append u (blocks g) _ _
-          (inside-append u (blocks g) _ _ (b .ops) (inside-item u (blocks g) (RA g) R n bytes _ (omega arith) (div-lt n (4 * u) (R * 16) (omega (arith, pu)) (omega arith))))
-          (inside-item u (blocks g) (KA g) (kaBlocks g) n (entryBytes key n) _ (omega arith) (ka-room n room));
-      past =
-          past-then (ramSize g) ram _ _ (b .past)
-          (past-then (ramSize g) _ _ _ (past-item u (RA g) n (ramSize g) bytes _ (omega (arith, pu)) (omega arith) size (omega arith))
-          (past-item u (KA g) n (ramSize g) (entryBytes key n) _ (omega (arith, pu)) (omega arith) (length-entry key n) (omega arith)));
-    }
-
-    insertion-bounded : Bounded g ram (insertion h g flash n key bytes t)
-    unfolding insertion summary
-    insertion-bounded =
-        bounded-either g ram (fills (KA g) n) _ entered
-        (λ a. record {
-          ops = inside-append u (blocks g) _ _ (entered-bounded .ops) (inside-filter u (ok .e) (units.pow S R D ok) (blocks g) (keyIndex g) (fullSets g) (omega arith) (keyFilters g n) _ _ (sets-room n room (eqb-true (n % (8 * u) + 1) (8 * u) a)));
-          past = past-then (ramSize g) ram _ _ (entered-bounded .past) (past-filter u pu (keyIndex g) (keyFilters g n) (ramSize g) (pageFilter h g (put (KA g) n (entryBytes key n) (itemRam u (RA g) n bytes (t .ram)))) _ (omega arith));
-        })
-        (λ a. entered-bounded)
+  update-bounded : (n d j key : ℕ) (bytes ram : List ℕ) (C : Flash) → n < recordCapacity g → d < deletionCapacity g → length bytes ≡ 16
+      → Bounded g ram (planOps u (deletionPlan g d j ram ++ insertionPlan h g n key bytes ram) C) (insertionRam h g n key bytes (deletionRam g d j ram))
+  update-bounded n d j key bytes ram C room less size =
+      let D₁ = deletion-bounded d j ram C less in
+      let I₁ = insertion-bounded n key bytes (deletionRam g d j ram) (applyAll u (planOps u (deletionPlan g d j ram) C) C) room size in
+      record {
+        inside = rw (ops-append u (deletionPlan g d j ram) (insertionPlan h g n key bytes ram) C, insertion-after h g n key bytes pu d j ram)
+            (inside-append u (blocks g) _ _ (D₁ .inside) (I₁ .inside));
+        past = past-then (ramSize g) ram _ _ (D₁ .past) (I₁ .past);
+      }
 
   -- what is kept of a volume
   abbrev Kept : Volume → Result → Type 0
@@ -210,33 +216,30 @@ module _ (h : Family) (S R D : ℕ) (ok : Sound S R D) where
   refuse-kept : (v : Volume) (i : ℕ) → Kept v (refuse v i)
   refuse-kept v i = beyond-same g (v .flash) (v .ram)
 
-  commit-kept : (v : Volume) (n d : ℕ) (t : Draft) → Bounded g (v .ram) t → Kept v (commit g v n d t)
+  commit-kept : (v : Volume) (n d : ℕ) (plan : List Planned) (ram : List ℕ) → Bounded g (v .ram) (planOps u plan (v .flash)) ram → Kept v (commit g v n d plan ram)
   unfolding commit
-  commit-kept v n d t b =
-      kept-either v (allFresh (v .flash .spare) (t .ops)) _ _
+  commit-kept v n d plan ram b =
+      kept-either v (allFresh (v .flash .spare) (planOps u plan (v .flash))) _ _
       (λ fresh.
-      let p = past-then (ramSize g) (v .ram) (t .ram) _ (b .past) (past-zero u (workRam u) (ramSize g) (t .ram) (omega arith)) in
+      let p = past-then (ramSize g) (v .ram) ram _ (b .past) (past-zero u (workRam u) (ramSize g) ram (omega arith)) in
       record {
-        main = λ x l. main-past u (blocks g) (t .ops) (v .flash) x (b .ops) l;
-        spare = λ x l. spare-past u (blocks g) (t .ops) (v .flash) x (b .ops) l;
+        main = λ x l. main-past u (blocks g) (planOps u plan (v .flash)) (v .flash) x (b .inside) l;
+        spare = λ x l. spare-past u (blocks g) (planOps u plan (v .flash)) (v .flash) x (b .inside) l;
         ram = p .same;
-        main-length = apply-main-length u (t .ops) (v .flash);
-        spare-length = apply-spare-length u (t .ops) (v .flash);
+        main-length = apply-main-length u (planOps u plan (v .flash)) (v .flash);
+        spare-length = apply-spare-length u (planOps u plan (v .flash)) (v .flash);
         ram-length = p .long;
       })
       (λ fresh. refuse-kept v 7)
 
   module _ (v : Volume) where
-    start-bounded : Bounded g (v .ram) (record { ops = []; ram = v .ram })
-    start-bounded = record { ops = inside-none u (blocks g); past = past-none (ramSize g) (v .ram) }
-
     insert-kept : (key : ℕ) (bytes : List ℕ) (s : Option Stop) → length bytes ≡ 16 → Kept v (insertAfter h g v key bytes s)
     unfolding insertAfter
     insert-kept key bytes (some corrupt) size = refuse-kept v 8
     insert-kept key bytes (some (found j)) size = refuse-kept v 3
     insert-kept key bytes none size =
         kept-either v (noRoom g v) _ _ (λ a. refuse-kept v 5)
-        (λ a. commit-kept v _ _ _ (insertion-bounded (v .flash) (v .state .records) key bytes (v .ram) _ (leb-false (recordCapacity g) (v .state .records) a) size start-bounded))
+        (λ a. commit-kept v _ _ _ _ (insertion-bounded (v .state .records) key bytes (v .ram) (v .flash) (leb-false (recordCapacity g) (v .state .records) a) size))
 
     update-kept : (key : ℕ) (bytes : List ℕ) (s : Option Stop) → length bytes ≡ 16 → Kept v (updateAfter h g v key bytes s)
     unfolding updateAfter
@@ -245,9 +248,8 @@ module _ (h : Family) (S R D : ℕ) (ok : Sound S R D) where
     update-kept key bytes (some (found j)) size =
         kept-either v (noRoom g v) _ _ (λ a. refuse-kept v 5)
         (λ a. kept-either v (noDeletion g v) _ _ (λ b. refuse-kept v 6)
-        (λ b. commit-kept v _ _ _
-        (insertion-bounded (v .flash) (v .state .records) key bytes (v .ram) _ (leb-false (recordCapacity g) (v .state .records) a) size
-        (deletion-bounded (v .state .deletions) j (v .ram) (leb-false (deletionCapacity g) (v .state .deletions) b)))))
+        (λ b. commit-kept v _ _ _ _
+        (update-bounded (v .state .records) (v .state .deletions) j key bytes (v .ram) (v .flash) (leb-false (recordCapacity g) (v .state .records) a) (leb-false (deletionCapacity g) (v .state .deletions) b) size)))
 
     delete-kept : (s : Option Stop) → Kept v (deleteAfter g v s)
     unfolding deleteAfter
@@ -255,7 +257,7 @@ module _ (h : Family) (S R D : ℕ) (ok : Sound S R D) where
     delete-kept none = refuse-kept v 4
     delete-kept (some (found j)) =
         kept-either v (noDeletion g v) _ _ (λ b. refuse-kept v 6)
-        (λ b. commit-kept v _ _ _ (deletion-bounded (v .state .deletions) j (v .ram) (leb-false (deletionCapacity g) (v .state .deletions) b)))
+        (λ b. commit-kept v _ _ _ _ (deletion-bounded (v .state .deletions) j (v .ram) (v .flash) (leb-false (deletionCapacity g) (v .state .deletions) b)))
 
     lookup-kept : (opened : ℕ) (s : Option Stop) → Kept v (lookupAfter g v opened s)
     unfolding lookupAfter

@@ -3,7 +3,7 @@ use mathlib.Core.Path.{_≡_, refl, sym, ap, _∙_}
 use mathlib.Core.Logic.{_≢_, inl, inr}
 use mathlib.Core.Bool.{true, false}
 use mathlib.Core.Option.{Option, none, some, Option·map}
-use mathlib.Core.List.{List, [], _∷_}
+use mathlib.Core.List.{List, [], _∷_, _++_}
 use Prim.Native.Nat.{ℕ, _+_, _-_, _/_, _≤_, _<_, _^_}
 use native.Mathlib.Omega.{arith}
 use lib.ListN.{length, getD, take, replicate, length-append, length-replicate, getD-replicate, List·getD-append}
@@ -13,13 +13,15 @@ use borrow.Author.Tests.{leb-false}
 use Rattle.memory.specs.Cases.{either, bool?, lt?}
 use Rattle.memory.specs.Lists.{length-write, getD-write-before, getD-write-in, getD-write-after}
 use Rattle.layout.specs.Geometry.{Geometry, geometry, allowed, page, entriesPerPage, kaBlocks, fullSets, recordCapacity, deletionCapacity, spareSize, workRam}
-use Rattle.layout.specs.Flash.{Flash, applyAll, allFresh}
+use Rattle.layout.specs.Flash.{Flash, Op, applyAll, Planned, planOps, allFresh}
 use Rattle.layout.specs.Hash.{Family}
 use Rattle.layout.specs.Items.{RA, KA, DA, zeroPage}
 use Rattle.layout.specs.Search.{found}
-use Rattle.layout.specs.Calls.{Volume, Call, insert, update, delete, lookup, Result, refuse, judged, Draft, keyIndex, keyFilters, deletion, insertion, commit, insertAfter, updateAfter, deleteAfter, lookupAfter, answer, call}
+use Rattle.layout.specs.Calls.{Volume, Call, insert, update, delete, lookup, Result, refuse, judged, keyIndex, keyFilters, deletionPlan, deletionRam, insertionPlan, insertionRam, commit, insertAfter, updateAfter, deleteAfter, lookupAfter, answer, call}
 use Rattle.layout.specs.FiniteMap.{accepts, hits, refuses}
-use Rattle.laws.specs.FlashLaws.{AllAllowed}
+use Rattle.laws.specs.FlashLaws.{fresh-append, AllAllowed, apply-append, allowed-append}
+use Rattle.laws.specs.PlanLaws.{ops-append}
+use Rattle.laws.specs.ChangeLaws.{insertion-after}
 use Rattle.history.specs.Image.{Record, History, recordAt, bytesOf, raItem, kaItem, daItem, keyFilter}
 use Rattle.history.specs.Live.{findLive, withRecord, withDeletion, HistoryStep, historyStep, insertHistory, updateHistory, deleteHistory, lookupHistory, stepHistory, found-below}
 use Rattle.history.specs.Parts.{Parts, Did, Frame, Beyond, beyond-same, beyond-then, frame-beyond, frame-area, frame-index}
@@ -30,10 +32,6 @@ use Rattle.history.specs.Volumes as volumes
 use Rattle.history.specs.Volumes.{Holds, volumeOf}
 use Rattle.laws.specs.Sound.{Sound}
 use Rattle.laws.specs.Sound as units
-
-no-ops : (spare : List ℕ) → allFresh spare [] ≡ true
-unfolding allFresh
-no-ops spare = refl
 
 module _ (h : Family) (S R D : ℕ) (ok : Sound S R D) (can : allowed S R D ≡ true) where
   abbrev g : Geometry
@@ -121,23 +119,23 @@ module _ (h : Family) (S R D : ℕ) (ok : Sound S R D) (can : allowed S R D ≡ 
 
     -- ---- an accepted change
 
-    commit-done : (H′ : History) (n′ d′ : ℕ) (T : Draft) → n′ ≡ length (H′ .records) → d′ ≡ length (H′ .deleted)
-        → Parts h g (ok .e) (units.pow S R D ok) H′ n′ n′ d′ (keyFilters g n′) (applyAll (S / 16) (T .ops) C) (T .ram)
-        → AllAllowed (S / 16) (T .ops) C → Beyond g C (applyAll (S / 16) (T .ops) C) ram (T .ram) → allFresh (C .spare) (T .ops) ≡ true → Below (spareSize g) (T .ops)
+    commit-done : (H′ : History) (n′ d′ : ℕ) (plan : List Planned) (ops : List Op) (ram′ : List ℕ) → planOps (S / 16) plan C ≡ ops → n′ ≡ length (H′ .records) → d′ ≡ length (H′ .deleted)
+        → Parts h g (ok .e) (units.pow S R D ok) H′ n′ n′ d′ (keyFilters g n′) (applyAll (S / 16) ops C) ram′
+        → AllAllowed (S / 16) ops C → Beyond g C (applyAll (S / 16) ops C) ram ram′ → allFresh (C .spare) ops ≡ true → Below (spareSize g) ops
         → n′ ≤ recordCapacity g → d′ ≤ deletionCapacity g → d′ ≤ n′
         → ((j : ℕ) → j < n′ → recordAt H′ j .key < 2 ^ 32) → ((i : ℕ) → i < d′ → getD (H′ .deleted) i 0 < n′)
-        → Done H C ram (commit g v n′ d′ T) (historyStep accepts H′)
+        → Done H C ram (commit g v n′ d′ plan ram′) (historyStep accepts H′)
     unfolding commit
-    commit-done H′ n′ d′ T n-is d-is P allow past fresh low n-cap d-cap d-le keys gone =
-        rw fresh
+    commit-done H′ n′ d′ plan ops ram′ ops-are n-is d-is P allow past fresh low n-cap d-cap d-le keys gone =
+        rw (ops-are, fresh)
         (record {
           says = refl;
           possible = tt;
           handed-on = tt;
           volume-is = rw (n-is, d-is);
           holds = record {
-            parts = rw (n-is, d-is) at (zeroed H′ n′ n′ d′ (keyFilters g n′) (applyAll (S / 16) (T .ops) C) (T .ram) P);
-            work = work-zero H′ n′ n′ d′ (keyFilters g n′) (applyAll (S / 16) (T .ops) C) (T .ram) P;
+            parts = rw (n-is, d-is) at (zeroed H′ n′ n′ d′ (keyFilters g n′) (applyAll (S / 16) ops C) ram′ P);
+            work = work-zero H′ n′ n′ d′ (keyFilters g n′) (applyAll (S / 16) ops C) ram′ P;
             n-cap = rw (← n-is) n-cap;
             d-cap = rw (← d-is) d-cap;
             d-le = rw (← n-is, ← d-is) d-le;
@@ -147,8 +145,8 @@ module _ (h : Family) (S R D : ℕ) (ok : Sound S R D) (can : allowed S R D ≡ 
           flash-is = refl;
           ops-allowed = allow;
           inside = low;
-          beyond = beyond-then g C (applyAll (S / 16) (T .ops) C) (applyAll (S / 16) (T .ops) C) ram (T .ram) (zeroPage (S / 16) (workRam (S / 16)) (T .ram)) past
-              (work-beyond H′ n′ n′ d′ (keyFilters g n′) (applyAll (S / 16) (T .ops) C) (T .ram) P);
+          beyond = beyond-then g C (applyAll (S / 16) ops C) (applyAll (S / 16) ops C) ram ram′ (zeroPage (S / 16) (workRam (S / 16)) ram′) past
+              (work-beyond H′ n′ n′ d′ (keyFilters g n′) (applyAll (S / 16) ops C) ram′ P);
           count-le = omega arith;
         })
 
@@ -180,14 +178,14 @@ module _ (h : Family) (S R D : ℕ) (ok : Sound S R D) (can : allowed S R D ≡ 
 
     module _ (r : Record) (word : r .key < 2 ^ 32) where
       insert-accepted : leb (recordCapacity g) (length (H .records)) ≡ false
-          → Done H C ram (commit g v (n + 1) d (insertion h g C n (r .key) (bytesOf r) (record { ops = []; ram = ram }))) (historyStep accepts (withRecord H r))
+          → Done H C ram (commit g v (n + 1) d (insertionPlan h g n (r .key) (bytesOf r) ram) (insertionRam h g n (r .key) (bytesOf r) ram)) (historyStep accepts (withRecord H r))
       insert-accepted c =
           let room : length (H .records) < recordCapacity g = leb-false (recordCapacity g) (length (H .records)) c in
-          let X : Changed h g (ok .e) (units.pow S R D ok) (withRecord H r) (n + 1) d C (record { ops = []; ram = ram }) (insertion h g C n (r .key) (bytesOf r) (record { ops = []; ram = ram }))
-          = insertion-changes h g (ok .e) (units.pow S R D ok) H r d C (record { ops = []; ram = ram }) (I .parts) room word (I .keys) tt in
-          commit-done (withRecord H r) (n + 1) d (insertion h g C n (r .key) (bytesOf r) (record { ops = []; ram = ram })) (length-record r) refl
-          (X .grown) (X .allowed) (X .beyond) (X .fresh (C .spare) (λ x l o. refl) (no-ops (C .spare)))
-          (fresh-below (spareSize g) (C .spare) _ (X .fresh (take (spareSize g) (C .spare)) (λ x l o. getD-take (spareSize g) (C .spare) x 0 l) (no-ops (take (spareSize g) (C .spare)))))
+          let X : Changed h g (ok .e) (units.pow S R D ok) (withRecord H r) (n + 1) d C ram (planOps (S / 16) (insertionPlan h g n (r .key) (bytesOf r) ram) C) (insertionRam h g n (r .key) (bytesOf r) ram)
+          = insertion-changes h g (ok .e) (units.pow S R D ok) H r d C ram (I .parts) room word (I .keys) in
+          commit-done (withRecord H r) (n + 1) d (insertionPlan h g n (r .key) (bytesOf r) ram) _ (insertionRam h g n (r .key) (bytesOf r) ram) refl (length-record r) refl
+          (X .grown) (X .allowed) (X .beyond) (X .fresh (C .spare) (λ x l o. refl))
+          (fresh-below (spareSize g) (C .spare) _ (X .fresh (take (spareSize g) (C .spare)) (λ x l o. getD-take (spareSize g) (C .spare) x 0 l)))
           (omega arith) (I .d-cap) (omega (arith, I .d-le)) (keys-record r word) (λ i l. omega (arith, I .gone i l))
 
       insert-done : (o : Option ℕ) → findLive H (r .key) ≡ o
@@ -205,39 +203,54 @@ module _ (h : Family) (S R D : ℕ) (ok : Sound S R D) (can : allowed S R D ≡ 
       room-d : length (H .deleted) < deletionCapacity g
       room-d = leb-false (deletionCapacity g) (length (H .deleted)) c6
 
-      abbrev t : Draft
-      t = deletion g d j ram
+      abbrev ops : List Op
+      ops = planOps (S / 16) (deletionPlan g d j ram) C
 
-      did : Did (S / 16) (DA g .first) (DA g .first + D) (DA g .ram) C ram (t .ram) (t .ops)
+      abbrev C₁ : Flash
+      C₁ = applyAll (S / 16) ops C
+
+      abbrev ram₁ : List ℕ
+      ram₁ = deletionRam g d j ram
+
+      did : Did (S / 16) (DA g .first) (DA g .first + D) (DA g .ram) C ram ram₁ ops
       did = deletion-did h g (ok .e) (units.pow S R D ok) H n n (keyFilters g n) j C ram (I .parts) room-d
 
-      less-one : Parts h g (ok .e) (units.pow S R D ok) (withDeletion H j) n n (d + 1) (keyFilters g n) (applyAll (S / 16) (t .ops) C) (t .ram)
+      less-one : Parts h g (ok .e) (units.pow S R D ok) (withDeletion H j) n n (d + 1) (keyFilters g n) C₁ ram₁
       less-one = deletion-parts h g (ok .e) (units.pow S R D ok) H n n (keyFilters g n) j C ram (I .parts) room-d
 
-      past : Beyond g C (applyAll (S / 16) (t .ops) C) ram (t .ram)
-      past = frame-beyond g (DA g .first) (DA g .first + D) (DA g .ram) C (applyAll (S / 16) (t .ops) C) ram (t .ram) (did .frame) (omega arith) (omega arith)
+      past : Beyond g C C₁ ram ram₁
+      past = frame-beyond g (DA g .first) (DA g .first + D) (DA g .ram) C C₁ ram ram₁ (did .frame) (omega arith) (omega arith)
 
-      fresh₀ : allFresh (C .spare) (t .ops) ≡ true
+      fresh₀ : allFresh (C .spare) ops ≡ true
       fresh₀ = did .fresh (C .spare) (λ x l m. refl)
 
-      inside₀ : allFresh (take (spareSize g) (C .spare)) (t .ops) ≡ true
+      inside₀ : allFresh (take (spareSize g) (C .spare)) ops ≡ true
       inside₀ = did .fresh (take (spareSize g) (C .spare)) (λ x l m. getD-take (spareSize g) (C .spare) x 0 (omega arith))
 
-      delete-accepted : length (H .deleted) < length (H .records) → Done H C ram (commit g v n (d + 1) (deletion g d j ram)) (historyStep accepts (withDeletion H j))
+      delete-accepted : length (H .deleted) < length (H .records)
+          → Done H C ram (commit g v n (d + 1) (deletionPlan g d j ram) (deletionRam g d j ram)) (historyStep accepts (withDeletion H j))
       delete-accepted less =
-          commit-done (withDeletion H j) n (d + 1) t refl (length-deletion j) less-one (did .allowed) past fresh₀ (fresh-below (spareSize g) (C .spare) (t .ops) inside₀)
+          commit-done (withDeletion H j) n (d + 1) (deletionPlan g d j ram) ops ram₁ refl refl (length-deletion j) less-one (did .allowed) past fresh₀
+          (fresh-below (spareSize g) (C .spare) ops inside₀)
           (I .n-cap) (omega (arith, room-d)) (omega arith) (I .keys) (gone-deletion j below)
 
       update-accepted : (r : Record) → r .key < 2 ^ 32 → leb (recordCapacity g) (length (H .records)) ≡ false
-          → Done H C ram (commit g v (n + 1) (d + 1) (insertion h g C n (r .key) (bytesOf r) (deletion g d j ram))) (historyStep accepts (withRecord (withDeletion H j) r))
+          → Done H C ram (commit g v (n + 1) (d + 1) (deletionPlan g d j ram ++ insertionPlan h g n (r .key) (bytesOf r) ram) (insertionRam h g n (r .key) (bytesOf r) (deletionRam g d j ram)))
+          (historyStep accepts (withRecord (withDeletion H j) r))
       update-accepted r word c5 =
           let room : length (H .records) < recordCapacity g = leb-false (recordCapacity g) (length (H .records)) c5 in
-          let X : Changed h g (ok .e) (units.pow S R D ok) (withRecord (withDeletion H j) r) (n + 1) (d + 1) C t (insertion h g C n (r .key) (bytesOf r) t)
-          = insertion-changes h g (ok .e) (units.pow S R D ok) (withDeletion H j) r (d + 1) C t less-one room word (I .keys) (did .allowed) in
-          commit-done (withRecord (withDeletion H j) r) (n + 1) (d + 1) (insertion h g C n (r .key) (bytesOf r) t) (length-record r) (length-deletion j)
-          (X .grown) (X .allowed) (beyond-then g C (applyAll (S / 16) (t .ops) C) _ ram (t .ram) _ past (X .beyond))
-          (X .fresh (C .spare) (λ x l o. sym (did .frame .spare x o)) fresh₀)
-          (fresh-below (spareSize g) (C .spare) _ (X .fresh (take (spareSize g) (C .spare)) (λ x l o. getD-take (spareSize g) (C .spare) x 0 l ∙ sym (did .frame .spare x o)) inside₀))
+          let more : List Op = planOps (S / 16) (insertionPlan h g n (r .key) (bytesOf r) ram₁) C₁ in
+          let X : Changed h g (ok .e) (units.pow S R D ok) (withRecord (withDeletion H j) r) (n + 1) (d + 1) C₁ ram₁ (planOps (S / 16) (insertionPlan h g n (r .key) (bytesOf r) ram₁) C₁) (insertionRam h g n (r .key) (bytesOf r) ram₁)
+          = insertion-changes h g (ok .e) (units.pow S R D ok) (withDeletion H j) r (d + 1) C₁ ram₁ less-one room word (I .keys) in
+          let both : planOps (S / 16) (deletionPlan g d j ram ++ insertionPlan h g n (r .key) (bytesOf r) ram) C ≡ ops ++ planOps (S / 16) (insertionPlan h g n (r .key) (bytesOf r) ram₁) C₁
+          = ops-append (S / 16) (deletionPlan g d j ram) (insertionPlan h g n (r .key) (bytesOf r) ram) C
+          ∙ ap (λ (ps : List Planned). ops ++ planOps (S / 16) ps C₁) (insertion-after h g n (r .key) (bytesOf r) pu d j ram) in
+          let done = apply-append (S / 16) ops more C in
+          commit-done (withRecord (withDeletion H j) r) (n + 1) (d + 1) _ (ops ++ more) (insertionRam h g n (r .key) (bytesOf r) ram₁) both (length-record r) (length-deletion j)
+          (rw done (X .grown)) (allowed-append (S / 16) ops more C (did .allowed) (X .allowed)) (rw done (beyond-then g C C₁ _ ram ram₁ _ past (X .beyond)))
+          (fresh-append (C .spare) ops more fresh₀ (X .fresh (C .spare) (λ x l o. sym (did .frame .spare x o))))
+          (fresh-below (spareSize g) (C .spare) _ (fresh-append (take (spareSize g) (C .spare)) ops more inside₀
+          (X .fresh (take (spareSize g) (C .spare)) (λ x l o. getD-take (spareSize g) (C .spare) x 0 l ∙ sym (did .frame .spare x o)))))
           (omega arith) (omega (arith, room-d)) (omega (arith, I .d-le)) (keys-record r word) (λ i l. omega (arith, gone-deletion j below i l))
 
     update-done : (r : Record) → r .key < 2 ^ 32 → (o : Option ℕ) → findLive H (r .key) ≡ o

@@ -9,7 +9,7 @@ use native.Mathlib.Omega.{arith}
 use lib.ListN.{length, getD, replicate, length-set, length-replicate, getD-replicate}
 use lib.Seq.{ext-getD, getD-set-same, getD-set-other}
 use lib.Dec.{eqb}
-use Rattle.memory.specs.Lists.{write, length-write, getD-write-before, getD-write-in, getD-write-after, tab, length-tab, getD-tab}
+use Rattle.memory.specs.Lists.{write, length-write, getD-write-before, getD-write-in, getD-write-after, tab, tab-ext, length-tab, getD-tab}
 use Rattle.memory.specs.Numbers.{euclid, div-lt}
 use Rattle.memory.specs.Cases.{lt?, eq?, either}
 use Rattle.layout.specs.Flash.{Op, program, erase, Flash, apply, applyAll, erases, fresh, allFresh}
@@ -39,6 +39,12 @@ fresh-erases spare b zero = refl
 fresh-erases spare b (suc k) = fresh-erases spare (suc b) k
 
 module _ (u : ℕ) where
+  -- equal bytes are equal operations
+  pub programs-ext : (d s k : ℕ) (f g : ℕ → ℕ → ℕ) → ((j y : ℕ) → j < k → y < 16 * u → f j y ≡ g j y) → programs u d s k f ≡ programs u d s k g
+  programs-ext d s zero f g e = refl
+  programs-ext d s (suc k) f g e =
+      rw (tab-ext (16 * u) (f zero) (g zero) (λ y l. e 0 y (omega arith) l), programs-ext d (s + d) k (λ j. f (suc j)) (λ j. g (suc j)) (λ j y l m. e (suc j) y (omega arith) m))
+
   -- a program: the sector is fresh, and the sectors before it in its page are not
   abbrev pub Allowed : Op → Flash → Type 0
   Allowed (program s bytes) c = (getD (c .spare) s 0 ≡ 255) × ((x : ℕ) → x < s → x / 4 ≡ s / 4 → getD (c .spare) x 0 ≡ 0)

@@ -135,9 +135,6 @@ pub record Past (N : ℕ) (r r′ : List ℕ) : Type 0 where
   pub same : (x : ℕ) → N ≤ x → getD r′ x 0 ≡ getD r x 0
   pub long : length r′ ≡ length r
 
-pub past-none : (N : ℕ) (r : List ℕ) → Past N r r
-past-none N r = record { same = λ x l. refl; long = refl }
-
 pub past-then : (N : ℕ) (r s t : List ℕ) → Past N r s → Past N s t → Past N r t
 past-then N r s t p q = record { same = λ x l. q .same x l ∙ p .same x l; long = q .long ∙ p .long }
 

@@ -1,6 +1,8 @@
 pub mod Operations
 pub mod FlashLaws
 pub mod RowLaws
+pub mod Apart
+pub mod PlanLaws
 pub mod ItemLaws
 pub mod AreaNumbers
 pub mod SearchLaws
@@ -8,3 +10,5 @@ pub mod SkaLaws
 pub mod Sound
 pub mod Inside
 pub mod LentFlash
+pub mod RamPages
+pub mod ChangeLaws

@@ -5,10 +5,12 @@ use Prim.Native.Nat.{ℕ, zero, suc, _+_, _*_, _/_}
 use lib.ListN.{getD}
 use lib.Dec.{eqb}
 use Rattle.memory.specs.Lists.{tab}
-use Rattle.layout.specs.Geometry.{sector}
+use Rattle.layout.specs.Geometry.{Geometry, sector}
 use Rattle.layout.specs.Flash.{Flash, Op, program, erases, applyAll}
-use Rattle.layout.specs.Items.{Area, put, fills}
+use Rattle.layout.specs.Hash.{Family}
+use Rattle.layout.specs.Items.{Area, RA, KA, entryBytes, put, fills, itemRam}
 use Rattle.layout.specs.Index.{Index, inSka, inL1, inSet, inFull, setPages, setBlocks, sideBlock, setBlock, setByte}
+use Rattle.layout.specs.Calls.{keyIndex, keyFilters, summarized}
 
 module _ (u : ℕ) where
   -- k sectors, the j-th being s + j * d; byte y of the j-th is f j y
@@ -42,3 +44,31 @@ module _ (u : ℕ) where
     -- filter F, which the RAM holds already
     abbrev pub filterOps : Flash → ℕ → List ℕ → List Op
     filterOps flash F ram = cond (eqb (inSka F + 1) 8) (flushAndBuildOps flash F ram) []
+
+-- ---- record n and its entry, each step on what the one before it leaves
+
+abbrev pub recordOps : Geometry → ℕ → List ℕ → List ℕ → List Op
+recordOps g n bytes ram = itemOps (g .u) (RA g) n bytes ram
+
+abbrev pub recordRam : Geometry → ℕ → List ℕ → List ℕ → List ℕ
+recordRam g n bytes ram = itemRam (g .u) (RA g) n bytes ram
+
+abbrev pub entryOps : Geometry → ℕ → ℕ → List ℕ → List ℕ → List Op
+entryOps g n key bytes ram = itemOps (g .u) (KA g) n (entryBytes key n) (recordRam g n bytes ram)
+
+abbrev pub entryRam : Geometry → ℕ → ℕ → List ℕ → List ℕ → List ℕ
+entryRam g n key bytes ram = itemRam (g .u) (KA g) n (entryBytes key n) (recordRam g n bytes ram)
+
+-- the chip after both
+abbrev pub entered : Geometry → ℕ → ℕ → List ℕ → List ℕ → Flash → Flash
+entered g n key bytes ram flash = applyAll (g .u) (entryOps g n key bytes ram) (applyAll (g .u) (recordOps g n bytes ram) flash)
+
+-- the RAM with the filter of the page that the entry fills
+abbrev pub filteredRam : Family → Geometry → ℕ → ℕ → List ℕ → List ℕ → List ℕ
+filteredRam h g n key bytes ram = summarized h g n key (recordRam g n bytes ram) (entryRam g n key bytes ram)
+
+abbrev pub insertionOps : Family → Geometry → ℕ → ℕ → List ℕ → List ℕ → Flash → List Op
+insertionOps h g n key bytes ram flash =
+    recordOps g n bytes ram
+    ++ (entryOps g n key bytes ram
+    ++ cond (fills (KA g) n) (filterOps (g .u) (keyIndex g) (entered g n key bytes ram flash) (keyFilters g n) (filteredRam h g n key bytes ram)) [])

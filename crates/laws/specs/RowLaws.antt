@@ -88,6 +88,10 @@ module _ (u e : ℕ) (pow : u ≡ 2 ^ e) where
   pub blocks-fit : (c : ℕ) → c ≤ 4 * u → 2 ^ log2up c ≤ 4 * u
   blocks-fit c h = omega (arith, width e c (omega arith), mul-le-mul-right (2 ^ log2up c) (pow-pos (e + 2 - log2up c)))
 
+  -- the filters of a set fit its pages
+  pub filters-fit : (c : ℕ) → c ≤ 4 * u → 128 * c * setWidth u c ≤ 512 * u
+  filters-fit c h = omega (arith, set-whole c h, mul-le-mul-right (setWidth u c) (log2up-enough c))
+
   -- a full set has as many blocks as a side, and a bit of a filter to a page
   pub full-blocks : 2 ^ log2up (4 * u) ≡ 4 * u
   full-blocks = omega (arith, blocks-fit (4 * u) (omega arith), log2up-enough (4 * u))

@@ -52,6 +52,18 @@ module _ {ℓ} {A : Type ℓ} where
   getD-write-after (x ∷ xs) (suc n) s zero d h = absurd (omega arith)
   getD-write-after (x ∷ xs) (suc n) s (suc i) d h = getD-write-after xs n s i d (omega arith)
 
+  -- lists of one length that agree at an address agree there after the same write
+  pub write-same : (l l′ : List A) (at : ℕ) (s : List A) (i : ℕ) (d : A) → length l ≡ length l′ → getD l i d ≡ getD l′ i d → getD (write l at s) i d ≡ getD (write l′ at s) i d
+  unfolding write
+  write-same [] [] at s i d n e = e
+  write-same [] (y ∷ ys) at s i d n e = absurd (omega arith)
+  write-same (x ∷ xs) [] at s i d n e = absurd (omega arith)
+  write-same (x ∷ xs) (y ∷ ys) zero [] i d n e = e
+  write-same (x ∷ xs) (y ∷ ys) zero (z ∷ zs) zero d n e = refl
+  write-same (x ∷ xs) (y ∷ ys) zero (z ∷ zs) (suc i) d n e = write-same xs ys zero zs i d (omega arith) e
+  write-same (x ∷ xs) (y ∷ ys) (suc at) s zero d n e = e
+  write-same (x ∷ xs) (y ∷ ys) (suc at) s (suc i) d n e = write-same xs ys at s i d (omega arith) e
+
   -- ---- a list by its elements: n elements, element i being f i
 
   unfoldable pub tabFrom : ℕ → ℕ → (ℕ → A) → List A
@@ -149,6 +161,14 @@ pieces-out L d at (suc k) f l x z o =
     pieces-out L d (at + d) k (λ j. f (suc j)) (write l at (tab L (f zero))) x z (λ j h.
     let e : at + suc j * d ≡ at + d + j * d = omega arith in rw e at (o (suc j) (omega arith)))
     ∙ ⊎-elim (λ a. getD-write-before l at (tab L (f zero)) x z (omega arith)) (λ a. getD-write-after l at (tab L (f zero)) x z (omega arith)) (o 0 (omega arith))
+
+pub pieces-same : {A : Type 0} (L d at k : ℕ) (f : ℕ → ℕ → A) (l l′ : List A) (x : ℕ) (z : A) → length l ≡ length l′ → getD l x z ≡ getD l′ x z
+    → getD (pieces L d at k f l) x z ≡ getD (pieces L d at k f l′) x z
+unfolding pieces
+pieces-same L d at zero f l l′ x z n e = e
+pieces-same L d at (suc k) f l l′ x z n e =
+    pieces-same L d (at + d) k (λ j. f (suc j)) (write l at (tab L (f zero))) (write l′ at (tab L (f zero))) x z
+    (length-write l at (tab L (f zero)) ∙ n ∙ sym (length-write l′ at (tab L (f zero)))) (write-same l l′ at (tab L (f zero)) x z n e)
 
 pub pieces-in : {A : Type 0} (L d at k : ℕ) (f : ℕ → ℕ → A) (l : List A) (j y : ℕ) (z : A) → L ≤ d → at + j * d + L ≤ length l → j < k → y < L
     → getD (pieces L d at k f l) (at + j * d + y) z ≡ f j y

@@ -15,7 +15,7 @@ use Rattle.layout.specs.Index.{Index, setPages, setBlock, setByte}
 use Rattle.laws.specs.FlashLaws.{apply-main-length, apply-spare-length, range-out}
 use Rattle.laws.specs.RowLaws.{unit-pos, blocks-fit, side-range}
 use Rattle.partition.specs.Indexes.{SetFits}
-use Rattle.partition.specs.Apart.{set-byte-same}
+use Rattle.laws.specs.Apart.{set-byte-same}
 use Rattle.partition.specs.Programs.{programs-more}
 
 module _ (u e : ℕ) (pow : u ≡ 2 ^ e) (ix : Index) (z c : ℕ) (hc : c < 4 * u) (main₀ spare₀ : List ℕ) (s : ℕ) (s-is : s ≡ setBlock u ix z c * 64) where

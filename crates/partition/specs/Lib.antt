@@ -1,6 +1,5 @@
 pub mod Indexes
 pub mod Widths
-pub mod Apart
 pub mod Sources
 pub mod Reach
 pub mod Programs

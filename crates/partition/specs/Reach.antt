@@ -8,11 +8,11 @@ use Rattle.memory.specs.Numbers.{div-lt}
 use Rattle.memory.specs.Power.{log2up}
 use Rattle.layout.specs.Geometry.{block}
 use Rattle.layout.specs.Index.{Index, setPages, setWidth, fullBlock}
-use Rattle.laws.specs.RowLaws.{unit-pos, width-is, width-pos, set-whole, blocks-fit, side-range}
+use Rattle.laws.specs.RowLaws.{unit-pos, width-is, width-pos, set-whole, blocks-fit, filters-fit, side-range}
 use Rattle.fields.specs.Sources.{Aligned, Reaches}
 use Rattle.partition.specs.declared.Row.{Row}
 use Rattle.partition.specs.Indexes.{unit-small}
-use Rattle.partition.specs.Widths.{filters-fit, old-whole, sector-whole}
+use Rattle.partition.specs.Widths.{old-whole, sector-whole}
 use Rattle.partition.specs.Sources.{oldOf, l1Of, rowOf, pages-pos, field-room}
 
 pub record RowFits (len : ℕ) (r : Row) : Type 0 where

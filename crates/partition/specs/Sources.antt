@@ -14,11 +14,11 @@ use Rattle.memory.specs.Bits.{bit, bitIn, pack, pack-ext}
 use Rattle.layout.specs.Geometry.{sector, page, block}
 use Rattle.layout.specs.Index.{Index, rowBit, rowByte, bitAt, setWidth, fullFilters, sideBlock, flashPlace, setByte}
 use Rattle.laws.specs.RowLaws.{unit-pos, width-pos}
+use Rattle.laws.specs.Apart.{place-old, place-new}
 use Rattle.fields.specs.declared.Source.{Source}
 use Rattle.fields.specs.Sources.{fieldByte}
 use Rattle.partition.specs.declared.Row.{Row}
 use Rattle.partition.specs.Widths.{old-whole, sector-whole}
-use Rattle.partition.specs.Apart.{place-old, place-new}
 
 -- byte y of a page
 unfoldable pub pageByte : List ℕ → Row → ℕ → ℕ

@@ -1,12 +1,11 @@
 -- Pages and widths of partition sets, all powers of two.
 use mathlib.Core.Path.{_≡_, sym, _∙_}
 use Prim.Native.Nat.{ℕ, _+_, _-_, _*_, _/_, _^_, _≤_, _<_}
-use native.Mathlib.Nat.{mul-le-mul-right}
 use native.Mathlib.Omega.{arith}
 use lib.Pow.{pow-add}
 use Rattle.memory.specs.Power.{log2up, log2up-enough, log2up-least}
 use Rattle.layout.specs.Index.{setWidth}
-use Rattle.laws.specs.RowLaws.{width-is, set-whole}
+use Rattle.laws.specs.RowLaws.{width-is}
 use Rattle.fields.specs.Laws.{pow-whole}
 
 -- more rounds want no smaller power of two
@@ -14,10 +13,6 @@ pub log2up-next : (c : ℕ) → log2up c ≤ log2up (c + 1)
 log2up-next c = log2up-least c (log2up (c + 1)) (omega (arith, log2up-enough (c + 1)))
 
 module _ (u e : ℕ) (pow : u ≡ 2 ^ e) where
-  -- the filters of a set fit its pages
-  pub filters-fit : (c : ℕ) → c ≤ 4 * u → 128 * c * setWidth u c ≤ 512 * u
-  filters-fit c h = omega (arith, set-whole u e pow c h, mul-le-mul-right (setWidth u c) (log2up-enough c))
-
   -- the width of the next set divides that of the set before it, and a sector
   pub old-whole : (c : ℕ) → c < 4 * u → setWidth u c / setWidth u (c + 1) * setWidth u (c + 1) ≡ setWidth u c
   old-whole c h =

@@ -13,8 +13,7 @@ use Rattle.memory.specs.Power.{log2up}
 use Rattle.memory.specs.Bits.{bit}
 use Rattle.layout.specs.Geometry.{sector, page, block}
 use Rattle.layout.specs.Index.{Index, bitAt, setPages, setWidth, fullFilters, sideBlock, l1Place, setPlace, flashPlace, setByte, setBlock}
-use Rattle.laws.specs.RowLaws.{row-ext, unit-pos, set-whole, width-pos, blocks-fit, side-range}
-use Rattle.partition.specs.Widths.{filters-fit}
+use Rattle.laws.specs.RowLaws.{row-ext, unit-pos, set-whole, width-pos, blocks-fit, filters-fit, side-range}
 
 module _ (u : ℕ) (ix : Index) where
   -- filter g of the set before the next one
