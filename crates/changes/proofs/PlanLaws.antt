@@ -6,23 +6,25 @@ use Prim.Native.Nat.{ℕ, _+_, _*_, _%_, _<_}
 use lib.ListN.{length, getD}
 use lib.Seq.{ext-getD}
 use Rattle.memory.specs.Booleans.{cond-pos, cond-neg}
-use Rattle.memory.specs.Cases.{either, bool?, lt?}
+use Rattle.memory.specs.Cases.{either, lt?}
 use Rattle.memory.specs.Lists.{write, length-write, getD-write-before, getD-write-in, getD-write-after}
 use Rattle.layout.specs.Geometry.{Geometry, kaRam as kaPage}
 use Rattle.layout.specs.Flash.{Flash, Op, applyAll, allFresh}
 use Rattle.layout.specs.Hash.{Family, fnvFamily, positions, positionCount}
-use Rattle.layout.specs.Items.{Area, RA, KA, DA, entryBytes, deletionBytes, put, fills, pageOps, zeroPage, itemOps, itemRam}
-use Rattle.layout.specs.Index.{Index, inSka, withFilter, filterOps, filterRam}
+use Rattle.layout.specs.Items.{Area, RA, KA, DA, entryBytes, deletionBytes, put, fills, zeroPage, itemRam}
+use Rattle.layout.specs.Index.{Index, inSka, withFilter, filterRam}
 use Rattle.filter.specs.Pieces.{with-filter-ext}
 use Rattle.filter.specs.Filter.{page-filter-is}
 use Rattle.memory.specs.Ranges.{any, memb}
 use Rattle.memory.specs.Words.{word, bytes4}
-use Rattle.layout.specs.Calls.{Draft, keyIndex, keyFilters, pageFilter, deletion, summary, insertion}
+use Rattle.layout.specs.Calls.{keyIndex, keyFilters, pageFilter, deletionRam, insertionRam}
+use Rattle.laws.specs.Operations.{pageOps, itemOps, filterOps, recordOps, entryOps, entered as stepped, filteredRam, insertionOps}
+use Rattle.laws.specs.ChangeLaws.{insertion-ram}
 use Rattle.laws.specs.FlashLaws.{apply-append}
 use Rattle.flash.specs.Fresh.{fresh-append}
-use Rattle.changes.specs.Inserted.{raOps, raRam, kaOps, kaRam, filterIn, entered, indexOps, lastFlash, lastRam, insertedFlash, insertedRam, insertFresh}
+use Rattle.changes.specs.Inserted.{raRam, kaRam, filterIn, entered, lastFlash, lastRam, insertedFlash, insertedRam, insertFresh}
 use Rattle.items.specs.Fresh.{itemFresh, item-fresh}
-use Rattle.index.specs.Fresh.{indexFresh, index-fresh}
+use Rattle.index.specs.Fresh.{index-fresh}
 
 -- writing the same bytes to the same place twice
 pub write-twice : (l : List ℕ) (at : ℕ) (s : List ℕ) → write (write l at s) at s ≡ write l at s
@@ -42,95 +44,53 @@ pub put-twice : (a : Area) (n : ℕ) (item ram : List ℕ) → put a n item (put
 unfolding put
 put-twice a n item ram = write-twice ram _ item
 
-module _ (h : Family) (g : Geometry) (flash : Flash) (n key : ℕ) (bytes : List ℕ) (t : Draft) where
-  abbrev ops₂ : List Op
-  ops₂ = t .ops ++ raOps h g n key bytes (t .ram) ++ kaOps h g n key (raRam h g n key bytes (t .ram))
+apply-if : (u : ℕ) (b : Bool) (os : List Op) (C : Flash) → applyAll u (cond b os []) C ≡ cond b (applyAll u os C) C
+apply-if u true os C = refl
+apply-if u false os C = refl
 
-  abbrev C : Flash
-  C = applyAll (g .u) (t .ops) flash
+fresh-if : (b : Bool) (os : List Op) (spare : List ℕ) → allFresh spare (cond b os []) ≡ cond b (allFresh spare os) true
+unfolding allFresh
+fresh-if true os spare = refl
+fresh-if false os spare = refl
 
-  abbrev C₁ : Flash
-  C₁ = applyAll (g .u) (raOps h g n key bytes (t .ram)) C
-
-  done₂ : applyAll (g .u) ops₂ flash ≡ entered h g n key (raRam h g n key bytes (t .ram)) C₁
-  done₂ =
-      apply-append (g .u) (t .ops ++ raOps h g n key bytes (t .ram)) (kaOps h g n key (raRam h g n key bytes (t .ram))) flash
-      ∙ ap (applyAll (g .u) (kaOps h g n key (raRam h g n key bytes (t .ram)))) (apply-append (g .u) (t .ops) (raOps h g n key bytes (t .ram)) flash)
-
-  part-is : fills (KA g) n ≡ false → insertion h g flash n key bytes t ≡ record { ops = ops₂; ram = kaRam h g n key (raRam h g n key bytes (t .ram)) }
-  unfolding insertion
-  part-is q = cond-neg (fills (KA g) n) _ _ q
-
-  full-is : fills (KA g) n ≡ true
-      → insertion h g flash n key bytes t
-      ≡ record { ops = ops₂ ++ indexOps h g n key (raRam h g n key bytes (t .ram)) C₁; ram = filterRam (g .u) (keyIndex g) (keyFilters g n) (filterIn h g n key (raRam h g n key bytes (t .ram))) }
-  unfolding insertion summary
-  full-is q =
-      cond-pos (fills (KA g) n) _ _ q
-      ∙ ap (λ (c : Flash). record { ops = ops₂ ++ filterOps (g .u) (keyIndex g) c (keyFilters g n) (filterIn h g n key (raRam h g n key bytes (t .ram))); ram = filterRam (g .u) (keyIndex g) (keyFilters g n) (filterIn h g n key (raRam h g n key bytes (t .ram))) }) done₂
+module _ (h : Family) (g : Geometry) (n key : ℕ) (bytes ram : List ℕ) (C : Flash) where
+  abbrev fillOps : List Op
+  fillOps = filterOps (g .u) (keyIndex g) (stepped g n key bytes ram C) (keyFilters g n) (filteredRam h g n key bytes ram)
 
   -- the flash after the operations of an insertion is that of its steps
-  pub insertion-flash : applyAll (g .u) (insertion h g flash n key bytes t .ops) flash ≡ insertedFlash h g n key bytes (t .ram) C
+  pub inserted-flash : applyAll (g .u) (insertionOps h g n key bytes ram C) C ≡ insertedFlash h g n key bytes ram C
   unfolding insertedFlash lastFlash
-  insertion-flash =
-      either (bool? (fills (KA g) n))
-      (λ q.
-      ap (λ (T : Draft). applyAll (g .u) (T .ops) flash) (full-is q)
-      ∙ apply-append (g .u) ops₂ (indexOps h g n key (raRam h g n key bytes (t .ram)) C₁) flash
-      ∙ ap (applyAll (g .u) (indexOps h g n key (raRam h g n key bytes (t .ram)) C₁)) done₂
-      ∙ sym (cond-pos (fills (KA g) n) _ _ q))
-      (λ q. ap (λ (T : Draft). applyAll (g .u) (T .ops) flash) (part-is q) ∙ done₂ ∙ sym (cond-neg (fills (KA g) n) _ _ q))
-
-  pub insertion-ram : insertion h g flash n key bytes t .ram ≡ insertedRam h g n key bytes (t .ram)
-  unfolding insertedRam lastRam
-  insertion-ram =
-      either (bool? (fills (KA g) n))
-      (λ q. ap (λ (T : Draft). T .ram) (full-is q) ∙ sym (cond-pos (fills (KA g) n) _ _ q))
-      (λ q. ap (λ (T : Draft). T .ram) (part-is q) ∙ sym (cond-neg (fills (KA g) n) _ _ q))
+  inserted-flash =
+      apply-append (g .u) (recordOps g n bytes ram) (entryOps g n key bytes ram ++ cond (fills (KA g) n) fillOps []) C
+      ∙ apply-append (g .u) (entryOps g n key bytes ram) (cond (fills (KA g) n) fillOps []) (applyAll (g .u) (recordOps g n bytes ram) C)
+      ∙ apply-if (g .u) (fills (KA g) n) fillOps (stepped g n key bytes ram C)
 
   -- its sectors are fresh where those of each step are
-  pub insertion-fresh : (spare : List ℕ) → allFresh spare (insertion h g flash n key bytes t .ops) ≡ (allFresh spare (t .ops) && insertFresh spare g n)
+  pub insertion-fresh : (spare : List ℕ) → allFresh spare (insertionOps h g n key bytes ram C) ≡ insertFresh spare g n
   unfolding insertFresh
   insertion-fresh spare =
-      either (bool? (fills (KA g) n))
-      (λ q.
-      ap (λ (T : Draft). allFresh spare (T .ops)) (full-is q)
-      ∙ fresh-append ops₂ (indexOps h g n key (raRam h g n key bytes (t .ram)) C₁) spare
-      ∙ ap (λ (b : Bool). b && allFresh spare (indexOps h g n key (raRam h g n key bytes (t .ram)) C₁)) two
-      ∙ ap (λ (b : Bool). ((allFresh spare (t .ops) && itemFresh spare (RA g) n) && itemFresh spare (KA g) n) && b) (index-fresh spare (g .u) (keyIndex g) (entered h g n key (raRam h g n key bytes (t .ram)) C₁) (keyFilters g n) (filterIn h g n key (raRam h g n key bytes (t .ram))))
-      ∙ three (allFresh spare (t .ops)) (itemFresh spare (RA g) n) (itemFresh spare (KA g) n) (indexFresh spare (g .u) (keyIndex g) (keyFilters g n))
-      ∙ ap (λ (b : Bool). allFresh spare (t .ops) && (itemFresh spare (RA g) n && (itemFresh spare (KA g) n && b))) (sym (cond-pos (fills (KA g) n) _ _ q)))
-      (λ q.
-      ap (λ (T : Draft). allFresh spare (T .ops)) (part-is q) ∙ two
-      ∙ two-one (allFresh spare (t .ops)) (itemFresh spare (RA g) n) (itemFresh spare (KA g) n)
-      ∙ ap (λ (b : Bool). allFresh spare (t .ops) && (itemFresh spare (RA g) n && (itemFresh spare (KA g) n && b))) (sym (cond-neg (fills (KA g) n) _ _ q)))
-    where
-      two : allFresh spare ops₂ ≡ ((allFresh spare (t .ops) && itemFresh spare (RA g) n) && itemFresh spare (KA g) n)
-      two =
-          fresh-append (t .ops ++ raOps h g n key bytes (t .ram)) (kaOps h g n key (raRam h g n key bytes (t .ram))) spare
-          ∙ ap (λ (b : Bool). b && allFresh spare (kaOps h g n key (raRam h g n key bytes (t .ram)))) (fresh-append (t .ops) (raOps h g n key bytes (t .ram)) spare)
-          ∙ rw (item-fresh (g .u) (RA g) n bytes (t .ram) spare, item-fresh (g .u) (KA g) n (entryBytes key n) (raRam h g n key bytes (t .ram)) spare)
+      fresh-append (recordOps g n bytes ram) (entryOps g n key bytes ram ++ cond (fills (KA g) n) fillOps []) spare
+      ∙ ap (λ (b : Bool). b && allFresh spare (entryOps g n key bytes ram ++ cond (fills (KA g) n) fillOps [])) (item-fresh (g .u) (RA g) n bytes ram spare)
+      ∙ ap (λ (b : Bool). itemFresh spare (RA g) n && b)
+      (fresh-append (entryOps g n key bytes ram) (cond (fills (KA g) n) fillOps []) spare
+      ∙ ap (λ (b : Bool). b && allFresh spare (cond (fills (KA g) n) fillOps [])) (item-fresh (g .u) (KA g) n (entryBytes key n) (raRam h g n key bytes ram) spare)
+      ∙ ap (λ (b : Bool). itemFresh spare (KA g) n && b)
+      (fresh-if (fills (KA g) n) fillOps spare
+      ∙ ap (λ (b : Bool). cond (fills (KA g) n) b true) (index-fresh spare (g .u) (keyIndex g) (stepped g n key bytes ram C) (keyFilters g n) (filteredRam h g n key bytes ram))))
 
-      three : (a b c d : Bool) → (((a && b) && c) && d) ≡ (a && (b && (c && d)))
-      three true true c d = refl
-      three true false c d = refl
-      three false b c d = refl
-
-      two-one : (a b c : Bool) → ((a && b) && c) ≡ (a && (b && (c && true)))
-      two-one true true true = refl
-      two-one true true false = refl
-      two-one true false c = refl
-      two-one false b c = refl
+-- the RAM after it, too
+pub inserted-ram : (h : Family) (g : Geometry) (n key : ℕ) (bytes ram : List ℕ) → 0 < g .u → length bytes ≡ 16 → insertionRam h g n key bytes ram ≡ insertedRam h g n key bytes ram
+unfolding insertedRam lastRam
+inserted-ram h g n key bytes ram pu size = insertion-ram h g n key bytes pu size ram
 
 -- ---- a deletion, by the area and the bytes that the code has
 
-module _ (h : Family) (g : Geometry) (d j : ℕ) (a : Area) (bytes ram : List ℕ) (p : a ≡ DA g) (q : bytes ≡ deletionBytes j) where
-  pub deletion-flash : (flash : Flash) → applyAll (g .u) (itemOps (g .u) a d bytes ram) flash ≡ applyAll (g .u) (deletion g d j ram .ops) flash
-  unfolding deletion
+module _ (g : Geometry) (d j : ℕ) (a : Area) (bytes ram : List ℕ) (p : a ≡ DA g) (q : bytes ≡ deletionBytes j) where
+  pub deletion-flash : (flash : Flash) → applyAll (g .u) (itemOps (g .u) a d bytes ram) flash ≡ applyAll (g .u) (itemOps (g .u) (DA g) d (deletionBytes j) ram) flash
   deletion-flash flash = rw (p, q)
 
-  pub deletion-ram : itemRam (g .u) a d bytes ram ≡ deletion g d j ram .ram
-  unfolding deletion
+  pub deletion-ram : itemRam (g .u) a d bytes ram ≡ deletionRam g d j ram
+  unfolding deletionRam
   deletion-ram = rw (p, q)
 
 -- an item put into the RAM page before it is appended

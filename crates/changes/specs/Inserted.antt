@@ -5,9 +5,10 @@ use Prim.Native.Nat.{ℕ}
 use Rattle.layout.specs.Geometry.{Geometry}
 use Rattle.layout.specs.Flash.{Flash, Op, applyAll}
 use Rattle.layout.specs.Hash.{Family}
-use Rattle.layout.specs.Items.{RA, KA, entryBytes, itemOps, itemRam, put, fills}
-use Rattle.layout.specs.Index.{withFilter, filterOps, filterRam, inSka}
+use Rattle.layout.specs.Items.{RA, KA, entryBytes, itemRam, put, fills}
+use Rattle.layout.specs.Index.{withFilter, filterRam, inSka}
 use Rattle.layout.specs.Calls.{keyIndex, keyFilters, pageFilter}
+use Rattle.laws.specs.Operations.{itemOps, filterOps}
 use Rattle.items.specs.Fresh.{itemFresh}
 use Rattle.index.specs.Fresh.{indexFresh}
 

@@ -7,7 +7,8 @@ ghost use Rattle.layout.specs.Geometry.{deletionCapacity, recordCapacity, spare
 ghost use Rattle.layout.specs.Flash.{flashOf, applyAll};
 ghost use Rattle.layout.specs.Hash.{fnvFamily};
 ghost use Rattle.layout.specs.Items.{DA, recordBytes, entryBytes, deletionBytes};
-ghost use Rattle.layout.specs.Calls.{deletion, keyIndex};
+ghost use Rattle.layout.specs.Calls.{deletionRam, keyIndex};
+ghost use Rattle.laws.specs.Operations.{itemOps};
 ghost use Rattle.items.specs.Fresh.{itemFresh};
 ghost use Rattle.geometry.specs.Shape.{shape, Sound};
 ghost use Rattle.sets.specs.Indexes.{indexOf};
@@ -111,8 +112,8 @@ pub fn delete_record(
     j: u32,
 )
     requires { ⌜ Sound g × (d < deletionCapacity (shape g)) × Long g (now main) (now spare) (now ram) ⌝ }
-    ensures { λ _. ⌜ flashOf (now (main .exit)) (now (spare .exit)) ≡ applyAll (g .unit) (deletion (shape g) d j (now (ram .entry)) .ops) (flashOf (now (main .entry)) (now (spare .entry))) ⌝ }
-    ensures { λ _. ⌜ now (ram .exit) ≡ deletion (shape g) d j (now (ram .entry)) .ram ⌝ }
+    ensures { λ _. ⌜ flashOf (now (main .exit)) (now (spare .exit)) ≡ applyAll (g .unit) (itemOps (g .unit) (DA (shape g)) d (deletionBytes j) (now (ram .entry))) (flashOf (now (main .entry)) (now (spare .entry))) ⌝ }
+    ensures { λ _. ⌜ now (ram .exit) ≡ deletionRam (shape g) d j (now (ram .entry)) ⌝ }
 {
     let unit = g.unit;
     let bytes = deletion_bytes(j);

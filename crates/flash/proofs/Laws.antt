@@ -11,7 +11,8 @@ use lib.ListN.{length, getD, take, drop}
 use Rattle.memory.specs.Cases.{eq?, either}
 use Rattle.memory.specs.Lists.{tab, tab-ext}
 use Rattle.layout.specs.Geometry.{sector, page}
-use Rattle.layout.specs.Flash.{Op, program, erase, Flash, apply, applyAll, programs, erases, fresh}
+use Rattle.layout.specs.Flash.{Op, program, erase, Flash, apply, applyAll, erases, fresh}
+use Rattle.laws.specs.Operations.{programs}
 use Rattle.flash.specs.Fresh.{freshRun}
 use Rattle.flash.specs.Parts.{tab-part}
 

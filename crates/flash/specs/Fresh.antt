@@ -4,7 +4,8 @@ use mathlib.Core.Bool.{Bool, true, _&&_, and-assoc}
 use mathlib.Core.List.{List, [], _∷_, _++_}
 use Prim.Native.Nat.{ℕ, zero, suc, _+_}
 use lib.ListN.{getD}
-use Rattle.layout.specs.Flash.{Op, program, erase, fresh, programs, allFresh}
+use Rattle.layout.specs.Flash.{Op, program, erase, fresh, allFresh}
+use Rattle.laws.specs.Operations.{programs}
 
 -- are k sectors fresh, from s on in steps of d
 unfoldable pub freshRun : List ℕ → ℕ → ℕ → ℕ → Bool

@@ -5,7 +5,8 @@ ghost use mathlib.Core.Path.{_≡_};
 ghost use Prim.Native.Nat.{_+_, _*_, _≤_, _<_};
 ghost use lib.ListN.{length, getD};
 ghost use Rattle.layout.specs.Geometry.{sector, page, block};
-ghost use Rattle.layout.specs.Flash.{flashOf, program, erase, fresh, apply, applyAll, programs, erases};
+ghost use Rattle.layout.specs.Flash.{flashOf, program, erase, fresh, apply, applyAll, erases};
+ghost use Rattle.laws.specs.Operations.{programs};
 ghost use Rattle.flash.specs.Fresh.{freshRun};
 
 // What an erased byte and the mark of a fresh sector hold.

@@ -4,8 +4,9 @@ use mathlib.Core.Logic.{_≢_}
 use mathlib.Core.List.{List, _++_, append-nil}
 use Prim.Native.Nat.{ℕ, _+_, _*_, _/_, _%_}
 use borrow.Author.Tests.{eq-eqb, ne-eqb}
-use Rattle.layout.specs.Flash.{Flash, Op, applyAll, programs, erases}
-use Rattle.layout.specs.Index.{Index, inL1, inSet, inFull, setPages, setBlocks, sideBlock, setBlock, setByte, flushOps, buildOps, flushAndBuild}
+use Rattle.layout.specs.Flash.{Flash, Op, applyAll, erases}
+use Rattle.layout.specs.Index.{Index, inL1, inSet, inFull, setPages, setBlocks, sideBlock, setBlock, setByte}
+use Rattle.laws.specs.Operations.{programs, flushOps, buildOps, flushAndBuildOps}
 use Rattle.laws.specs.FlashLaws.{apply-append}
 
 module _ (u : ℕ) (ix : Index) where
@@ -28,13 +29,13 @@ module _ (u : ℕ) (ix : Index) where
 
   module _ (F : ℕ) (ram : List ℕ) (C C₁ : Flash) (flushed : C₁ ≡ applyAll u (flushOps u ix (inL1 F) ram) C) where
     -- a flush alone
-    pub flush-is : inL1 F + 1 ≢ 16 → C₁ ≡ applyAll u (flushAndBuild u ix C F ram) C
-    unfolding flushAndBuild
+    pub flush-is : inL1 F + 1 ≢ 16 → C₁ ≡ applyAll u (flushAndBuildOps u ix C F ram) C
+    unfolding flushAndBuildOps
     flush-is h = rw (ne-eqb (F / 8 % 16 + 1) 16 h) (flushed ∙ ap (λ (os : List Op). applyAll u os C) (sym (append-nil (flushOps u ix (inL1 F) ram))))
 
     -- the sixteenth flush, then the next set
-    pub flush-build-is : (C₂ : Flash) → inL1 F + 1 ≡ 16 → C₂ ≡ applyAll u (buildOps u ix (C₁ .main) (inFull u F) (inSet u F)) C₁ → C₂ ≡ applyAll u (flushAndBuild u ix C F ram) C
-    unfolding flushAndBuild
+    pub flush-build-is : (C₂ : Flash) → inL1 F + 1 ≡ 16 → C₂ ≡ applyAll u (buildOps u ix (C₁ .main) (inFull u F) (inSet u F)) C₁ → C₂ ≡ applyAll u (flushAndBuildOps u ix C F ram) C
+    unfolding flushAndBuildOps
     flush-build-is C₂ h built =
         rw (eq-eqb (F / 8 % 16 + 1) 16 h)
         (built

@@ -9,8 +9,9 @@ use lib.Dec.{eqb}
 use borrow.Author.Tests.{eq-eqb, ne-eqb, not-true, not-false}
 use Rattle.memory.specs.Cases.{bool?, either}
 use Rattle.layout.specs.Geometry.{sector}
-use Rattle.layout.specs.Flash.{Flash, Op, applyAll, programs, erases, allFresh}
-use Rattle.layout.specs.Index.{Index, inSka, inL1, inSet, inFull, setPages, setBlocks, sideBlock, setBlock, setByte, flushOps, buildOps, flushAndBuild, filterOps}
+use Rattle.layout.specs.Flash.{Flash, Op, applyAll, erases, allFresh}
+use Rattle.layout.specs.Index.{Index, inSka, inL1, inSet, inFull, setPages, setBlocks, sideBlock, setBlock, setByte}
+use Rattle.laws.specs.Operations.{programs, flushOps, buildOps, flushAndBuildOps, filterOps}
 use Rattle.flash.specs.Fresh.{freshRun, fresh-programs, fresh-append}
 use Rattle.laws.specs.FlashLaws.{fresh-erases}
 
@@ -43,10 +44,10 @@ module _ (spare : List ℕ) (u : ℕ) (ix : Index) where
   rest-fresh false main z c = refl
 
   flush-fresh : (C : Flash) (F : ℕ) (ram : List ℕ)
-      → allFresh spare (flushAndBuild u ix C F ram)
+      → allFresh spare (flushAndBuildOps u ix C F ram)
       ≡ (freshRun spare 16 (ix .first * 64 + inL1 F) 4
       && cond (eqb (inL1 F + 1) 16) (freshRun spare 1 (setBlock u ix (inFull u F) (inSet u F) * 64) (setPages (inSet u F + 1) * 4)) true)
-  unfolding flushAndBuild
+  unfolding flushAndBuildOps
   flush-fresh C F ram =
       let main : List ℕ = applyAll u (flushOps u ix (inL1 F) ram) C .main in
       fresh-append (flushOps u ix (inL1 F) ram) (cond (eqb (inL1 F + 1) 16) (buildOps u ix main (inFull u F) (inSet u F)) []) spare

@@ -4,7 +4,8 @@ ghost use mathlib.Core.Path.{_≡_};
 ghost use Prim.Native.Nat.{_+_, _*_};
 ghost use lib.ListN.{length};
 ghost use Rattle.layout.specs.Flash.{flashOf, applyAll};
-ghost use Rattle.layout.specs.Index.{inSka, setPages, setBlock, withFilter, buildOps, flushAndBuild, filterOps, filterRam};
+ghost use Rattle.layout.specs.Index.{inSka, setPages, setBlock, withFilter, filterRam};
+ghost use Rattle.laws.specs.Operations.{buildOps, flushAndBuildOps, filterOps};
 ghost use Rattle.sets.specs.Indexes.{indexOf};
 ghost use Rattle.filter.specs.Filter.{arrayBit};
 ghost use Rattle.partition.specs.Indexes.{SetFits};
@@ -45,7 +46,7 @@ fn flush_and_build(
     filters: usize,
 )
     requires { ⌜ Fits unit (indexOf ix) filters (length (now main)) (length (now spare)) (length (now ram)) × (inSka filters + 1 ≡ 8) ⌝ }
-    ensures { λ _. ⌜ flashOf (now (main .exit)) (now (spare .exit)) ≡ applyAll unit (flushAndBuild unit (indexOf ix) (flashOf (now (main .entry)) (now (spare .entry))) filters (now (ram .entry))) (flashOf (now (main .entry)) (now (spare .entry))) ⌝ }
+    ensures { λ _. ⌜ flashOf (now (main .exit)) (now (spare .exit)) ≡ applyAll unit (flushAndBuildOps unit (indexOf ix) (flashOf (now (main .entry)) (now (spare .entry))) filters (now (ram .entry))) (flashOf (now (main .entry)) (now (spare .entry))) ⌝ }
 {
     let first = ix.first;
     let ska = ix.ska;

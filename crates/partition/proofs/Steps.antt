@@ -10,8 +10,9 @@ use lib.ListN.{length, getD}
 use Rattle.memory.specs.Lists.{tab, tab-ext}
 use Rattle.memory.specs.Cases.{either, eq?}
 use Rattle.layout.specs.Geometry.{sector}
-use Rattle.layout.specs.Flash.{Flash, flashOf, program, apply, applyAll, programs}
+use Rattle.layout.specs.Flash.{Flash, flashOf, program, apply, applyAll}
 use Rattle.layout.specs.Index.{Index, setPages, setBlock, setByte}
+use Rattle.laws.specs.Operations.{programs}
 use Rattle.laws.specs.FlashLaws.{apply-main-length, apply-spare-length, range-out}
 use Rattle.laws.specs.RowLaws.{unit-pos, blocks-fit, side-range}
 use Rattle.partition.specs.Indexes.{SetFits}

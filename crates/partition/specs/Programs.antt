@@ -4,7 +4,8 @@ use Prim.Native.Nat.{ℕ, zero, suc, _+_, _*_}
 use native.Mathlib.Omega.{arith}
 use Rattle.memory.specs.Lists.{tab}
 use Rattle.layout.specs.Geometry.{sector}
-use Rattle.layout.specs.Flash.{Flash, program, apply, applyAll, programs}
+use Rattle.layout.specs.Flash.{Flash, program, apply, applyAll}
+use Rattle.laws.specs.Operations.{programs}
 
 module _ (u : ℕ) where
   -- the last of k + 1 sectors is programmed after the first k

@@ -4,7 +4,6 @@ use Prim.Native.Nat.{_+_}
 use mathlib.Core.Path.{_≡_, ap, _∙_}
 use Rattle.layout.specs.Items as layout
 use Rattle.layout.specs.Flash.{flashOf}
-use Rattle.layout.specs.Hash.{fnvFamily}
 use Rattle.geometry.specs.Shape.{shape, area}
 use Rattle.changes.proofs.PlanLaws.{deletion-flash, deletion-ram}
 use Rattle.laws.specs.ItemLaws.{length-deletion}
@@ -56,8 +55,8 @@ returns c =
     let e = c .before .before .before .before .before .before .append-item .ensures in
     let a = c .before .before .before .before .before .before .before .before .deletion-area in
     let b = c .before .before .before .before .before .before .before .before .before .before .before .before .deletion-bytes in (
-      e .0 ∙ deletion-flash fnvFamily (shape (x .g)) (x .d) (x .j) (area (a .result)) (b .result) (x .ram .now) (a .ensures .0) (b .ensures) (flashOf (x .main .now) (x .spare .now)),
-      e .1 ∙ deletion-ram fnvFamily (shape (x .g)) (x .d) (x .j) (area (a .result)) (b .result) (x .ram .now) (a .ensures .0) (b .ensures),
+      e .0 ∙ deletion-flash (shape (x .g)) (x .d) (x .j) (area (a .result)) (b .result) (x .ram .now) (a .ensures .0) (b .ensures) (flashOf (x .main .now) (x .spare .now)),
+      e .1 ∙ deletion-ram (shape (x .g)) (x .d) (x .j) (area (a .result)) (b .result) (x .ram .now) (a .ensures .0) (b .ensures),
     )
 
 pub delete-record-spec : {M : Type 1} → statement M

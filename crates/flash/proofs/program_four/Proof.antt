@@ -4,7 +4,8 @@ use mathlib.Core.Path.{_≡_, refl, sym, _∙_}
 use borrow.Author.Needs.{needs}
 use lib.ListN.{length, getD}
 use Rattle.layout.specs.Geometry.{sector}
-use Rattle.layout.specs.Flash.{flashOf, applyAll, programs}
+use Rattle.layout.specs.Flash.{flashOf, applyAll}
+use Rattle.laws.specs.Operations.{programs}
 use Rattle.flash.proofs.Laws.{ram-fits, run-le, run-main-le, leftOps, program-start, program-more, program-end}
 use Rattle.memory.specs.Lists.{length-part}
 use Rattle.flash.proofs.program_four.Statement.{statement}

@@ -6,7 +6,7 @@ use lib.ListN.{length}
 use borrow.Author.Tests.{eq-eqb, ne-eqb}
 use Rattle.layout.specs.Flash.{flashOf, applyAll}
 use Rattle.layout.specs.Items.{zeroPage}
-use Rattle.layout.specs.Index.{flushAndBuild}
+use Rattle.laws.specs.Operations.{flushAndBuildOps}
 use Rattle.sets.specs.Indexes.{indexOf}
 use Rattle.partition.specs.Indexes.{unit-le}
 use Rattle.index.specs.Fits.{unit-some}
@@ -57,7 +57,7 @@ returns-2 c =
     let q = c .before .before .before .before .before .before .before .before .before .before .before .before .before .before .before .put-filter in
     let C = flashOf (x .main .now) (x .spare .now) in
     rw (eq-eqb _ _ (c .before .before .before .before .before .before .before .before .before .before .before .before .if1 .left)) (
-      c .before .before .before .before .before .before .before .before .flush-and-build .ensures ∙ ap (λ (r : List ℕ). applyAll (x .unit) (flushAndBuild (x .unit) (indexOf (x .ix)) C (x .filters) r) C) (q .ensures),
+      c .before .before .before .before .before .before .before .before .flush-and-build .ensures ∙ ap (λ (r : List ℕ). applyAll (x .unit) (flushAndBuildOps (x .unit) (indexOf (x .ix)) C (x .filters) r) C) (q .ensures),
       c .before .before .fill-at .ensures ∙ ap (λ (r : List ℕ). zeroPage (x .unit) (x .ix .ska) r) (q .ensures),
     )
 

@@ -4,7 +4,6 @@ use mathlib.Core.Path.{sym, _∙_}
 use borrow.Author.Tests.{le-leb, lt-leb, not-true, not-false}
 use Rattle.layout.specs.Flash.{flashOf}
 use Rattle.layout.specs.Hash.{fnvFamily}
-use Rattle.layout.specs.Items.{recordBytes}
 use Rattle.geometry.specs.Shape.{shape}
 use Rattle.geometry.specs.Bounds.{record-capacity-le}
 use Rattle.state.specs.Contract.{volume}
@@ -24,9 +23,10 @@ refuse-requires c κs = search needs
 returns : tie.Need-returns
 returns c =
     let x = c .before .before .before .before .before .before .before .args in
+    let power = c .before .before .before .before .before .before .before .pre .sound .power in
     let v = volume (x .s) (x .main .now) (x .spare .now) (x .ram .now) in
     rw (c .refuse .ensures)
-    (insert-full fnvFamily (shape (x .g)) v (x .key) (recordBytes (x .key) (x .moves) (x .goal) (x .word))
+    (insert-full fnvFamily (shape (x .g)) v power (x .key) (x .moves) (x .goal) (x .word)
     (le-leb _ _ (rw (c .before .before .record-capacity .ensures) at (c .before .if1 .taken))))
 
 insertion-fresh-requires : tie.Need-insertion-fresh-requires
@@ -41,9 +41,10 @@ same-length c = search needs
 returns-2 : tie.Need-returns-2
 returns-2 c =
     let x = c .before .before .before .before .before .before .before .before .before .before .args in
+    let power = c .before .before .before .before .before .before .before .before .before .before .pre .sound .power in
     let v = volume (x .s) (x .main .now) (x .spare .now) (x .ram .now) in
     rw (c .refuse2 .ensures)
-    (insert-stale fnvFamily (shape (x .g)) v (x .key) (recordBytes (x .key) (x .moves) (x .goal) (x .word))
+    (insert-stale fnvFamily (shape (x .g)) v power (x .key) (x .moves) (x .goal) (x .word)
     (lt-leb _ _ (rw (c .before .before .before .before .before .record-capacity .ensures) at (c .before .before .before .before .if1 .left)))
     (sym (c .before .before .insertion-fresh .ensures) ∙ not-true (c .before .before .insertion-fresh .result) (c .before .if2 .taken)))
 
@@ -70,11 +71,12 @@ same-length-4 c = search needs
 returns-3 : tie.Need-returns-3
 returns-3 c =
     let x = c .before .before .before .before .before .before .before .before .before .before .before .before .before .before .before .before .before .before .before .before .before .before .before .before .args in
+    let power = c .before .before .before .before .before .before .before .before .before .before .before .before .before .before .before .before .before .before .before .before .before .before .before .before .pre .sound .power in
     let v = volume (x .s) (x .main .now) (x .spare .now) (x .ram .now) in
     let r = c .before .before .before .before .before .before .before .before .before .before .before .insert-record in
     let f = c .before .before .finish in
     rw (f .ensures .0)
-    (insert-done fnvFamily (shape (x .g)) v (x .key) (recordBytes (x .key) (x .moves) (x .goal) (x .word))
+    (insert-done fnvFamily (shape (x .g)) v power (x .key) (x .moves) (x .goal) (x .word)
     (flashOf (r .last .0) (r .last .1 .0)) (r .last .1 .1 .0) (f .last .0)
     (lt-leb _ _ (rw (c .before .before .before .before .before .before .before .before .before .before .before .before .before .before .before .before .before .before .before .record-capacity .ensures) at (c .before .before .before .before .before .before .before .before .before .before .before .before .before .before .before .before .before .before .if1 .left)))
     (sym (c .before .before .before .before .before .before .before .before .before .before .before .before .before .before .before .before .insertion-fresh .ensures) ∙ not-false (c .before .before .before .before .before .before .before .before .before .before .before .before .before .before .before .before .insertion-fresh .result) (c .before .before .before .before .before .before .before .before .before .before .before .before .before .before .before .if2 .left))

@@ -1,6 +1,7 @@
 use Rattle.memory.specs.Lists.{length-tab}
-use Rattle.layout.specs.Flash.{flashOf, applyAll, programs}
+use Rattle.layout.specs.Flash.{flashOf, applyAll}
 use Rattle.layout.specs.Index.{setBlock, setByte}
+use Rattle.laws.specs.Operations.{programs}
 use Rattle.partition.specs.Indexes.{unit-le}
 use Rattle.partition.proofs.Steps.{main-length, spare-length, after-more, after-all, sector-inside}
 use native.Mathlib.Omega.{arith}

@@ -5,7 +5,6 @@ use lib.ListN.{length}
 use borrow.Author.Tests.{le-leb, lt-leb, not-true, not-false}
 use Rattle.layout.specs.Flash.{flashOf}
 use Rattle.layout.specs.Hash.{fnvFamily}
-use Rattle.layout.specs.Items.{recordBytes}
 use Rattle.geometry.specs.Shape.{shape}
 use Rattle.geometry.specs.Bounds.{record-capacity-le, deletion-capacity-le}
 use Rattle.state.specs.Contract.{volume}
@@ -29,9 +28,10 @@ refuse-requires c κs = search needs
 returns : tie.Need-returns
 returns c =
     let x = c .before .before .before .before .before .before .before .before .args in
+    let power = c .before .before .before .before .before .before .before .before .pre .sound .power in
     let v = volume (x .s) (x .main .now) (x .spare .now) (x .ram .now) in
     rw (c .refuse .ensures)
-    (update-full fnvFamily (shape (x .g)) v (x .j) (x .key) (recordBytes (x .key) (x .moves) (x .goal) (x .word))
+    (update-full fnvFamily (shape (x .g)) v (x .j) power (x .key) (x .moves) (x .goal) (x .word)
     (le-leb _ _ (rw (c .before .before .record-capacity .ensures) at (c .before .if1 .taken))))
 
 deletion-capacity-requires : tie.Need-deletion-capacity-requires
@@ -43,9 +43,10 @@ refuse-requires-2 c κs = search needs
 returns-2 : tie.Need-returns-2
 returns-2 c =
     let x = c .before .before .before .before .before .before .before .before .before .before .args in
+    let power = c .before .before .before .before .before .before .before .before .before .before .pre .sound .power in
     let v = volume (x .s) (x .main .now) (x .spare .now) (x .ram .now) in
     rw (c .refuse2 .ensures)
-    (update-full-deletions fnvFamily (shape (x .g)) v (x .j) (x .key) (recordBytes (x .key) (x .moves) (x .goal) (x .word))
+    (update-full-deletions fnvFamily (shape (x .g)) v (x .j) power (x .key) (x .moves) (x .goal) (x .word)
     (lt-leb _ _ (rw (c .before .before .before .before .record-capacity .ensures) at (c .before .before .before .if1 .left)))
     (le-leb _ _ (rw (c .before .before .deletion-capacity .ensures) at (c .before .if2 .taken))))
 
@@ -61,9 +62,10 @@ same-length c = search needs
 returns-3 : tie.Need-returns-3
 returns-3 c =
     let x = c .before .before .before .before .before .before .before .before .before .before .before .before .before .args in
+    let power = c .before .before .before .before .before .before .before .before .before .before .before .before .before .pre .sound .power in
     let v = volume (x .s) (x .main .now) (x .spare .now) (x .ram .now) in
     rw (c .refuse3 .ensures)
-    (update-stale fnvFamily (shape (x .g)) v (x .j) (x .key) (recordBytes (x .key) (x .moves) (x .goal) (x .word))
+    (update-stale fnvFamily (shape (x .g)) v (x .j) power (x .key) (x .moves) (x .goal) (x .word)
     (lt-leb _ _ (rw (c .before .before .before .before .before .before .before .record-capacity .ensures) at (c .before .before .before .before .before .before .if1 .left)))
     (lt-leb _ _ (rw (c .before .before .before .before .before .deletion-capacity .ensures) at (c .before .before .before .before .if2 .left)))
     (and-first _ _ (sym (c .before .before .deletion-fresh .ensures) ∙ not-true (c .before .before .deletion-fresh .result) (c .before .if3 .taken))))
@@ -80,9 +82,10 @@ same-length-2 c = search needs
 returns-4 : tie.Need-returns-4
 returns-4 c =
     let x = c .before .before .before .before .before .before .before .before .before .before .before .before .before .before .before .before .args in
+    let power = c .before .before .before .before .before .before .before .before .before .before .before .before .before .before .before .before .pre .sound .power in
     let v = volume (x .s) (x .main .now) (x .spare .now) (x .ram .now) in
     rw (c .refuse4 .ensures)
-    (update-stale fnvFamily (shape (x .g)) v (x .j) (x .key) (recordBytes (x .key) (x .moves) (x .goal) (x .word))
+    (update-stale fnvFamily (shape (x .g)) v (x .j) power (x .key) (x .moves) (x .goal) (x .word)
     (lt-leb _ _ (rw (c .before .before .before .before .before .before .before .before .before .before .record-capacity .ensures) at (c .before .before .before .before .before .before .before .before .before .if1 .left)))
     (lt-leb _ _ (rw (c .before .before .before .before .before .before .before .before .deletion-capacity .ensures) at (c .before .before .before .before .before .before .before .if2 .left)))
     (and-second _ _ (sym (c .before .before .before .before .before .deletion-fresh .ensures) ∙ not-false (c .before .before .before .before .before .deletion-fresh .result) (c .before .before .before .before .if3 .left))
@@ -132,12 +135,13 @@ same-length-5 c = search needs
 returns-5 : tie.Need-returns-5
 returns-5 c =
     let x = c .before .before .before .before .before .before .before .before .before .before .before .before .before .before .before .before .before .before .before .before .before .before .before .before .before .before .before .before .before .before .before .before .before .before .before .before .before .before .before .before .before .args in
+    let power = c .before .before .before .before .before .before .before .before .before .before .before .before .before .before .before .before .before .before .before .before .before .before .before .before .before .before .before .before .before .before .before .before .before .before .before .before .before .before .before .before .before .pre .sound .power in
     let v = volume (x .s) (x .main .now) (x .spare .now) (x .ram .now) in
     let k = c .before .before .before .before .before .before .before .before .before .before .before .before .before .before .before .before .before .before .before .before .before .before .delete-record in
     let r = c .before .before .before .before .before .before .before .before .before .before .before .before .insert-record in
     let f = c .before .before .finish in
     rw (f .ensures .0)
-    (update-done fnvFamily (shape (x .g)) v (x .j) (x .key) (recordBytes (x .key) (x .moves) (x .goal) (x .word))
+    (update-done fnvFamily (shape (x .g)) v (x .j) power (x .key) (x .moves) (x .goal) (x .word)
     (flashOf (k .last .0) (k .last .1 .0)) (flashOf (r .last .0) (r .last .1 .0)) (k .last .1 .1 .0) (r .last .1 .1 .0) (f .last .0)
     (lt-leb _ _ (rw (c .before .before .before .before .before .before .before .before .before .before .before .before .before .before .before .before .before .before .before .before .before .before .before .before .before .before .before .before .before .before .before .before .before .before .before .record-capacity .ensures) at (c .before .before .before .before .before .before .before .before .before .before .before .before .before .before .before .before .before .before .before .before .before .before .before .before .before .before .before .before .before .before .before .before .before .before .if1 .left)))
     (lt-leb _ _ (rw (c .before .before .before .before .before .before .before .before .before .before .before .before .before .before .before .before .before .before .before .before .before .before .before .before .before .before .before .before .before .before .before .before .before .deletion-capacity .ensures) at (c .before .before .before .before .before .before .before .before .before .before .before .before .before .before .before .before .before .before .before .before .before .before .before .before .before .before .before .before .before .before .before .before .if2 .left)))
