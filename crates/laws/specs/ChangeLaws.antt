@@ -1,5 +1,5 @@
--- The operations of a deletion and of an insertion on a chip. All is planned out of the RAM handed in; each step may as well read the RAM that
--- the steps before it leave, for they write other pages.
+-- The operations of a deletion and of an insertion on a chip. All is planned out of the RAM handed in; each step may as well read the RAM
+-- that the steps before it leave, for they write other pages.
 use mathlib.Core.Path.{_≡_, ap, _∙_}
 use mathlib.Core.Logic.{inl, inr}
 use mathlib.Core.Bool.{cond}

@@ -1,5 +1,5 @@
--- The operations that a plan is on a chip: known sectors and erases are the same on every chip, and the sectors of a set, each made when it is
--- programmed, are those made of the main area as it stood before the first.
+-- The operations that a plan is on a chip: known sectors and erases are the same on every chip; the sectors of a set, each made when it
+-- is programmed, are those made of the main area as it stood before the first.
 use mathlib.Core.Path.{_≡_, refl, ap, _∙_}
 use mathlib.Core.Logic.{_⊎_}
 use mathlib.Core.Bool.{Bool, true, false, cond}
