@@ -90,7 +90,7 @@ fn fail(state: State, reason: &[u8]) -> Turn
     }
 }
 
-// The answers of a chunk are written.
+// Answers are written: those of a chunk, or the last.
 fn tell(q: Progress, out: &[u8]) -> Turn
     requires { ⌜ q .printed ≤ length (now out) ⌝ }
     ensures { λ r. ⌜ (r .progress .state ≡ q .state) × (r .progress .fill ≡ cond (r .more) (q .fill) 0) × (r .progress .printed ≡ 0)

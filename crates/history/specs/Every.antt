@@ -4,7 +4,7 @@ use mathlib.Core.Path.{_≡_, refl, sym, ap, _∙_}
 use mathlib.Core.Bool.{Bool, true, false, cond, true≢false}
 use mathlib.Core.Option.{Option, none, some}
 use mathlib.Core.List.{List, [], _++_}
-use Prim.Native.Nat.{ℕ, _+_, _*_, _/_, _%_, _≤_, _<_}
+use Prim.Native.Nat.{ℕ, _+_, _*_, _/_, _%_, _≤_, _<_, zero-le}
 use native.Mathlib.Nat.{mul-le-mul-right}
 use native.Mathlib.Omega.{arith}
 use lib.ListN.{length, replicate, length-replicate}
@@ -113,23 +113,61 @@ accepted-can v S R D e =
     (λ b. (a, b)))
     (λ a. let z : false ≡ true = rw a at t in (a ∙ z, cc))
 
--- ---- the count of a lookup: "It is at most floor(n / (S/2))"
+-- ---- the count: "It is at most floor(n / (S/2))"
 
-count-after : (h : Family) (g : Geometry) (v : Volume) (opened m : ℕ) (s : Option Stop) → opened ≤ m → lookupAfter g v opened s .count ≤ m
-unfolding lookupAfter
-count-after h g v opened m (some corrupt) l = omega arith
-count-after h g v opened m none l = l
-count-after h g v opened m (some (found j)) l = l
+abbrev Most : ℕ → Result → Type 0
+Most m r = r .count ≤ m
 
-pub count-most : (h : Family) (v : Volume) (key : ℕ) → call h v (lookup key) .count ≤ v .state .records / entriesPerPage (v .state .sectorSize / 16)
-unfolding call judged search
-count-most h v key =
-    either (bool? (badState (v .state)))
-    (λ a. rw a (omega arith))
-    (λ a. either (bool? (tooShort (geometryOf (v .state)) (v .flash) (v .ram)))
-    (λ b. rw (a, b) (omega arith))
-    (λ b. rw (a, b) (count-after h (geometryOf (v .state)) v _ _ _
-    (search-opened (maybeIn (geometryOf (v .state)) v (keyPositions h (geometryOf (v .state)) key)) (tryAt (geometryOf (v .state)) v key) (8 * (v .state .sectorSize / 16)) (v .state .records)))))
+most-either : (m : ℕ) (t : Bool) (r s : Result) → Most m r → Most m s → Most m (cond t r s)
+most-either m true r s a b = a
+most-either m false r s a b = b
+
+refuse-most : (m : ℕ) (v : Volume) (i : ℕ) → Most m (refuse v i)
+refuse-most m v i = zero-le
+
+module _ (h : Family) (g : Geometry) (v : Volume) (m : ℕ) where
+  commit-most : (n d : ℕ) (plan : List Planned) (ram : List ℕ) → Most m (commit g v n d plan ram)
+  unfolding commit
+  commit-most n d plan ram = most-either m (allFresh (v .flash .spare) (planOps (g .u) plan (v .flash))) _ _ zero-le (refuse-most m v 7)
+
+  insert-most : (key : ℕ) (bytes : List ℕ) (s : Option Stop) → Most m (insertAfter h g v key bytes s)
+  unfolding insertAfter
+  insert-most key bytes (some corrupt) = refuse-most m v 8
+  insert-most key bytes (some (found j)) = refuse-most m v 3
+  insert-most key bytes none = most-either m (noRoom g v) _ _ (refuse-most m v 5) (commit-most _ _ _ _)
+
+  update-most : (key : ℕ) (bytes : List ℕ) (s : Option Stop) → Most m (updateAfter h g v key bytes s)
+  unfolding updateAfter
+  update-most key bytes (some corrupt) = refuse-most m v 8
+  update-most key bytes none = refuse-most m v 4
+  update-most key bytes (some (found j)) =
+      most-either m (noRoom g v) _ _ (refuse-most m v 5) (most-either m (noDeletion g v) _ _ (refuse-most m v 6) (commit-most _ _ _ _))
+
+  delete-most : (s : Option Stop) → Most m (deleteAfter g v s)
+  unfolding deleteAfter
+  delete-most (some corrupt) = refuse-most m v 8
+  delete-most none = refuse-most m v 4
+  delete-most (some (found j)) = most-either m (noDeletion g v) _ _ (refuse-most m v 6) (commit-most _ _ _ _)
+
+  lookup-most : (opened : ℕ) (s : Option Stop) → opened ≤ m → Most m (lookupAfter g v opened s)
+  unfolding lookupAfter
+  lookup-most opened (some corrupt) l = refuse-most m v 8
+  lookup-most opened none l = l
+  lookup-most opened (some (found j)) l = l
+
+answer-most : (h : Family) (g : Geometry) (v : Volume) (c : Call) → Most (v .state .records / entriesPerPage (g .u)) (answer h g v c)
+unfolding search
+answer-most h g v (insert key moves goal free) = insert-most h g v _ key _ (search h g v key .stop)
+answer-most h g v (update key moves goal free) = update-most h g v _ key _ (search h g v key .stop)
+answer-most h g v (delete key) = delete-most h g v _ (search h g v key .stop)
+answer-most h g v (lookup key) =
+    lookup-most h g v _ (search h g v key .opened) (search h g v key .stop) (search-opened (maybeIn g v (keyPositions h g key)) (tryAt g v key) (entriesPerPage (g .u)) (v .state .records))
+
+pub count-most : (h : Family) (v : Volume) (c : Call) → call h v c .count ≤ v .state .records / entriesPerPage (v .state .sectorSize / 16)
+unfolding call judged
+count-most h v c =
+    most-either _ (badState (v .state)) _ _ (refuse-most _ v 1)
+    (most-either _ (tooShort (geometryOf (v .state)) (v .flash) (v .ram)) _ _ (refuse-most _ v 2) (answer-most h (geometryOf (v .state)) v c))
 
 -- ---- "bytes past the volume and past the desk's 20S never change"
 

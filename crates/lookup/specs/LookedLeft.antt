@@ -17,28 +17,31 @@ use Rattle.state.specs.Contract.{Left, seen}
 use Rattle.lookup.specs.declared.LookupResult.{LookupResult}
 use Rattle.lookup.specs.Looked.{looked, partOf}
 
--- the place that an answer names
+-- the layout's outcome, by a refusal's number, whether a record was found, its place and its 16 bytes
+abbrev pub outcomeBy : ℕ → ℕ → Place → List ℕ → Outcome
+outcomeBy refusal is-found place bytes = cond (eqb refusal 0) (cond (eqb is-found 1) (hit place bytes) miss) (refused refusal)
+
+-- what a caller sees of a lookup on the volume v
+abbrev pub lookedLeft : Volume → ℕ → ℕ → ℕ → Place → List ℕ → Left
+lookedLeft v refusal is-found count place bytes = record { outcome = outcomeBy refusal is-found place bytes; count = count; left = v }
+
+-- ---- `find` and the C interface: the bytes of a hit are those that lie where the answer says
+
 abbrev pub placeOf : LookupResult → Place
 placeOf r = record { inRam = eqb (r .«in_ram») 1; at = r .offset }
 
--- the layout's outcome, by the answer's numbers and the 16 bytes of a hit
-abbrev pub outcomeBy : LookupResult → List ℕ → Outcome
-outcomeBy r bytes = cond (eqb (r .refusal) 0) (cond (eqb (r .found) 1) (hit (placeOf r) bytes) miss) (refused (r .refusal))
-
--- of `lookup`: the answer, the part that it hands out, and the volume handed in
-abbrev pub lookedLeft : Volume → LookupResult → List ℕ → Left
-lookedLeft v r part = record { outcome = outcomeBy r part; count = r .count; left = v }
-
--- of `find` and the C interface: the bytes of a hit are those that lie where the answer says
 abbrev pub foundLeft : Volume → LookupResult → Left
-foundLeft v r = lookedLeft v r (bytesAt (v .flash .main) (v .ram) (placeOf r) 16)
+foundLeft v r = lookedLeft v (r .refusal) (r .found) (r .count) (placeOf r) (bytesAt (v .flash .main) (v .ram) (placeOf r) 16)
 
 num-back : (b : Bool) → eqb (num b) 1 ≡ b
 num-back true = refl
 num-back false = refl
 
-module _ (h : Family) (g : Geometry) (v : Volume) (opened : ℕ) where
-  after-looked : (s : Option Stop) → lookedLeft v (looked (lookupAfter g v opened s)) (partOf (lookupAfter g v opened s .outcome)) ≡ seen (lookupAfter g v opened s)
+module _ (g : Geometry) (v : Volume) (opened : ℕ) where
+  after-looked : (s : Option Stop)
+      → lookedLeft v (looked (lookupAfter g v opened s) .refusal) (looked (lookupAfter g v opened s) .found) (looked (lookupAfter g v opened s) .count)
+      (placeOf (looked (lookupAfter g v opened s))) (partOf (lookupAfter g v opened s .outcome))
+      ≡ seen (lookupAfter g v opened s)
   unfolding lookupAfter
   after-looked (some corrupt) = refl
   after-looked none = refl
@@ -54,15 +57,6 @@ module _ (h : Family) (v : Volume) (key : ℕ) where
   abbrev g : Geometry
   g = geometryOf (v .state)
 
-  pub lookup-left : lookedLeft v (looked (call h v (lookup key))) (partOf (call h v (lookup key) .outcome)) ≡ seen (call h v (lookup key))
-  unfolding call judged
-  lookup-left =
-      either (bool? (badState (v .state)))
-      (λ a. rw a)
-      (λ a. either (bool? (tooShort g (v .flash) (v .ram)))
-      (λ b. rw (a, b))
-      (λ b. rw (a, b) (after-looked h g v (search h g v key .opened) (search h g v key .stop))))
-
   pub find-left : foundLeft v (looked (call h v (lookup key))) ≡ seen (call h v (lookup key))
   unfolding call judged
   find-left =
@@ -70,4 +64,22 @@ module _ (h : Family) (v : Volume) (key : ℕ) where
       (λ a. rw a)
       (λ a. either (bool? (tooShort g (v .flash) (v .ram)))
       (λ b. rw (a, b))
-      (λ b. rw (a, b) (after-found h g v (search h g v key .opened) (search h g v key .stop))))
+      (λ b. rw (a, b) (after-found g v (search h g v key .opened) (search h g v key .stop))))
+
+  -- ---- `lookup`: its three numbers and the bytes of its part, as the contract gives them; the record's place is where the part lies
+
+  looked-left : lookedLeft v (looked (call h v (lookup key)) .refusal) (looked (call h v (lookup key)) .found) (looked (call h v (lookup key)) .count)
+      (placeOf (looked (call h v (lookup key)))) (partOf (call h v (lookup key) .outcome))
+      ≡ seen (call h v (lookup key))
+  unfolding call judged
+  looked-left =
+      either (bool? (badState (v .state)))
+      (λ a. rw a)
+      (λ a. either (bool? (tooShort g (v .flash) (v .ram)))
+      (λ b. rw (a, b))
+      (λ b. rw (a, b) (after-looked g v (search h g v key .opened) (search h g v key .stop))))
+
+  pub lookup-left : (refusal is-found count : ℕ) (part : List ℕ) → refusal ≡ looked (call h v (lookup key)) .refusal → is-found ≡ looked (call h v (lookup key)) .found
+      → count ≡ looked (call h v (lookup key)) .count → part ≡ partOf (call h v (lookup key) .outcome)
+      → (place : Place) × (lookedLeft v refusal is-found count place part ≡ seen (call h v (lookup key)))
+  lookup-left refusal is-found count part r f c p = (placeOf (looked (call h v (lookup key))), rw (r, f, c, p) looked-left)

@@ -117,7 +117,7 @@ pub fn filter_bit(geometry: Geometry, place: Place, position: usize, data: &[u8]
             let sector = geometry.l1_sector(flush, position / sector_size) * sector_size;
             read_bit(&data[sector..], slot * sector_size + position % sector_size)
         }
-        // "Page p holds bits pw to pw+w−1 of each filter; filter g of the set has its part at bits gw to gw+w−1."
+        // "page p holds bits pw to pw+w−1 of each filter; filter g of the set, .. has its part at bits gw to gw+w−1"
         Place::Set { set, index } => {
             let width = set.width(geometry);
             let page = set.first_page(geometry) + position / width;
@@ -149,7 +149,7 @@ pub fn write_filter(geometry: Geometry, slot: usize, page: &[u8], ska_page: &mut
     }
 }
 
-/// "Set number i is built out of L1 and set i−1", from the bits as they stand.
+/// "set number i .. is built out of L1 and set i−1", from the bits as they stand.
 /// Each page is put together in the work page and programmed.
 pub fn build_set(geometry: Geometry, set: Set, data: &mut [u8], spare: &mut [u8], ram: &mut [u8]) {
     let earlier = Set {
