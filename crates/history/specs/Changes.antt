@@ -16,13 +16,13 @@ use Rattle.memory.specs.Words.{word}
 use Rattle.layout.specs.Geometry.{Geometry, filterBits, kaBlocks, indexBlock, fullSets, recordCapacity, deletionCapacity, spareSize, kaRam}
 use Rattle.layout.specs.Flash.{Flash, Op, applyAll, planOps, allFresh}
 use Rattle.layout.specs.Hash.{Family}
-use Rattle.layout.specs.Items.{RA, KA, DA, entryBytes, deletionBytes, put, fills}
+use Rattle.layout.specs.Items.{RA, KA, DA, entryBytes, deletionBytes, put, fills, Record, recordBytes, recordOf}
 use Rattle.layout.specs.Index.{inFull, fullBlock, filterRam}
 use Rattle.layout.specs.Calls.{keyIndex, keyFilters, keyPositions, pageFilter, deletionPlan, deletionRam, insertionPlan, insertionRam}
 use Rattle.laws.specs.Operations.{filterOps, recordOps, recordRam, entryOps, entryRam, entered, filteredRam}
 use Rattle.laws.specs.ChangeLaws.{deletion-ops, insertion-ops, insertion-ram}
 use Rattle.laws.specs.FlashLaws.{fresh-append, AllAllowed, apply-append, allowed-append}
-use Rattle.history.specs.Image.{Record, History, recordAt, bytesOf, raItem, kaItem, daItem, keyFilter}
+use Rattle.history.specs.Image.{History, recordAt, raItem, kaItem, daItem, keyFilter}
 use Rattle.history.specs.Live.{withRecord, withDeletion}
 use Rattle.history.specs.AreaLaws.{area-ext, put-word}
 use Rattle.history.specs.IndexLaws.{index-ext}
@@ -100,10 +100,10 @@ module _ (h : Family) (g : Geometry) (e : ℕ) (pow : g .u ≡ 2 ^ e) where
     N = keyFilters g (length (H .records))
 
     old : (j : ℕ) → j < length (H .records) → recordAt H j ≡ recordAt (withRecord H r) j
-    old j l = sym (List·getD-append (H .records) (r ∷ []) (record { key = 0; moves = 0; goal = 0; free = 0 }) j l)
+    old j l = sym (List·getD-append (H .records) (r ∷ []) (recordOf 0 0 0 0) j l)
 
     last : r ≡ recordAt (withRecord H r) (length (H .records))
-    last = sym (getD-append-seam (H .records) r [] (record { key = 0; moves = 0; goal = 0; free = 0 }))
+    last = sym (getD-append-seam (H .records) r [] (recordOf 0 0 0 0))
 
     filter-old : (f x : ℕ) → f < length (H .records) / (8 * g .u) → x < filterBits (g .u) → keyFilter h g H f x ≡ keyFilter h g (withRecord H r) f x
     unfolding keyFilter
@@ -117,7 +117,7 @@ module _ (h : Family) (g : Geometry) (e : ℕ) (pow : g .u ≡ 2 ^ e) where
     longer-record : Parts h g e pow (withRecord H r) n n d N C ram
     longer-record = record {
       ra = area-ext (g .u) pu (RA g) (g .R) (omega arith) (omega (arith, pu)) (omega arith) (raItem H) (raItem (withRecord H r)) n (C .main) (C .spare) ram
-          (λ j b l m. ap (λ (o : Record). getD (bytesOf o) b 0) (old j l)) (P .ra);
+          (λ j b l m. ap (λ (o : Record). getD (recordBytes o) b 0) (old j l)) (P .ra);
       ka = area-ext (g .u) pu (KA g) (kaBlocks g) (omega arith) (omega (arith, pu)) (omega arith) (kaItem H) (kaItem (withRecord H r)) n (C .main) (C .spare) ram
           (λ j b l m. ap (λ (o : Record). getD (entryBytes (o .key) j) b 0) (old j l)) (P .ka);
       da = P .da;
@@ -133,37 +133,37 @@ module _ (h : Family) (g : Geometry) (e : ℕ) (pow : g .u ≡ 2 ^ e) where
     entry = entryBytes (r .key) (length (H .records))
 
     abbrev raOps : List Op
-    raOps = recordOps g (length (H .records)) (bytesOf r) ram
+    raOps = recordOps g (length (H .records)) (recordBytes r) ram
 
     abbrev ram₁ : List ℕ
-    ram₁ = recordRam g (length (H .records)) (bytesOf r) ram
+    ram₁ = recordRam g (length (H .records)) (recordBytes r) ram
 
     abbrev C₁ : Flash
     C₁ = applyAll (g .u) raOps C
 
     abbrev kaOps : List Op
-    kaOps = entryOps g (length (H .records)) (r .key) (bytesOf r) ram
+    kaOps = entryOps g (length (H .records)) (r .key) (recordBytes r) ram
 
     abbrev ram₂ : List ℕ
-    ram₂ = entryRam g (length (H .records)) (r .key) (bytesOf r) ram
+    ram₂ = entryRam g (length (H .records)) (r .key) (recordBytes r) ram
 
     abbrev C₂ : Flash
-    C₂ = entered g (length (H .records)) (r .key) (bytesOf r) ram C
+    C₂ = entered g (length (H .records)) (r .key) (recordBytes r) ram C
 
-    bytes-size : length (bytesOf r) ≡ 16
-    bytes-size = length-record (r .key) (r .moves) (r .goal) (r .free)
+    bytes-size : length (recordBytes r) ≡ 16
+    bytes-size = length-record r
 
-    record-new : (b : ℕ) → b < 16 → getD (bytesOf r) b 0 ≡ raItem (withRecord H r) (length (H .records)) b
-    record-new b l = ap (λ (o : Record). getD (bytesOf o) b 0) last
+    record-new : (b : ℕ) → b < 16 → getD (recordBytes r) b 0 ≡ raItem (withRecord H r) (length (H .records)) b
+    record-new b l = ap (λ (o : Record). getD (recordBytes o) b 0) last
 
     entry-new : (b : ℕ) → b < 8 → getD (entryBytes (r .key) (length (H .records))) b 0 ≡ kaItem (withRecord H r) (length (H .records)) b
     entry-new b l = ap (λ (o : Record). getD (entryBytes (o .key) (length (H .records))) b 0) last
 
     did₁ : Did (g .u) (RA g .first) (RA g .first + g .R) (RA g .ram) C ram ram₁ raOps
-    did₁ = parts.ra-did h g e pow H′ n n d N C ram longer-record (bytesOf r) bytes-size record-new room
+    did₁ = parts.ra-did h g e pow H′ n n d N C ram longer-record (recordBytes r) bytes-size record-new room
 
     parts₁ : Parts h g e pow H′ (n + 1) n d N C₁ ram₁
-    parts₁ = parts.ra-parts h g e pow H′ n n d N C ram longer-record (bytesOf r) bytes-size record-new room
+    parts₁ = parts.ra-parts h g e pow H′ n n d N C ram longer-record (recordBytes r) bytes-size record-new room
 
     did₂ : Did (g .u) (KA g .first) (KA g .first + kaBlocks g) (KA g .ram) C₁ ram₁ ram₂ kaOps
     did₂ = parts.ka-did h g e pow H′ (n + 1) n d N C₁ ram₁ parts₁ entry (length-entry (r .key) n) entry-new room
@@ -206,7 +206,7 @@ module _ (h : Family) (g : Geometry) (e : ℕ) (pow : g .u ≡ 2 ^ e) where
       sets-fit′ = rw (← next) (places-suffice (g .u) (g .R) (length (H .records) + 1) pu (omega arith))
 
       abbrev filterIn : List ℕ
-      filterIn = filteredRam h g (length (H .records)) (r .key) (bytesOf r) ram
+      filterIn = filteredRam h g (length (H .records)) (r .key) (recordBytes r) ram
 
       did₃ : Did (g .u) (indexBlock g) (fullBlock (g .u) (keyIndex g) (fullSets g)) (keyIndex g .ska) C₂ ram₂ (filterRam (g .u) (keyIndex g) N filterIn) (filterOps (g .u) (keyIndex g) C₂ N filterIn)
       did₃ = parts.index-did h g e pow H′ (n + 1) (n + 1) d N C₂ ram₂ parts₂ (pageFilter h g keys) same sets-fit′
@@ -275,7 +275,7 @@ module _ (h : Family) (g : Geometry) (e : ℕ) (pow : g .u ≡ 2 ^ e) where
     by-page true os r₃ full part = full refl
     by-page false os r₃ full part = part refl
 
-    pub insertion-changes : Changed H′ (n + 1) d C ram (planOps (g .u) (insertionPlan h g n (r .key) (bytesOf r) ram) C) (insertionRam h g n (r .key) (bytesOf r) ram)
+    pub insertion-changes : Changed H′ (n + 1) d C ram (planOps (g .u) (insertionPlan h g n (r .key) (recordBytes r) ram) C) (insertionRam h g n (r .key) (recordBytes r) ram)
     insertion-changes =
-        rw (insertion-ops h g n (r .key) (bytesOf r) e pow bytes-size ram C, insertion-ram h g n (r .key) (bytesOf r) pu bytes-size ram)
+        rw (insertion-ops h g n (r .key) (recordBytes r) e pow bytes-size ram C, insertion-ram h g n (r .key) (recordBytes r) pu bytes-size ram)
         (by-page (fills (KA g) n) _ _ (λ q. changed-full (eqb-true _ _ q)) (λ q. changed-part (eqb-false _ _ q)))

@@ -1,9 +1,9 @@
 -- Every call on every volume, whatever its state and lent bytes: a refusal hands everything back, bytes past the volume never change,
 -- and a lookup opens at most floor(n / (S/2)) pages.
 use mathlib.Core.Path.{_≡_, refl, sym, ap, _∙_}
-use mathlib.Core.Bool.{Bool, true, false, cond, true≢false}
+use mathlib.Core.Bool.{Bool, true, false, _&&_, cond, true≢false}
 use mathlib.Core.Option.{Option, none, some}
-use mathlib.Core.List.{List, [], _++_}
+use mathlib.Core.List.{List, [], _++_, append-nil}
 use Prim.Native.Nat.{ℕ, _+_, _*_, _/_, _%_, _≤_, _<_, zero-le}
 use native.Mathlib.Nat.{mul-le-mul-right}
 use native.Mathlib.Omega.{arith}
@@ -15,9 +15,9 @@ use Rattle.memory.specs.Numbers.{carry, div-lt}
 use Rattle.layout.specs.Geometry.{Geometry, geometry, geometryOf, allowed, blocks, kaBlocks, fullSets, recordCapacity, deletionCapacity, ramSize, entriesPerPage, workRam}
 use Rattle.layout.specs.Flash.{Flash, Op, applyAll, erases, Planned, planOps, allFresh}
 use Rattle.layout.specs.Hash.{Family, fnvFamily}
-use Rattle.layout.specs.Items.{RA, KA, DA, entryBytes, deletionBytes, fills}
+use Rattle.layout.specs.Items.{RA, KA, DA, entryBytes, deletionBytes, fills, Record, recordBytes}
 use Rattle.layout.specs.Search.{Stop, found, corrupt}
-use Rattle.layout.specs.Calls.{Volume, Call, insert, update, delete, lookup, Outcome, accepted, hit, miss, refused, Result, refuse, badState, tooShort, judged, format, formatted, keyIndex, keyFilters, keyPositions, tryAt, maybeIn, search, deletionPlan, deletionRam, newFilter, insertionPlan, insertionRam, commit, noRoom, noDeletion, insertAfter, updateAfter, deleteAfter, lookupAfter, answer, call}
+use Rattle.layout.specs.Calls.{Volume, Call, insert, update, delete, lookup, Outcome, accepted, hit, miss, refused, Result, refuse, badState, tooShort, judged, format, formatted, keyIndex, keyFilters, keyPositions, tryAt, maybeIn, search, deletionPlan, deletionRam, newFilter, insertionPlan, insertionRam, commit, noRoom, noDeletion, insertAfter, updateAfter, deleteAfter, lookupAfter, answer, call, Edit, one, change}
 use Rattle.laws.specs.Operations.{recordRam, entryOps, entryRam, entered}
 use Rattle.laws.specs.FlashLaws.{apply-main-length, apply-spare-length}
 use Rattle.laws.specs.ItemLaws.{length-record, length-entry, length-deletion}
@@ -47,23 +47,25 @@ module _ (h : Family) (g : Geometry) (v : Volume) where
   unfolding commit
   commit-keeps n d plan ram = keeps-either v (allFresh (v .flash .spare) (planOps (g .u) plan (v .flash))) _ _ (λ i e. absurd (let z : true ≡ false = cc in true≢false z)) (refuse-keeps v 7)
 
-  insert-keeps : (key : ℕ) (bytes : List ℕ) (s : Option Stop) → Keeps v (insertAfter h g v key bytes s)
-  unfolding insertAfter
-  insert-keeps key bytes (some corrupt) = refuse-keeps v 8
-  insert-keeps key bytes (some (found j)) = refuse-keeps v 3
-  insert-keeps key bytes none = keeps-either v (noRoom g v) _ _ (refuse-keeps v 5) (commit-keeps _ _ _ _)
+  change-keeps : (e : Edit) → Keeps v (change h g v e)
+  unfolding change
+  change-keeps e =
+      keeps-either v (one (e .inserts) && noRoom g v) _ _ (refuse-keeps v 5) (keeps-either v (one (e .deletes) && noDeletion g v) _ _ (refuse-keeps v 6) (commit-keeps _ _ _ _))
 
-  update-keeps : (key : ℕ) (bytes : List ℕ) (s : Option Stop) → Keeps v (updateAfter h g v key bytes s)
-  unfolding updateAfter
-  update-keeps key bytes (some corrupt) = refuse-keeps v 8
-  update-keeps key bytes none = refuse-keeps v 4
-  update-keeps key bytes (some (found j)) = keeps-either v (noRoom g v) _ _ (refuse-keeps v 5) (keeps-either v (noDeletion g v) _ _ (refuse-keeps v 6) (commit-keeps _ _ _ _))
+  insert-keeps : (r : Record) (s : Option Stop) → Keeps v (insertAfter h g v r s)
+  insert-keeps r (some corrupt) = refuse-keeps v 8
+  insert-keeps r (some (found j)) = refuse-keeps v 3
+  insert-keeps r none = change-keeps _
 
-  delete-keeps : (s : Option Stop) → Keeps v (deleteAfter g v s)
-  unfolding deleteAfter
+  update-keeps : (r : Record) (s : Option Stop) → Keeps v (updateAfter h g v r s)
+  update-keeps r (some corrupt) = refuse-keeps v 8
+  update-keeps r none = refuse-keeps v 4
+  update-keeps r (some (found j)) = change-keeps _
+
+  delete-keeps : (s : Option Stop) → Keeps v (deleteAfter h g v s)
   delete-keeps (some corrupt) = refuse-keeps v 8
   delete-keeps none = refuse-keeps v 4
-  delete-keeps (some (found j)) = keeps-either v (noDeletion g v) _ _ (refuse-keeps v 6) (commit-keeps _ _ _ _)
+  delete-keeps (some (found j)) = change-keeps _
 
   lookup-keeps : (opened : ℕ) (s : Option Stop) → Keeps v (lookupAfter g v opened s)
   unfolding lookupAfter
@@ -72,8 +74,8 @@ module _ (h : Family) (g : Geometry) (v : Volume) where
   lookup-keeps opened (some (found j)) = λ i e. refl
 
   answer-keeps : (c : Call) → Keeps v (answer h g v c)
-  answer-keeps (insert key moves goal free) = insert-keeps key _ (search h g v key .stop)
-  answer-keeps (update key moves goal free) = update-keeps key _ (search h g v key .stop)
+  answer-keeps (insert r) = insert-keeps r (search h g v (r .key) .stop)
+  answer-keeps (update r) = update-keeps r (search h g v (r .key) .stop)
   answer-keeps (delete key) = delete-keeps (search h g v key .stop)
   answer-keeps (lookup key) = lookup-keeps (search h g v key .opened) (search h g v key .stop)
 
@@ -130,24 +132,26 @@ module _ (h : Family) (g : Geometry) (v : Volume) (m : ℕ) where
   unfolding commit
   commit-most n d plan ram = most-either m (allFresh (v .flash .spare) (planOps (g .u) plan (v .flash))) _ _ zero-le (refuse-most m v 7)
 
-  insert-most : (key : ℕ) (bytes : List ℕ) (s : Option Stop) → Most m (insertAfter h g v key bytes s)
-  unfolding insertAfter
-  insert-most key bytes (some corrupt) = refuse-most m v 8
-  insert-most key bytes (some (found j)) = refuse-most m v 3
-  insert-most key bytes none = most-either m (noRoom g v) _ _ (refuse-most m v 5) (commit-most _ _ _ _)
+  change-most : (e : Edit) → Most m (change h g v e)
+  unfolding change
+  change-most e =
+      most-either m (one (e .inserts) && noRoom g v) _ _ (refuse-most m v 5)
+      (most-either m (one (e .deletes) && noDeletion g v) _ _ (refuse-most m v 6) (commit-most _ _ _ _))
 
-  update-most : (key : ℕ) (bytes : List ℕ) (s : Option Stop) → Most m (updateAfter h g v key bytes s)
-  unfolding updateAfter
-  update-most key bytes (some corrupt) = refuse-most m v 8
-  update-most key bytes none = refuse-most m v 4
-  update-most key bytes (some (found j)) =
-      most-either m (noRoom g v) _ _ (refuse-most m v 5) (most-either m (noDeletion g v) _ _ (refuse-most m v 6) (commit-most _ _ _ _))
+  insert-most : (r : Record) (s : Option Stop) → Most m (insertAfter h g v r s)
+  insert-most r (some corrupt) = refuse-most m v 8
+  insert-most r (some (found j)) = refuse-most m v 3
+  insert-most r none = change-most _
 
-  delete-most : (s : Option Stop) → Most m (deleteAfter g v s)
-  unfolding deleteAfter
+  update-most : (r : Record) (s : Option Stop) → Most m (updateAfter h g v r s)
+  update-most r (some corrupt) = refuse-most m v 8
+  update-most r none = refuse-most m v 4
+  update-most r (some (found j)) = change-most _
+
+  delete-most : (s : Option Stop) → Most m (deleteAfter h g v s)
   delete-most (some corrupt) = refuse-most m v 8
   delete-most none = refuse-most m v 4
-  delete-most (some (found j)) = most-either m (noDeletion g v) _ _ (refuse-most m v 6) (commit-most _ _ _ _)
+  delete-most (some (found j)) = change-most _
 
   lookup-most : (opened : ℕ) (s : Option Stop) → opened ≤ m → Most m (lookupAfter g v opened s)
   unfolding lookupAfter
@@ -157,8 +161,8 @@ module _ (h : Family) (g : Geometry) (v : Volume) (m : ℕ) where
 
 answer-most : (h : Family) (g : Geometry) (v : Volume) (c : Call) → Most (v .state .records / entriesPerPage (g .u)) (answer h g v c)
 unfolding search
-answer-most h g v (insert key moves goal free) = insert-most h g v _ key _ (search h g v key .stop)
-answer-most h g v (update key moves goal free) = update-most h g v _ key _ (search h g v key .stop)
+answer-most h g v (insert r) = insert-most h g v _ r (search h g v (r .key) .stop)
+answer-most h g v (update r) = update-most h g v _ r (search h g v (r .key) .stop)
 answer-most h g v (delete key) = delete-most h g v _ (search h g v key .stop)
 answer-most h g v (lookup key) =
     lookup-most h g v _ (search h g v key .opened) (search h g v key .stop) (search-opened (maybeIn g v (keyPositions h g key)) (tryAt g v key) (entriesPerPage (g .u)) (v .state .records))
@@ -271,31 +275,33 @@ module _ (h : Family) (S R D : ℕ) (ok : Sound S R D) where
       (λ fresh. refuse-kept v 7)
 
   module _ (v : Volume) where
-    insert-kept : (key : ℕ) (bytes : List ℕ) (s : Option Stop) → length bytes ≡ 16 → Kept v (insertAfter h g v key bytes s)
-    unfolding insertAfter
-    insert-kept key bytes (some corrupt) size = refuse-kept v 8
-    insert-kept key bytes (some (found j)) size = refuse-kept v 3
-    insert-kept key bytes none size =
+    insert-kept : (r : Record) (s : Option Stop) → Kept v (insertAfter h g v r s)
+    unfolding change
+    insert-kept r (some corrupt) = refuse-kept v 8
+    insert-kept r (some (found j)) = refuse-kept v 3
+    insert-kept r none =
         kept-either v (noRoom g v) _ _ (λ a. refuse-kept v 5)
-        (λ a. commit-kept v _ _ _ _ (insertion-bounded (v .state .records) key bytes (v .ram) (v .flash) (leb-false (recordCapacity g) (v .state .records) a) size))
+        (λ a. commit-kept v _ _ _ _ (insertion-bounded (v .state .records) (r .key) (recordBytes r) (v .ram) (v .flash) (leb-false (recordCapacity g) (v .state .records) a) (length-record r)))
 
-    update-kept : (key : ℕ) (bytes : List ℕ) (s : Option Stop) → length bytes ≡ 16 → Kept v (updateAfter h g v key bytes s)
-    unfolding updateAfter
-    update-kept key bytes (some corrupt) size = refuse-kept v 8
-    update-kept key bytes none size = refuse-kept v 4
-    update-kept key bytes (some (found j)) size =
+    update-kept : (r : Record) (s : Option Stop) → Kept v (updateAfter h g v r s)
+    unfolding change
+    update-kept r (some corrupt) = refuse-kept v 8
+    update-kept r none = refuse-kept v 4
+    update-kept r (some (found j)) =
         kept-either v (noRoom g v) _ _ (λ a. refuse-kept v 5)
         (λ a. kept-either v (noDeletion g v) _ _ (λ b. refuse-kept v 6)
         (λ b. commit-kept v _ _ _ _
-        (update-bounded (v .state .records) (v .state .deletions) j key bytes (v .ram) (v .flash) (leb-false (recordCapacity g) (v .state .records) a) (leb-false (deletionCapacity g) (v .state .deletions) b) size)))
+        (update-bounded (v .state .records) (v .state .deletions) j (r .key) (recordBytes r) (v .ram) (v .flash)
+        (leb-false (recordCapacity g) (v .state .records) a) (leb-false (deletionCapacity g) (v .state .deletions) b) (length-record r))))
 
-    delete-kept : (s : Option Stop) → Kept v (deleteAfter g v s)
-    unfolding deleteAfter
+    delete-kept : (s : Option Stop) → Kept v (deleteAfter h g v s)
+    unfolding change
     delete-kept (some corrupt) = refuse-kept v 8
     delete-kept none = refuse-kept v 4
     delete-kept (some (found j)) =
         kept-either v (noDeletion g v) _ _ (λ b. refuse-kept v 6)
-        (λ b. commit-kept v _ _ _ _ (deletion-bounded (v .state .deletions) j (v .ram) (v .flash) (leb-false (deletionCapacity g) (v .state .deletions) b)))
+        (λ b. commit-kept v _ _ _ _ (rw (append-nil (deletionPlan g (v .state .deletions) j (v .ram)))
+        (deletion-bounded (v .state .deletions) j (v .ram) (v .flash) (leb-false (deletionCapacity g) (v .state .deletions) b))))
 
     lookup-kept : (opened : ℕ) (s : Option Stop) → Kept v (lookupAfter g v opened s)
     unfolding lookupAfter
@@ -304,8 +310,8 @@ module _ (h : Family) (S R D : ℕ) (ok : Sound S R D) where
     lookup-kept opened (some (found j)) = refuse-kept v 0
 
     answer-kept : (c : Call) → Kept v (answer h g v c)
-    answer-kept (insert key moves goal free) = insert-kept key _ (search h g v key .stop) (length-record key moves goal free)
-    answer-kept (update key moves goal free) = update-kept key _ (search h g v key .stop) (length-record key moves goal free)
+    answer-kept (insert r) = insert-kept r (search h g v (r .key) .stop)
+    answer-kept (update r) = update-kept r (search h g v (r .key) .stop)
     answer-kept (delete key) = delete-kept (search h g v key .stop)
     answer-kept (lookup key) = lookup-kept (search h g v key .opened) (search h g v key .stop)
 

@@ -8,17 +8,11 @@ use lib.Dec.{ltb, eqb}
 use Rattle.memory.specs.Ranges.{any, memb}
 use Rattle.layout.specs.Geometry.{Geometry, sector, page, block, sideBlocks, entriesPerPage, kaBlock, daBlock, indexBlock, kaRam, daRam, skaRam, workRam}
 use Rattle.layout.specs.Hash.{Family}
-use Rattle.layout.specs.Items.{Area, RA, KA, DA, recordBytes, entryBytes, deletionBytes}
+use Rattle.layout.specs.Items.{Area, RA, KA, DA, Record, recordOf, recordBytes, entryBytes, deletionBytes}
 use Rattle.layout.specs.Index.{Index, rowByte, inSka, inL1, inSet, inFull, setWidth, setBlocks, fullFilters, sideBlock, fullBlock}
 use Rattle.layout.specs.Calls.{keyPositions, keyFilters}
 
 -- ---- the history of accepted calls
-
-pub record Record : Type 0 where
-  pub key : ℕ
-  pub moves : ℕ
-  pub goal : ℕ
-  pub free : ℕ
 
 -- the records accepted and the record numbers deleted, each oldest first
 pub record History : Type 0 where
@@ -26,15 +20,12 @@ pub record History : Type 0 where
   pub deleted : List ℕ
 
 abbrev pub recordAt : History → ℕ → Record
-recordAt H j = getD (H .records) j (record { key = 0; moves = 0; goal = 0; free = 0 })
-
-abbrev pub bytesOf : Record → List ℕ
-bytesOf r = recordBytes (r .key) (r .moves) (r .goal) (r .free)
+recordAt H j = getD (H .records) j (recordOf 0 0 0 0)
 
 -- ---- RA, KA and DA: byte b of item j
 
 abbrev pub raItem : History → ℕ → ℕ → ℕ
-raItem H j b = getD (bytesOf (recordAt H j)) b 0
+raItem H j b = getD (recordBytes (recordAt H j)) b 0
 
 abbrev pub kaItem : History → ℕ → ℕ → ℕ
 kaItem H j b = getD (entryBytes (recordAt H j .key) j) b 0

@@ -10,8 +10,9 @@ use lib.Dec.{leb, eqb}
 use Rattle.memory.specs.Cases.{eq?, either}
 use Rattle.memory.specs.Ranges.{last, last-some, memb}
 use Rattle.layout.specs.Calls.{Call, insert, update, delete, lookup}
-use Rattle.layout.specs.FiniteMap.{Level, Map, emptyMap, find, Reply, accepts, hits, misses, refuses}
-use Rattle.history.specs.Image.{Record, History, recordAt, bytesOf}
+use Rattle.layout.specs.FiniteMap.{Level, levelOf, Map, emptyMap, find, Reply, accepts, hits, misses, refuses}
+use Rattle.layout.specs.Items.{Record, recordBytes}
+use Rattle.history.specs.Image.{History, recordAt}
 
 -- ---- which records are live
 
@@ -62,19 +63,15 @@ module _ (capacity deletionCapacity : ℕ) where
 
   abbrev pub lookupHistory : History → Option ℕ → HistoryStep
   lookupHistory H none = historyStep misses H
-  lookupHistory H (some j) = historyStep (hits (bytesOf (recordAt H j))) H
+  lookupHistory H (some j) = historyStep (hits (recordBytes (recordAt H j))) H
 
   abbrev pub stepHistory : History → Call → HistoryStep
-  stepHistory H (insert key moves goal free) = insertHistory H (record { key = key; moves = moves; goal = goal; free = free }) (findLive H key)
-  stepHistory H (update key moves goal free) = updateHistory H (record { key = key; moves = moves; goal = goal; free = free }) (findLive H key)
+  stepHistory H (insert r) = insertHistory H r (findLive H (r .key))
+  stepHistory H (update r) = updateHistory H r (findLive H (r .key))
   stepHistory H (delete key) = deleteHistory H (findLive H key)
   stepHistory H (lookup key) = lookupHistory H (findLive H key)
 
 -- ---- the invariant between history and map
-
--- what the map holds for a record
-abbrev pub levelOf : Record → Level
-levelOf r = record { key = r .key; bytes = bytesOf r }
 
 abbrev pub levelAt : History → ℕ → Level
 levelAt H j = levelOf (recordAt H j)

@@ -14,9 +14,10 @@ use borrow.Author.Tests.{eqb-true, eq-eqb, ne-eqb}
 use Rattle.memory.specs.Cases.{bool?, lt?, eq?, either}
 use Rattle.memory.specs.Ranges.{last, last-some, last-none, last-ext, last-no, memb}
 use Rattle.layout.specs.Calls.{Call, insert, update, delete, lookup}
-use Rattle.layout.specs.FiniteMap.{Level, Map, find, without, Step, insertMap, updateMap, deleteMap, lookupMap, stepMap}
-use Rattle.history.specs.Image.{Record, History, recordAt}
-use Rattle.history.specs.Live.{liveAt, findLive, withRecord, withDeletion, HistoryStep, insertHistory, updateHistory, deleteHistory, lookupHistory, stepHistory, levelOf, levelAt, Nodup, Live}
+use Rattle.layout.specs.FiniteMap.{Level, Map, find, without, Step, insertMap, updateMap, deleteMap, lookupMap, stepMap, levelOf}
+use Rattle.layout.specs.Items.{Record}
+use Rattle.history.specs.Image.{History, recordAt}
+use Rattle.history.specs.Live.{liveAt, findLive, withRecord, withDeletion, HistoryStep, insertHistory, updateHistory, deleteHistory, lookupHistory, stepHistory, levelAt, Nodup, Live}
 
 -- ---- membership and one more deletion
 
@@ -274,9 +275,7 @@ module _ (capacity deletionCapacity : ℕ) where
   pub step-same : (H : History) (M : Map) (c : Call) → Live H M
       → (stepHistory capacity deletionCapacity H c .says ≡ stepMap capacity deletionCapacity M c .says)
       × Live (stepHistory capacity deletionCapacity H c .next) (stepMap capacity deletionCapacity M c .next)
-  step-same H M (insert key moves goal free) L =
-      rw (L .same key) (insert-same H M (record { key = key; moves = moves; goal = goal; free = free }) (findLive H key) L refl)
-  step-same H M (update key moves goal free) L =
-      rw (L .same key) (update-same H M (record { key = key; moves = moves; goal = goal; free = free }) (findLive H key) L refl)
+  step-same H M (insert r) L = rw (L .same (r .key)) (insert-same H M r (findLive H (r .key)) L refl)
+  step-same H M (update r) L = rw (L .same (r .key)) (update-same H M r (findLive H (r .key)) L refl)
   step-same H M (delete key) L = rw (L .same key) (delete-same H M key (findLive H key) L refl)
   step-same H M (lookup key) L = rw (L .same key) (lookup-same H M (findLive H key) L)

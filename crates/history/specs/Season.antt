@@ -12,15 +12,16 @@ use Rattle.layout.specs.Flash.{Op, program, erase}
 use Rattle.layout.specs.Hash.{Family}
 use Rattle.layout.specs.Calls.{Volume, Call, insert, update, delete, lookup, Outcome, accepted, hit, miss, refused, Result, call}
 use Rattle.layout.specs.FiniteMap.{Map, Reply, accepts, hits, misses, refuses, Step, mapOf}
-use Rattle.history.specs.Image.{History, recordAt, bytesOf, mainImage, spareImage, ramImage}
+use Rattle.layout.specs.Items.{recordBytes}
+use Rattle.history.specs.Image.{History, recordAt, mainImage, spareImage, ramImage}
 use Rattle.history.specs.Live.{findLive, withRecord, withDeletion, Nodup}
 
 -- ---- runs
 
 -- the key of a call is a 32-bit number; nothing is asked of its other arguments
 abbrev pub KeyWord : Call → Type 0
-KeyWord (insert key moves goal free) = key < 2 ^ 32
-KeyWord (update key moves goal free) = key < 2 ^ 32
+KeyWord (insert r) = r .key < 2 ^ 32
+KeyWord (update r) = r .key < 2 ^ 32
 KeyWord (delete key) = key < 2 ^ 32
 KeyWord (lookup key) = key < 2 ^ 32
 
@@ -106,8 +107,8 @@ number none = 0
 number (some j) = j
 
 abbrev pub grow : History → Call → History
-grow H (insert key moves goal free) = withRecord H (record { key = key; moves = moves; goal = goal; free = free })
-grow H (update key moves goal free) = withRecord (withDeletion H (number (findLive H key))) (record { key = key; moves = moves; goal = goal; free = free })
+grow H (insert r) = withRecord H r
+grow H (update r) = withRecord (withDeletion H (number (findLive H (r .key)))) r
 grow H (delete key) = withDeletion H (number (findLive H key))
 grow H (lookup key) = H
 
@@ -125,7 +126,7 @@ historyOf h v H (c ∷ cs) = historyOf h (call h v c .volume) (growIf (call h v 
 -- the live record of a key in a history, as a lookup shows it
 abbrev pub liveReply : History → Option ℕ → Reply
 liveReply H none = misses
-liveReply H (some j) = hits (bytesOf (recordAt H j))
+liveReply H (some j) = hits (recordBytes (recordAt H j))
 
 -- the volume v has the bytes of the history's image, and past them those that were handed in
 pub record ImageOf (h : Family) (g : Geometry) (H : History) (handed v : Volume) : Type 0 where

@@ -49,20 +49,20 @@ grow-shown (refused i) H c = refl
 
 module _ (capacity room : ℕ) where
   grow-step : (H : History) (c : Call) → growBy (stepHistory capacity room H c .says) H c ≡ stepHistory capacity room H c .next
-  grow-step H (insert key moves goal free) = go (findLive H key) refl
+  grow-step H (insert r) = go (findLive H (r .key)) refl
     where
-      go : (o : Option ℕ) → findLive H key ≡ o → growBy (stepHistory capacity room H (insert key moves goal free) .says) H (insert key moves goal free) ≡ stepHistory capacity room H (insert key moves goal free) .next
+      go : (o : Option ℕ) → findLive H (r .key) ≡ o → growBy (stepHistory capacity room H (insert r) .says) H (insert r) ≡ stepHistory capacity room H (insert r) .next
       go (some j) q = rw q
       go none q = either (bool? (leb capacity (length (H .records)))) (λ c. rw (q, c)) (λ c. rw (q, c))
-  grow-step H (update key moves goal free) = go (findLive H key) refl
+  grow-step H (update r) = go (findLive H (r .key)) refl
     where
-      go : (o : Option ℕ) → findLive H key ≡ o → growBy (stepHistory capacity room H (update key moves goal free) .says) H (update key moves goal free) ≡ stepHistory capacity room H (update key moves goal free) .next
+      go : (o : Option ℕ) → findLive H (r .key) ≡ o → growBy (stepHistory capacity room H (update r) .says) H (update r) ≡ stepHistory capacity room H (update r) .next
       go none q = rw q
       go (some j) q =
           either (bool? (leb capacity (length (H .records))))
           (λ c. rw (q, c))
           (λ c. either (bool? (leb room (length (H .deleted)))) (λ b. rw (q, c, b)) (λ b.
-          rw (q, c, b) (ap (λ (o : Option ℕ). withRecord (withDeletion H (number o)) (record { key = key; moves = moves; goal = goal; free = free })) q)))
+          rw (q, c, b) (ap (λ (o : Option ℕ). withRecord (withDeletion H (number o)) r) q)))
   grow-step H (delete key) = go (findLive H key) refl
     where
       go : (o : Option ℕ) → findLive H key ≡ o → growBy (stepHistory capacity room H (delete key) .says) H (delete key) ≡ stepHistory capacity room H (delete key) .next

@@ -3,7 +3,7 @@ use mathlib.Core.Path.{_≡_, refl, sym, ap, _∙_}
 use mathlib.Core.Logic.{_≢_, inl, inr}
 use mathlib.Core.Bool.{true, false}
 use mathlib.Core.Option.{Option, none, some, Option·map}
-use mathlib.Core.List.{List, [], _∷_, _++_}
+use mathlib.Core.List.{List, [], _∷_, _++_, append-nil}
 use Prim.Native.Nat.{ℕ, _+_, _-_, _/_, _≤_, _<_, _^_}
 use native.Mathlib.Omega.{arith}
 use lib.ListN.{length, getD, take, replicate, length-append, length-replicate, getD-replicate, List·getD-append}
@@ -15,14 +15,14 @@ use Rattle.memory.specs.Lists.{length-write, getD-write-before, getD-write-in, 
 use Rattle.layout.specs.Geometry.{Geometry, geometry, allowed, page, entriesPerPage, kaBlocks, fullSets, recordCapacity, deletionCapacity, spareSize, workRam}
 use Rattle.layout.specs.Flash.{Flash, Op, applyAll, Planned, planOps, allFresh}
 use Rattle.layout.specs.Hash.{Family}
-use Rattle.layout.specs.Items.{RA, KA, DA, zeroPage}
+use Rattle.layout.specs.Items.{RA, KA, DA, zeroPage, Record, recordBytes, recordOf}
 use Rattle.layout.specs.Search.{found}
-use Rattle.layout.specs.Calls.{Volume, Call, insert, update, delete, lookup, Result, refuse, judged, keyIndex, keyFilters, deletionPlan, deletionRam, insertionPlan, insertionRam, commit, insertAfter, updateAfter, deleteAfter, lookupAfter, answer, call}
+use Rattle.layout.specs.Calls.{Volume, Call, insert, update, delete, lookup, Result, refuse, judged, keyIndex, keyFilters, deletionPlan, deletionRam, insertionPlan, insertionRam, commit, insertAfter, updateAfter, deleteAfter, lookupAfter, answer, call, change}
 use Rattle.layout.specs.FiniteMap.{accepts, hits, refuses}
 use Rattle.laws.specs.FlashLaws.{fresh-append, AllAllowed, apply-append, allowed-append}
 use Rattle.laws.specs.PlanLaws.{ops-append}
 use Rattle.laws.specs.ChangeLaws.{insertion-after}
-use Rattle.history.specs.Image.{Record, History, recordAt, bytesOf, raItem, kaItem, daItem, keyFilter}
+use Rattle.history.specs.Image.{History, recordAt, raItem, kaItem, daItem, keyFilter}
 use Rattle.history.specs.Live.{findLive, withRecord, withDeletion, HistoryStep, historyStep, insertHistory, updateHistory, deleteHistory, lookupHistory, stepHistory, found-below}
 use Rattle.history.specs.Parts.{Parts, Did, Frame, Beyond, beyond-same, beyond-then, frame-beyond, frame-area, frame-index}
 use Rattle.history.specs.Changes.{Changed, deletion-did, deletion-parts, insertion-changes}
@@ -161,10 +161,10 @@ module _ (h : Family) (S R D : ℕ) (ok : Sound S R D) (can : allowed S R D ≡ 
     keys-record : (r : Record) → r .key < 2 ^ 32 → (j : ℕ) → j < length (H .records) + 1 → recordAt (withRecord H r) j .key < 2 ^ 32
     keys-record r w j l =
         either (lt? j (length (H .records)))
-        (λ a. rw (List·getD-append (H .records) (r ∷ []) (record { key = 0; moves = 0; goal = 0; free = 0 }) j (a .1)) (I .keys j (a .1)))
+        (λ a. rw (List·getD-append (H .records) (r ∷ []) (recordOf 0 0 0 0) j (a .1)) (I .keys j (a .1)))
         (λ a.
         let q : j ≡ length (H .records) = omega arith in
-        rw (q, getD-append-seam (H .records) r [] (record { key = 0; moves = 0; goal = 0; free = 0 })) w)
+        rw (q, getD-append-seam (H .records) r [] (recordOf 0 0 0 0)) w)
 
     gone-deletion : (j : ℕ) → j < length (H .records) → (i : ℕ) → i < length (H .deleted) + 1 → getD (withDeletion H j .deleted) i 0 < length (H .records)
     gone-deletion j m i l =
@@ -178,19 +178,19 @@ module _ (h : Family) (S R D : ℕ) (ok : Sound S R D) (can : allowed S R D ≡ 
 
     module _ (r : Record) (word : r .key < 2 ^ 32) where
       insert-accepted : leb (recordCapacity g) (length (H .records)) ≡ false
-          → Done H C ram (commit g v (n + 1) d (insertionPlan h g n (r .key) (bytesOf r) ram) (insertionRam h g n (r .key) (bytesOf r) ram)) (historyStep accepts (withRecord H r))
+          → Done H C ram (commit g v (n + 1) d (insertionPlan h g n (r .key) (recordBytes r) ram) (insertionRam h g n (r .key) (recordBytes r) ram)) (historyStep accepts (withRecord H r))
       insert-accepted c =
           let room : length (H .records) < recordCapacity g = leb-false (recordCapacity g) (length (H .records)) c in
-          let X : Changed h g (ok .e) (units.pow S R D ok) (withRecord H r) (n + 1) d C ram (planOps (S / 16) (insertionPlan h g n (r .key) (bytesOf r) ram) C) (insertionRam h g n (r .key) (bytesOf r) ram)
+          let X : Changed h g (ok .e) (units.pow S R D ok) (withRecord H r) (n + 1) d C ram (planOps (S / 16) (insertionPlan h g n (r .key) (recordBytes r) ram) C) (insertionRam h g n (r .key) (recordBytes r) ram)
           = insertion-changes h g (ok .e) (units.pow S R D ok) H r d C ram (I .parts) room word (I .keys) in
-          commit-done (withRecord H r) (n + 1) d (insertionPlan h g n (r .key) (bytesOf r) ram) _ (insertionRam h g n (r .key) (bytesOf r) ram) refl (length-record r) refl
+          commit-done (withRecord H r) (n + 1) d (insertionPlan h g n (r .key) (recordBytes r) ram) _ (insertionRam h g n (r .key) (recordBytes r) ram) refl (length-record r) refl
           (X .grown) (X .allowed) (X .beyond) (X .fresh (C .spare) (λ x l o. refl))
           (fresh-below (spareSize g) (C .spare) _ (X .fresh (take (spareSize g) (C .spare)) (λ x l o. getD-take (spareSize g) (C .spare) x 0 l)))
           (omega arith) (I .d-cap) (omega (arith, I .d-le)) (keys-record r word) (λ i l. omega (arith, I .gone i l))
 
       insert-done : (o : Option ℕ) → findLive H (r .key) ≡ o
-          → Done H C ram (insertAfter h g v (r .key) (bytesOf r) (Option·map found o)) (insertHistory (recordCapacity g) (deletionCapacity g) H r o)
-      unfolding insertAfter
+          → Done H C ram (insertAfter h g v r (Option·map found o)) (insertHistory (recordCapacity g) (deletionCapacity g) H r o)
+      unfolding change
       insert-done (some j) q = refuse-done 3 (omega arith, omega arith, omega arith, omega arith)
       insert-done none q =
           either (bool? (leb (recordCapacity g) (length (H .records))))
@@ -228,25 +228,25 @@ module _ (h : Family) (S R D : ℕ) (ok : Sound S R D) (can : allowed S R D ≡ 
       inside₀ = did .fresh (take (spareSize g) (C .spare)) (λ x l m. getD-take (spareSize g) (C .spare) x 0 (omega arith))
 
       delete-accepted : length (H .deleted) < length (H .records)
-          → Done H C ram (commit g v n (d + 1) (deletionPlan g d j ram) (deletionRam g d j ram)) (historyStep accepts (withDeletion H j))
+          → Done H C ram (commit g v n (d + 1) (deletionPlan g d j ram ++ []) (deletionRam g d j ram)) (historyStep accepts (withDeletion H j))
       delete-accepted less =
-          commit-done (withDeletion H j) n (d + 1) (deletionPlan g d j ram) ops ram₁ refl refl (length-deletion j) less-one (did .allowed) past fresh₀
+          commit-done (withDeletion H j) n (d + 1) (deletionPlan g d j ram ++ []) ops ram₁ (ap (λ (ps : List Planned). planOps (S / 16) ps C) (append-nil (deletionPlan g d j ram))) refl (length-deletion j) less-one (did .allowed) past fresh₀
           (fresh-below (spareSize g) (C .spare) ops inside₀)
           (I .n-cap) (omega (arith, room-d)) (omega arith) (I .keys) (gone-deletion j below)
 
       update-accepted : (r : Record) → r .key < 2 ^ 32 → leb (recordCapacity g) (length (H .records)) ≡ false
-          → Done H C ram (commit g v (n + 1) (d + 1) (deletionPlan g d j ram ++ insertionPlan h g n (r .key) (bytesOf r) ram) (insertionRam h g n (r .key) (bytesOf r) (deletionRam g d j ram)))
+          → Done H C ram (commit g v (n + 1) (d + 1) (deletionPlan g d j ram ++ insertionPlan h g n (r .key) (recordBytes r) ram) (insertionRam h g n (r .key) (recordBytes r) (deletionRam g d j ram)))
           (historyStep accepts (withRecord (withDeletion H j) r))
       update-accepted r word c5 =
           let room : length (H .records) < recordCapacity g = leb-false (recordCapacity g) (length (H .records)) c5 in
-          let more : List Op = planOps (S / 16) (insertionPlan h g n (r .key) (bytesOf r) ram₁) C₁ in
-          let X : Changed h g (ok .e) (units.pow S R D ok) (withRecord (withDeletion H j) r) (n + 1) (d + 1) C₁ ram₁ (planOps (S / 16) (insertionPlan h g n (r .key) (bytesOf r) ram₁) C₁) (insertionRam h g n (r .key) (bytesOf r) ram₁)
+          let more : List Op = planOps (S / 16) (insertionPlan h g n (r .key) (recordBytes r) ram₁) C₁ in
+          let X : Changed h g (ok .e) (units.pow S R D ok) (withRecord (withDeletion H j) r) (n + 1) (d + 1) C₁ ram₁ (planOps (S / 16) (insertionPlan h g n (r .key) (recordBytes r) ram₁) C₁) (insertionRam h g n (r .key) (recordBytes r) ram₁)
           = insertion-changes h g (ok .e) (units.pow S R D ok) (withDeletion H j) r (d + 1) C₁ ram₁ less-one room word (I .keys) in
-          let both : planOps (S / 16) (deletionPlan g d j ram ++ insertionPlan h g n (r .key) (bytesOf r) ram) C ≡ ops ++ planOps (S / 16) (insertionPlan h g n (r .key) (bytesOf r) ram₁) C₁
-          = ops-append (S / 16) (deletionPlan g d j ram) (insertionPlan h g n (r .key) (bytesOf r) ram) C
-          ∙ ap (λ (ps : List Planned). ops ++ planOps (S / 16) ps C₁) (insertion-after h g n (r .key) (bytesOf r) pu d j ram) in
+          let both : planOps (S / 16) (deletionPlan g d j ram ++ insertionPlan h g n (r .key) (recordBytes r) ram) C ≡ ops ++ planOps (S / 16) (insertionPlan h g n (r .key) (recordBytes r) ram₁) C₁
+          = ops-append (S / 16) (deletionPlan g d j ram) (insertionPlan h g n (r .key) (recordBytes r) ram) C
+          ∙ ap (λ (ps : List Planned). ops ++ planOps (S / 16) ps C₁) (insertion-after h g n (r .key) (recordBytes r) pu d j ram) in
           let done = apply-append (S / 16) ops more C in
-          commit-done (withRecord (withDeletion H j) r) (n + 1) (d + 1) _ (ops ++ more) (insertionRam h g n (r .key) (bytesOf r) ram₁) both (length-record r) (length-deletion j)
+          commit-done (withRecord (withDeletion H j) r) (n + 1) (d + 1) _ (ops ++ more) (insertionRam h g n (r .key) (recordBytes r) ram₁) both (length-record r) (length-deletion j)
           (rw done (X .grown)) (allowed-append (S / 16) ops more C (did .allowed) (X .allowed)) (rw done (beyond-then g C C₁ _ ram ram₁ _ past (X .beyond)))
           (fresh-append (C .spare) ops more fresh₀ (X .fresh (C .spare) (λ x l o. sym (did .frame .spare x o))))
           (fresh-below (spareSize g) (C .spare) _ (fresh-append (take (spareSize g) (C .spare)) ops more inside₀
@@ -254,8 +254,8 @@ module _ (h : Family) (S R D : ℕ) (ok : Sound S R D) (can : allowed S R D ≡ 
           (omega arith) (omega (arith, room-d)) (omega (arith, I .d-le)) (keys-record r word) (λ i l. omega (arith, gone-deletion j below i l))
 
     update-done : (r : Record) → r .key < 2 ^ 32 → (o : Option ℕ) → findLive H (r .key) ≡ o
-        → Done H C ram (updateAfter h g v (r .key) (bytesOf r) (Option·map found o)) (updateHistory (recordCapacity g) (deletionCapacity g) H r o)
-    unfolding updateAfter
+        → Done H C ram (updateAfter h g v r (Option·map found o)) (updateHistory (recordCapacity g) (deletionCapacity g) H r o)
+    unfolding change
     update-done r word none q = refuse-done 4 (omega arith, omega arith, omega arith, omega arith)
     update-done r word (some j) q =
         either (bool? (leb (recordCapacity g) (length (H .records))))
@@ -265,8 +265,8 @@ module _ (h : Family) (S R D : ℕ) (ok : Sound S R D) (can : allowed S R D ≡ 
         (λ c6. rw (c, c6) (update-accepted j (found-below H (r .key) j q .0) c6 r word c)))
 
     delete-done : (k : ℕ) → ((j : ℕ) → findLive H k ≡ some j → length (H .deleted) < length (H .records)) → (o : Option ℕ) → findLive H k ≡ o
-        → Done H C ram (deleteAfter g v (Option·map found o)) (deleteHistory (recordCapacity g) (deletionCapacity g) H o)
-    unfolding deleteAfter
+        → Done H C ram (deleteAfter h g v (Option·map found o)) (deleteHistory (recordCapacity g) (deletionCapacity g) H o)
+    unfolding change
     delete-done k less none q = refuse-done 4 (omega arith, omega arith, omega arith, omega arith)
     delete-done k less (some j) q =
         either (bool? (leb (deletionCapacity g) (length (H .deleted))))
@@ -312,10 +312,8 @@ module _ (h : Family) (S R D : ℕ) (ok : Sound S R D) (can : allowed S R D ≡ 
 
     answer-done : (c : Call) → KeyWord c → ((k j : ℕ) → findLive H k ≡ some j → length (H .deleted) < length (H .records))
         → Done H C ram (answer h g v c) (stepHistory (recordCapacity g) (deletionCapacity g) H c)
-    answer-done (insert key moves goal free) w less =
-        rw (volumes.search-is h S R D ok H C ram I key) (insert-done (record { key = key; moves = moves; goal = goal; free = free }) w (findLive H key) refl)
-    answer-done (update key moves goal free) w less =
-        rw (volumes.search-is h S R D ok H C ram I key) (update-done (record { key = key; moves = moves; goal = goal; free = free }) w (findLive H key) refl)
+    answer-done (insert r) w less = rw (volumes.search-is h S R D ok H C ram I (r .key)) (insert-done r w (findLive H (r .key)) refl)
+    answer-done (update r) w less = rw (volumes.search-is h S R D ok H C ram I (r .key)) (update-done r w (findLive H (r .key)) refl)
     answer-done (delete key) w less = rw (volumes.search-is h S R D ok H C ram I key) (delete-done key (less key) (findLive H key) refl)
     answer-done (lookup key) w less =
         rw (volumes.search-is h S R D ok H C ram I key) (lookup-done key _ (volumes.count-is h S R D ok H C ram I key) (findLive H key) refl)

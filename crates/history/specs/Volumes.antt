@@ -17,11 +17,11 @@ use Rattle.memory.specs.Words.{bytes4}
 use Rattle.layout.specs.Geometry.{Geometry, geometry, allowed, page, block, filterBits, entriesPerPage, kaBlocks, fullSets, recordCapacity, deletionCapacity, workRam}
 use Rattle.layout.specs.Flash.{Flash}
 use Rattle.layout.specs.Hash.{Family, positions}
-use Rattle.layout.specs.Items.{RA, KA, DA, itemWord, itemPlace, bytesAt}
+use Rattle.layout.specs.Items.{RA, KA, DA, itemWord, itemPlace, bytesAt, recordBytes}
 use Rattle.layout.specs.Index.{filterBit}
 use Rattle.layout.specs.Search.{found}
 use Rattle.layout.specs.Calls.{Volume, keyIndex, keyFilters, keyPositions, badState, tooShort, isDeleted, tryAt, maybeIn, search}
-use Rattle.history.specs.Image.{History, recordAt, bytesOf, raItem, kaItem, daItem, keyFilter}
+use Rattle.history.specs.Image.{History, recordAt, raItem, kaItem, daItem, keyFilter}
 use Rattle.history.specs.Live.{liveAt, findLive, live-key}
 use Rattle.laws.specs.SearchLaws.{search-all, search-opened, scan-live, any-memb, allOf-true, memb-tab-all}
 use Rattle.history.specs.AreaLaws.{read-word, read-bytes}
@@ -160,10 +160,10 @@ module _ (h : Family) (S R D : ℕ) (ok : Sound S R D) where
     count-is k = search-opened (maybeIn g v (keyPositions h g k)) (tryAt g v k) (8 * (S / 16)) (length (H .records))
 
     -- the bytes of a record where it lies
-    pub record-is : (j : ℕ) → j < length (H .records) → bytesAt (C .main) ram (itemPlace (S / 16) (RA g) n j) 16 ≡ bytesOf (recordAt H j)
+    pub record-is : (j : ℕ) → j < length (H .records) → bytesAt (C .main) ram (itemPlace (S / 16) (RA g) n j) 16 ≡ recordBytes (recordAt H j)
     record-is j l =
         read-bytes (S / 16) pu (RA g) R (omega arith) (omega (arith, pu)) (omega arith) (raItem H) n (C .main) (C .spare) ram (I .parts .ra) (omega (arith, I .n-cap)) j l
-        ∙ tab-record (recordAt H j .key) (recordAt H j .moves) (recordAt H j .goal) (recordAt H j .free)
+        ∙ tab-record (recordAt H j)
 
     -- refusals 1 and 2 do not apply
     pub state-good : allowed S R D ≡ true → badState (v .state) ≡ false

@@ -6,13 +6,13 @@ use native.Mathlib.Omega.{arith}
 use lib.ListN.{length, getD}
 use Rattle.memory.specs.Lists.{tab, is-tab}
 use Rattle.memory.specs.Words.{byteOf, length-words, words-byte}
-use Rattle.layout.specs.Items.{recordBytes, entryBytes, deletionBytes}
+use Rattle.layout.specs.Items.{Record, recordBytes, entryBytes, deletionBytes}
 
 -- ---- lengths
 
-pub length-record : (key moves goal free : ℕ) → length (recordBytes key moves goal free) ≡ 16
+pub length-record : (r : Record) → length (recordBytes r) ≡ 16
 unfolding recordBytes
-length-record key moves goal free = length-words (key ∷ moves ∷ goal ∷ free ∷ [])
+length-record r = length-words (r .key ∷ r .moves ∷ r .goal ∷ r .free ∷ [])
 
 pub length-entry : (key j : ℕ) → length (entryBytes key j) ≡ 8
 unfolding entryBytes
@@ -38,6 +38,5 @@ deletion-number j b h = words-byte (j ∷ []) 0 b (omega arith) h
 
 -- ---- a record by its bytes is the record
 
-pub tab-record : (key moves goal free : ℕ) → tab 16 (λ b. getD (recordBytes key moves goal free) b 0) ≡ recordBytes key moves goal free
-tab-record key moves goal free =
-    sym (is-tab (recordBytes key moves goal free) 16 (λ b. getD (recordBytes key moves goal free) b 0) (length-record key moves goal free) (λ i h. refl))
+pub tab-record : (r : Record) → tab 16 (λ b. getD (recordBytes r) b 0) ≡ recordBytes r
+tab-record r = sym (is-tab (recordBytes r) 16 (λ b. getD (recordBytes r) b 0) (length-record r) (λ i h. refl))

@@ -1,5 +1,5 @@
 -- The five calls, for any state and any lent bytes. Document 01, "Calls".
-use mathlib.Core.Bool.{Bool, not, _||_, cond}
+use mathlib.Core.Bool.{Bool, true, false, not, _&&_, _||_, cond}
 use mathlib.Core.Option.{Option, none, some}
 use mathlib.Core.List.{List, [], _++_}
 use Prim.Native.Nat.{ℕ, _+_, _*_, _/_}
@@ -12,7 +12,7 @@ use Rattle.layout.specs.Geometry.{State, Geometry, geometry, geometryOf,
 use Rattle.layout.specs.Flash.{Flash, Op, applyAll, erases, Planned, planOps, allFresh}
 use Rattle.layout.specs.Hash.{Family, positions, positionCount}
 use Rattle.layout.specs.Index.{Index, filterBit, withFilter, filterPlan, filterRam, inSka}
-use Rattle.layout.specs.Items.{RA, KA, DA, recordBytes, entryBytes, deletionBytes, Place, itemPlace, bytesAt, itemWord, put, fills, itemPlan, itemRam, zeroPage}
+use Rattle.layout.specs.Items.{RA, KA, DA, Record, recordBytes, entryBytes, deletionBytes, Place, itemPlace, bytesAt, itemWord, put, fills, itemPlan, itemRam, zeroPage}
 use Rattle.layout.specs.Search.{Stop, found, corrupt, Found, tryEntry, searchFrom}
 
 -- ---- what is handed in and what comes back
@@ -25,8 +25,8 @@ pub record Volume : Type 0 where
 
 -- a call and its arguments other than state and lent bytes; format is apart
 pub data Call : Type 0 where
-  insert : ℕ → ℕ → ℕ → ℕ → Call
-  update : ℕ → ℕ → ℕ → ℕ → Call
+  insert : Record → Call
+  update : Record → Call
   delete : ℕ → Call
   lookup : ℕ → Call
 
@@ -180,14 +180,6 @@ noRoom g v = leb (recordCapacity g) (v .state .records)
 abbrev pub noDeletion : Geometry → Volume → Bool
 noDeletion g v = leb (deletionCapacity g) (v .state .deletions)
 
-unfoldable pub deleteAfter : Geometry → Volume → Option Stop → Result
-deleteAfter g v (some corrupt) = refuse v 8
-deleteAfter g v none = refuse v 4
-deleteAfter g v (some (found j)) =
-    cond (noDeletion g v) (refuse v 6)
-    (commit g v (v .state .records) (v .state .deletions + 1)
-    (deletionPlan g (v .state .deletions) j (v .ram)) (deletionRam g (v .state .deletions) j (v .ram)))
-
 -- "hit, count and the 16 record bytes .. on the chip or in the desk, wherever that record is"
 abbrev pub recordPlace : Geometry → Volume → ℕ → Place
 recordPlace g v j = itemPlace (g .u) (RA g) (v .state .records) j
@@ -198,29 +190,66 @@ lookupAfter g v opened none = record { outcome = miss; count = opened; volume = 
 lookupAfter g v opened (some (found j)) =
     record { outcome = hit (recordPlace g v j) (bytesAt (v .flash .main) (v .ram) (recordPlace g v j) 16); count = opened; volume = v; ops = [] }
 
-module _ (h : Family) where
-  unfoldable pub insertAfter : Geometry → Volume → ℕ → List ℕ → Option Stop → Result
-  insertAfter g v key bytes (some corrupt) = refuse v 8
-  insertAfter g v key bytes (some (found j)) = refuse v 3
-  insertAfter g v key bytes none =
-      cond (noRoom g v) (refuse v 5)
-      (commit g v (v .state .records + 1) (v .state .deletions)
-      (insertionPlan h g (v .state .records) key bytes (v .ram)) (insertionRam h g (v .state .records) key bytes (v .ram)))
+-- what a change does: the number of the record that it deletes, the record that it inserts
+pub record Edit : Type 0 where
+  pub deletes : Option ℕ
+  pub inserts : Option Record
 
-  -- "An update is a deletion followed by an insertion, in one call"
-  unfoldable pub updateAfter : Geometry → Volume → ℕ → List ℕ → Option Stop → Result
-  updateAfter g v key bytes (some corrupt) = refuse v 8
-  updateAfter g v key bytes none = refuse v 4
-  updateAfter g v key bytes (some (found j)) =
-      cond (noRoom g v) (refuse v 5)
-      (cond (noDeletion g v) (refuse v 6)
-      (commit g v (v .state .records + 1) (v .state .deletions + 1)
-      (deletionPlan g (v .state .deletions) j (v .ram) ++ insertionPlan h g (v .state .records) key bytes (v .ram))
-      (insertionRam h g (v .state .records) key bytes (deletionRam g (v .state .deletions) j (v .ram)))))
+-- is there one of these; a count with one more, if there is
+abbrev pub one : {A : Type 0} → Option A → Bool
+one none = false
+one (some x) = true
+
+abbrev pub more : {A : Type 0} → ℕ → Option A → ℕ
+more n none = n
+more n (some x) = n + 1
+
+-- its deletion, on the RAM handed in
+abbrev pub deletes : Geometry → Volume → Option ℕ → List Planned
+deletes g v none = []
+deletes g v (some j) = deletionPlan g (v .state .deletions) j (v .ram)
+
+abbrev pub ramDeleted : Geometry → Volume → Option ℕ → List ℕ
+ramDeleted g v none = v .ram
+ramDeleted g v (some j) = deletionRam g (v .state .deletions) j (v .ram)
+
+module _ (h : Family) where
+  -- its insertion
+  abbrev pub inserts : Geometry → Volume → Option Record → List Planned
+  inserts g v none = []
+  inserts g v (some r) = insertionPlan h g (v .state .records) (r .key) (recordBytes r) (v .ram)
+
+  abbrev pub ramInserted : Geometry → Volume → Option Record → List ℕ → List ℕ
+  ramInserted g v none ram = ram
+  ramInserted g v (some r) ram = insertionRam h g (v .state .records) (r .key) (recordBytes r) ram
+
+  -- 5, 6, then 7 or the change: "a deletion followed by an insertion, in one call"
+  unfoldable pub change : Geometry → Volume → Edit → Result
+  change g v e =
+      cond (one (e .inserts) && noRoom g v) (refuse v 5)
+      (cond (one (e .deletes) && noDeletion g v) (refuse v 6)
+      (commit g v (more (v .state .records) (e .inserts)) (more (v .state .deletions) (e .deletes))
+      (deletes g v (e .deletes) ++ inserts g v (e .inserts))
+      (ramInserted g v (e .inserts) (ramDeleted g v (e .deletes)))))
+
+  abbrev pub insertAfter : Geometry → Volume → Record → Option Stop → Result
+  insertAfter g v r (some corrupt) = refuse v 8
+  insertAfter g v r (some (found j)) = refuse v 3
+  insertAfter g v r none = change g v (record { deletes = none; inserts = some r })
+
+  abbrev pub updateAfter : Geometry → Volume → Record → Option Stop → Result
+  updateAfter g v r (some corrupt) = refuse v 8
+  updateAfter g v r none = refuse v 4
+  updateAfter g v r (some (found j)) = change g v (record { deletes = some j; inserts = some r })
+
+  abbrev pub deleteAfter : Geometry → Volume → Option Stop → Result
+  deleteAfter g v (some corrupt) = refuse v 8
+  deleteAfter g v none = refuse v 4
+  deleteAfter g v (some (found j)) = change g v (record { deletes = some j; inserts = none })
 
   abbrev pub answer : Geometry → Volume → Call → Result
-  answer g v (insert key moves goal free) = insertAfter g v key (recordBytes key moves goal free) (search h g v key .stop)
-  answer g v (update key moves goal free) = updateAfter g v key (recordBytes key moves goal free) (search h g v key .stop)
+  answer g v (insert r) = insertAfter g v r (search h g v (r .key) .stop)
+  answer g v (update r) = updateAfter g v r (search h g v (r .key) .stop)
   answer g v (delete key) = deleteAfter g v (search h g v key .stop)
   answer g v (lookup key) = let f : Found = search h g v key in lookupAfter g v (f .opened) (f .stop)
 

@@ -5,13 +5,16 @@ use mathlib.Core.List.{List, [], _∷_}
 use Prim.Native.Nat.{ℕ, _+_}
 use lib.Dec.{leb, eqb}
 use Rattle.layout.specs.Geometry.{Geometry, recordCapacity, deletionCapacity}
-use Rattle.layout.specs.Items.{recordBytes}
+use Rattle.layout.specs.Items.{Record, recordBytes}
 use Rattle.layout.specs.Calls.{Call, insert, update, delete, lookup}
 
 -- a record by its level key: "16 bytes made of key, moves, goal and free word"
 pub record Level : Type 0 where
   pub key : ℕ
   pub bytes : List ℕ
+
+abbrev pub levelOf : Record → Level
+levelOf r = record { key = r .key; bytes = recordBytes r }
 
 -- "records by level key, none at first; counts n and d"
 pub record Map : Type 0 where
@@ -69,8 +72,8 @@ module _ (capacity deletionCapacity : ℕ) where
   lookupMap m (some o) = step (hits (o .bytes)) m
 
   abbrev pub stepMap : Map → Call → Step
-  stepMap m (insert key moves goal free) = insertMap m (record { key = key; bytes = recordBytes key moves goal free }) (find (m .levels) key)
-  stepMap m (update key moves goal free) = updateMap m (record { key = key; bytes = recordBytes key moves goal free }) (find (m .levels) key)
+  stepMap m (insert r) = insertMap m (levelOf r) (find (m .levels) (r .key))
+  stepMap m (update r) = updateMap m (levelOf r) (find (m .levels) (r .key))
   stepMap m (delete key) = deleteMap m key (find (m .levels) key)
   stepMap m (lookup key) = lookupMap m (find (m .levels) key)
 

@@ -27,9 +27,19 @@ module _ (g : Geometry) where
   abbrev pub DA : Area
   DA = record { size = 4; perPage = deletionsPerPage (g .u); first = daBlock g; ram = daRam (g .u) }
 
--- "level key, moves, goal, free word, 4 bytes each"; "key, then j"; the record number
-unfoldable pub recordBytes : ℕ → ℕ → ℕ → ℕ → List ℕ
-recordBytes key moves goal free = wordsBytes (key ∷ moves ∷ goal ∷ free ∷ [])
+-- "level key, moves, goal, free word"
+pub record Record : Type 0 where
+  pub key : ℕ
+  pub moves : ℕ
+  pub goal : ℕ
+  pub free : ℕ
+
+abbrev pub recordOf : ℕ → ℕ → ℕ → ℕ → Record
+recordOf key moves goal free = record { key = key; moves = moves; goal = goal; free = free }
+
+-- "4 bytes each"; "key, then j"; the record number
+unfoldable pub recordBytes : Record → List ℕ
+recordBytes r = wordsBytes (r .key ∷ r .moves ∷ r .goal ∷ r .free ∷ [])
 
 unfoldable pub entryBytes : ℕ → ℕ → List ℕ
 entryBytes key j = wordsBytes (key ∷ j ∷ [])

@@ -15,7 +15,7 @@ use Rattle.layout.specs.Geometry.{State, geometry, allowed, indexBlock, 
 use Rattle.layout.specs.Flash.{flashOf, program, fresh, apply, Planned, known, made, wipe, planOps}
 use Rattle.layout.specs.Hash.{fnvFrom, fnvFamily, positions, positionCount}
 use Rattle.layout.specs.Index.{BitPlace, rowBit, rowByte, withFilter, filterPlace, filterPlan, flushAndBuild}
-use Rattle.layout.specs.Items.{recordBytes, entryBytes, deletionBytes}
+use Rattle.layout.specs.Items.{recordOf, recordBytes, entryBytes, deletionBytes}
 use Rattle.layout.specs.Search.{Stop, found, corrupt, tryEntry, scan, searchPages, searchFrom}
 use Rattle.layout.specs.Calls.{Call, insert, update, delete, lookup, keyIndex, badState, tooShort, pageFilter}
 use Rattle.layout.specs.FiniteMap.{Map, emptyMap, Reply, accepts, hits, misses, refuses, stepMap, find, without}
@@ -148,14 +148,14 @@ says m [] = []
 says m (c ∷ cs) = stepMap 3 1 m c .says ∷ says (stepMap 3 1 m c .next) cs
 
 pub map-run :
-    says emptyMap (lookup 7 ∷ delete 7 ∷ update 7 1 0 0 ∷ insert 7 1 0 0 ∷ insert 7 2 0 0 ∷ update 7 3 0 0 ∷ lookup 7 ∷ update 7 4 0 0 ∷ insert 8 5 0 0 ∷ insert 9 6 0 0 ∷ update 7 7 0 0 ∷ delete 7 ∷ lookup 8 ∷ [])
-    ≡ misses ∷ refuses 4 ∷ refuses 4 ∷ accepts ∷ refuses 3 ∷ accepts ∷ hits (recordBytes 7 3 0 0) ∷ refuses 6 ∷ accepts ∷ refuses 5 ∷ refuses 5 ∷ refuses 6 ∷ hits (recordBytes 8 5 0 0) ∷ []
+    says emptyMap (lookup 7 ∷ delete 7 ∷ update (recordOf 7 1 0 0) ∷ insert (recordOf 7 1 0 0) ∷ insert (recordOf 7 2 0 0) ∷ update (recordOf 7 3 0 0) ∷ lookup 7 ∷ update (recordOf 7 4 0 0) ∷ insert (recordOf 8 5 0 0) ∷ insert (recordOf 9 6 0 0) ∷ update (recordOf 7 7 0 0) ∷ delete 7 ∷ lookup 8 ∷ [])
+    ≡ misses ∷ refuses 4 ∷ refuses 4 ∷ accepts ∷ refuses 3 ∷ accepts ∷ hits (recordBytes (recordOf 7 3 0 0)) ∷ refuses 6 ∷ accepts ∷ refuses 5 ∷ refuses 5 ∷ refuses 6 ∷ hits (recordBytes (recordOf 8 5 0 0)) ∷ []
 unfolding find without
 map-run = refl
 
 -- ---- items: little-endian words in the document's order
 
-pub items : recordBytes 1 258 3 4 ≡ 1 ∷ 0 ∷ 0 ∷ 0 ∷ 2 ∷ 1 ∷ 0 ∷ 0 ∷ 3 ∷ 0 ∷ 0 ∷ 0 ∷ 4 ∷ 0 ∷ 0 ∷ 0 ∷ []
+pub items : recordBytes (recordOf 1 258 3 4) ≡ 1 ∷ 0 ∷ 0 ∷ 0 ∷ 2 ∷ 1 ∷ 0 ∷ 0 ∷ 3 ∷ 0 ∷ 0 ∷ 0 ∷ 4 ∷ 0 ∷ 0 ∷ 0 ∷ []
 unfolding recordBytes wordsBytes
 items = refl
 
