@@ -6,7 +6,7 @@ use mathlib.Core.List.{List, _++_}
 use Prim.Native.Nat.{ℕ, _/_, _≤_, _<_, _^_}
 use native.Mathlib.Omega.{arith}
 use lib.ListN.{length, getD}
-use Rattle.layout.specs.Geometry.{Geometry, geometry, allowed, blocks, recordCapacity, deletionCapacity, spareSize}
+use Rattle.layout.specs.Geometry.{Geometry, geometry, allowed, blocks, recordCapacity, deletionCapacity, spareSize, Sizes, unitOf, stateOf}
 use Rattle.layout.specs.Flash.{Op, applyAll}
 use Rattle.layout.specs.Hash.{Family}
 use Rattle.layout.specs.Calls.{Volume, Call, lookup, accepted, tooShort, format, formatted, call}
@@ -16,7 +16,7 @@ use Rattle.history.specs.Image.{History}
 use Rattle.history.specs.Live.{emptyHistory, live-start, findLive, lookupHistory}
 use Rattle.history.specs.Parts.{Beyond, beyond-then}
 use Rattle.history.specs.ByAddress.{main-by-address, spare-by-address, ram-by-address}
-use Rattle.history.specs.Season.{KeyWords, after, opsOf, Disciplined, stateOf, EachAgrees, historyOf, ImageOf, shown, liveReply}
+use Rattle.history.specs.Season.{KeyWords, after, opsOf, Disciplined, EachAgrees, historyOf, ImageOf, shown, liveReply}
 use Rattle.history.specs.Discipline.{disciplined, erases-disciplined, erased, erased-in}
 use Rattle.history.specs.Volumes.{volumeOf}
 use Rattle.history.specs.Steps.{call-done}
@@ -24,74 +24,74 @@ use Rattle.history.specs.SeasonLaws.{Ran, run, format-is, start-holds, s
 use Rattle.laws.specs.Sound.{Sound, sound}
 use Rattle.laws.specs.Sound as units
 
-module _ (h : Family) (v : Volume) (S R D : ℕ) (calls : List Call) (can : allowed S R D ≡ true)
-    (long : tooShort (geometry S R D) (v .flash) (v .ram) ≡ false) (words : KeyWords calls) where
+module _ (h : Family) (v : Volume) (sizes : Sizes) (calls : List Call) (can : allowed sizes ≡ true)
+    (long : tooShort (geometry sizes) (v .flash) (v .ram) ≡ false) (words : KeyWords calls) where
   abbrev g : Geometry
-  g = geometry S R D
+  g = geometry sizes
 
-  ok : Sound S R D
-  ok = sound S R D can
+  ok : Sound sizes
+  ok = sound sizes can
 
   -- the volume after the format
   abbrev w : Volume
-  w = formatted v S R D .volume
+  w = formatted v sizes .volume
 
-  is-formatted : format v S R D ≡ formatted v S R D
-  is-formatted = format-is h S R D ok can v long
+  is-formatted : format v sizes ≡ formatted v sizes
+  is-formatted = format-is h sizes ok can v long
 
-  ran : Ran h S R D ok can (formatted v S R D .volume) emptyHistory emptyMap calls
+  ran : Ran h sizes ok can (formatted v sizes .volume) emptyHistory emptyMap calls
   unfolding formatted
-  ran = run h S R D ok can emptyHistory _ _ emptyMap calls words (start-holds h S R D ok can v long) live-start
+  ran = run h sizes ok can emptyHistory _ _ emptyMap calls words (start-holds h sizes ok can v long) live-start
 
-  pub format-accepted : format v S R D .outcome ≡ accepted
+  pub format-accepted : format v sizes .outcome ≡ accepted
   unfolding formatted
   format-accepted = rw is-formatted
 
-  pub format-state : format v S R D .volume .state ≡ stateOf S R D 0 0
+  pub format-state : format v sizes .volume .state ≡ stateOf sizes 0 0
   unfolding formatted
   format-state = rw is-formatted
 
-  pub each-agrees : EachAgrees h S R D (format v S R D .volume) emptyMap calls
+  pub each-agrees : EachAgrees h sizes (format v sizes .volume) emptyMap calls
   each-agrees = rw is-formatted (ran .agrees)
 
-  after-format : applyAll (S / 16) (formatted v S R D .ops) (v .flash) ≡ formatted v S R D .volume .flash
+  after-format : applyAll (unitOf sizes) (formatted v sizes .ops) (v .flash) ≡ formatted v sizes .volume .flash
   unfolding formatted
   after-format = refl
 
-  pub flash-is : applyAll (S / 16) (format v S R D .ops ++ opsOf h (format v S R D .volume) calls) (v .flash) ≡ after h (format v S R D .volume) calls .flash
+  pub flash-is : applyAll (unitOf sizes) (format v sizes .ops ++ opsOf h (format v sizes .volume) calls) (v .flash) ≡ after h (format v sizes .volume) calls .flash
   flash-is =
       rw is-formatted
-      (apply-append (S / 16) (formatted v S R D .ops) (opsOf h (formatted v S R D .volume) calls) (v .flash) ∙ rw after-format (ran .flash-is))
+      (apply-append (unitOf sizes) (formatted v sizes .ops) (opsOf h (formatted v sizes .volume) calls) (v .flash) ∙ rw after-format (ran .flash-is))
 
-  says : (P : ℕ → Bool) (x : ℕ) → x < spareSize g → getD (formatted v S R D .volume .flash .spare) x 0 ≡ cond (erased 0 (blocks g) P x) 0 255
+  says : (P : ℕ → Bool) (x : ℕ) → x < spareSize g → getD (formatted v sizes .volume .flash .spare) x 0 ≡ cond (erased 0 (blocks g) P x) 0 255
   unfolding formatted
-  says P x l = start-spare h S R D ok can v long .1 x l ∙ rw (erased-in 0 (blocks g) P x (omega arith) (omega arith))
+  says P x l = start-spare h sizes ok can v long .1 x l ∙ rw (erased-in 0 (blocks g) P x (omega arith) (omega arith))
 
-  fits : spareSize g ≤ length (formatted v S R D .volume .flash .spare)
+  fits : spareSize g ≤ length (formatted v sizes .volume .flash .spare)
   unfolding formatted
-  fits = start-spare h S R D ok can v long .0
+  fits = start-spare h sizes ok can v long .0
 
-  format-disciplined : (os : List Op) (P : ℕ → Bool) → Disciplined os (erased 0 (blocks g) P) → Disciplined (formatted v S R D .ops ++ os) P
+  format-disciplined : (os : List Op) (P : ℕ → Bool) → Disciplined os (erased 0 (blocks g) P) → Disciplined (formatted v sizes .ops ++ os) P
   unfolding formatted
   format-disciplined os P q = erases-disciplined 0 (blocks g) os P q
 
-  pub all-disciplined : (P : ℕ → Bool) → Disciplined (format v S R D .ops ++ opsOf h (format v S R D .volume) calls) P
+  pub all-disciplined : (P : ℕ → Bool) → Disciplined (format v sizes .ops ++ opsOf h (format v sizes .volume) calls) P
   all-disciplined P =
       rw is-formatted
-      (format-disciplined (opsOf h (formatted v S R D .volume) calls) P
-      (disciplined (S / 16) (spareSize g) (opsOf h (formatted v S R D .volume) calls) (formatted v S R D .volume .flash) (erased 0 (blocks g) P) fits (says P) (ran .ops-allowed) (ran .inside)))
+      (format-disciplined (opsOf h (formatted v sizes .volume) calls) P
+      (disciplined (unitOf sizes) (spareSize g) (opsOf h (formatted v sizes .volume) calls) (formatted v sizes .volume .flash) (erased 0 (blocks g) P) fits (says P) (ran .ops-allowed) (ran .inside)))
 
   -- ---- demand 2
 
   abbrev H : History
-  H = historyOf h (formatted v S R D .volume) emptyHistory calls
+  H = historyOf h (formatted v sizes .volume) emptyHistory calls
 
   abbrev end : Volume
-  end = after h (formatted v S R D .volume) calls
+  end = after h (formatted v sizes .volume) calls
 
-  first-beyond : Beyond g (v .flash) (formatted v S R D .volume .flash) (v .ram) (formatted v S R D .volume .ram)
+  first-beyond : Beyond g (v .flash) (formatted v sizes .volume .flash) (v .ram) (formatted v sizes .volume .ram)
   unfolding formatted
-  first-beyond = start-beyond h S R D ok can v long
+  first-beyond = start-beyond h sizes ok can v long
 
   past : Beyond g (v .flash) (end .flash) (v .ram) (end .ram)
   past = beyond-then g (v .flash) (w .flash) (end .flash) (v .ram) (w .ram) (end .ram) first-beyond (ran .beyond)
@@ -100,17 +100,17 @@ module _ (h : Family) (v : Volume) (S R D : ℕ) (calls : List Call) (can : allo
   reply-is none = refl
   reply-is (some j) = refl
 
-  found : (key : ℕ) → key < 2 ^ 32 → shown (call h (volumeOf h S R D ok H (end .flash) (end .ram)) (lookup key) .outcome) ≡ liveReply H (findLive H key)
-  found key l = call-done h S R D ok can H (end .flash) (end .ram) (ran .holds) (lookup key) l (ran .room) .says ∙ reply-is (findLive H key)
+  found : (key : ℕ) → key < 2 ^ 32 → shown (call h (volumeOf h sizes ok H (end .flash) (end .ram)) (lookup key) .outcome) ≡ liveReply H (findLive H key)
+  found key l = call-done h sizes ok can H (end .flash) (end .ram) (ran .holds) (lookup key) l (ran .room) .says ∙ reply-is (findLive H key)
 
-  looked-up : (e : Volume) → e ≡ volumeOf h S R D ok H (end .flash) (end .ram) → (key : ℕ) → key < 2 ^ 32 → shown (call h e (lookup key) .outcome) ≡ liveReply H (findLive H key)
+  looked-up : (e : Volume) → e ≡ volumeOf h sizes ok H (end .flash) (end .ram) → (key : ℕ) → key < 2 ^ 32 → shown (call h e (lookup key) .outcome) ≡ liveReply H (findLive H key)
   looked-up e q key l = rw q (found key l)
 
   image : ImageOf h g H v end
   image = record {
-    main = main-by-address h g (ok .e) (units.pow S R D ok) H (end .flash) (end .ram) (ran .holds .parts) (ran .holds .work);
-    spare = spare-by-address h g (ok .e) (units.pow S R D ok) H (end .flash) (end .ram) (ran .holds .parts) (ran .holds .work);
-    ram = ram-by-address h g (ok .e) (units.pow S R D ok) H (end .flash) (end .ram) (ran .holds .parts) (ran .holds .work);
+    main = main-by-address h g (ok .e) (units.pow sizes ok) H (end .flash) (end .ram) (ran .holds .parts) (ran .holds .work);
+    spare = spare-by-address h g (ok .e) (units.pow sizes ok) H (end .flash) (end .ram) (ran .holds .parts) (ran .holds .work);
+    ram = ram-by-address h g (ok .e) (units.pow sizes ok) H (end .flash) (end .ram) (ran .holds .parts) (ran .holds .work);
     main-past = past .main;
     spare-past = past .spare;
     ram-past = past .ram;
@@ -122,5 +122,5 @@ module _ (h : Family) (v : Volume) (S R D : ℕ) (calls : List Call) (can : allo
     lookups = looked-up end (ran .volume-is);
   }
 
-  pub image-of : ImageOf h g (historyOf h (format v S R D .volume) emptyHistory calls) v (after h (format v S R D .volume) calls)
+  pub image-of : ImageOf h g (historyOf h (format v sizes .volume) emptyHistory calls) v (after h (format v sizes .volume) calls)
   image-of = rw is-formatted image

@@ -12,7 +12,7 @@ use borrow.Author.Tests.{leb-false, eqb-true}
 use Rattle.memory.specs.Cases.{either, bool?}
 use Rattle.memory.specs.Lists.{length-write, getD-write-after}
 use Rattle.memory.specs.Numbers.{carry, div-lt}
-use Rattle.layout.specs.Geometry.{Geometry, geometry, geometryOf, allowed, blocks, kaBlocks, fullSets, recordCapacity, deletionCapacity, ramSize, entriesPerPage, workRam}
+use Rattle.layout.specs.Geometry.{Geometry, geometry, allowed, blocks, kaBlocks, fullSets, recordCapacity, deletionCapacity, ramSize, entriesPerPage, workRam, Sizes, unitOf}
 use Rattle.layout.specs.Flash.{Flash, Op, applyAll, erases, Planned, planOps, allFresh}
 use Rattle.layout.specs.Hash.{Family, fnvFamily}
 use Rattle.layout.specs.Items.{RA, KA, DA, entryBytes, deletionBytes, fills, Record, recordBytes}
@@ -84,20 +84,20 @@ pub refusal-keeps : (h : Family) (v : Volume) (c : Call) → Keeps v (call h v c
 unfolding call judged
 refusal-keeps h v c =
     keeps-either v (badState (v .state)) _ _ (refuse-keeps v 1)
-    (keeps-either v (tooShort (geometryOf (v .state)) (v .flash) (v .ram)) _ _ (refuse-keeps v 2) (answer-keeps h (geometryOf (v .state)) v c))
+    (keeps-either v (tooShort (geometry (v .state .sizes)) (v .flash) (v .ram)) _ _ (refuse-keeps v 2) (answer-keeps h (geometry (v .state .sizes)) v c))
 
-pub format-refusal-keeps : (v : Volume) (S R D : ℕ) → Keeps v (format v S R D)
+pub format-refusal-keeps : (v : Volume) (sizes : Sizes) → Keeps v (format v sizes)
 unfolding format formatted
-format-refusal-keeps v S R D =
-    keeps-either v (allowed S R D) _ _
-    (keeps-either v (tooShort (geometry S R D) (v .flash) (v .ram)) _ _ (refuse-keeps v 2) (λ i e. absurd (let z : true ≡ false = cc in true≢false z)))
+format-refusal-keeps v sizes =
+    keeps-either v (allowed sizes) _ _
+    (keeps-either v (tooShort (geometry sizes) (v .flash) (v .ram)) _ _ (refuse-keeps v 2) (λ i e. absurd (let z : true ≡ false = cc in true≢false z)))
     (refuse-keeps v 1)
 
 -- ---- a format is accepted exactly if neither 1 nor 2 applies to it
 
-pub can-accepted : (v : Volume) (S R D : ℕ) → allowed S R D ≡ true → tooShort (geometry S R D) (v .flash) (v .ram) ≡ false → format v S R D .outcome ≡ accepted
+pub can-accepted : (v : Volume) (sizes : Sizes) → allowed sizes ≡ true → tooShort (geometry sizes) (v .flash) (v .ram) ≡ false → format v sizes .outcome ≡ accepted
 unfolding format formatted
-can-accepted v S R D can long = rw (can, long)
+can-accepted v sizes can long = rw (can, long)
 
 abbrev isAccepted : Outcome → Bool
 isAccepted accepted = true
@@ -105,12 +105,12 @@ isAccepted (hit place bytes) = false
 isAccepted miss = false
 isAccepted (refused i) = false
 
-pub accepted-can : (v : Volume) (S R D : ℕ) → format v S R D .outcome ≡ accepted → (allowed S R D ≡ true) × (tooShort (geometry S R D) (v .flash) (v .ram) ≡ false)
+pub accepted-can : (v : Volume) (sizes : Sizes) → format v sizes .outcome ≡ accepted → (allowed sizes ≡ true) × (tooShort (geometry sizes) (v .flash) (v .ram) ≡ false)
 unfolding format
-accepted-can v S R D e =
-    let t : isAccepted (format v S R D .outcome) ≡ true = ap isAccepted e in
-    either (bool? (allowed S R D))
-    (λ a. either (bool? (tooShort (geometry S R D) (v .flash) (v .ram)))
+accepted-can v sizes e =
+    let t : isAccepted (format v sizes .outcome) ≡ true = ap isAccepted e in
+    either (bool? (allowed sizes))
+    (λ a. either (bool? (tooShort (geometry sizes) (v .flash) (v .ram)))
     (λ b. let z : false ≡ true = rw (a, b) at t in (a, b ∙ sym z))
     (λ b. (a, b)))
     (λ a. let z : false ≡ true = rw a at t in (a ∙ z, cc))
@@ -167,11 +167,11 @@ answer-most h g v (delete key) = delete-most h g v _ (search h g v key .stop)
 answer-most h g v (lookup key) =
     lookup-most h g v _ (search h g v key .opened) (search h g v key .stop) (search-opened (maybeIn g v (keyPositions h g key)) (tryAt g v key) (entriesPerPage (g .u)) (v .state .records))
 
-pub count-most : (h : Family) (v : Volume) (c : Call) → call h v c .count ≤ v .state .records / entriesPerPage (v .state .sectorSize / 16)
+pub count-most : (h : Family) (v : Volume) (c : Call) → call h v c .count ≤ v .state .records / entriesPerPage (unitOf (v .state .sizes))
 unfolding call judged
 count-most h v c =
     most-either _ (badState (v .state)) _ _ (refuse-most _ v 1)
-    (most-either _ (tooShort (geometryOf (v .state)) (v .flash) (v .ram)) _ _ (refuse-most _ v 2) (answer-most h (geometryOf (v .state)) v c))
+    (most-either _ (tooShort (geometry (v .state .sizes)) (v .flash) (v .ram)) _ _ (refuse-most _ v 2) (answer-most h (geometry (v .state .sizes)) v c))
 
 -- ---- "bytes past the volume and past the desk's 20S never change"
 
@@ -180,35 +180,35 @@ record Bounded (g : Geometry) (ram : List ℕ) (ops : List Op) (ram′ : List �
   inside : Inside (g .u) (blocks g) ops
   past : Past (ramSize g) ram ram′
 
-module _ (h : Family) (S R D : ℕ) (ok : Sound S R D) where
+module _ (h : Family) (sizes : Sizes) (ok : Sound sizes) where
   abbrev g : Geometry
-  g = geometry S R D
+  g = geometry sizes
 
   abbrev u : ℕ
-  u = S / 16
+  u = unitOf sizes
 
-  pu : 0 < S / 16
-  pu = units.pu S R D ok
+  pu : 0 < unitOf sizes
+  pu = units.pu sizes ok
 
   deletion-bounded : (d j : ℕ) (ram : List ℕ) (C : Flash) → d < deletionCapacity g → Bounded g ram (planOps u (deletionPlan g d j ram) C) (deletionRam g d j ram)
   unfolding deletionRam
   deletion-bounded d j ram C l = record {
     inside = rw (deletion-ops g d j ram C)
-        (inside-item u (blocks g) (DA g) D d (deletionBytes j) ram (omega arith) (div-lt d (16 * u) (D * 16) (omega (arith, pu)) (omega arith)));
+        (inside-item u (blocks g) (DA g) (sizes .daBlocks) d (deletionBytes j) ram (omega arith) (div-lt d (16 * u) ((sizes .daBlocks) * 16) (omega (arith, pu)) (omega arith)));
     past = past-item u (DA g) d (ramSize g) (deletionBytes j) ram (omega (arith, pu)) (omega arith) (length-deletion j) (omega arith);
   }
 
   ka-room : (n : ℕ) → n < recordCapacity g → n / (8 * u) < kaBlocks g * 16
   ka-room n l =
-      let half : R ≤ (R + 1) / 2 * 2 = omega arith in
-      div-lt n (8 * u) ((R + 1) / 2 * 16) (omega (arith, pu)) (omega (arith, mul-le-mul-right u half))
+      let half : (sizes .raBlocks) ≤ ((sizes .raBlocks) + 1) / 2 * 2 = omega arith in
+      div-lt n (8 * u) (((sizes .raBlocks) + 1) / 2 * 16) (omega (arith, pu)) (omega (arith, mul-le-mul-right u half))
 
   -- the places for full sets suffice for one more record's filter
-  sets-room : (n : ℕ) → n < recordCapacity g → n % (8 * u) + 1 ≡ 8 * u → (n / (8 * u) + 1) / 8 / 16 / (4 * u) ≤ R / (64 * u)
+  sets-room : (n : ℕ) → n < recordCapacity g → n % (8 * u) + 1 ≡ 8 * u → (n / (8 * u) + 1) / 8 / 16 / (4 * u) ≤ (sizes .raBlocks) / (64 * u)
   sets-room n l full =
       let next : (n + 1) / (8 * u) ≡ n / (8 * u) + 1
       = either (carry n (8 * u) (omega (arith, pu))) (λ c. c .1) (λ c. absurd (c .0 full)) in
-      rw (← next) (places-suffice u R (n + 1) pu (omega arith))
+      rw (← next) (places-suffice u (sizes .raBlocks) (n + 1) pu (omega arith))
 
   module _ (n key : ℕ) (bytes ram : List ℕ) (C : Flash) (room : n < recordCapacity g) (size : length bytes ≡ 16) where
     inside-if : (b : Bool) (ops : List Op) → (b ≡ true → Inside u (blocks g) ops) → Inside u (blocks g) (cond b ops [])
@@ -226,11 +226,11 @@ module _ (h : Family) (S R D : ℕ) (ok : Sound S R D) where
 
     insertion-bounded : Bounded g ram (planOps u (insertionPlan h g n key bytes ram) C) (insertionRam h g n key bytes ram)
     insertion-bounded = record {
-      inside = rw (insertion-ops h g n key bytes (ok .e) (units.pow S R D ok) size ram C)
-          (inside-append u (blocks g) _ _ (inside-item u (blocks g) (RA g) R n bytes ram (omega arith) (div-lt n (4 * u) (R * 16) (omega (arith, pu)) (omega arith)))
+      inside = rw (insertion-ops h g n key bytes (ok .e) (units.pow sizes ok) size ram C)
+          (inside-append u (blocks g) _ _ (inside-item u (blocks g) (RA g) (sizes .raBlocks) n bytes ram (omega arith) (div-lt n (4 * u) ((sizes .raBlocks) * 16) (omega (arith, pu)) (omega arith)))
           (inside-append u (blocks g) (entryOps g n key bytes ram) _ (inside-item u (blocks g) (KA g) (kaBlocks g) n (entryBytes key n) (recordRam g n bytes ram) (omega arith) (ka-room n room))
           (inside-if (fills (KA g) n) _ (λ a.
-          inside-filter u (ok .e) (units.pow S R D ok) (blocks g) (keyIndex g) (fullSets g) (omega arith) (keyFilters g n) (entered g n key bytes ram C) _ (sets-room n room (eqb-true (n % (8 * u) + 1) (8 * u) a))))));
+          inside-filter u (ok .e) (units.pow sizes ok) (blocks g) (keyIndex g) (fullSets g) (omega arith) (keyFilters g n) (entered g n key bytes ram C) _ (sets-room n room (eqb-true (n % (8 * u) + 1) (8 * u) a))))));
       past = rw (insertion-ram h g n key bytes pu size ram)
           (past-if (fills (KA g) n) _ _
           (past-then (ramSize g) ram _ _ entry-past (past-filter u pu (keyIndex g) (keyFilters g n) (ramSize g) (newFilter h g n key (recordRam g n bytes ram)) _ (omega arith))) entry-past);
@@ -315,7 +315,7 @@ module _ (h : Family) (S R D : ℕ) (ok : Sound S R D) where
     answer-kept (delete key) = delete-kept (search h g v key .stop)
     answer-kept (lookup key) = lookup-kept (search h g v key .opened) (search h g v key .stop)
 
-    format-kept : Kept v (formatted v S R D)
+    format-kept : Kept v (formatted v sizes)
     unfolding formatted
     format-kept =
         let l : length (replicate {A = ℕ} (5 * (64 * u)) 0) ≡ 5 * (64 * u) = length-replicate {A = ℕ} (5 * (64 * u)) 0 in
@@ -330,25 +330,25 @@ module _ (h : Family) (S R D : ℕ) (ok : Sound S R D) where
         }
 
 -- a state that is not bad has allowed sizes
-state-allowed : (v : Volume) → badState (v .state) ≡ false → allowed (v .state .sectorSize) (v .state .raBlocks) (v .state .daBlocks) ≡ true
+state-allowed : (v : Volume) → badState (v .state) ≡ false → allowed (v .state .sizes) ≡ true
 unfolding badState
 state-allowed v good =
-    either (bool? (allowed (v .state .sectorSize) (v .state .raBlocks) (v .state .daBlocks))) (λ a. a) (λ a. let z : true ≡ false = rw a at good in absurd (true≢false z))
+    either (bool? (allowed (v .state .sizes))) (λ a. a) (λ a. let z : true ≡ false = rw a at good in absurd (true≢false z))
 
-pub beyond-kept : (h : Family) (v : Volume) (c : Call) → Beyond (geometryOf (v .state)) (v .flash) (call h v c .volume .flash) (v .ram) (call h v c .volume .ram)
+pub beyond-kept : (h : Family) (v : Volume) (c : Call) → Beyond (geometry (v .state .sizes)) (v .flash) (call h v c .volume .flash) (v .ram) (call h v c .volume .ram)
 unfolding call judged
 beyond-kept h v c =
     either (bool? (badState (v .state)))
-    (λ a. rw a (beyond-same (geometryOf (v .state)) (v .flash) (v .ram)))
-    (λ a. either (bool? (tooShort (geometryOf (v .state)) (v .flash) (v .ram)))
-    (λ b. rw (a, b) (beyond-same (geometryOf (v .state)) (v .flash) (v .ram)))
-    (λ b. rw (a, b) (answer-kept h (v .state .sectorSize) (v .state .raBlocks) (v .state .daBlocks) (sound _ _ _ (state-allowed v a)) v c)))
+    (λ a. rw a (beyond-same (geometry (v .state .sizes)) (v .flash) (v .ram)))
+    (λ a. either (bool? (tooShort (geometry (v .state .sizes)) (v .flash) (v .ram)))
+    (λ b. rw (a, b) (beyond-same (geometry (v .state .sizes)) (v .flash) (v .ram)))
+    (λ b. rw (a, b) (answer-kept h (v .state .sizes) (sound _ (state-allowed v a)) v c)))
 
-pub format-beyond-kept : (v : Volume) (S R D : ℕ) → Beyond (geometry S R D) (v .flash) (format v S R D .volume .flash) (v .ram) (format v S R D .volume .ram)
+pub format-beyond-kept : (v : Volume) (sizes : Sizes) → Beyond (geometry sizes) (v .flash) (format v sizes .volume .flash) (v .ram) (format v sizes .volume .ram)
 unfolding format
-format-beyond-kept v S R D =
-    either (bool? (allowed S R D))
-    (λ a. either (bool? (tooShort (geometry S R D) (v .flash) (v .ram)))
-    (λ b. rw (a, b) (beyond-same (geometry S R D) (v .flash) (v .ram)))
-    (λ b. rw (a, b) (format-kept fnvFamily S R D (sound S R D a) v)))
-    (λ a. rw a (beyond-same (geometry S R D) (v .flash) (v .ram)))
+format-beyond-kept v sizes =
+    either (bool? (allowed sizes))
+    (λ a. either (bool? (tooShort (geometry sizes) (v .flash) (v .ram)))
+    (λ b. rw (a, b) (beyond-same (geometry sizes) (v .flash) (v .ram)))
+    (λ b. rw (a, b) (format-kept fnvFamily sizes (sound sizes a) v)))
+    (λ a. rw a (beyond-same (geometry sizes) (v .flash) (v .ram)))

@@ -7,7 +7,7 @@ use mathlib.Core.List.{List, [], _∷_, _++_}
 use Prim.Native.Nat.{ℕ, _+_, _/_, _^_, _≤_, _<_}
 use lib.ListN.{length, getD}
 use lib.Dec.{eqb}
-use Rattle.layout.specs.Geometry.{State, Geometry, geometry, dataSize, spareSize, ramSize, entriesPerPage}
+use Rattle.layout.specs.Geometry.{State, Geometry, geometry, dataSize, spareSize, ramSize, entriesPerPage, Sizes, unitOf, stateOf}
 use Rattle.layout.specs.Flash.{Op, program, erase}
 use Rattle.layout.specs.Hash.{Family}
 use Rattle.layout.specs.Calls.{Volume, Call, insert, update, delete, lookup, Outcome, accepted, hit, miss, refused, Result, call}
@@ -77,27 +77,24 @@ HandedOn (hit place bytes) v v′ = v′ ≡ v
 HandedOn miss v v′ = v′ ≡ v
 HandedOn (refused i) v v′ = v′ ≡ v
 
-abbrev pub stateOf : ℕ → ℕ → ℕ → ℕ → ℕ → State
-stateOf S R D n d = record { sectorSize = S; raBlocks = R; daBlocks = D; records = n; deletions = d }
-
 -- the result r of a call on the volume v, and the map's step
-pub record Agrees (S R D : ℕ) (v : Volume) (r : Result) (s : Step) : Type 0 where
+pub record Agrees (sizes : Sizes) (v : Volume) (r : Result) (s : Step) : Type 0 where
   pub says : shown (r .outcome) ≡ s .says
   -- "the state, which is the format's S, R and D with the map's n and d"
-  pub state-is : r .volume .state ≡ stateOf S R D (s .next .n) (s .next .d)
+  pub state-is : r .volume .state ≡ stateOf sizes (s .next .n) (s .next .d)
   -- n - d is the number of live levels: the map's list has no key twice
   pub live : r .volume .state .records ≡ r .volume .state .deletions + length (s .next .levels)
   pub once : Nodup (s .next .levels)
   pub possible : Possible (r .outcome)
   pub handed-on : HandedOn (r .outcome) v (r .volume)
   -- "It is at most floor(n / (S/2))"
-  pub count-le : r .count ≤ v .state .records / entriesPerPage (S / 16)
+  pub count-le : r .count ≤ v .state .records / entriesPerPage (unitOf sizes)
 
 -- of each call of a list, from the volume v and the map m on
-abbrev pub EachAgrees : Family → ℕ → ℕ → ℕ → Volume → Map → List Call → Type 0
-EachAgrees h S R D v m [] = Unit {0}
-EachAgrees h S R D v m (c ∷ cs) =
-    Agrees S R D v (call h v c) (mapOf (geometry S R D) m c) × EachAgrees h S R D (call h v c .volume) (mapOf (geometry S R D) m c .next) cs
+abbrev pub EachAgrees : Family → Sizes → Volume → Map → List Call → Type 0
+EachAgrees h sizes v m [] = Unit {0}
+EachAgrees h sizes v m (c ∷ cs) =
+    Agrees sizes v (call h v c) (mapOf (geometry sizes) m c) × EachAgrees h sizes (call h v c .volume) (mapOf (geometry sizes) m c .next) cs
 
 -- ---- demand 2
 

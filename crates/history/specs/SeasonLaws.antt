@@ -13,7 +13,7 @@ use borrow.Author.Tests.{ltb-false}
 use Rattle.memory.specs.Booleans.{or-eq-false-iff}
 use Rattle.memory.specs.Cases.{either, bool?}
 use Rattle.memory.specs.Lists.{write, length-write, getD-write-in, getD-write-after}
-use Rattle.layout.specs.Geometry.{Geometry, geometry, allowed, kaBlocks, blocks, fullSets, recordCapacity, deletionCapacity, dataSize, spareSize, ramSize}
+use Rattle.layout.specs.Geometry.{Geometry, geometry, allowed, kaBlocks, blocks, fullSets, recordCapacity, deletionCapacity, dataSize, spareSize, ramSize, Sizes, unitOf}
 use Rattle.layout.specs.Flash.{Flash, Op, applyAll, erases}
 use Rattle.layout.specs.Hash.{Family}
 use Rattle.layout.specs.Items.{RA, KA, DA}
@@ -74,41 +74,41 @@ module _ (capacity room : ℕ) where
       go none q = rw q
       go (some j) q = rw q
 
-module _ (h : Family) (S R D : ℕ) (ok : Sound S R D) (can : allowed S R D ≡ true) where
+module _ (h : Family) (sizes : Sizes) (ok : Sound sizes) (can : allowed sizes ≡ true) where
   abbrev g : Geometry
-  g = geometry S R D
+  g = geometry sizes
 
-  pu : 0 < S / 16
-  pu = units.pu S R D ok
+  pu : 0 < unitOf sizes
+  pu = units.pu sizes ok
 
   -- ---- the format: the image of the empty history, whatever was handed in
 
   module _ (v : Volume) (long : tooShort g (v .flash) (v .ram) ≡ false) where
-    sizes : (dataSize g ≤ length (v .flash .main)) × (spareSize g ≤ length (v .flash .spare)) × (ramSize g ≤ length (v .ram))
+    enough : (dataSize g ≤ length (v .flash .main)) × (spareSize g ≤ length (v .flash .spare)) × (ramSize g ≤ length (v .ram))
     unfolding tooShort
-    sizes =
+    enough =
         let a = or-eq-false-iff (ltb (length (v .flash .main)) (dataSize g)) _ .0 long in
         let b = or-eq-false-iff (ltb (length (v .flash .spare)) (spareSize g)) _ .0 (a .1) in
         (ltb-false _ _ (a .0), ltb-false _ _ (b .0), ltb-false _ _ (b .1))
 
-    pub format-is : format v S R D ≡ formatted v S R D
+    pub format-is : format v sizes ≡ formatted v sizes
     unfolding format
     format-is = rw (can, long)
 
     abbrev C : Flash
-    C = applyAll (S / 16) (erases 0 (blocks g)) (v .flash)
+    C = applyAll (unitOf sizes) (erases 0 (blocks g)) (v .flash)
 
     abbrev ram : List ℕ
     ram = write (v .ram) 0 (replicate (ramSize g) 0)
 
     main-erased : (x : ℕ) → x < dataSize g → getD (C .main) x 0 ≡ 255
-    main-erased x l = erases-main-in (S / 16) 0 (blocks g) (v .flash) x (omega (arith, sizes .0)) (omega arith) (omega arith)
+    main-erased x l = erases-main-in (unitOf sizes) 0 (blocks g) (v .flash) x (omega (arith, enough .0)) (omega arith) (omega arith)
 
     spare-erased : (x : ℕ) → x < spareSize g → getD (C .spare) x 0 ≡ 255
-    spare-erased x l = erases-spare-in (S / 16) 0 (blocks g) (v .flash) x (omega (arith, sizes .1)) (omega arith) (omega arith)
+    spare-erased x l = erases-spare-in (unitOf sizes) 0 (blocks g) (v .flash) x (omega (arith, enough .1)) (omega arith) (omega arith)
 
     pub start-spare : (spareSize g ≤ length (C .spare)) × ((x : ℕ) → x < spareSize g → getD (C .spare) x 0 ≡ 255)
-    start-spare = (rw (apply-spare-length (S / 16) (erases 0 (blocks g)) (v .flash)) (sizes .1), spare-erased)
+    start-spare = (rw (apply-spare-length (unitOf sizes) (erases 0 (blocks g)) (v .flash)) (enough .1), spare-erased)
 
     zeros : length (replicate {A = ℕ} (ramSize g) 0) ≡ ramSize g
     zeros = length-replicate {A = ℕ} (ramSize g) 0
@@ -116,29 +116,29 @@ module _ (h : Family) (S R D : ℕ) (ok : Sound S R D) (can : allowed S R D ≡ 
     ram-zero : (x : ℕ) → x < ramSize g → getD ram x 0 ≡ 0
     ram-zero x l =
         let s : x - 0 ≡ x = omega arith in
-        getD-write-in (v .ram) 0 (replicate (ramSize g) 0) x 0 zero-le (omega (arith, zeros)) (omega (arith, sizes .2))
+        getD-write-in (v .ram) 0 (replicate (ramSize g) 0) x 0 zero-le (omega (arith, zeros)) (omega (arith, enough .2))
         ∙ rw s (getD-replicate (ramSize g) x 0 0 l)
 
     -- no record gives no filter
-    no-filters : 0 / (8 * (S / 16)) ≡ 0
-    no-filters = zero-div (8 * (S / 16))
+    no-filters : 0 / (8 * (unitOf sizes)) ≡ 0
+    no-filters = zero-div (8 * (unitOf sizes))
 
-    start-parts : Parts h g (ok .e) (units.pow S R D ok) emptyHistory 0 0 0 0 C ram
+    start-parts : Parts h g (ok .e) (units.pow sizes ok) emptyHistory 0 0 0 0 C ram
     start-parts = record {
-      ra = area-start (S / 16) pu (RA g) R (omega arith) (omega (arith, pu)) (omega arith) (raItem emptyHistory) (C .main) (C .spare) ram
+      ra = area-start (unitOf sizes) pu (RA g) (sizes .raBlocks) (omega arith) (omega (arith, pu)) (omega arith) (raItem emptyHistory) (C .main) (C .spare) ram
           (λ x l m. main-erased x (omega arith)) (λ x l m. spare-erased x (omega arith)) (λ x l m. ram-zero x (omega arith));
-      ka = area-start (S / 16) pu (KA g) (kaBlocks g) (omega arith) (omega (arith, pu)) (omega arith) (kaItem emptyHistory) (C .main) (C .spare) ram
+      ka = area-start (unitOf sizes) pu (KA g) (kaBlocks g) (omega arith) (omega (arith, pu)) (omega arith) (kaItem emptyHistory) (C .main) (C .spare) ram
           (λ x l m. main-erased x (omega arith)) (λ x l m. spare-erased x (omega arith)) (λ x l m. ram-zero x (omega arith));
-      da = area-start (S / 16) pu (DA g) D (omega arith) (omega (arith, pu)) (omega arith) (daItem emptyHistory) (C .main) (C .spare) ram
+      da = area-start (unitOf sizes) pu (DA g) (sizes .daBlocks) (omega arith) (omega (arith, pu)) (omega arith) (daItem emptyHistory) (C .main) (C .spare) ram
           (λ x l m. main-erased x (omega arith)) (λ x l m. spare-erased x (omega arith)) (λ x l m. ram-zero x (omega arith));
-      filters = index-start (S / 16) (ok .e) (units.pow S R D ok) (keyIndex g) (fullSets g) (keyFilter h g emptyHistory) (C .main) (C .spare) ram
+      filters = index-start (unitOf sizes) (ok .e) (units.pow sizes ok) (keyIndex g) (fullSets g) (keyFilter h g emptyHistory) (C .main) (C .spare) ram
           (λ x l m. main-erased x (omega arith)) (λ x l m. spare-erased x (omega arith)) (λ x l m. ram-zero x (omega arith));
-      main-fits = rw (apply-main-length (S / 16) (erases 0 (blocks g)) (v .flash)) (sizes .0);
-      spare-fits = rw (apply-spare-length (S / 16) (erases 0 (blocks g)) (v .flash)) (sizes .1);
-      ram-fits = rw (length-write (v .ram) 0 (replicate (ramSize g) 0)) (sizes .2);
+      main-fits = rw (apply-main-length (unitOf sizes) (erases 0 (blocks g)) (v .flash)) (enough .0);
+      spare-fits = rw (apply-spare-length (unitOf sizes) (erases 0 (blocks g)) (v .flash)) (enough .1);
+      ram-fits = rw (length-write (v .ram) 0 (replicate (ramSize g) 0)) (enough .2);
     }
 
-    pub start-holds : Holds h S R D ok emptyHistory C ram
+    pub start-holds : Holds h sizes ok emptyHistory C ram
     start-holds = record {
       parts = rw no-filters start-parts;
       work = λ i l. ram-zero _ (omega arith);
@@ -151,23 +151,23 @@ module _ (h : Family) (S R D : ℕ) (ok : Sound S R D) (can : allowed S R D ≡ 
 
     pub start-beyond : Beyond g (v .flash) C (v .ram) ram
     start-beyond = record {
-      main = λ x l. erases-main-out (S / 16) 0 (blocks g) (v .flash) x (inr (omega arith));
-      spare = λ x l. erases-spare-out (S / 16) 0 (blocks g) (v .flash) x (inr (omega arith));
+      main = λ x l. erases-main-out (unitOf sizes) 0 (blocks g) (v .flash) x (inr (omega arith));
+      spare = λ x l. erases-spare-out (unitOf sizes) 0 (blocks g) (v .flash) x (inr (omega arith));
       ram = λ x l. getD-write-after (v .ram) 0 (replicate (ramSize g) 0) x 0 (omega (arith, zeros));
-      main-length = apply-main-length (S / 16) (erases 0 (blocks g)) (v .flash);
-      spare-length = apply-spare-length (S / 16) (erases 0 (blocks g)) (v .flash);
+      main-length = apply-main-length (unitOf sizes) (erases 0 (blocks g)) (v .flash);
+      spare-length = apply-spare-length (unitOf sizes) (erases 0 (blocks g)) (v .flash);
       ram-length = length-write (v .ram) 0 (replicate (ramSize g) 0);
     }
 
   -- ---- the calls
 
   pub record Ran (v : Volume) (H : History) (m : Map) (cs : List Call) : Type 0 where
-    pub agrees : EachAgrees h S R D v m cs
-    pub flash-is : applyAll (S / 16) (opsOf h v cs) (v .flash) ≡ after h v cs .flash
-    pub ops-allowed : AllAllowed (S / 16) (opsOf h v cs) (v .flash)
+    pub agrees : EachAgrees h sizes v m cs
+    pub flash-is : applyAll (unitOf sizes) (opsOf h v cs) (v .flash) ≡ after h v cs .flash
+    pub ops-allowed : AllAllowed (unitOf sizes) (opsOf h v cs) (v .flash)
     pub inside : Below (spareSize g) (opsOf h v cs)
-    pub volume-is : after h v cs ≡ volumeOf h S R D ok (historyOf h v H cs) (after h v cs .flash) (after h v cs .ram)
-    pub holds : Holds h S R D ok (historyOf h v H cs) (after h v cs .flash) (after h v cs .ram)
+    pub volume-is : after h v cs ≡ volumeOf h sizes ok (historyOf h v H cs) (after h v cs .flash) (after h v cs .ram)
+    pub holds : Holds h sizes ok (historyOf h v H cs) (after h v cs .flash) (after h v cs .ram)
     pub beyond : Beyond g (v .flash) (after h v cs .flash) (v .ram) (after h v cs .ram)
     pub room : (k j : ℕ) → findLive (historyOf h v H cs) k ≡ some j → length (historyOf h v H cs .deleted) < length (historyOf h v H cs .records)
 
@@ -180,8 +180,8 @@ module _ (h : Family) (S R D : ℕ) (ok : Sound S R D) (can : allowed S R D ≡ 
   -- one call and the map's step
   call-agrees : (H : History) (C : Flash) (ram : List ℕ) (m : Map) (c : Call) → Live H m → Live (stepHistory (recordCapacity g) (deletionCapacity g) H c .next) (mapOf g m c .next)
       → stepHistory (recordCapacity g) (deletionCapacity g) H c .says ≡ mapOf g m c .says
-      → Done h S R D ok can H C ram (call h (volumeOf h S R D ok H C ram) c) (stepHistory (recordCapacity g) (deletionCapacity g) H c)
-      → Agrees S R D (volumeOf h S R D ok H C ram) (call h (volumeOf h S R D ok H C ram) c) (mapOf g m c)
+      → Done h sizes ok can H C ram (call h (volumeOf h sizes ok H C ram) c) (stepHistory (recordCapacity g) (deletionCapacity g) H c)
+      → Agrees sizes (volumeOf h sizes ok H C ram) (call h (volumeOf h sizes ok H C ram) c) (mapOf g m c)
   call-agrees H C ram m c L L′ same X = record {
     says = X .says ∙ same;
     state-is = ap (λ (w : Volume). w .state) (X .volume-is) ∙ rw (L′ .n-is, L′ .d-is);
@@ -197,18 +197,18 @@ module _ (h : Family) (S R D : ℕ) (ok : Sound S R D) (can : allowed S R D ≡ 
 
   -- a call, and the calls after it
   joined : (H : History) (C : Flash) (ram : List ℕ) (m : Map) (c : Call) (cs : List Call)
-      → Agrees S R D (volumeOf h S R D ok H C ram) (call h (volumeOf h S R D ok H C ram) c) (mapOf g m c)
-      → Done h S R D ok can H C ram (call h (volumeOf h S R D ok H C ram) c) (stepHistory (recordCapacity g) (deletionCapacity g) H c)
-      → Ran (call h (volumeOf h S R D ok H C ram) c .volume) (growIf (call h (volumeOf h S R D ok H C ram) c .outcome) H c) (mapOf g m c .next) cs
-      → Ran (volumeOf h S R D ok H C ram) H m (c ∷ cs)
+      → Agrees sizes (volumeOf h sizes ok H C ram) (call h (volumeOf h sizes ok H C ram) c) (mapOf g m c)
+      → Done h sizes ok can H C ram (call h (volumeOf h sizes ok H C ram) c) (stepHistory (recordCapacity g) (deletionCapacity g) H c)
+      → Ran (call h (volumeOf h sizes ok H C ram) c .volume) (growIf (call h (volumeOf h sizes ok H C ram) c .outcome) H c) (mapOf g m c .next) cs
+      → Ran (volumeOf h sizes ok H C ram) H m (c ∷ cs)
   joined H C ram m c cs A X T =
-      let v : Volume = volumeOf h S R D ok H C ram in
-      let w : Volume = call h (volumeOf h S R D ok H C ram) c .volume in
-      let one : List Op = call h (volumeOf h S R D ok H C ram) c .ops in
+      let v : Volume = volumeOf h sizes ok H C ram in
+      let w : Volume = call h (volumeOf h sizes ok H C ram) c .volume in
+      let one : List Op = call h (volumeOf h sizes ok H C ram) c .ops in
       record {
         agrees = (A, T .agrees);
-        flash-is = apply-append (S / 16) one (opsOf h w cs) C ∙ rw (X .flash-is) (T .flash-is);
-        ops-allowed = allowed-append (S / 16) one (opsOf h w cs) C (X .ops-allowed) (rw (X .flash-is) (T .ops-allowed));
+        flash-is = apply-append (unitOf sizes) one (opsOf h w cs) C ∙ rw (X .flash-is) (T .flash-is);
+        ops-allowed = allowed-append (unitOf sizes) one (opsOf h w cs) C (X .ops-allowed) (rw (X .flash-is) (T .ops-allowed));
         inside = below-append (spareSize g) one (opsOf h w cs) (X .inside) (T .inside);
         volume-is = T .volume-is;
         holds = T .holds;
@@ -216,7 +216,7 @@ module _ (h : Family) (S R D : ℕ) (ok : Sound S R D) (can : allowed S R D ≡ 
         room = T .room;
       }
 
-  pub run : (H : History) (C : Flash) (ram : List ℕ) (m : Map) (cs : List Call) → KeyWords cs → Holds h S R D ok H C ram → Live H m → Ran (volumeOf h S R D ok H C ram) H m cs
+  pub run : (H : History) (C : Flash) (ram : List ℕ) (m : Map) (cs : List Call) → KeyWords cs → Holds h sizes ok H C ram → Live H m → Ran (volumeOf h sizes ok H C ram) H m cs
   run H C ram m [] w I L = record {
     agrees = tt;
     flash-is = refl;
@@ -228,11 +228,11 @@ module _ (h : Family) (S R D : ℕ) (ok : Sound S R D) (can : allowed S R D ≡ 
     room = less H m L;
   }
   run H C ram m (c ∷ cs) w I L =
-      let X : Done h S R D ok can H C ram (call h (volumeOf h S R D ok H C ram) c) (stepHistory (recordCapacity g) (deletionCapacity g) H c)
-      = call-done h S R D ok can H C ram I c (w .0) (less H m L) in
+      let X : Done h sizes ok can H C ram (call h (volumeOf h sizes ok H C ram) c) (stepHistory (recordCapacity g) (deletionCapacity g) H c)
+      = call-done h sizes ok can H C ram I c (w .0) (less H m L) in
       let same = step-same (recordCapacity g) (deletionCapacity g) H m c L in
-      let grown : growIf (call h (volumeOf h S R D ok H C ram) c .outcome) H c ≡ stepHistory (recordCapacity g) (deletionCapacity g) H c .next
-      = grow-shown (call h (volumeOf h S R D ok H C ram) c .outcome) H c ∙ ap (λ (o : Reply). growBy o H c) (X .says) ∙ grow-step (recordCapacity g) (deletionCapacity g) H c in
+      let grown : growIf (call h (volumeOf h sizes ok H C ram) c .outcome) H c ≡ stepHistory (recordCapacity g) (deletionCapacity g) H c .next
+      = grow-shown (call h (volumeOf h sizes ok H C ram) c .outcome) H c ∙ ap (λ (o : Reply). growBy o H c) (X .says) ∙ grow-step (recordCapacity g) (deletionCapacity g) H c in
       joined H C ram m c cs (call-agrees H C ram m c L (same .1) (same .0) X) X
-      (moved (call h (volumeOf h S R D ok H C ram) c .volume) _ _ (stepHistory (recordCapacity g) (deletionCapacity g) H c .next) (mapOf g m c .next) cs (X .volume-is) grown
+      (moved (call h (volumeOf h sizes ok H C ram) c .volume) _ _ (stepHistory (recordCapacity g) (deletionCapacity g) H c .next) (mapOf g m c .next) cs (X .volume-is) grown
       (run (stepHistory (recordCapacity g) (deletionCapacity g) H c .next) _ _ (mapOf g m c .next) cs (w .1) (X .holds) (same .1)))

@@ -12,7 +12,7 @@ use lib.Dec.{leb}
 use borrow.Author.Tests.{leb-false}
 use Rattle.memory.specs.Cases.{either, bool?, lt?}
 use Rattle.memory.specs.Lists.{length-write, getD-write-before, getD-write-in, getD-write-after}
-use Rattle.layout.specs.Geometry.{Geometry, geometry, allowed, page, entriesPerPage, kaBlocks, fullSets, recordCapacity, deletionCapacity, spareSize, workRam}
+use Rattle.layout.specs.Geometry.{Geometry, geometry, allowed, page, entriesPerPage, kaBlocks, fullSets, recordCapacity, deletionCapacity, spareSize, workRam, Sizes, unitOf}
 use Rattle.layout.specs.Flash.{Flash, Op, applyAll, Planned, planOps, allFresh}
 use Rattle.layout.specs.Hash.{Family}
 use Rattle.layout.specs.Items.{RA, KA, DA, zeroPage, Record, recordBytes, recordOf}
@@ -33,67 +33,67 @@ use Rattle.history.specs.Volumes.{Holds, volumeOf}
 use Rattle.laws.specs.Sound.{Sound}
 use Rattle.laws.specs.Sound as units
 
-module _ (h : Family) (S R D : ℕ) (ok : Sound S R D) (can : allowed S R D ≡ true) where
+module _ (h : Family) (sizes : Sizes) (ok : Sound sizes) (can : allowed sizes ≡ true) where
   abbrev g : Geometry
-  g = geometry S R D
+  g = geometry sizes
 
   pub record Done (H : History) (C : Flash) (ram : List ℕ) (r : Result) (s : HistoryStep) : Type 0 where
     pub says : shown (r .outcome) ≡ s .says
     pub possible : Possible (r .outcome)
-    pub handed-on : HandedOn (r .outcome) (volumeOf h S R D ok H C ram) (r .volume)
-    pub volume-is : r .volume ≡ volumeOf h S R D ok (s .next) (r .volume .flash) (r .volume .ram)
-    pub holds : Holds h S R D ok (s .next) (r .volume .flash) (r .volume .ram)
-    pub flash-is : applyAll (S / 16) (r .ops) C ≡ r .volume .flash
-    pub ops-allowed : AllAllowed (S / 16) (r .ops) C
+    pub handed-on : HandedOn (r .outcome) (volumeOf h sizes ok H C ram) (r .volume)
+    pub volume-is : r .volume ≡ volumeOf h sizes ok (s .next) (r .volume .flash) (r .volume .ram)
+    pub holds : Holds h sizes ok (s .next) (r .volume .flash) (r .volume .ram)
+    pub flash-is : applyAll (unitOf sizes) (r .ops) C ≡ r .volume .flash
+    pub ops-allowed : AllAllowed (unitOf sizes) (r .ops) C
     pub inside : Below (spareSize g) (r .ops)
     pub beyond : Beyond g C (r .volume .flash) ram (r .volume .ram)
-    pub count-le : r .count ≤ length (H .records) / entriesPerPage (S / 16)
+    pub count-le : r .count ≤ length (H .records) / entriesPerPage (unitOf sizes)
 
-  pub pu : 0 < S / 16
-  pu = units.pu S R D ok
+  pub pu : 0 < unitOf sizes
+  pu = units.pu sizes ok
 
   -- ---- the work page zeroed
 
-  module _ (H : History) (nr nk d N : ℕ) (C : Flash) (ram : List ℕ) (P : Parts h g (ok .e) (units.pow S R D ok) H nr nk d N C ram) where
+  module _ (H : History) (nr nk d N : ℕ) (C : Flash) (ram : List ℕ) (P : Parts h g (ok .e) (units.pow sizes ok) H nr nk d N C ram) where
     abbrev ram′ : List ℕ
-    ram′ = zeroPage (S / 16) (workRam (S / 16)) ram
+    ram′ = zeroPage (unitOf sizes) (workRam (unitOf sizes)) ram
 
-    zeros : length (replicate {A = ℕ} (page (S / 16)) 0) ≡ page (S / 16)
-    zeros = length-replicate {A = ℕ} (page (S / 16)) 0
+    zeros : length (replicate {A = ℕ} (page (unitOf sizes)) 0) ≡ page (unitOf sizes)
+    zeros = length-replicate {A = ℕ} (page (unitOf sizes)) 0
 
-    work-frame : Frame (S / 16) 0 0 (workRam (S / 16)) C C ram ram′
+    work-frame : Frame (unitOf sizes) 0 0 (workRam (unitOf sizes)) C C ram ram′
     work-frame = record {
       main = λ x o. refl;
       spare = λ x o. refl;
-      ram = λ x o. either o (λ a. getD-write-before ram (workRam (S / 16)) _ x 0 a) (λ a. getD-write-after ram (workRam (S / 16)) _ x 0 (omega (arith, zeros)));
+      ram = λ x o. either o (λ a. getD-write-before ram (workRam (unitOf sizes)) _ x 0 a) (λ a. getD-write-after ram (workRam (unitOf sizes)) _ x 0 (omega (arith, zeros)));
       main-length = refl;
       spare-length = refl;
-      ram-length = length-write ram (workRam (S / 16)) _;
+      ram-length = length-write ram (workRam (unitOf sizes)) _;
     }
 
-    pub zeroed : Parts h g (ok .e) (units.pow S R D ok) H nr nk d N C ram′
+    pub zeroed : Parts h g (ok .e) (units.pow sizes ok) H nr nk d N C ram′
     zeroed = record {
-      ra = frame-area (S / 16) 0 0 (workRam (S / 16)) C C ram ram′ work-frame (RA g) R (raItem H) nr pu (omega arith) (omega (arith, pu)) (omega arith) (inr (omega arith)) (inl (omega arith)) (P .ra);
-      ka = frame-area (S / 16) 0 0 (workRam (S / 16)) C C ram ram′ work-frame (KA g) (kaBlocks g) (kaItem H) nk pu (omega arith) (omega (arith, pu)) (omega arith) (inr (omega arith)) (inl (omega arith)) (P .ka);
-      da = frame-area (S / 16) 0 0 (workRam (S / 16)) C C ram ram′ work-frame (DA g) D (daItem H) d pu (omega arith) (omega (arith, pu)) (omega arith) (inr (omega arith)) (inl (omega arith)) (P .da);
-      filters = frame-index (S / 16) 0 0 (workRam (S / 16)) C C ram ram′ work-frame (ok .e) (units.pow S R D ok) (keyIndex g) (fullSets g) (keyFilter h g H) N (inr (omega arith)) (inl (omega arith)) (P .filters);
+      ra = frame-area (unitOf sizes) 0 0 (workRam (unitOf sizes)) C C ram ram′ work-frame (RA g) (sizes .raBlocks) (raItem H) nr pu (omega arith) (omega (arith, pu)) (omega arith) (inr (omega arith)) (inl (omega arith)) (P .ra);
+      ka = frame-area (unitOf sizes) 0 0 (workRam (unitOf sizes)) C C ram ram′ work-frame (KA g) (kaBlocks g) (kaItem H) nk pu (omega arith) (omega (arith, pu)) (omega arith) (inr (omega arith)) (inl (omega arith)) (P .ka);
+      da = frame-area (unitOf sizes) 0 0 (workRam (unitOf sizes)) C C ram ram′ work-frame (DA g) (sizes .daBlocks) (daItem H) d pu (omega arith) (omega (arith, pu)) (omega arith) (inr (omega arith)) (inl (omega arith)) (P .da);
+      filters = frame-index (unitOf sizes) 0 0 (workRam (unitOf sizes)) C C ram ram′ work-frame (ok .e) (units.pow sizes ok) (keyIndex g) (fullSets g) (keyFilter h g H) N (inr (omega arith)) (inl (omega arith)) (P .filters);
       main-fits = P .main-fits;
       spare-fits = P .spare-fits;
       ram-fits = rw (work-frame .ram-length) (P .ram-fits);
     }
 
-    pub work-zero : (i : ℕ) → i < page (S / 16) → getD ram′ (workRam (S / 16) + i) 0 ≡ 0
+    pub work-zero : (i : ℕ) → i < page (unitOf sizes) → getD ram′ (workRam (unitOf sizes) + i) 0 ≡ 0
     work-zero i l =
-        let s : workRam (S / 16) + i - workRam (S / 16) ≡ i = omega arith in
-        getD-write-in ram (workRam (S / 16)) (replicate (page (S / 16)) 0) (workRam (S / 16) + i) 0 (omega arith) (omega (arith, zeros)) (omega (arith, P .ram-fits))
-        ∙ rw s (getD-replicate (page (S / 16)) i 0 0 l)
+        let s : workRam (unitOf sizes) + i - workRam (unitOf sizes) ≡ i = omega arith in
+        getD-write-in ram (workRam (unitOf sizes)) (replicate (page (unitOf sizes)) 0) (workRam (unitOf sizes) + i) 0 (omega arith) (omega (arith, zeros)) (omega (arith, P .ram-fits))
+        ∙ rw s (getD-replicate (page (unitOf sizes)) i 0 0 l)
 
     pub work-beyond : Beyond g C C ram ram′
-    work-beyond = frame-beyond g 0 0 (workRam (S / 16)) C C ram ram′ work-frame (omega arith) (omega arith)
+    work-beyond = frame-beyond g 0 0 (workRam (unitOf sizes)) C C ram ram′ work-frame (omega arith) (omega arith)
 
-  module _ (H : History) (C : Flash) (ram : List ℕ) (I : Holds h S R D ok H C ram) where
+  module _ (H : History) (C : Flash) (ram : List ℕ) (I : Holds h sizes ok H C ram) where
     abbrev v : Volume
-    v = volumeOf h S R D ok H C ram
+    v = volumeOf h sizes ok H C ram
 
     abbrev n : ℕ
     n = length (H .records)
@@ -119,9 +119,9 @@ module _ (h : Family) (S R D : ℕ) (ok : Sound S R D) (can : allowed S R D ≡ 
 
     -- ---- an accepted change
 
-    commit-done : (H′ : History) (n′ d′ : ℕ) (plan : List Planned) (ops : List Op) (ram′ : List ℕ) → planOps (S / 16) plan C ≡ ops → n′ ≡ length (H′ .records) → d′ ≡ length (H′ .deleted)
-        → Parts h g (ok .e) (units.pow S R D ok) H′ n′ n′ d′ (keyFilters g n′) (applyAll (S / 16) ops C) ram′
-        → AllAllowed (S / 16) ops C → Beyond g C (applyAll (S / 16) ops C) ram ram′ → allFresh (C .spare) ops ≡ true → Below (spareSize g) ops
+    commit-done : (H′ : History) (n′ d′ : ℕ) (plan : List Planned) (ops : List Op) (ram′ : List ℕ) → planOps (unitOf sizes) plan C ≡ ops → n′ ≡ length (H′ .records) → d′ ≡ length (H′ .deleted)
+        → Parts h g (ok .e) (units.pow sizes ok) H′ n′ n′ d′ (keyFilters g n′) (applyAll (unitOf sizes) ops C) ram′
+        → AllAllowed (unitOf sizes) ops C → Beyond g C (applyAll (unitOf sizes) ops C) ram ram′ → allFresh (C .spare) ops ≡ true → Below (spareSize g) ops
         → n′ ≤ recordCapacity g → d′ ≤ deletionCapacity g → d′ ≤ n′
         → ((j : ℕ) → j < n′ → recordAt H′ j .key < 2 ^ 32) → ((i : ℕ) → i < d′ → getD (H′ .deleted) i 0 < n′)
         → Done H C ram (commit g v n′ d′ plan ram′) (historyStep accepts H′)
@@ -134,8 +134,8 @@ module _ (h : Family) (S R D : ℕ) (ok : Sound S R D) (can : allowed S R D ≡ 
           handed-on = tt;
           volume-is = rw (n-is, d-is);
           holds = record {
-            parts = rw (n-is, d-is) at (zeroed H′ n′ n′ d′ (keyFilters g n′) (applyAll (S / 16) ops C) ram′ P);
-            work = work-zero H′ n′ n′ d′ (keyFilters g n′) (applyAll (S / 16) ops C) ram′ P;
+            parts = rw (n-is, d-is) at (zeroed H′ n′ n′ d′ (keyFilters g n′) (applyAll (unitOf sizes) ops C) ram′ P);
+            work = work-zero H′ n′ n′ d′ (keyFilters g n′) (applyAll (unitOf sizes) ops C) ram′ P;
             n-cap = rw (← n-is) n-cap;
             d-cap = rw (← d-is) d-cap;
             d-le = rw (← n-is, ← d-is) d-le;
@@ -145,8 +145,8 @@ module _ (h : Family) (S R D : ℕ) (ok : Sound S R D) (can : allowed S R D ≡ 
           flash-is = refl;
           ops-allowed = allow;
           inside = low;
-          beyond = beyond-then g C (applyAll (S / 16) ops C) (applyAll (S / 16) ops C) ram ram′ (zeroPage (S / 16) (workRam (S / 16)) ram′) past
-              (work-beyond H′ n′ n′ d′ (keyFilters g n′) (applyAll (S / 16) ops C) ram′ P);
+          beyond = beyond-then g C (applyAll (unitOf sizes) ops C) (applyAll (unitOf sizes) ops C) ram ram′ (zeroPage (unitOf sizes) (workRam (unitOf sizes)) ram′) past
+              (work-beyond H′ n′ n′ d′ (keyFilters g n′) (applyAll (unitOf sizes) ops C) ram′ P);
           count-le = omega arith;
         })
 
@@ -181,8 +181,8 @@ module _ (h : Family) (S R D : ℕ) (ok : Sound S R D) (can : allowed S R D ≡ 
           → Done H C ram (commit g v (n + 1) d (insertionPlan h g n (r .key) (recordBytes r) ram) (insertionRam h g n (r .key) (recordBytes r) ram)) (historyStep accepts (withRecord H r))
       insert-accepted c =
           let room : length (H .records) < recordCapacity g = leb-false (recordCapacity g) (length (H .records)) c in
-          let X : Changed h g (ok .e) (units.pow S R D ok) (withRecord H r) (n + 1) d C ram (planOps (S / 16) (insertionPlan h g n (r .key) (recordBytes r) ram) C) (insertionRam h g n (r .key) (recordBytes r) ram)
-          = insertion-changes h g (ok .e) (units.pow S R D ok) H r d C ram (I .parts) room word (I .keys) in
+          let X : Changed h g (ok .e) (units.pow sizes ok) (withRecord H r) (n + 1) d C ram (planOps (unitOf sizes) (insertionPlan h g n (r .key) (recordBytes r) ram) C) (insertionRam h g n (r .key) (recordBytes r) ram)
+          = insertion-changes h g (ok .e) (units.pow sizes ok) H r d C ram (I .parts) room word (I .keys) in
           commit-done (withRecord H r) (n + 1) d (insertionPlan h g n (r .key) (recordBytes r) ram) _ (insertionRam h g n (r .key) (recordBytes r) ram) refl (length-record r) refl
           (X .grown) (X .allowed) (X .beyond) (X .fresh (C .spare) (λ x l o. refl))
           (fresh-below (spareSize g) (C .spare) _ (X .fresh (take (spareSize g) (C .spare)) (λ x l o. getD-take (spareSize g) (C .spare) x 0 l)))
@@ -204,22 +204,22 @@ module _ (h : Family) (S R D : ℕ) (ok : Sound S R D) (can : allowed S R D ≡ 
       room-d = leb-false (deletionCapacity g) (length (H .deleted)) c6
 
       abbrev ops : List Op
-      ops = planOps (S / 16) (deletionPlan g d j ram) C
+      ops = planOps (unitOf sizes) (deletionPlan g d j ram) C
 
       abbrev C₁ : Flash
-      C₁ = applyAll (S / 16) ops C
+      C₁ = applyAll (unitOf sizes) ops C
 
       abbrev ram₁ : List ℕ
       ram₁ = deletionRam g d j ram
 
-      did : Did (S / 16) (DA g .first) (DA g .first + D) (DA g .ram) C ram ram₁ ops
-      did = deletion-did h g (ok .e) (units.pow S R D ok) H n n (keyFilters g n) j C ram (I .parts) room-d
+      did : Did (unitOf sizes) (DA g .first) (DA g .first + (sizes .daBlocks)) (DA g .ram) C ram ram₁ ops
+      did = deletion-did h g (ok .e) (units.pow sizes ok) H n n (keyFilters g n) j C ram (I .parts) room-d
 
-      less-one : Parts h g (ok .e) (units.pow S R D ok) (withDeletion H j) n n (d + 1) (keyFilters g n) C₁ ram₁
-      less-one = deletion-parts h g (ok .e) (units.pow S R D ok) H n n (keyFilters g n) j C ram (I .parts) room-d
+      less-one : Parts h g (ok .e) (units.pow sizes ok) (withDeletion H j) n n (d + 1) (keyFilters g n) C₁ ram₁
+      less-one = deletion-parts h g (ok .e) (units.pow sizes ok) H n n (keyFilters g n) j C ram (I .parts) room-d
 
       past : Beyond g C C₁ ram ram₁
-      past = frame-beyond g (DA g .first) (DA g .first + D) (DA g .ram) C C₁ ram ram₁ (did .frame) (omega arith) (omega arith)
+      past = frame-beyond g (DA g .first) (DA g .first + (sizes .daBlocks)) (DA g .ram) C C₁ ram ram₁ (did .frame) (omega arith) (omega arith)
 
       fresh₀ : allFresh (C .spare) ops ≡ true
       fresh₀ = did .fresh (C .spare) (λ x l m. refl)
@@ -230,7 +230,7 @@ module _ (h : Family) (S R D : ℕ) (ok : Sound S R D) (can : allowed S R D ≡ 
       delete-accepted : length (H .deleted) < length (H .records)
           → Done H C ram (commit g v n (d + 1) (deletionPlan g d j ram ++ []) (deletionRam g d j ram)) (historyStep accepts (withDeletion H j))
       delete-accepted less =
-          commit-done (withDeletion H j) n (d + 1) (deletionPlan g d j ram ++ []) ops ram₁ (ap (λ (ps : List Planned). planOps (S / 16) ps C) (append-nil (deletionPlan g d j ram))) refl (length-deletion j) less-one (did .allowed) past fresh₀
+          commit-done (withDeletion H j) n (d + 1) (deletionPlan g d j ram ++ []) ops ram₁ (ap (λ (ps : List Planned). planOps (unitOf sizes) ps C) (append-nil (deletionPlan g d j ram))) refl (length-deletion j) less-one (did .allowed) past fresh₀
           (fresh-below (spareSize g) (C .spare) ops inside₀)
           (I .n-cap) (omega (arith, room-d)) (omega arith) (I .keys) (gone-deletion j below)
 
@@ -239,15 +239,15 @@ module _ (h : Family) (S R D : ℕ) (ok : Sound S R D) (can : allowed S R D ≡ 
           (historyStep accepts (withRecord (withDeletion H j) r))
       update-accepted r word c5 =
           let room : length (H .records) < recordCapacity g = leb-false (recordCapacity g) (length (H .records)) c5 in
-          let more : List Op = planOps (S / 16) (insertionPlan h g n (r .key) (recordBytes r) ram₁) C₁ in
-          let X : Changed h g (ok .e) (units.pow S R D ok) (withRecord (withDeletion H j) r) (n + 1) (d + 1) C₁ ram₁ (planOps (S / 16) (insertionPlan h g n (r .key) (recordBytes r) ram₁) C₁) (insertionRam h g n (r .key) (recordBytes r) ram₁)
-          = insertion-changes h g (ok .e) (units.pow S R D ok) (withDeletion H j) r (d + 1) C₁ ram₁ less-one room word (I .keys) in
-          let both : planOps (S / 16) (deletionPlan g d j ram ++ insertionPlan h g n (r .key) (recordBytes r) ram) C ≡ ops ++ planOps (S / 16) (insertionPlan h g n (r .key) (recordBytes r) ram₁) C₁
-          = ops-append (S / 16) (deletionPlan g d j ram) (insertionPlan h g n (r .key) (recordBytes r) ram) C
-          ∙ ap (λ (ps : List Planned). ops ++ planOps (S / 16) ps C₁) (insertion-after h g n (r .key) (recordBytes r) pu d j ram) in
-          let done = apply-append (S / 16) ops more C in
+          let more : List Op = planOps (unitOf sizes) (insertionPlan h g n (r .key) (recordBytes r) ram₁) C₁ in
+          let X : Changed h g (ok .e) (units.pow sizes ok) (withRecord (withDeletion H j) r) (n + 1) (d + 1) C₁ ram₁ (planOps (unitOf sizes) (insertionPlan h g n (r .key) (recordBytes r) ram₁) C₁) (insertionRam h g n (r .key) (recordBytes r) ram₁)
+          = insertion-changes h g (ok .e) (units.pow sizes ok) (withDeletion H j) r (d + 1) C₁ ram₁ less-one room word (I .keys) in
+          let both : planOps (unitOf sizes) (deletionPlan g d j ram ++ insertionPlan h g n (r .key) (recordBytes r) ram) C ≡ ops ++ planOps (unitOf sizes) (insertionPlan h g n (r .key) (recordBytes r) ram₁) C₁
+          = ops-append (unitOf sizes) (deletionPlan g d j ram) (insertionPlan h g n (r .key) (recordBytes r) ram) C
+          ∙ ap (λ (ps : List Planned). ops ++ planOps (unitOf sizes) ps C₁) (insertion-after h g n (r .key) (recordBytes r) pu d j ram) in
+          let done = apply-append (unitOf sizes) ops more C in
           commit-done (withRecord (withDeletion H j) r) (n + 1) (d + 1) _ (ops ++ more) (insertionRam h g n (r .key) (recordBytes r) ram₁) both (length-record r) (length-deletion j)
-          (rw done (X .grown)) (allowed-append (S / 16) ops more C (did .allowed) (X .allowed)) (rw done (beyond-then g C C₁ _ ram ram₁ _ past (X .beyond)))
+          (rw done (X .grown)) (allowed-append (unitOf sizes) ops more C (did .allowed) (X .allowed)) (rw done (beyond-then g C C₁ _ ram ram₁ _ past (X .beyond)))
           (fresh-append (C .spare) ops more fresh₀ (X .fresh (C .spare) (λ x l o. sym (did .frame .spare x o))))
           (fresh-below (spareSize g) (C .spare) _ (fresh-append (take (spareSize g) (C .spare)) ops more inside₀
           (X .fresh (take (spareSize g) (C .spare)) (λ x l o. getD-take (spareSize g) (C .spare) x 0 l ∙ sym (did .frame .spare x o)))))
@@ -275,7 +275,7 @@ module _ (h : Family) (S R D : ℕ) (ok : Sound S R D) (can : allowed S R D ≡ 
 
     -- ---- lookup
 
-    lookup-done : (k opened : ℕ) → opened ≤ length (H .records) / entriesPerPage (S / 16) → (o : Option ℕ) → findLive H k ≡ o
+    lookup-done : (k opened : ℕ) → opened ≤ length (H .records) / entriesPerPage (unitOf sizes) → (o : Option ℕ) → findLive H k ≡ o
         → Done H C ram (lookupAfter g v opened (Option·map found o)) (lookupHistory (recordCapacity g) (deletionCapacity g) H o)
     unfolding lookupAfter
     lookup-done k opened le none q = record {
@@ -291,7 +291,7 @@ module _ (h : Family) (S R D : ℕ) (ok : Sound S R D) (can : allowed S R D ≡ 
       count-le = le;
     }
     lookup-done k opened le (some j) q = record {
-      says = ap hits (volumes.record-is h S R D ok H C ram I j (found-below H k j q .0));
+      says = ap hits (volumes.record-is h sizes ok H C ram I j (found-below H k j q .0));
       possible = tt;
       handed-on = refl;
       volume-is = refl;
@@ -308,15 +308,15 @@ module _ (h : Family) (S R D : ℕ) (ok : Sound S R D) (can : allowed S R D ≡ 
     -- its arguments are 32-bit numbers
     judged-is : (r : Result) → judged v r ≡ r
     unfolding judged
-    judged-is r = rw (volumes.state-good h S R D ok H C ram I can, volumes.long-enough h S R D ok H C ram I)
+    judged-is r = rw (volumes.state-good h sizes ok H C ram I can, volumes.long-enough h sizes ok H C ram I)
 
     answer-done : (c : Call) → KeyWord c → ((k j : ℕ) → findLive H k ≡ some j → length (H .deleted) < length (H .records))
         → Done H C ram (answer h g v c) (stepHistory (recordCapacity g) (deletionCapacity g) H c)
-    answer-done (insert r) w less = rw (volumes.search-is h S R D ok H C ram I (r .key)) (insert-done r w (findLive H (r .key)) refl)
-    answer-done (update r) w less = rw (volumes.search-is h S R D ok H C ram I (r .key)) (update-done r w (findLive H (r .key)) refl)
-    answer-done (delete key) w less = rw (volumes.search-is h S R D ok H C ram I key) (delete-done key (less key) (findLive H key) refl)
+    answer-done (insert r) w less = rw (volumes.search-is h sizes ok H C ram I (r .key)) (insert-done r w (findLive H (r .key)) refl)
+    answer-done (update r) w less = rw (volumes.search-is h sizes ok H C ram I (r .key)) (update-done r w (findLive H (r .key)) refl)
+    answer-done (delete key) w less = rw (volumes.search-is h sizes ok H C ram I key) (delete-done key (less key) (findLive H key) refl)
     answer-done (lookup key) w less =
-        rw (volumes.search-is h S R D ok H C ram I key) (lookup-done key _ (volumes.count-is h S R D ok H C ram I key) (findLive H key) refl)
+        rw (volumes.search-is h sizes ok H C ram I key) (lookup-done key _ (volumes.count-is h sizes ok H C ram I key) (findLive H key) refl)
 
     pub call-done : (c : Call) → KeyWord c → ((k j : ℕ) → findLive H k ≡ some j → length (H .deleted) < length (H .records))
         → Done H C ram (call h v c) (stepHistory (recordCapacity g) (deletionCapacity g) H c)

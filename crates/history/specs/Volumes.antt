@@ -14,7 +14,7 @@ use Rattle.memory.specs.Cases.{either, bool?}
 use Rattle.memory.specs.Numbers.{euclid}
 use Rattle.memory.specs.Ranges.{any-ext, any-at, memb}
 use Rattle.memory.specs.Words.{bytes4}
-use Rattle.layout.specs.Geometry.{Geometry, geometry, allowed, page, block, filterBits, entriesPerPage, kaBlocks, fullSets, recordCapacity, deletionCapacity, workRam}
+use Rattle.layout.specs.Geometry.{Geometry, geometry, allowed, page, block, filterBits, entriesPerPage, kaBlocks, fullSets, recordCapacity, deletionCapacity, workRam, Sizes, unitOf, stateOf}
 use Rattle.layout.specs.Flash.{Flash}
 use Rattle.layout.specs.Hash.{Family, positions}
 use Rattle.layout.specs.Items.{RA, KA, DA, itemWord, itemPlace, bytesAt, recordBytes}
@@ -32,21 +32,21 @@ use Rattle.laws.specs.RowLaws.{places-suffice}
 use Rattle.laws.specs.Sound.{Sound}
 use Rattle.laws.specs.Sound as units
 
-module _ (h : Family) (S R D : ℕ) (ok : Sound S R D) where
+module _ (h : Family) (sizes : Sizes) (ok : Sound sizes) where
   abbrev pub g : Geometry
-  g = geometry S R D
+  g = geometry sizes
 
-  abbrev pow : S / 16 ≡ 2 ^ ok .e
-  pow = units.pow S R D ok
+  abbrev pow : unitOf sizes ≡ 2 ^ ok .e
+  pow = units.pow sizes ok
 
-  abbrev pu : 0 < S / 16
-  pu = units.pu S R D ok
+  abbrev pu : 0 < unitOf sizes
+  pu = units.pu sizes ok
 
   -- ---- the image of a history, as an invariant
 
   pub record Holds (H : History) (C : Flash) (ram : List ℕ) : Type 0 where
     pub parts : Parts h g (ok .e) pow H (length (H .records)) (length (H .records)) (length (H .deleted)) (keyFilters g (length (H .records))) C ram
-    pub work : (i : ℕ) → i < page (S / 16) → getD ram (workRam (S / 16) + i) 0 ≡ 0
+    pub work : (i : ℕ) → i < page (unitOf sizes) → getD ram (workRam (unitOf sizes) + i) 0 ≡ 0
     pub n-cap : length (H .records) ≤ recordCapacity g
     pub d-cap : length (H .deleted) ≤ deletionCapacity g
     pub d-le : length (H .deleted) ≤ length (H .records)
@@ -58,7 +58,7 @@ module _ (h : Family) (S R D : ℕ) (ok : Sound S R D) where
   abbrev pub volumeOf : History → Flash → List ℕ → Volume
   volumeOf H C ram =
       record {
-        state = record { sectorSize = S; raBlocks = R; daBlocks = D; records = length (H .records); deletions = length (H .deleted) };
+        state = stateOf sizes (length (H .records)) (length (H .deleted));
         flash = C;
         ram = ram;
       }
@@ -76,27 +76,27 @@ module _ (h : Family) (S R D : ℕ) (ok : Sound S R D) where
     -- record numbers are 32-bit numbers
     n-word : length (H .records) < 2 ^ 32
     n-word =
-        let a : R * (S / 16) ≤ 4096 * (S / 16) = mul-le-mul-right (S / 16) (ok .R-le) in
-        omega (arith, I .n-cap, units.u-le S R D ok)
+        let a : (sizes .raBlocks) * (unitOf sizes) ≤ 4096 * (unitOf sizes) = mul-le-mul-right (unitOf sizes) (ok .R-le) in
+        omega (arith, I .n-cap, units.u-le sizes ok)
 
-    ka-room : length (H .records) * 8 ≤ kaBlocks g * block (S / 16)
+    ka-room : length (H .records) * 8 ≤ kaBlocks g * block (unitOf sizes)
     ka-room =
-        let half : R ≤ (R + 1) / 2 * 2 = omega arith in
-        omega (arith, I .n-cap, mul-le-mul-right (S / 16) half)
+        let half : (sizes .raBlocks) ≤ ((sizes .raBlocks) + 1) / 2 * 2 = omega arith in
+        omega (arith, I .n-cap, mul-le-mul-right (unitOf sizes) half)
 
-    key-at : (j : ℕ) → j < length (H .records) → itemWord (S / 16) (KA g) n (C .main) ram j 0 ≡ recordAt H j .key
+    key-at : (j : ℕ) → j < length (H .records) → itemWord (unitOf sizes) (KA g) n (C .main) ram j 0 ≡ recordAt H j .key
     key-at j l =
-        read-word (S / 16) pu (KA g) (kaBlocks g) (omega arith) (omega (arith, pu)) (omega arith) (kaItem H) n (C .main) (C .spare) ram (I .parts .ka) ka-room
+        read-word (unitOf sizes) pu (KA g) (kaBlocks g) (omega arith) (omega (arith, pu)) (omega arith) (kaItem H) n (C .main) (C .spare) ram (I .parts .ka) ka-room
         j 0 (recordAt H j .key) l (omega arith) (I .keys j l) (λ b m. entry-key (recordAt H j .key) j b m)
 
-    number-at : (j : ℕ) → j < length (H .records) → itemWord (S / 16) (KA g) n (C .main) ram j 1 ≡ j
+    number-at : (j : ℕ) → j < length (H .records) → itemWord (unitOf sizes) (KA g) n (C .main) ram j 1 ≡ j
     number-at j l =
-        read-word (S / 16) pu (KA g) (kaBlocks g) (omega arith) (omega (arith, pu)) (omega arith) (kaItem H) n (C .main) (C .spare) ram (I .parts .ka) ka-room
+        read-word (unitOf sizes) pu (KA g) (kaBlocks g) (omega arith) (omega (arith, pu)) (omega arith) (kaItem H) n (C .main) (C .spare) ram (I .parts .ka) ka-room
         j 1 j l (omega arith) (omega (arith, n-word)) (λ b m. entry-number (recordAt H j .key) j b m)
 
-    deletion-at : (i : ℕ) → i < length (H .deleted) → itemWord (S / 16) (DA g) d (C .main) ram i 0 ≡ getD (H .deleted) i 0
+    deletion-at : (i : ℕ) → i < length (H .deleted) → itemWord (unitOf sizes) (DA g) d (C .main) ram i 0 ≡ getD (H .deleted) i 0
     deletion-at i l =
-        read-word (S / 16) pu (DA g) D (omega arith) (omega (arith, pu)) (omega arith) (daItem H) d (C .main) (C .spare) ram (I .parts .da) (omega (arith, I .d-cap))
+        read-word (unitOf sizes) pu (DA g) (sizes .daBlocks) (omega arith) (omega (arith, pu)) (omega arith) (daItem H) d (C .main) (C .spare) ram (I .parts .da) (omega (arith, I .d-cap))
         i 0 (getD (H .deleted) i 0) l (omega arith) (omega (arith, I .gone i l, n-word)) (λ b m. deletion-number (getD (H .deleted) i 0) b m)
 
     deleted-is : (j : ℕ) → isDeleted g v j ≡ memb j (H .deleted)
@@ -114,59 +114,59 @@ module _ (h : Family) (S R D : ℕ) (ok : Sound S R D) where
         (λ a. rw a))
 
     -- every filter on the volume reads as the history says
-    filter-is : (f x : ℕ) → f < length (H .records) / (8 * (S / 16)) → x < filterBits (S / 16)
-        → filterBit (S / 16) (keyIndex g) (C .main) ram (keyFilters g n) f x ≡ keyFilter h g H f x
+    filter-is : (f x : ℕ) → f < length (H .records) / (8 * (unitOf sizes)) → x < filterBits (unitOf sizes)
+        → filterBit (unitOf sizes) (keyIndex g) (C .main) ram (keyFilters g n) f x ≡ keyFilter h g H f x
     filter-is f x l m =
-        read-filter (S / 16) (ok .e) pow (keyIndex g) (fullSets g) (keyFilter h g H) (keyFilters g n) (C .main) (C .spare) ram (I .parts .filters)
-        (places-suffice (S / 16) R (length (H .records)) pu (I .n-cap)) f x l m
+        read-filter (unitOf sizes) (ok .e) pow (keyIndex g) (fullSets g) (keyFilter h g H) (keyFilters g n) (C .main) (C .spare) ram (I .parts .filters)
+        (places-suffice (unitOf sizes) (sizes .raBlocks) (length (H .records)) pu (I .n-cap)) f x l m
 
-    position-lt : (k x : ℕ) → memb x (keyPositions h g k) ≡ true → x < filterBits (S / 16)
+    position-lt : (k x : ℕ) → memb x (keyPositions h g k) ≡ true → x < filterBits (unitOf sizes)
     unfolding positions
     position-lt k x q =
-        memb-tab-all (λ y. y < 64 * (S / 16)) 3 (λ j. h 0 (bytes4 k) % 4 * (16 * (S / 16)) + h (j + 1) (bytes4 k) % (16 * (S / 16)))
+        memb-tab-all (λ y. y < 64 * (unitOf sizes)) 3 (λ j. h 0 (bytes4 k) % 4 * (16 * (unitOf sizes)) + h (j + 1) (bytes4 k) % (16 * (unitOf sizes)))
         (λ j l.
-        let a : h 0 (bytes4 k) % 4 * (16 * (S / 16)) + h (j + 1) (bytes4 k) % (16 * (S / 16)) < 4 * (16 * (S / 16))
+        let a : h 0 (bytes4 k) % 4 * (16 * (unitOf sizes)) + h (j + 1) (bytes4 k) % (16 * (unitOf sizes)) < 4 * (16 * (unitOf sizes))
         = digits-lt (mod-lt (h 0 (bytes4 k)) {m = 4} (omega arith)) (mod-lt (h (j + 1) (bytes4 k)) (omega (arith, pu))) in
         omega arith)
         x q
 
     -- a page that holds a live record of the key has all its bits: no false negatives
-    passes : (k f i : ℕ) → f < length (H .records) / (8 * (S / 16)) → i < 8 * (S / 16) → recordAt H (f * (8 * (S / 16)) + i) .key ≡ k → maybeIn g v (keyPositions h g k) f ≡ true
+    passes : (k f i : ℕ) → f < length (H .records) / (8 * (unitOf sizes)) → i < 8 * (unitOf sizes) → recordAt H (f * (8 * (unitOf sizes)) + i) .key ≡ k → maybeIn g v (keyPositions h g k) f ≡ true
     unfolding maybeIn keyFilter
     passes k f i l m q =
         allOf-true _ (keyPositions h g k) (λ x a.
         filter-is f x l (position-lt k x a)
-        ∙ any-at (λ i. memb x (keyPositions h g (recordAt H (f * (8 * (S / 16)) + i) .key))) (8 * (S / 16)) i m (rw q a))
+        ∙ any-at (λ i. memb x (keyPositions h g (recordAt H (f * (8 * (unitOf sizes)) + i) .key))) (8 * (unitOf sizes)) i m (rw q a))
 
-    skipped : (k f i : ℕ) → f < length (H .records) / (8 * (S / 16)) → i < 8 * (S / 16) → maybeIn g v (keyPositions h g k) f ≡ false
-        → tryAt g v k (f * (8 * (S / 16)) + i) ≡ none
+    skipped : (k f i : ℕ) → f < length (H .records) / (8 * (unitOf sizes)) → i < 8 * (unitOf sizes) → maybeIn g v (keyPositions h g k) f ≡ false
+        → tryAt g v k (f * (8 * (unitOf sizes)) + i) ≡ none
     skipped k f i l m c =
-        let E = euclid (length (H .records)) (8 * (S / 16)) (omega (arith, pu)) in
-        let j : f * (8 * (S / 16)) + i < length (H .records) = omega (arith, mul-le-mul-right (8 * (S / 16)) l) in
-        try-is k (f * (8 * (S / 16)) + i) j
-        ∙ either (bool? (liveAt H k (f * (8 * (S / 16)) + i)))
-        (λ t. let z : false ≡ true = sym c ∙ passes k f i l m (live-key H k (f * (8 * (S / 16)) + i) t) in cc)
+        let E = euclid (length (H .records)) (8 * (unitOf sizes)) (omega (arith, pu)) in
+        let j : f * (8 * (unitOf sizes)) + i < length (H .records) = omega (arith, mul-le-mul-right (8 * (unitOf sizes)) l) in
+        try-is k (f * (8 * (unitOf sizes)) + i) j
+        ∙ either (bool? (liveAt H k (f * (8 * (unitOf sizes)) + i)))
+        (λ t. let z : false ≡ true = sym c ∙ passes k f i l m (live-key H k (f * (8 * (unitOf sizes)) + i) t) in cc)
         (λ t. rw t)
 
     -- the search ends at the newest live record of the key, or finds none
     pub search-is : (k : ℕ) → search h g v k .stop ≡ Option·map found (findLive H k)
     unfolding search
     search-is k =
-        search-all (maybeIn g v (keyPositions h g k)) (tryAt g v k) (8 * (S / 16)) (length (H .records)) (omega (arith, pu)) (λ f i a b c. skipped k f i a b c)
+        search-all (maybeIn g v (keyPositions h g k)) (tryAt g v k) (8 * (unitOf sizes)) (length (H .records)) (omega (arith, pu)) (λ f i a b c. skipped k f i a b c)
         ∙ scan-live (tryAt g v k) (liveAt H k) (length (H .records)) (λ j l. try-is k j l)
 
-    pub count-is : (k : ℕ) → search h g v k .opened ≤ length (H .records) / entriesPerPage (S / 16)
+    pub count-is : (k : ℕ) → search h g v k .opened ≤ length (H .records) / entriesPerPage (unitOf sizes)
     unfolding search
-    count-is k = search-opened (maybeIn g v (keyPositions h g k)) (tryAt g v k) (8 * (S / 16)) (length (H .records))
+    count-is k = search-opened (maybeIn g v (keyPositions h g k)) (tryAt g v k) (8 * (unitOf sizes)) (length (H .records))
 
     -- the bytes of a record where it lies
-    pub record-is : (j : ℕ) → j < length (H .records) → bytesAt (C .main) ram (itemPlace (S / 16) (RA g) n j) 16 ≡ recordBytes (recordAt H j)
+    pub record-is : (j : ℕ) → j < length (H .records) → bytesAt (C .main) ram (itemPlace (unitOf sizes) (RA g) n j) 16 ≡ recordBytes (recordAt H j)
     record-is j l =
-        read-bytes (S / 16) pu (RA g) R (omega arith) (omega (arith, pu)) (omega arith) (raItem H) n (C .main) (C .spare) ram (I .parts .ra) (omega (arith, I .n-cap)) j l
+        read-bytes (unitOf sizes) pu (RA g) (sizes .raBlocks) (omega arith) (omega (arith, pu)) (omega arith) (raItem H) n (C .main) (C .spare) ram (I .parts .ra) (omega (arith, I .n-cap)) j l
         ∙ tab-record (recordAt H j)
 
     -- refusals 1 and 2 do not apply
-    pub state-good : allowed S R D ≡ true → badState (v .state) ≡ false
+    pub state-good : allowed sizes ≡ true → badState (v .state) ≡ false
     unfolding badState
     state-good a = rw (a, le-ltb (recordCapacity g) n (I .n-cap), le-ltb (deletionCapacity g) d (I .d-cap), le-ltb n d (I .d-le))
 

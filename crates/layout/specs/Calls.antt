@@ -8,7 +8,7 @@ use lib.Dec.{ltb, leb, eqb}
 use Rattle.memory.specs.Lists.{write}
 use Rattle.memory.specs.Words.{word, bytes4}
 use Rattle.memory.specs.Ranges.{any, memb, allOf}
-use Rattle.layout.specs.Geometry.{State, Geometry, geometry, geometryOf, allowed, recordCapacity, deletionCapacity, dataSize, spareSize, ramSize, blocks, indexBlock, entriesPerPage, kaRam, skaRam, workRam}
+use Rattle.layout.specs.Geometry.{State, Geometry, geometry, Sizes, stateOf, allowed, recordCapacity, deletionCapacity, dataSize, spareSize, ramSize, blocks, indexBlock, entriesPerPage, kaRam, skaRam, workRam}
 use Rattle.layout.specs.Flash.{Flash, Op, applyAll, erases, Planned, planOps, allFresh}
 use Rattle.layout.specs.Hash.{Family, positions, positionCount}
 use Rattle.layout.specs.Index.{Index, filterBit, withFilter, filterPlan, filterRam, inSka}
@@ -54,8 +54,8 @@ refuse v i = record { outcome = refused i; count = 0; volume = v; ops = [] }
 -- "S, R or D not allowed; n or d above capacity; d above n"
 unfoldable pub badState : State → Bool
 badState s =
-    not (allowed (s .sectorSize) (s .raBlocks) (s .daBlocks))
-    || (ltb (recordCapacity (geometryOf s)) (s .records) || (ltb (deletionCapacity (geometryOf s)) (s .deletions) || ltb (s .records) (s .deletions)))
+    not (allowed (s .sizes))
+    || (ltb (recordCapacity (geometry (s .sizes))) (s .records) || (ltb (deletionCapacity (geometry (s .sizes))) (s .deletions) || ltb (s .records) (s .deletions)))
 
 -- "cells under 64SB, marks under 64B or desk under 20S bytes"
 unfoldable pub tooShort : Geometry → Flash → List ℕ → Bool
@@ -63,20 +63,20 @@ tooShort g c ram = ltb (length (c .main)) (dataSize g) || (ltb (length (c .spare
 
 -- 1, then 2, then the call's own
 unfoldable pub judged : Volume → Result → Result
-judged v r = cond (badState (v .state)) (refuse v 1) (cond (tooShort (geometryOf (v .state)) (v .flash) (v .ram)) (refuse v 2) r)
+judged v r = cond (badState (v .state)) (refuse v 1) (cond (tooShort (geometry (v .state .sizes)) (v .flash) (v .ram)) (refuse v 2) r)
 
 -- ---- format
 
 -- "erases the volume, zeroes the desk and gives n = d = 0"; "erases blocks 0 to B - 1, rising"
-unfoldable pub formatted : Volume → ℕ → ℕ → ℕ → Result
-formatted v S R D =
-    let g : Geometry = geometry S R D in
+unfoldable pub formatted : Volume → Sizes → Result
+formatted v sizes =
+    let g : Geometry = geometry sizes in
     let ops : List Op = erases 0 (blocks g) in
     record {
       outcome = accepted;
       count = 0;
       volume = record {
-        state = record { sectorSize = S; raBlocks = R; daBlocks = D; records = 0; deletions = 0 };
+        state = stateOf sizes 0 0;
         flash = applyAll (g .u) ops (v .flash);
         ram = write (v .ram) 0 (replicate (ramSize g) 0);
       };
@@ -84,8 +84,8 @@ formatted v S R D =
     }
 
 -- it does not judge the old state
-unfoldable pub format : Volume → ℕ → ℕ → ℕ → Result
-format v S R D = cond (allowed S R D) (cond (tooShort (geometry S R D) (v .flash) (v .ram)) (refuse v 2) (formatted v S R D)) (refuse v 1)
+unfoldable pub format : Volume → Sizes → Result
+format v sizes = cond (allowed sizes) (cond (tooShort (geometry sizes) (v .flash) (v .ram)) (refuse v 2) (formatted v sizes)) (refuse v 1)
 
 -- the index over KA
 abbrev pub keyIndex : Geometry → Index
@@ -163,7 +163,7 @@ commit g v n d plan ram =
       outcome = accepted;
       count = 0;
       volume = record {
-        state = record { sectorSize = v .state .sectorSize; raBlocks = v .state .raBlocks; daBlocks = v .state .daBlocks; records = n; deletions = d };
+        state = stateOf (v .state .sizes) n d;
         flash = applyAll (g .u) ops (v .flash);
         ram = zeroPage (g .u) (workRam (g .u)) ram;
       };
@@ -255,4 +255,4 @@ module _ (h : Family) where
 
   -- a call on a volume
   unfoldable pub call : Volume → Call → Result
-  call v c = judged v (answer (geometryOf (v .state)) v c)
+  call v c = judged v (answer (geometry (v .state .sizes)) v c)

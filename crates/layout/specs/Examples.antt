@@ -5,7 +5,7 @@ use mathlib.Core.List.{List, [], _∷_}
 use Prim.Native.Nat.{ℕ, _+_, _-_, _*_, _/_, _%_}
 use lib.ListN.{length, getD}
 use Rattle.memory.specs.Power.{log2up}
-use Rattle.layout.specs.Geometry.{Geometry, geometry, blocks, indexBlock, recordCapacity, sectorSizes, sector, page, recordsPerPage, entriesPerPage, filterBits}
+use Rattle.layout.specs.Geometry.{Geometry, sizesOf, geometry, blocks, indexBlock, recordCapacity, sectorSizes, sector, page, recordsPerPage, entriesPerPage, filterBits}
 use Rattle.layout.specs.Flash.{Planned, known, made, wipe, plannedFrom}
 use Rattle.layout.specs.Hash.{Family, fnvFrom, fnv1a}
 use Rattle.layout.specs.Index.{Index, BitPlace, inSka, inL1, setPages, setWidth, setPlace, l1Place, flushSector, flushAndBuild}
@@ -32,7 +32,7 @@ abbrev num : Bool → ℕ
 num t = cond t 1 0
 
 abbrev B : ℕ → ℕ → ℕ → ℕ
-B S R D = blocks (geometry S R D)
+B S R D = blocks (geometry (sizesOf S R D))
 
 -- the sectors that a plan programs, and the blocks that it erases, in order
 abbrev pub sectorsOf : List Planned → List ℕ
@@ -64,11 +64,11 @@ flushRead = l1Place 1 index 48 (2 * sector 1) .row / sector 1
 
 -- record j of n at S = 16
 abbrev recordAt : ℕ → ℕ → Place
-recordAt n j = itemPlace 1 (RA (geometry 16 1 1)) n j
+recordAt n j = itemPlace 1 (RA (geometry (sizesOf 16 1 1))) n j
 
 -- S = 16, R = 16, n = 1023: its filters, and what one more insert does
 abbrev g16 : Geometry
-g16 = geometry 16 16 1
+g16 = geometry (sizesOf 16 16 1)
 
 abbrev filters : ℕ
 filters = keyFilters g16 1023
@@ -84,7 +84,7 @@ examples h key bytes =
     ∷ row (fnv1a (97 ∷ [])) 0xE40C292C
     -- S = 16, D = 1: B, and the capacity at R = 1
     ∷ row (B 16 1 1) 12
-    ∷ row (recordCapacity (geometry 16 1 1)) 64
+    ∷ row (recordCapacity (geometry (sizesOf 16 1 1))) 64
     ∷ row (B 16 32 1) 58
     ∷ row (B 16 63 1) 105
     ∷ row (B 16 64 1) 110

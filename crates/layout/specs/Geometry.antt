@@ -7,13 +7,23 @@ use Prim.Native.Nat.{ℕ, _+_, _*_, _/_}
 use lib.Dec.{leb}
 use Rattle.memory.specs.Ranges.{memb}
 
--- the state that goes in and comes back: S, R, D, n, d
-pub record State : Type 0 where
+-- what a format names: S, R, D
+pub record Sizes : Type 0 where
   pub sectorSize : ℕ
   pub raBlocks : ℕ
   pub daBlocks : ℕ
+
+abbrev pub sizesOf : ℕ → ℕ → ℕ → Sizes
+sizesOf S R D = record { sectorSize = S; raBlocks = R; daBlocks = D }
+
+-- "The state is S, R, D, n, d"
+pub record State : Type 0 where
+  pub sizes : Sizes
   pub records : ℕ
   pub deletions : ℕ
+
+abbrev pub stateOf : Sizes → ℕ → ℕ → State
+stateOf sizes n d = record { sizes = sizes; records = n; deletions = d }
 
 -- a volume's shape: u = S/16, R and D
 pub record Geometry : Type 0 where
@@ -21,11 +31,11 @@ pub record Geometry : Type 0 where
   pub R : ℕ
   pub D : ℕ
 
-abbrev pub geometry : ℕ → ℕ → ℕ → Geometry
-geometry S R D = record { u = S / 16; R = R; D = D }
+abbrev pub unitOf : Sizes → ℕ
+unitOf sizes = sizes .sectorSize / 16
 
-abbrev pub geometryOf : State → Geometry
-geometryOf s = geometry (s .sectorSize) (s .raBlocks) (s .daBlocks)
+abbrev pub geometry : Sizes → Geometry
+geometry sizes = record { u = unitOf sizes; R = sizes .raBlocks; D = sizes .daBlocks }
 
 -- "S takes one row of this table; R and D are 1 to 4096"
 abbrev pub sectorSizes : List ℕ
@@ -34,8 +44,8 @@ sectorSizes = 16 ∷ 32 ∷ 64 ∷ 128 ∷ 256 ∷ 512 ∷ []
 abbrev pub blocksAllowed : ℕ → Bool
 blocksAllowed b = leb 1 b && leb b 4096
 
-unfoldable pub allowed : ℕ → ℕ → ℕ → Bool
-allowed S R D = memb S sectorSizes && (blocksAllowed R && blocksAllowed D)
+unfoldable pub allowed : Sizes → Bool
+allowed sizes = memb (sizes .sectorSize) sectorSizes && (blocksAllowed (sizes .raBlocks) && blocksAllowed (sizes .daBlocks))
 
 -- ---- sizes: "A page is always four sectors, a block always sixteen pages"
 

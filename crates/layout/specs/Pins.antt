@@ -11,7 +11,7 @@ use Rattle.memory.specs.Bits.{pack}
 use Rattle.memory.specs.Power.{log2up}
 use Rattle.memory.specs.Words.{bytes4, wordsBytes}
 use Rattle.memory.specs.Ranges.{any, memb}
-use Rattle.layout.specs.Geometry.{State, geometry, allowed, indexBlock, sector, page, block}
+use Rattle.layout.specs.Geometry.{State, sizesOf, stateOf, geometry, allowed, indexBlock, sector, page, block}
 use Rattle.layout.specs.Flash.{flashOf, program, fresh, apply, Planned, known, made, wipe, planOps}
 use Rattle.layout.specs.Hash.{fnvFrom, fnvFamily, positions, positionCount}
 use Rattle.layout.specs.Index.{BitPlace, rowBit, rowByte, withFilter, filterPlace, filterPlan, flushAndBuild}
@@ -32,10 +32,10 @@ beforeErase (wipe b ∷ ps) = 0
 
 -- set 3 is built when filter 255 is there, at S = 16, R = 32: 4 sectors of the flush and 32 pages on side B, then L1 and the one block of set 2 on side A
 abbrev third : List Planned
-third = filterPlan 1 (keyIndex (geometry 16 32 1)) 255 []
+third = filterPlan 1 (keyIndex (geometry (sizesOf 16 32 1))) 255 []
 
 abbrev L1 : ℕ
-L1 = indexBlock (geometry 16 32 1)
+L1 = indexBlock (geometry (sizesOf 16 32 1))
 
 pub build-order : beforeErase third ∷ length (sectorsOf third) ∷ getD (sectorsOf third) 4 0 ∷ getD (sectorsOf third) 131 0 ∷ blocksOf third
     ≡ (4 + 32 * 4) ∷ (4 + 32 * 4) ∷ ((L1 + 5) * 64) ∷ ((L1 + 5) * 64 + 127) ∷ L1 ∷ (L1 + 1) ∷ []
@@ -44,11 +44,11 @@ build-order = refl
 
 -- the fifth set at S = 16 is full: it goes to the first place for full sets and frees the four blocks of set 4 on side A
 abbrev fifth : List Planned
-fifth = filterPlan 1 (keyIndex (geometry 16 64 1)) 511 []
+fifth = filterPlan 1 (keyIndex (geometry (sizesOf 16 64 1))) 511 []
 
 pub full-set : length (sectorsOf fifth) ∷ getD (sectorsOf fifth) 4 0 ∷ blocksOf fifth
-    ≡ (4 + 64 * 4) ∷ ((indexBlock (geometry 16 64 1) + 9) * 64) ∷ indexBlock (geometry 16 64 1) ∷ (indexBlock (geometry 16 64 1) + 1)
-    ∷ (indexBlock (geometry 16 64 1) + 2) ∷ (indexBlock (geometry 16 64 1) + 3) ∷ (indexBlock (geometry 16 64 1) + 4) ∷ []
+    ≡ (4 + 64 * 4) ∷ ((indexBlock (geometry (sizesOf 16 64 1)) + 9) * 64) ∷ indexBlock (geometry (sizesOf 16 64 1)) ∷ (indexBlock (geometry (sizesOf 16 64 1)) + 1)
+    ∷ (indexBlock (geometry (sizesOf 16 64 1)) + 2) ∷ (indexBlock (geometry (sizesOf 16 64 1)) + 3) ∷ (indexBlock (geometry (sizesOf 16 64 1)) + 4) ∷ []
 unfolding log2up flushAndBuild
 full-set = refl
 
@@ -123,7 +123,7 @@ search-shut = refl
 -- ---- refusals 1 and 2: n and d may be at capacity, "under" is strict
 
 abbrev state : ℕ → ℕ → ℕ → ℕ → ℕ → State
-state S R D n d = record { sectorSize = S; raBlocks = R; daBlocks = D; records = n; deletions = d }
+state S R D n d = stateOf (sizesOf S R D) n d
 
 abbrev bads : List State → List ℕ
 bads [] = []
@@ -135,7 +135,7 @@ unfolding badState allowed memb
 states = refl
 
 abbrev shorts : ℕ → ℕ → ℕ → ℕ
-shorts main spare ram = cond (tooShort (geometry 16 1 1) (flashOf (replicate main 0) (replicate spare 0)) (replicate ram 0)) 1 0
+shorts main spare ram = cond (tooShort (geometry (sizesOf 16 1 1)) (flashOf (replicate main 0) (replicate spare 0)) (replicate ram 0)) 1 0
 
 pub lengths : shorts 12288 768 320 ∷ shorts 12287 768 320 ∷ shorts 12288 767 320 ∷ shorts 12288 768 319 ∷ [] ≡ 0 ∷ 1 ∷ 1 ∷ 1 ∷ []
 unfolding tooShort
@@ -187,7 +187,7 @@ abbrev keyPage : List ℕ
 keyPage = write (replicate 320 0) 64 (wordsBytes (1 ∷ 0 ∷ 2 ∷ 1 ∷ 3 ∷ 2 ∷ 4 ∷ 3 ∷ 5 ∷ 4 ∷ 6 ∷ 5 ∷ 7 ∷ 6 ∷ 8 ∷ 7 ∷ []))
 
 abbrev pageBit : ℕ → ℕ
-pageBit x = num (pageFilter fnvFamily (geometry 16 1 1) keyPage x)
+pageBit x = num (pageFilter fnvFamily (geometry (sizesOf 16 1 1)) keyPage x)
 
 pub filter-bits : pageBit 0 ∷ pageBit 1 ∷ pageBit 52 ∷ pageBit 53 ∷ [] ≡ 0 ∷ 1 ∷ 1 ∷ 0 ∷ []
 unfolding write wordsBytes pageFilter any memb positions tab tabFrom fnvFrom

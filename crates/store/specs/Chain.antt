@@ -4,13 +4,13 @@ use mathlib.Core.Bool.{Bool, true, false}
 use mathlib.Core.List.{List, [], _∷_, _++_}
 use Prim.Native.Nat.{ℕ, _+_, _/_, _≤_}
 use lib.ListN.{length}
-use Rattle.layout.specs.Geometry.{geometry, allowed, entriesPerPage}
+use Rattle.layout.specs.Geometry.{geometry, allowed, entriesPerPage, Sizes, unitOf, stateOf}
 use Rattle.layout.specs.Flash.{applyAll}
 use Rattle.layout.specs.Hash.{fnvFamily}
 use Rattle.layout.specs.Calls.{Volume, Call, accepted, tooShort, format, call}
 use Rattle.layout.specs.FiniteMap.{Map, emptyMap, Step, mapOf}
 use Rattle.history.specs.Live.{emptyHistory, Nodup}
-use Rattle.history.specs.Season.{KeyWords, after, opsOf, Disciplined, shown, Possible, HandedOn, stateOf, EachAgrees, historyOf, ImageOf}
+use Rattle.history.specs.Season.{KeyWords, after, opsOf, Disciplined, shown, Possible, HandedOn, EachAgrees, historyOf, ImageOf}
 use Rattle.history.specs.Demands.{demand-2, demand-3}
 use Rattle.state.specs.Contract.{Left, seen}
 
@@ -23,33 +23,33 @@ Chain v (c ∷ cs) [] = ⊥
 Chain v (c ∷ cs) (l ∷ ls) = (l ≡ seen (call fnvFamily v c)) × Chain (l .left) cs ls
 
 -- what a caller sees of a call on the volume v, and the map's step
-pub record Sees (S R D : ℕ) (v : Volume) (l : Left) (s : Step) : Type 0 where
+pub record Sees (sizes : Sizes) (v : Volume) (l : Left) (s : Step) : Type 0 where
   pub says : shown (l .outcome) ≡ s .says
-  pub state-is : l .left .state ≡ stateOf S R D (s .next .n) (s .next .d)
+  pub state-is : l .left .state ≡ stateOf sizes (s .next .n) (s .next .d)
   pub live : l .left .state .records ≡ l .left .state .deletions + length (s .next .levels)
   pub once : Nodup (s .next .levels)
   pub possible : Possible (l .outcome)
   pub handed-on : HandedOn (l .outcome) v (l .left)
-  pub count-le : l .count ≤ v .state .records / entriesPerPage (S / 16)
+  pub count-le : l .count ≤ v .state .records / entriesPerPage (unitOf sizes)
 
-abbrev pub EachSees : ℕ → ℕ → ℕ → Volume → Map → List Call → List Left → Type 0
-EachSees S R D v m [] ls = Unit {0}
-EachSees S R D v m (c ∷ cs) [] = ⊥
-EachSees S R D v m (c ∷ cs) (l ∷ ls) = Sees S R D v l (mapOf (geometry S R D) m c) × EachSees S R D (l .left) (mapOf (geometry S R D) m c .next) cs ls
+abbrev pub EachSees : Sizes → Volume → Map → List Call → List Left → Type 0
+EachSees sizes v m [] ls = Unit {0}
+EachSees sizes v m (c ∷ cs) [] = ⊥
+EachSees sizes v m (c ∷ cs) (l ∷ ls) = Sees sizes v l (mapOf (geometry sizes) m c) × EachSees sizes (l .left) (mapOf (geometry sizes) m c .next) cs ls
 
 -- the volume that the last call left
 abbrev pub lastLeft : Volume → List Left → Volume
 lastLeft v [] = v
 lastLeft v (l ∷ ls) = lastLeft (l .left) ls
 
-each-sees : (S R D : ℕ) (v : Volume) (m : Map) (cs : List Call) (ls : List Left) → Chain v cs ls → EachAgrees fnvFamily S R D v m cs → EachSees S R D v m cs ls
-each-sees S R D v m [] ls k a = tt
-each-sees S R D v m (c ∷ cs) [] k a = k
-each-sees S R D v m (c ∷ cs) (l ∷ ls) k a =
+each-sees : (sizes : Sizes) (v : Volume) (m : Map) (cs : List Call) (ls : List Left) → Chain v cs ls → EachAgrees fnvFamily sizes v m cs → EachSees sizes v m cs ls
+each-sees sizes v m [] ls k a = tt
+each-sees sizes v m (c ∷ cs) [] k a = k
+each-sees sizes v m (c ∷ cs) (l ∷ ls) k a =
     let e : l ≡ seen (call fnvFamily v c) = k .0 in
     let w : l .left ≡ call fnvFamily v c .volume = ap (λ (x : Left). x .left) e in (
       rw e (record { says = a .0 .says; state-is = a .0 .state-is; live = a .0 .live; once = a .0 .once; possible = a .0 .possible; handed-on = a .0 .handed-on; count-le = a .0 .count-le }),
-      each-sees S R D (l .left) (mapOf (geometry S R D) m c .next) cs ls (k .1) (rw w (a .1)),
+      each-sees sizes (l .left) (mapOf (geometry sizes) m c .next) cs ls (k .1) (rw w (a .1)),
     )
 
 last-is : (v : Volume) (cs : List Call) (ls : List Left) → Chain v cs ls → lastLeft v ls ≡ after fnvFamily v cs
@@ -59,28 +59,28 @@ last-is v (c ∷ cs) [] k = absurd k
 last-is v (c ∷ cs) (l ∷ ls) k = last-is (l .left) cs ls (k .1) ∙ ap (λ (x : Left). after fnvFamily (x .left) cs) (k .0)
 
 -- what demands 2 and 3 say of the code
-pub record CodeSeason (v : Volume) (S R D : ℕ) (first : Left) (cs : List Call) (ls : List Left) : Type 0 where
+pub record CodeSeason (v : Volume) (sizes : Sizes) (first : Left) (cs : List Call) (ls : List Left) : Type 0 where
   pub formatted : first .outcome ≡ accepted
-  pub started : first .left .state ≡ stateOf S R D 0 0
-  pub each : EachSees S R D (first .left) emptyMap cs ls
+  pub started : first .left .state ≡ stateOf sizes 0 0
+  pub each : EachSees sizes (first .left) emptyMap cs ls
   -- the chip operations of the list, done in order on the chip handed to the format, give the flash that the last call leaves
-  pub flash-is : applyAll (S / 16) (format v S R D .ops ++ opsOf fnvFamily (first .left) cs) (v .flash) ≡ lastLeft (first .left) ls .flash
+  pub flash-is : applyAll (unitOf sizes) (format v sizes .ops ++ opsOf fnvFamily (first .left) cs) (v .flash) ≡ lastLeft (first .left) ls .flash
   -- and keep the chip's discipline
-  pub disciplined : (P : ℕ → Bool) → Disciplined (format v S R D .ops ++ opsOf fnvFamily (first .left) cs) P
-  pub image : ImageOf fnvFamily (geometry S R D) (historyOf fnvFamily (first .left) emptyHistory cs) v (lastLeft (first .left) ls)
+  pub disciplined : (P : ℕ → Bool) → Disciplined (format v sizes .ops ++ opsOf fnvFamily (first .left) cs) P
+  pub image : ImageOf fnvFamily (geometry sizes) (historyOf fnvFamily (first .left) emptyHistory cs) v (lastLeft (first .left) ls)
 
-pub code-season : (v : Volume) (S R D : ℕ) (first : Left) (cs : List Call) (ls : List Left)
-    → allowed S R D ≡ true → tooShort (geometry S R D) (v .flash) (v .ram) ≡ false → KeyWords cs
-    → first ≡ seen (format v S R D) → Chain (first .left) cs ls
-    → CodeSeason v S R D first cs ls
-code-season v S R D first cs ls can long words e k =
-    let d = demand-3 fnvFamily v S R D cs can long words in
-    let w : first .left ≡ format v S R D .volume = ap (λ (x : Left). x .left) e in
+pub code-season : (v : Volume) (sizes : Sizes) (first : Left) (cs : List Call) (ls : List Left)
+    → allowed sizes ≡ true → tooShort (geometry sizes) (v .flash) (v .ram) ≡ false → KeyWords cs
+    → first ≡ seen (format v sizes) → Chain (first .left) cs ls
+    → CodeSeason v sizes first cs ls
+code-season v sizes first cs ls can long words e k =
+    let d = demand-3 fnvFamily v sizes cs can long words in
+    let w : first .left ≡ format v sizes .volume = ap (λ (x : Left). x .left) e in
     record {
       formatted = ap (λ (x : Left). x .outcome) e ∙ d .formatted-ok;
       started = ap (λ (x : Left). x .left .state) e ∙ d .started;
-      each = each-sees S R D (first .left) emptyMap cs ls k (rw w (d .agrees));
+      each = each-sees sizes (first .left) emptyMap cs ls k (rw w (d .agrees));
       flash-is = rw (last-is (first .left) cs ls k, w) (d .flash-is);
       disciplined = λ P. rw w (d .disciplined P);
-      image = rw (last-is (first .left) cs ls k, w) (demand-2 fnvFamily v S R D cs can long words);
+      image = rw (last-is (first .left) cs ls k, w) (demand-2 fnvFamily v sizes cs can long words);
     }
