@@ -10,6 +10,7 @@ use lib.Dec.{eqb}
 use Rattle.layout.specs.Geometry.{State, Geometry, geometry, dataSize, spareSize, ramSize, entriesPerPage, Sizes, unitOf, stateOf}
 use Rattle.layout.specs.Flash.{Op, program, erase}
 use Rattle.layout.specs.Hash.{Family}
+use Rattle.layout.specs.Refusals as refusal
 use Rattle.layout.specs.Calls.{Volume, Call, insert, update, delete, lookup, Outcome, accepted, hit, miss, refused, Result, call}
 use Rattle.layout.specs.FiniteMap.{Map, Reply, accepts, hits, misses, refuses, Step, mapOf}
 use Rattle.layout.specs.Items.{recordBytes}
@@ -68,7 +69,7 @@ abbrev pub Possible : Outcome → Type 0
 Possible accepted = Unit {0}
 Possible (hit place bytes) = Unit {0}
 Possible miss = Unit {0}
-Possible (refused i) = (i ≢ 1) × (i ≢ 2) × (i ≢ 7) × (i ≢ 8)
+Possible (refused i) = (i ≢ refusal.badState) × (i ≢ refusal.tooShort) × (i ≢ refusal.notFresh) × (i ≢ refusal.corruptEntry)
 
 -- "A lookup or a refusal hands on state, desk, cells and marks as it got them"
 abbrev pub HandedOn : Outcome → Volume → Volume → Type 0

@@ -13,6 +13,7 @@ use Rattle.layout.specs.Flash.{Flash, Op, applyAll, erases, Planned, pla
 use Rattle.layout.specs.Hash.{Family, positions, positionCount}
 use Rattle.layout.specs.Index.{Index, filterBit, withFilter, filterPlan, filterRam, inSka}
 use Rattle.layout.specs.Items.{RA, KA, DA, Record, recordBytes, entryBytes, deletionBytes, Place, itemPlace, bytesAt, itemWord, put, fills, itemPlan, itemRam, zeroPage}
+use Rattle.layout.specs.Refusals as refusal
 use Rattle.layout.specs.Search.{Stop, found, corrupt, Found, tryEntry, searchFrom}
 
 -- ---- what is handed in and what comes back
@@ -63,7 +64,7 @@ tooShort g c ram = ltb (length (c .main)) (dataSize g) || (ltb (length (c .spare
 
 -- 1, then 2, then the call's own
 unfoldable pub judged : Volume → Result → Result
-judged v r = cond (badState (v .state)) (refuse v 1) (cond (tooShort (geometry (v .state .sizes)) (v .flash) (v .ram)) (refuse v 2) r)
+judged v r = cond (badState (v .state)) (refuse v refusal.badState) (cond (tooShort (geometry (v .state .sizes)) (v .flash) (v .ram)) (refuse v refusal.tooShort) r)
 
 -- ---- format
 
@@ -85,7 +86,7 @@ formatted v sizes =
 
 -- it does not judge the old state
 unfoldable pub format : Volume → Sizes → Result
-format v sizes = cond (allowed sizes) (cond (tooShort (geometry sizes) (v .flash) (v .ram)) (refuse v 2) (formatted v sizes)) (refuse v 1)
+format v sizes = cond (allowed sizes) (cond (tooShort (geometry sizes) (v .flash) (v .ram)) (refuse v refusal.tooShort) (formatted v sizes)) (refuse v refusal.badState)
 
 -- the index over KA
 abbrev pub keyIndex : Geometry → Index
@@ -169,11 +170,11 @@ commit g v n d plan ram =
       };
       ops = ops;
     })
-    (refuse v 7)
+    (refuse v refusal.notFresh)
 
 -- ---- the calls after 1 and 2, by what the search met: "Checked in the order 1, 2, 8, 3, 4, 5, 6, 7"
 
--- 5: "insert or update, n at capacity"; 6: "update or delete, d at capacity"
+-- "n at capacity", "d at capacity"
 abbrev pub noRoom : Geometry → Volume → Bool
 noRoom g v = leb (recordCapacity g) (v .state .records)
 
@@ -185,7 +186,7 @@ abbrev pub recordPlace : Geometry → Volume → ℕ → Place
 recordPlace g v j = itemPlace (g .u) (RA g) (v .state .records) j
 
 unfoldable pub lookupAfter : Geometry → Volume → ℕ → Option Stop → Result
-lookupAfter g v opened (some corrupt) = refuse v 8
+lookupAfter g v opened (some corrupt) = refuse v refusal.corruptEntry
 lookupAfter g v opened none = record { outcome = miss; count = opened; volume = v; ops = [] }
 lookupAfter g v opened (some (found j)) =
     record { outcome = hit (recordPlace g v j) (bytesAt (v .flash .main) (v .ram) (recordPlace g v j) 16); count = opened; volume = v; ops = [] }
@@ -226,25 +227,25 @@ module _ (h : Family) where
   -- 5, 6, then 7 or the change: "a deletion followed by an insertion, in one call"
   unfoldable pub change : Geometry → Volume → Edit → Result
   change g v e =
-      cond (one (e .inserts) && noRoom g v) (refuse v 5)
-      (cond (one (e .deletes) && noDeletion g v) (refuse v 6)
+      cond (one (e .inserts) && noRoom g v) (refuse v refusal.full)
+      (cond (one (e .deletes) && noDeletion g v) (refuse v refusal.deletionsFull)
       (commit g v (more (v .state .records) (e .inserts)) (more (v .state .deletions) (e .deletes))
       (deletes g v (e .deletes) ++ inserts g v (e .inserts))
       (ramInserted g v (e .inserts) (ramDeleted g v (e .deletes)))))
 
   abbrev pub insertAfter : Geometry → Volume → Record → Option Stop → Result
-  insertAfter g v r (some corrupt) = refuse v 8
-  insertAfter g v r (some (found j)) = refuse v 3
+  insertAfter g v r (some corrupt) = refuse v refusal.corruptEntry
+  insertAfter g v r (some (found j)) = refuse v refusal.present
   insertAfter g v r none = change g v (record { deletes = none; inserts = some r })
 
   abbrev pub updateAfter : Geometry → Volume → Record → Option Stop → Result
-  updateAfter g v r (some corrupt) = refuse v 8
-  updateAfter g v r none = refuse v 4
+  updateAfter g v r (some corrupt) = refuse v refusal.corruptEntry
+  updateAfter g v r none = refuse v refusal.absent
   updateAfter g v r (some (found j)) = change g v (record { deletes = some j; inserts = some r })
 
   abbrev pub deleteAfter : Geometry → Volume → Option Stop → Result
-  deleteAfter g v (some corrupt) = refuse v 8
-  deleteAfter g v none = refuse v 4
+  deleteAfter g v (some corrupt) = refuse v refusal.corruptEntry
+  deleteAfter g v none = refuse v refusal.absent
   deleteAfter g v (some (found j)) = change g v (record { deletes = some j; inserts = none })
 
   abbrev pub answer : Geometry → Volume → Call → Result

@@ -6,6 +6,7 @@ use Prim.Native.Nat.{ℕ, _+_}
 use lib.Dec.{leb, eqb}
 use Rattle.layout.specs.Geometry.{Geometry, recordCapacity, deletionCapacity}
 use Rattle.layout.specs.Items.{Record, recordBytes}
+use Rattle.layout.specs.Refusals as refusal
 use Rattle.layout.specs.Calls.{Call, insert, update, delete, lookup}
 
 -- a record by its level key: "16 bytes made of key, moves, goal and free word"
@@ -50,21 +51,21 @@ step r m = record { says = r; next = m }
 module _ (capacity deletionCapacity : ℕ) where
   -- "Insert: key present, 3; else n at record capacity, 5; else the key gets the record .., and n rises by one"
   abbrev pub insertMap : Map → Level → Option Level → Step
-  insertMap m l (some o) = step (refuses 3) m
-  insertMap m l none = cond (leb capacity (m .n)) (step (refuses 5) m) (step accepts (record { levels = l ∷ m .levels; n = m .n + 1; d = m .d }))
+  insertMap m l (some o) = step (refuses refusal.present) m
+  insertMap m l none = cond (leb capacity (m .n)) (step (refuses refusal.full) m) (step accepts (record { levels = l ∷ m .levels; n = m .n + 1; d = m .d }))
 
   -- "Update: key absent, 4; else n at record capacity, 5; else d at deletion capacity, 6; else the new record replaces the key's old one, and n and d rise by one"
   abbrev pub updateMap : Map → Level → Option Level → Step
-  updateMap m l none = step (refuses 4) m
+  updateMap m l none = step (refuses refusal.absent) m
   updateMap m l (some o) =
-      cond (leb capacity (m .n)) (step (refuses 5) m)
-      (cond (leb deletionCapacity (m .d)) (step (refuses 6) m)
+      cond (leb capacity (m .n)) (step (refuses refusal.full) m)
+      (cond (leb deletionCapacity (m .d)) (step (refuses refusal.deletionsFull) m)
       (step accepts (record { levels = l ∷ without (l .key) (m .levels); n = m .n + 1; d = m .d + 1 })))
 
   -- "Delete: key absent, 4; else d at deletion capacity, 6; else the key leaves the map, and d rises by one"
   abbrev pub deleteMap : Map → ℕ → Option Level → Step
-  deleteMap m k none = step (refuses 4) m
-  deleteMap m k (some o) = cond (leb deletionCapacity (m .d)) (step (refuses 6) m) (step accepts (record { levels = without k (m .levels); n = m .n; d = m .d + 1 }))
+  deleteMap m k none = step (refuses refusal.absent) m
+  deleteMap m k (some o) = cond (leb deletionCapacity (m .d)) (step (refuses refusal.deletionsFull) m) (step accepts (record { levels = without k (m .levels); n = m .n; d = m .d + 1 }))
 
   -- "Lookup: key present, hit with its record; else miss. Nothing changes"
   abbrev pub lookupMap : Map → Option Level → Step

@@ -4,6 +4,7 @@ pub mod Hash
 pub mod Items
 pub mod Index
 pub mod Search
+pub mod Refusals
 pub mod Calls
 pub mod FiniteMap
 pub mod Examples

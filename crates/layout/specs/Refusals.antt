@@ -1,0 +1,34 @@
+-- The refusals by name, with their numbers. Document 01, "Calls": the table.
+use Prim.Native.Nat.{ℕ}
+
+-- "S, R or D not allowed; n or d above capacity; d above n"
+abbrev pub badState : ℕ
+badState = 1
+
+-- "cells under 64SB, marks under 64B or desk under 20S bytes"
+abbrev pub tooShort : ℕ
+tooShort = 2
+
+-- "insert of a live key"
+abbrev pub present : ℕ
+present = 3
+
+-- "update or delete of a key not live"
+abbrev pub absent : ℕ
+absent = 4
+
+-- "insert or update, n at capacity"
+abbrev pub full : ℕ
+full = 5
+
+-- "update or delete, d at capacity"
+abbrev pub deletionsFull : ℕ
+deletionsFull = 6
+
+-- "a sector to be programmed is not fresh"
+abbrev pub notFresh : ℕ
+notFresh = 7
+
+-- "the search meets its key with a record number of n or more"
+abbrev pub corruptEntry : ℕ
+corruptEntry = 8
