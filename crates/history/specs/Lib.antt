@@ -17,3 +17,5 @@ pub mod SeasonLaws
 pub mod DemandLaws
 pub mod Demands
 pub mod Every
+pub mod Reached
+pub mod Several
