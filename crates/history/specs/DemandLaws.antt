@@ -16,11 +16,11 @@ use Rattle.history.specs.Image.{History}
 use Rattle.history.specs.Live.{emptyHistory, live-start, findLive, lookupHistory}
 use Rattle.history.specs.Parts.{Beyond, beyond-then}
 use Rattle.history.specs.ByAddress.{main-by-address, spare-by-address, ram-by-address}
-use Rattle.history.specs.Season.{KeyWords, after, opsOf, Disciplined, EachAgrees, historyOf, ImageOf, shown, liveReply}
-use Rattle.history.specs.Discipline.{disciplined, erases-disciplined, erased, erased-in}
+use Rattle.history.specs.Runs.{KeyWords, after, opsOf, ProgramOrder, EachAgrees, historyOf, ImageOf, replyOf, liveReply}
+use Rattle.history.specs.ProgramOrder.{in-order, erases-in-order, erased, erased-in}
 use Rattle.history.specs.Volumes.{volumeOf}
 use Rattle.history.specs.Steps.{call-done}
-use Rattle.history.specs.SeasonLaws.{Ran, run, format-is, start-holds, start-beyond, start-spare}
+use Rattle.history.specs.RunLaws.{Ran, run, format-is, start-holds, start-beyond, start-spare}
 use Rattle.laws.specs.Sound.{Sound, sound}
 use Rattle.laws.specs.Sound as units
 
@@ -71,15 +71,15 @@ module _ (h : Family) (v : Volume) (sizes : Sizes) (calls : List Call) (can : al
   unfolding formatted
   fits = start-spare h sizes ok can v long .0
 
-  format-disciplined : (os : List Op) (P : ℕ → Bool) → Disciplined os (erased 0 (blocks g) P) → Disciplined (formatted v sizes .ops ++ os) P
+  format-in-order : (os : List Op) (P : ℕ → Bool) → ProgramOrder os (erased 0 (blocks g) P) → ProgramOrder (formatted v sizes .ops ++ os) P
   unfolding formatted
-  format-disciplined os P q = erases-disciplined 0 (blocks g) os P q
+  format-in-order os P q = erases-in-order 0 (blocks g) os P q
 
-  pub all-disciplined : (P : ℕ → Bool) → Disciplined (format v sizes .ops ++ opsOf h (format v sizes .volume) calls) P
-  all-disciplined P =
+  pub all-in-order : (P : ℕ → Bool) → ProgramOrder (format v sizes .ops ++ opsOf h (format v sizes .volume) calls) P
+  all-in-order P =
       rw is-formatted
-      (format-disciplined (opsOf h (formatted v sizes .volume) calls) P
-      (disciplined (unitOf sizes) (spareSize g) (opsOf h (formatted v sizes .volume) calls) (formatted v sizes .volume .flash) (erased 0 (blocks g) P) fits (says P) (ran .ops-allowed) (ran .inside)))
+      (format-in-order (opsOf h (formatted v sizes .volume) calls) P
+      (in-order (unitOf sizes) (spareSize g) (opsOf h (formatted v sizes .volume) calls) (formatted v sizes .volume .flash) (erased 0 (blocks g) P) fits (says P) (ran .ops-allowed) (ran .inside)))
 
   -- ---- demand 2
 
@@ -100,10 +100,10 @@ module _ (h : Family) (v : Volume) (sizes : Sizes) (calls : List Call) (can : al
   reply-is none = refl
   reply-is (some j) = refl
 
-  found : (key : ℕ) → key < 2 ^ 32 → shown (call h (volumeOf h sizes ok H (end .flash) (end .ram)) (lookup key) .outcome) ≡ liveReply H (findLive H key)
+  found : (key : ℕ) → key < 2 ^ 32 → replyOf (call h (volumeOf h sizes ok H (end .flash) (end .ram)) (lookup key) .outcome) ≡ liveReply H (findLive H key)
   found key l = call-done h sizes ok can H (end .flash) (end .ram) (ran .holds) (lookup key) l (ran .room) .says ∙ reply-is (findLive H key)
 
-  looked-up : (e : Volume) → e ≡ volumeOf h sizes ok H (end .flash) (end .ram) → (key : ℕ) → key < 2 ^ 32 → shown (call h e (lookup key) .outcome) ≡ liveReply H (findLive H key)
+  looked-up : (e : Volume) → e ≡ volumeOf h sizes ok H (end .flash) (end .ram) → (key : ℕ) → key < 2 ^ 32 → replyOf (call h e (lookup key) .outcome) ≡ liveReply H (findLive H key)
   looked-up e q key l = rw q (found key l)
 
   image : ImageOf h g H v end

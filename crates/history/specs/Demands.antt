@@ -1,5 +1,5 @@
 -- Demands 2 and 3 of document 01, for every hash family and every list of calls after an accepted format.
--- Their words (runs, discipline, agreement, history, image) are defined in Season and Image; the calls and the map in `layout`.
+-- Their words (runs, discipline, agreement, history, image) are defined in Runs and Image; the calls and the map in `layout`.
 use mathlib.Core.Path.{_≡_}
 use mathlib.Core.Bool.{Bool, true, false}
 use mathlib.Core.List.{List, _++_}
@@ -10,11 +10,11 @@ use Rattle.layout.specs.Hash.{Family}
 use Rattle.layout.specs.Calls.{Volume, Call, accepted, tooShort, format}
 use Rattle.layout.specs.FiniteMap.{emptyMap}
 use Rattle.history.specs.Live.{emptyHistory}
-use Rattle.history.specs.Season.{KeyWords, after, opsOf, Disciplined, EachAgrees, historyOf, ImageOf}
+use Rattle.history.specs.Runs.{KeyWords, after, opsOf, ProgramOrder, EachAgrees, historyOf, ImageOf}
 use Rattle.history.specs.DemandLaws as laws
 
 -- a format of `v` and the calls after it
-pub record Season (h : Family) (v : Volume) (sizes : Sizes) (calls : List Call) : Type 0 where
+pub record Run (h : Family) (v : Volume) (sizes : Sizes) (calls : List Call) : Type 0 where
   -- "That a format to which neither 1 nor 2 applies is accepted is part of the claim"
   pub formatted-ok : format v sizes .outcome ≡ accepted
   pub started : format v sizes .volume .state ≡ stateOf sizes 0 0
@@ -23,18 +23,18 @@ pub record Season (h : Family) (v : Volume) (sizes : Sizes) (calls : List Call) 
   -- "Done in that order on the chip handed to the format, they give the cells and marks that the last call leaves"
   pub flash-is : applyAll (unitOf sizes) (format v sizes .ops ++ opsOf h (format v sizes .volume) calls) (v .flash) ≡ after h (format v sizes .volume) calls .flash
   -- whatever sectors were programmed before the format
-  pub disciplined : (P : ℕ → Bool) → Disciplined (format v sizes .ops ++ opsOf h (format v sizes .volume) calls) P
+  pub in-order : (P : ℕ → Bool) → ProgramOrder (format v sizes .ops ++ opsOf h (format v sizes .volume) calls) P
 
 -- Demand 3: one claim about the whole list of calls
 pub demand-3 : (h : Family) (v : Volume) (sizes : Sizes) (calls : List Call)
     → allowed sizes ≡ true → tooShort (geometry sizes) (v .flash) (v .ram) ≡ false → KeyWords calls
-    → Season h v sizes calls
+    → Run h v sizes calls
 demand-3 h v sizes calls can long words = record {
   formatted-ok = laws.format-accepted h v sizes calls can long words;
   started = laws.format-state h v sizes calls can long words;
   agrees = laws.each-agrees h v sizes calls can long words;
   flash-is = laws.flash-is h v sizes calls can long words;
-  disciplined = laws.all-disciplined h v sizes calls can long words;
+  in-order = laws.all-in-order h v sizes calls can long words;
 }
 
 -- Demand 2: after every list of calls the volume's bytes are the image of the history of accepted calls

@@ -9,11 +9,11 @@ pub mod MapLaws
 pub mod Parts
 pub mod ByAddress
 pub mod Changes
-pub mod Season
-pub mod Discipline
+pub mod Runs
+pub mod ProgramOrder
 pub mod Volumes
 pub mod Steps
-pub mod SeasonLaws
+pub mod RunLaws
 pub mod DemandLaws
 pub mod Demands
 pub mod Every

@@ -12,10 +12,10 @@ use Prim.Native.Nat.{ℕ}
 use Rattle.history.specs.Image.{History}
 use Rattle.history.specs.Live.{Live, live-start, stepHistory, emptyHistory}
 use Rattle.history.specs.MapLaws.{step-same}
-use Rattle.history.specs.Season.{KeyWord, KeyWords, after, shown}
+use Rattle.history.specs.Runs.{KeyWord, KeyWords, after, replyOf}
 use Rattle.history.specs.Volumes.{Holds, volumeOf}
 use Rattle.history.specs.Steps.{call-done}
-use Rattle.history.specs.SeasonLaws.{less, format-is, start-holds}
+use Rattle.history.specs.RunLaws.{less, format-is, start-holds}
 
 -- the map after the calls
 abbrev pub mapAfter : Geometry → Map → List Call → Map
@@ -53,7 +53,7 @@ module _ (h : Family) (sizes : Sizes) where
           live = step-same (recordCapacity g) (deletionCapacity g) H m c L .1;
         }
 
-    one-says : shown (call h v c .outcome) ≡ mapOf g m c .says
+    one-says : replyOf (call h v c .outcome) ≡ mapOf g m c .says
     one-says =
         call-done h sizes (sound sizes can) can H C ram I c w (less h sizes (sound sizes can) can H m L) .says
         ∙ step-same (recordCapacity g) (deletionCapacity g) H m c L .0
@@ -67,9 +67,9 @@ module _ (h : Family) (sizes : Sizes) where
       moved (call h v c .volume) _ (mapOf g m c .next) (ap (λ (x : Volume). call h x c .volume) (X .is))
       (one-reached (X .can) (X .H) (v .flash) (v .ram) m c (X .holds) (X .live) w)
 
-  pub reach-says : (v : Volume) (m : Map) (c : Call) → Reached h sizes v m → KeyWord c → shown (call h v c .outcome) ≡ mapOf g m c .says
+  pub reach-says : (v : Volume) (m : Map) (c : Call) → Reached h sizes v m → KeyWord c → replyOf (call h v c .outcome) ≡ mapOf g m c .says
   reach-says v m c X w =
-      ap (λ (x : Volume). shown (call h x c .outcome)) (X .is) ∙ one-says (X .can) (X .H) (v .flash) (v .ram) m c (X .holds) (X .live) w
+      ap (λ (x : Volume). replyOf (call h x c .outcome)) (X .is) ∙ one-says (X .can) (X .H) (v .flash) (v .ram) m c (X .holds) (X .live) w
 
   -- any list of calls
   pub reach : (v : Volume) (m : Map) (cs : List Call) → Reached h sizes v m → KeyWords cs → Reached h sizes (after h v cs) (mapAfter g m cs)

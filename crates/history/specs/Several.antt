@@ -8,7 +8,7 @@ use Rattle.layout.specs.Geometry.{Sizes, Geometry, geometry}
 use Rattle.layout.specs.Hash.{Family}
 use Rattle.layout.specs.Calls.{Volume, Call, Outcome, accepted, hit, miss, refused, call}
 use Rattle.layout.specs.FiniteMap.{Map, accepts, mapOf}
-use Rattle.history.specs.Season.{KeyWords, after, shown}
+use Rattle.history.specs.Runs.{KeyWords, after, replyOf}
 use Rattle.history.specs.Every.{refusal-keeps}
 use Rattle.history.specs.Reached.{Reached, reach-call, reach-says, mapAfter}
 
@@ -46,18 +46,18 @@ pub taken-append : (g : Geometry) (m : Map) (cs ds : List Call) → AllTaken g m
 taken-append g m [] ds A B = B
 taken-append g m (c ∷ cs) ds A B = (A .0, taken-append g (mapOf g m c .next) cs ds (A .1) B)
 
-pub shown-accepted : (o : Outcome) → shown o ≡ accepts → o ≡ accepted
-shown-accepted accepted e = refl
-shown-accepted (hit place bytes) e = absurd (let z : true ≡ false = cc in true≢false z)
-shown-accepted miss e = absurd (let z : true ≡ false = cc in true≢false z)
-shown-accepted (refused i) e = absurd (let z : true ≡ false = cc in true≢false z)
+pub reply-accepted : (o : Outcome) → replyOf o ≡ accepts → o ≡ accepted
+reply-accepted accepted e = refl
+reply-accepted (hit place bytes) e = absurd (let z : true ≡ false = cc in true≢false z)
+reply-accepted miss e = absurd (let z : true ≡ false = cc in true≢false z)
+reply-accepted (refused i) e = absurd (let z : true ≡ false = cc in true≢false z)
 
 -- all is done, and the volume is the one after the calls
 pub all-done : (h : Family) (sizes : Sizes) (v : Volume) (m : Map) (cs : List Call) → Reached h sizes v m → KeyWords cs → AllTaken (geometry sizes) m cs
     → (callAll h v cs .outcome ≡ accepted) × (callAll h v cs .volume ≡ after h v cs) × (callAll h v cs .done ≡ length cs)
 all-done h sizes v m [] X w A = (refl, refl, refl)
 all-done h sizes v m (c ∷ cs) X w A =
-    let o : call h v c .outcome ≡ accepted = shown-accepted _ (reach-says h sizes v m c X (w .0) ∙ A .0) in
+    let o : call h v c .outcome ≡ accepted = reply-accepted _ (reach-says h sizes v m c X (w .0) ∙ A .0) in
     let T = all-done h sizes (call h v c .volume) (mapOf (geometry sizes) m c .next) cs (reach-call h sizes v m c X (w .0)) (w .1) (A .1) in
     rw o (T .0, T .1, rw (T .2))
 

@@ -26,8 +26,8 @@ use Rattle.history.specs.Image.{History, recordAt, raItem, kaItem, daIte
 use Rattle.history.specs.Live.{findLive, withRecord, withDeletion, HistoryStep, historyStep, insertHistory, updateHistory, deleteHistory, lookupHistory, stepHistory, found-below}
 use Rattle.history.specs.Parts.{Parts, Did, Frame, Beyond, beyond-same, beyond-then, frame-beyond, frame-area, frame-index}
 use Rattle.history.specs.Changes.{Changed, deletion-did, deletion-parts, insertion-changes}
-use Rattle.history.specs.Season.{KeyWord, shown, Possible, HandedOn}
-use Rattle.history.specs.Discipline.{Below, fresh-below}
+use Rattle.history.specs.Runs.{KeyWord, replyOf, Possible, HandedOn}
+use Rattle.history.specs.ProgramOrder.{Below, fresh-below}
 use Rattle.history.specs.Volumes as volumes
 use Rattle.history.specs.Volumes.{Holds, volumeOf}
 use Rattle.laws.specs.Sound.{Sound}
@@ -38,7 +38,7 @@ module _ (h : Family) (sizes : Sizes) (ok : Sound sizes) (can : allowed sizes �
   g = geometry sizes
 
   pub record Done (H : History) (C : Flash) (ram : List ℕ) (r : Result) (s : HistoryStep) : Type 0 where
-    pub says : shown (r .outcome) ≡ s .says
+    pub says : replyOf (r .outcome) ≡ s .says
     pub possible : Possible (r .outcome)
     pub handed-on : HandedOn (r .outcome) (volumeOf h sizes ok H C ram) (r .volume)
     pub volume-is : r .volume ≡ volumeOf h sizes ok (s .next) (r .volume .flash) (r .volume .ram)

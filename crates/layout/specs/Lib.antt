@@ -8,4 +8,4 @@ pub mod Refusals
 pub mod Calls
 pub mod FiniteMap
 pub mod Examples
-pub mod Pins
+pub mod Checks

@@ -10,7 +10,7 @@ use Rattle.layout.specs.Hash.{fnvFamily}
 use Rattle.layout.specs.Calls.{Volume, Call, accepted, tooShort, format, call}
 use Rattle.layout.specs.FiniteMap.{Map, emptyMap, Step, mapOf}
 use Rattle.history.specs.Live.{emptyHistory, Nodup}
-use Rattle.history.specs.Season.{KeyWords, after, opsOf, Disciplined, shown, Possible, HandedOn, EachAgrees, historyOf, ImageOf}
+use Rattle.history.specs.Runs.{KeyWords, after, opsOf, ProgramOrder, replyOf, Possible, HandedOn, EachAgrees, historyOf, ImageOf}
 use Rattle.history.specs.Demands.{demand-2, demand-3}
 use Rattle.state.specs.Contract.{Left, seen}
 
@@ -24,7 +24,7 @@ Chain v (c ∷ cs) (l ∷ ls) = (l ≡ seen (call fnvFamily v c)) × Chain (l .l
 
 -- what a caller sees of a call on the volume v, and the map's step
 pub record Sees (sizes : Sizes) (v : Volume) (l : Left) (s : Step) : Type 0 where
-  pub says : shown (l .outcome) ≡ s .says
+  pub says : replyOf (l .outcome) ≡ s .says
   pub state-is : l .left .state ≡ stateOf sizes (s .next .n) (s .next .d)
   pub live : l .left .state .records ≡ l .left .state .deletions + length (s .next .levels)
   pub once : Nodup (s .next .levels)
@@ -59,21 +59,21 @@ last-is v (c ∷ cs) [] k = absurd k
 last-is v (c ∷ cs) (l ∷ ls) k = last-is (l .left) cs ls (k .1) ∙ ap (λ (x : Left). after fnvFamily (x .left) cs) (k .0)
 
 -- what demands 2 and 3 say of the code
-pub record CodeSeason (v : Volume) (sizes : Sizes) (first : Left) (cs : List Call) (ls : List Left) : Type 0 where
+pub record CodeRun (v : Volume) (sizes : Sizes) (first : Left) (cs : List Call) (ls : List Left) : Type 0 where
   pub formatted : first .outcome ≡ accepted
   pub started : first .left .state ≡ stateOf sizes 0 0
   pub each : EachSees sizes (first .left) emptyMap cs ls
   -- the chip operations of the list, done in order on the chip handed to the format, give the flash that the last call leaves
   pub flash-is : applyAll (unitOf sizes) (format v sizes .ops ++ opsOf fnvFamily (first .left) cs) (v .flash) ≡ lastLeft (first .left) ls .flash
   -- and keep the chip's discipline
-  pub disciplined : (P : ℕ → Bool) → Disciplined (format v sizes .ops ++ opsOf fnvFamily (first .left) cs) P
+  pub in-order : (P : ℕ → Bool) → ProgramOrder (format v sizes .ops ++ opsOf fnvFamily (first .left) cs) P
   pub image : ImageOf fnvFamily (geometry sizes) (historyOf fnvFamily (first .left) emptyHistory cs) v (lastLeft (first .left) ls)
 
-pub code-season : (v : Volume) (sizes : Sizes) (first : Left) (cs : List Call) (ls : List Left)
+pub code-run : (v : Volume) (sizes : Sizes) (first : Left) (cs : List Call) (ls : List Left)
     → allowed sizes ≡ true → tooShort (geometry sizes) (v .flash) (v .ram) ≡ false → KeyWords cs
     → first ≡ seen (format v sizes) → Chain (first .left) cs ls
-    → CodeSeason v sizes first cs ls
-code-season v sizes first cs ls can long words e k =
+    → CodeRun v sizes first cs ls
+code-run v sizes first cs ls can long words e k =
     let d = demand-3 fnvFamily v sizes cs can long words in
     let w : first .left ≡ format v sizes .volume = ap (λ (x : Left). x .left) e in
     record {
@@ -81,6 +81,6 @@ code-season v sizes first cs ls can long words e k =
       started = ap (λ (x : Left). x .left .state) e ∙ d .started;
       each = each-sees sizes (first .left) emptyMap cs ls k (rw w (d .agrees));
       flash-is = rw (last-is (first .left) cs ls k, w) (d .flash-is);
-      disciplined = λ P. rw w (d .disciplined P);
+      in-order = λ P. rw w (d .in-order P);
       image = rw (last-is (first .left) cs ls k, w) (demand-2 fnvFamily v sizes cs can long words);
     }

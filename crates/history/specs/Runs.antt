@@ -49,20 +49,20 @@ programmed (program s bytes) P x = cond (eqb x s) true (P x)
 programmed (erase b) P x = cond (eqb (x / 64) b) false (P x)
 
 -- "Whenever one of them programs a sector, that sector has not been programmed since the last erase of its block, and every earlier sector of its page has"
-abbrev pub Disciplined : List Op → (ℕ → Bool) → Type 0
-Disciplined [] P = Unit {0}
-Disciplined (program s bytes ∷ os) P =
-    (P s ≡ false) × ((x : ℕ) → x < s → x / 4 ≡ s / 4 → P x ≡ true) × Disciplined os (programmed (program s bytes) P)
-Disciplined (erase b ∷ os) P = Disciplined os (programmed (erase b) P)
+abbrev pub ProgramOrder : List Op → (ℕ → Bool) → Type 0
+ProgramOrder [] P = Unit {0}
+ProgramOrder (program s bytes ∷ os) P =
+    (P s ≡ false) × ((x : ℕ) → x < s → x / 4 ≡ s / 4 → P x ≡ true) × ProgramOrder os (programmed (program s bytes) P)
+ProgramOrder (erase b ∷ os) P = ProgramOrder os (programmed (erase b) P)
 
 -- ---- demand 3, of one call
 
 -- "Compared at each call: accepted, hit, miss or the refusal's number; a hit's 16 bytes"
-abbrev pub shown : Outcome → Reply
-shown accepted = accepts
-shown (hit place bytes) = hits bytes
-shown miss = misses
-shown (refused i) = refuses i
+abbrev pub replyOf : Outcome → Reply
+replyOf accepted = accepts
+replyOf (hit place bytes) = hits bytes
+replyOf miss = misses
+replyOf (refused i) = refuses i
 
 -- none of refusals 1, 2, 7 and 8
 abbrev pub Possible : Outcome → Type 0
@@ -80,7 +80,7 @@ HandedOn (refused i) v v′ = v′ ≡ v
 
 -- the result r of a call on the volume v, and the map's step
 pub record Agrees (sizes : Sizes) (v : Volume) (r : Result) (s : Step) : Type 0 where
-  pub says : shown (r .outcome) ≡ s .says
+  pub says : replyOf (r .outcome) ≡ s .says
   -- "the state, which is the format's S, R and D with the map's n and d"
   pub state-is : r .volume .state ≡ stateOf sizes (s .next .n) (s .next .d)
   -- n - d is the number of live levels: the map's list has no key twice
@@ -140,4 +140,4 @@ pub record ImageOf (h : Family) (g : Geometry) (H : History) (handed v : Volume)
   pub records : v .state .records ≡ length (H .records)
   pub deletions : v .state .deletions ≡ length (H .deleted)
   -- lookups give the live records back
-  pub lookups : (key : ℕ) → key < 2 ^ 32 → shown (call h v (lookup key) .outcome) ≡ liveReply H (findLive H key)
+  pub lookups : (key : ℕ) → key < 2 ^ 32 → replyOf (call h v (lookup key) .outcome) ≡ liveReply H (findLive H key)

@@ -26,8 +26,8 @@ use Rattle.history.specs.MapLaws.{step-same, Live-deletion}
 use Rattle.history.specs.Parts.{Parts, Beyond, beyond-same, beyond-then}
 use Rattle.history.specs.AreaLaws.{area-start}
 use Rattle.history.specs.IndexLaws.{index-start}
-use Rattle.history.specs.Season.{KeyWords, number, after, opsOf, shown, Agrees, EachAgrees, growIf, grow, historyOf}
-use Rattle.history.specs.Discipline.{Below, below-append}
+use Rattle.history.specs.Runs.{KeyWords, number, after, opsOf, replyOf, Agrees, EachAgrees, growIf, grow, historyOf}
+use Rattle.history.specs.ProgramOrder.{Below, below-append}
 use Rattle.history.specs.Volumes.{Holds, volumeOf}
 use Rattle.history.specs.Steps.{Done, call-done}
 use Rattle.laws.specs.Sound.{Sound}
@@ -41,11 +41,11 @@ growBy (hits bytes) H c = H
 growBy misses H c = H
 growBy (refuses i) H c = H
 
-grow-shown : (o : Outcome) (H : History) (c : Call) → growIf o H c ≡ growBy (shown o) H c
-grow-shown accepted H c = refl
-grow-shown (hit place bytes) H c = refl
-grow-shown miss H c = refl
-grow-shown (refused i) H c = refl
+grow-reply : (o : Outcome) (H : History) (c : Call) → growIf o H c ≡ growBy (replyOf o) H c
+grow-reply accepted H c = refl
+grow-reply (hit place bytes) H c = refl
+grow-reply miss H c = refl
+grow-reply (refused i) H c = refl
 
 module _ (capacity room : ℕ) where
   grow-step : (H : History) (c : Call) → growBy (stepHistory capacity room H c .says) H c ≡ stepHistory capacity room H c .next
@@ -232,7 +232,7 @@ module _ (h : Family) (sizes : Sizes) (ok : Sound sizes) (can : allowed sizes �
       = call-done h sizes ok can H C ram I c (w .0) (less H m L) in
       let same = step-same (recordCapacity g) (deletionCapacity g) H m c L in
       let grown : growIf (call h (volumeOf h sizes ok H C ram) c .outcome) H c ≡ stepHistory (recordCapacity g) (deletionCapacity g) H c .next
-      = grow-shown (call h (volumeOf h sizes ok H C ram) c .outcome) H c ∙ ap (λ (o : Reply). growBy o H c) (X .says) ∙ grow-step (recordCapacity g) (deletionCapacity g) H c in
+      = grow-reply (call h (volumeOf h sizes ok H C ram) c .outcome) H c ∙ ap (λ (o : Reply). growBy o H c) (X .says) ∙ grow-step (recordCapacity g) (deletionCapacity g) H c in
       joined H C ram m c cs (call-agrees H C ram m c L (same .1) (same .0) X) X
       (moved (call h (volumeOf h sizes ok H C ram) c .volume) _ _ (stepHistory (recordCapacity g) (deletionCapacity g) H c .next) (mapOf g m c .next) cs (X .volume-is) grown
       (run (stepHistory (recordCapacity g) (deletionCapacity g) H c .next) _ _ (mapOf g m c .next) cs (w .1) (X .holds) (same .1)))

@@ -1,4 +1,4 @@
--- From marks to the operations' own bookkeeping: what is allowed by the marks is disciplined by the operations.
+-- From marks to the operations' own bookkeeping: what is allowed by the marks is in-order by the operations.
 use mathlib.Core.Path.{_≡_, refl, _∙_}
 use mathlib.Core.Bool.{Bool, true, false, cond, and-eq-true-iff}
 use mathlib.Core.List.{List, [], _∷_, _++_}
@@ -12,7 +12,7 @@ use Rattle.memory.specs.Cases.{either, eq?, lt?}
 use Rattle.memory.specs.Lists.{length-write, getD-write-before, getD-write-in, getD-write-after}
 use Rattle.layout.specs.Flash.{Flash, Op, program, erase, apply, fresh, allFresh, erases}
 use Rattle.laws.specs.FlashLaws.{AllAllowed}
-use Rattle.history.specs.Season.{programmed, Disciplined}
+use Rattle.history.specs.Runs.{programmed, ProgramOrder}
 
 -- every sector programmed is below N
 abbrev pub Below : ℕ → List Op → Type 0
@@ -65,25 +65,25 @@ module _ (u N : ℕ) where
       (λ q. getD-write-before (c .spare) (b * 64) (replicate 64 255) x 0 (q .1) ∙ m x l)
       (λ q. getD-write-after (c .spare) (b * 64) (replicate 64 255) x 0 (omega arith) ∙ m x l)))
 
-  -- what is allowed by the marks is disciplined by the operations
-  pub disciplined : (ops : List Op) (c : Flash) (P : ℕ → Bool) → N ≤ length (c .spare) → Says N c P → AllAllowed u ops c → Below N ops → Disciplined ops P
-  disciplined [] c P long m a b = tt
-  disciplined (program s bytes ∷ os) c P long m a b = (
+  -- what is allowed by the marks is in-order by the operations
+  pub in-order : (ops : List Op) (c : Flash) (P : ℕ → Bool) → N ≤ length (c .spare) → Says N c P → AllAllowed u ops c → Below N ops → ProgramOrder ops P
+  in-order [] c P long m a b = tt
+  in-order (program s bytes ∷ os) c P long m a b = (
     says-false (P s) (getD (c .spare) s 0) (m s (b .0)) (a .0 .0),
     (λ x l q. says-true (P x) (getD (c .spare) x 0) (m x (omega (arith, b .0))) (a .0 .1 x l q)),
-    disciplined os (apply u (program s bytes) c) (programmed (program s bytes) P) (rw (length-set (c .spare) s 0) long) (says-program s bytes c P long m) (a .1) (b .1),
+    in-order os (apply u (program s bytes) c) (programmed (program s bytes) P) (rw (length-set (c .spare) s 0) long) (says-program s bytes c P long m) (a .1) (b .1),
   )
-  disciplined (erase b ∷ os) c P long m a l =
-      disciplined os (apply u (erase b) c) (programmed (erase b) P) (rw (length-write (c .spare) (b * 64) (replicate 64 255)) long) (says-erase b c P long m) (a .1) l
+  in-order (erase b ∷ os) c P long m a l =
+      in-order os (apply u (erase b) c) (programmed (erase b) P) (rw (length-write (c .spare) (b * 64) (replicate 64 255)) long) (says-erase b c P long m) (a .1) l
 
 -- erased blocks count as not programmed, whatever was before
 abbrev pub erased : ℕ → ℕ → (ℕ → Bool) → ℕ → Bool
 erased b zero P x = P x
 erased b (suc k) P x = erased (suc b) k (programmed (erase b) P) x
 
-pub erases-disciplined : (b k : ℕ) (os : List Op) (P : ℕ → Bool) → Disciplined os (erased b k P) → Disciplined (erases b k ++ os) P
-erases-disciplined b zero os P q = q
-erases-disciplined b (suc k) os P q = erases-disciplined (suc b) k os (programmed (erase b) P) q
+pub erases-in-order : (b k : ℕ) (os : List Op) (P : ℕ → Bool) → ProgramOrder os (erased b k P) → ProgramOrder (erases b k ++ os) P
+erases-in-order b zero os P q = q
+erases-in-order b (suc k) os P q = erases-in-order (suc b) k os (programmed (erase b) P) q
 
 erased-out : (b k : ℕ) (P : ℕ → Bool) (x : ℕ) → x / 64 < b → erased b k P x ≡ P x
 erased-out b zero P x l = refl

@@ -99,24 +99,24 @@ made-late = refl
 -- ---- the search
 
 -- entries 0 to 9, four to a page; of the key those numbered 1, 4 and 9, of which 4 and 9 are deleted; pages 0 and 1 have the bits
-abbrev tryToy : ℕ → ℕ → Option Stop
-tryToy n j = tryEntry n (λ i. memb i (4 ∷ 9 ∷ [])) 7 (cond (memb j (1 ∷ 4 ∷ 9 ∷ [])) 7 0) j
+abbrev tryExample : ℕ → ℕ → Option Stop
+tryExample n j = tryEntry n (λ i. memb i (4 ∷ 9 ∷ [])) 7 (cond (memb j (1 ∷ 4 ∷ 9 ∷ [])) 7 0) j
 
-abbrev gateToy : ℕ → Bool
-gateToy p = true
+abbrev gateExample : ℕ → Bool
+gateExample p = true
 
 -- a newer deleted entry is not "the end of the search"; both pages are opened, the RAM's entry is not counted
-pub search-past-deleted : searchFrom gateToy (tryToy 10) 4 10 ≡ record { stop = some (found 1); opened = 2 }
+pub search-past-deleted : searchFrom gateExample (tryExample 10) 4 10 ≡ record { stop = some (found 1); opened = 2 }
 unfolding searchPages scan memb
 search-past-deleted = refl
 
 -- a record number of n or more ends it at once
-pub search-corrupt : searchFrom gateToy (λ j. tryEntry 3 (λ i. false) 7 7 j) 4 10 ≡ record { stop = some corrupt; opened = 0 }
+pub search-corrupt : searchFrom gateExample (λ j. tryEntry 3 (λ i. false) 7 7 j) 4 10 ≡ record { stop = some corrupt; opened = 0 }
 unfolding searchPages scan
 search-corrupt = refl
 
 -- a page whose gate is shut is neither opened nor counted
-pub search-shut : searchFrom (λ p. false) (tryToy 8) 4 8 ≡ record { stop = none; opened = 0 }
+pub search-shut : searchFrom (λ p. false) (tryExample 8) 4 8 ≡ record { stop = none; opened = 0 }
 unfolding searchPages scan memb
 search-shut = refl
 
