@@ -3,26 +3,34 @@
 ghost use mathlib.Core.Path.{_≡_};
 ghost use Prim.Native.Nat.{_+_, _%_, _<_, _≤_};
 ghost use lib.ListN.{length};
+ghost use Rattle.memory.specs.Lent.{before, after};
 ghost use Rattle.layout.specs.Geometry.{deletionCapacity, recordCapacity, spareSize, entriesPerPage};
-ghost use Rattle.layout.specs.Flash.{flashOf, applyAll};
+ghost use Rattle.layout.specs.Flash.{applyAll};
 ghost use Rattle.layout.specs.Hash.{fnvFamily};
 ghost use Rattle.layout.specs.Items.{DA, recordBytes, entryBytes, deletionBytes};
 ghost use Rattle.layout.specs.Calls.{deletionRam, keyIndex};
+ghost use Rattle.laws.specs.LentFlash.{flashBefore, flashAfter};
 ghost use Rattle.laws.specs.Operations.{itemOps};
 ghost use Rattle.items.specs.Fresh.{itemFresh};
 ghost use Rattle.geometry.specs.Shape.{shape, Sound};
 ghost use Rattle.sets.specs.Indexes.{indexOf};
+ghost use Rattle.state.specs.Contract.{recordIs};
 ghost use Rattle.state.specs.Judge.{Long};
 ghost use Rattle.changes.specs.Inserted.{insertFresh, lastFlash, lastRam, insertedFlash, insertedRam};
 use geometry::Geometry;
 use sets::Index;
+use state::Record;
 
 // ---- the bytes of records, entries and deletions
 
 // The 16 bytes of a record.
-fn record_bytes(key: u32, moves: u32, goal: u32, word: u32) -> [u8; 16]
-    ensures { λ r. ⌜ r ≡ recordBytes key moves goal word ⌝ }
+fn record_bytes(record: Record) -> [u8; 16]
+    ensures { λ r. ⌜ r ≡ recordBytes (recordIs «record») ⌝ }
 {
+    let key = record.key;
+    let moves = record.moves;
+    let goal = record.goal;
+    let free = record.free;
     let k1 = key / 256;
     let k2 = k1 / 256;
     let k3 = k2 / 256;
@@ -32,9 +40,9 @@ fn record_bytes(key: u32, moves: u32, goal: u32, word: u32) -> [u8; 16]
     let g1 = goal / 256;
     let g2 = g1 / 256;
     let g3 = g2 / 256;
-    let w1 = word / 256;
-    let w2 = w1 / 256;
-    let w3 = w2 / 256;
+    let f1 = free / 256;
+    let f2 = f1 / 256;
+    let f3 = f2 / 256;
     [
         (key % 256) as u8,
         (k1 % 256) as u8,
@@ -48,10 +56,10 @@ fn record_bytes(key: u32, moves: u32, goal: u32, word: u32) -> [u8; 16]
         (g1 % 256) as u8,
         (g2 % 256) as u8,
         (g3 % 256) as u8,
-        (word % 256) as u8,
-        (w1 % 256) as u8,
-        (w2 % 256) as u8,
-        (w3 % 256) as u8,
+        (free % 256) as u8,
+        (f1 % 256) as u8,
+        (f2 % 256) as u8,
+        (f3 % 256) as u8,
     ]
 }
 
@@ -97,7 +105,7 @@ fn deletion_bytes(j: u32) -> [u8; 4]
 // Are the sectors that deletion number d programs fresh?
 pub fn deletion_fresh(spare: &[u8], g: Geometry, d: usize) -> bool
     requires { ⌜ Sound g × (d < deletionCapacity (shape g)) × (spareSize (shape g) ≤ length (now spare)) ⌝ }
-    ensures { λ r. ⌜ r ≡ itemFresh (now (spare .entry)) (DA (shape g)) d ⌝ }
+    ensures { λ r. ⌜ r ≡ itemFresh (before spare) (DA (shape g)) d ⌝ }
 {
     items::item_fresh(spare, geometry::deletion_area(g), d)
 }
@@ -112,8 +120,9 @@ pub fn delete_record(
     j: u32,
 )
     requires { ⌜ Sound g × (d < deletionCapacity (shape g)) × Long g (now main) (now spare) (now ram) ⌝ }
-    ensures { λ _. ⌜ flashOf (now (main .exit)) (now (spare .exit)) ≡ applyAll (g .unit) (itemOps (g .unit) (DA (shape g)) d (deletionBytes j) (now (ram .entry))) (flashOf (now (main .entry)) (now (spare .entry))) ⌝ }
-    ensures { λ _. ⌜ now (ram .exit) ≡ deletionRam (shape g) d j (now (ram .entry)) ⌝ }
+    ensures { λ _. ⌜ flashAfter main spare
+        ≡ applyAll (g .unit) (itemOps (g .unit) (DA (shape g)) d (deletionBytes j) (before ram)) (flashBefore main spare) ⌝ }
+    ensures { λ _. ⌜ after ram ≡ deletionRam (shape g) d j (before ram) ⌝ }
 {
     let unit = g.unit;
     let bytes = deletion_bytes(j);
@@ -144,7 +153,7 @@ fn key_index(g: Geometry) -> Index
 // Are the sectors that the insertion of record n programs fresh?
 pub fn insertion_fresh(spare: &[u8], g: Geometry, n: usize) -> bool
     requires { ⌜ Sound g × (n < recordCapacity (shape g)) × (spareSize (shape g) ≤ length (now spare)) ⌝ }
-    ensures { λ r. ⌜ r ≡ insertFresh (now (spare .entry)) (shape g) n ⌝ }
+    ensures { λ r. ⌜ r ≡ insertFresh (before spare) (shape g) n ⌝ }
 {
     if !items::item_fresh(spare, geometry::record_area(g), n) {
         return false;
@@ -162,9 +171,10 @@ pub fn insertion_fresh(spare: &[u8], g: Geometry, n: usize) -> bool
 // The entry of record n where it fills its page: the page's filter is taken before the page is
 // programmed and zeroed.
 fn enter_last(main: &mut [u8], spare: &mut [u8], ram: &mut [u8], g: Geometry, n: usize, key: u32)
-    requires { ⌜ Sound g × (n < recordCapacity (shape g)) × Long g (now main) (now spare) (now ram) × (n % entriesPerPage (g .unit) + 1 ≡ entriesPerPage (g .unit)) ⌝ }
-    ensures { λ _. ⌜ flashOf (now (main .exit)) (now (spare .exit)) ≡ lastFlash fnvFamily (shape g) n key (now (ram .entry)) (flashOf (now (main .entry)) (now (spare .entry))) ⌝ }
-    ensures { λ _. ⌜ now (ram .exit) ≡ lastRam fnvFamily (shape g) n key (now (ram .entry)) ⌝ }
+    requires { ⌜ Sound g × (n < recordCapacity (shape g)) × Long g (now main) (now spare) (now ram)
+        × (n % entriesPerPage (g .unit) + 1 ≡ entriesPerPage (g .unit)) ⌝ }
+    ensures { λ _. ⌜ flashAfter main spare ≡ lastFlash fnvFamily (shape g) n key (before ram) (flashBefore main spare) ⌝ }
+    ensures { λ _. ⌜ after ram ≡ lastRam fnvFamily (shape g) n key (before ram) ⌝ }
 {
     let unit = g.unit;
     let q = g.entries_per_page();
@@ -183,23 +193,21 @@ pub fn insert_record(
     ram: &mut [u8],
     g: Geometry,
     n: usize,
-    key: u32,
-    moves: u32,
-    goal: u32,
-    word: u32,
+    record: Record,
 )
     requires { ⌜ Sound g × (n < recordCapacity (shape g)) × Long g (now main) (now spare) (now ram) ⌝ }
-    ensures { λ _. ⌜ flashOf (now (main .exit)) (now (spare .exit)) ≡ insertedFlash fnvFamily (shape g) n key (recordBytes key moves goal word) (now (ram .entry)) (flashOf (now (main .entry)) (now (spare .entry))) ⌝ }
-    ensures { λ _. ⌜ now (ram .exit) ≡ insertedRam fnvFamily (shape g) n key (recordBytes key moves goal word) (now (ram .entry)) ⌝ }
+    ensures { λ _. ⌜ flashAfter main spare
+        ≡ insertedFlash fnvFamily (shape g) n («record» .key) (recordBytes (recordIs «record»)) (before ram) (flashBefore main spare) ⌝ }
+    ensures { λ _. ⌜ after ram ≡ insertedRam fnvFamily (shape g) n («record» .key) (recordBytes (recordIs «record»)) (before ram) ⌝ }
 {
     let unit = g.unit;
     let q = g.entries_per_page();
-    let bytes = record_bytes(key, moves, goal, word);
+    let bytes = record_bytes(record);
     items::append_item(main, spare, ram, unit, geometry::record_area(g), n, &bytes);
     if n % q + 1 == q {
-        enter_last(main, spare, ram, g, n, key);
+        enter_last(main, spare, ram, g, n, record.key);
         return;
     }
-    let e = entry_bytes(key, n as u32);
+    let e = entry_bytes(record.key, n as u32);
     items::append_item(main, spare, ram, unit, geometry::entry_area(g), n, &e);
 }

@@ -42,13 +42,14 @@ unfolding memb
 from-end S i h = rw (drop-of-length-le rows {i = i} h)
 
 -- what is answered to a sector size that is in the table, and to one that is not
-pub answer-hit : (S R D : ℕ) → fromRow S 0 ≡ true → shapedOf S R D ≡ answer (layout.blocksAllowed R && layout.blocksAllowed D) S R D
+pub answer-hit : (sizes : layout.Sizes) → fromRow (sizes .sectorSize) 0 ≡ true
+    → shapedOf sizes ≡ answer (layout.blocksAllowed (sizes .raBlocks) && layout.blocksAllowed (sizes .daBlocks)) sizes
 unfolding layout.allowed
-answer-hit S R D e = rw e
+answer-hit sizes e = rw e
 
-pub answer-miss : (S R D : ℕ) → fromRow S 0 ≡ false → shapedOf S R D ≡ Bad
+pub answer-miss : (sizes : layout.Sizes) → fromRow (sizes .sectorSize) 0 ≡ false → shapedOf sizes ≡ Bad
 unfolding layout.allowed
-answer-miss S R D e = rw e
+answer-miss sizes e = rw e
 
 -- ---- what is allowed is sound
 
@@ -68,7 +69,16 @@ sector-rule S m =
     let r = rule (k .0) (k .1) in
     (rw (k .2) at (r .power), rw (k .2) at (r .most))
 
-module _ (S R D : ℕ) (e : layout.allowed S R D ≡ true) where
+module _ (sizes : layout.Sizes) (e : layout.allowed sizes ≡ true) where
+  abbrev S : ℕ
+  S = sizes .sectorSize
+
+  abbrev R : ℕ
+  R = sizes .raBlocks
+
+  abbrev D : ℕ
+  D = sizes .daBlocks
+
   parts : (fromRow S 0 ≡ true) × (layout.blocksAllowed R ≡ true) × (layout.blocksAllowed D ≡ true)
   unfolding layout.allowed
   parts =
@@ -76,7 +86,7 @@ module _ (S R D : ℕ) (e : layout.allowed S R D ≡ true) where
       let b = and-eq-true-iff (layout.blocksAllowed R) (layout.blocksAllowed D) .0 (a .1) in
       (a .0, b .0, b .1)
 
-  pub allowed-sound : Sound (geometryFor S R D)
+  pub allowed-sound : Sound (geometryFor sizes)
   allowed-sound =
       let r = sector-rule S (parts .0) in
       let p : 0 < 2 ^ log2up (S / 16) = pow-pos (log2up (S / 16)) in
@@ -94,9 +104,9 @@ module _ (S R D : ℕ) (e : layout.allowed S R D ≡ true) where
       }
 
 -- a geometry that is answered is sound
-pub shaped-sound : (S R D : ℕ) → GoodSound (shapedOf S R D)
-shaped-sound S R D = go (layout.allowed S R D) refl
+pub shaped-sound : (sizes : layout.Sizes) → GoodSound (shapedOf sizes)
+shaped-sound sizes = go (layout.allowed sizes) refl
   where
-    go : (t : Bool) → layout.allowed S R D ≡ t → GoodSound (answer t S R D)
-    go true e = allowed-sound S R D e
+    go : (t : Bool) → layout.allowed sizes ≡ t → GoodSound (answer t sizes)
+    go true e = allowed-sound sizes e
     go false e = tt

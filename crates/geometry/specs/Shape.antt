@@ -1,15 +1,19 @@
--- The code's geometry, areas and places as the layout's, and what makes a geometry sound.
-use Prim.Native.Nat.{ℕ, _/_, _^_, _<_, _≤_}
+-- The code's sizes, geometry, areas and places as the layout's, and what makes a geometry sound.
+use Prim.Native.Nat.{ℕ, _^_, _<_, _≤_}
 use Prim.{Unit}
 use mathlib.Core.Path.{_≡_}
 use mathlib.Core.Bool.{Bool, cond}
 use Rattle.layout.specs.Geometry as layout
 use Rattle.layout.specs.Items as items
+use Rattle.geometry.specs.declared.Sizes.{Sizes}
 use Rattle.geometry.specs.declared.Geometry.{Geometry}
 use Rattle.geometry.specs.declared.Shaped.{Shaped}
 use Rattle.geometry.specs.declared.Shaped.the-variants.{Good, Bad}
 use Rattle.geometry.specs.declared.Area.{Area}
 use Rattle.geometry.specs.declared.Place.{Place}
+
+abbrev pub sizesIs : Sizes → layout.Sizes
+sizesIs s = layout.sizesOf (s .«sector_size») (s .«ra_blocks») (s .«da_blocks»)
 
 abbrev pub shape : Geometry → layout.Geometry
 shape g = record { u = g .unit; R = g .ra; D = g .da }
@@ -26,15 +30,15 @@ pub record Sound (g : Geometry) : Type 0 where
 
 -- ---- from S, R and D
 
-abbrev pub geometryFor : ℕ → ℕ → ℕ → Geometry
-geometryFor S R D = record { unit = S / 16; ra = R; da = D }
+abbrev pub geometryFor : layout.Sizes → Geometry
+geometryFor sizes = record { unit = layout.unitOf sizes; ra = sizes .raBlocks; da = sizes .daBlocks }
 
--- what is answered to S, R and D, of which a test says whether they are allowed
-abbrev pub answer : Bool → ℕ → ℕ → ℕ → Shaped
-answer t S R D = cond t (Good (geometryFor S R D)) Bad
+-- what is answered to sizes, of which a test says whether they are allowed
+abbrev pub answer : Bool → layout.Sizes → Shaped
+answer t sizes = cond t (Good (geometryFor sizes)) Bad
 
-abbrev pub shapedOf : ℕ → ℕ → ℕ → Shaped
-shapedOf S R D = answer (layout.allowed S R D) S R D
+abbrev pub shapedOf : layout.Sizes → Shaped
+shapedOf sizes = answer (layout.allowed sizes) sizes
 
 abbrev pub GoodSound : Shaped → Type 0
 GoodSound (Good g) = Sound g

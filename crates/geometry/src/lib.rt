@@ -6,7 +6,7 @@ ghost use Rattle.memory.specs.Power.{log2up};
 ghost use Rattle.layout.specs.Geometry as layout;
 ghost use Rattle.layout.specs.Items.{RA, KA, DA, itemPlace};
 ghost use Rattle.geometry.specs.Rows.{rowOf, Ruled};
-ghost use Rattle.geometry.specs.Shape.{shape, Sound, answer, shapedOf, GoodSound, area, place, AreaSound};
+ghost use Rattle.geometry.specs.Shape.{sizesIs, shape, Sound, answer, shapedOf, GoodSound, area, place, AreaSound};
 
 // ---- the table of sector sizes
 
@@ -66,6 +66,14 @@ pub fn row_at(i: usize) -> Row
 }
 
 // ---- the shape of a volume
+
+// What a format names: the sector size in bytes, the blocks of records and of deletions.
+#[repr(C)]
+pub struct Sizes {
+    pub sector_size: u32,
+    pub ra_blocks: u32,
+    pub da_blocks: u32,
+}
 
 // A sixteenth of the sector size, and the blocks of records and of deletions.
 pub struct Geometry {
@@ -259,7 +267,7 @@ impl Geometry {
     }
 }
 
-// ---- the geometry that a sector size and counts of blocks make
+// ---- the geometry that sizes make
 
 pub enum Shaped {
     Good(Geometry),
@@ -273,32 +281,32 @@ fn blocks_allowed(b: u32) -> bool
 }
 
 // What is left to test once the sector size is known to be allowed.
-fn with_blocks(sector: usize, ra: u32, da: u32) -> Shaped
-    ensures { λ r. ⌜ r ≡ answer (layout.blocksAllowed ra && layout.blocksAllowed da) sector ra da ⌝ }
+fn with_blocks(sizes: Sizes) -> Shaped
+    ensures { λ r. ⌜ r ≡ answer (layout.blocksAllowed (sizes .«ra_blocks») && layout.blocksAllowed (sizes .«da_blocks»)) (sizesIs sizes) ⌝ }
 {
-    if !blocks_allowed(ra) {
+    if !blocks_allowed(sizes.ra_blocks) {
         return Shaped::Bad;
     }
-    if !blocks_allowed(da) {
+    if !blocks_allowed(sizes.da_blocks) {
         return Shaped::Bad;
     }
     Shaped::Good(Geometry {
-        unit: sector / 16,
-        ra: ra as usize,
-        da: da as usize,
+        unit: sizes.sector_size as usize / 16,
+        ra: sizes.ra_blocks as usize,
+        da: sizes.da_blocks as usize,
     })
 }
 
-pub fn geometry_for(sector: u32, ra: u32, da: u32) -> Shaped
-    ensures { λ r. ⌜ r ≡ shapedOf sector ra da ⌝ }
+pub fn geometry_for(sizes: Sizes) -> Shaped
+    ensures { λ r. ⌜ r ≡ shapedOf (sizesIs sizes) ⌝ }
     ensures { λ r. ⌜ GoodSound r ⌝ }
 {
-    let size = sector as usize;
+    let size = sizes.sector_size as usize;
     let mut i = 0;
     while i < 6 {
         let row = row_at(i);
         if row.sector == size {
-            return with_blocks(size, ra, da);
+            return with_blocks(sizes);
         }
         i += 1;
     }

@@ -26,7 +26,7 @@ foundOf r = find.reply (stopOf (r .stop)) (r .opened)
 
 -- a volume of n records and d deletions with these bytes; a search reads nothing else of it
 abbrev pub at : ℕ → ℕ → List ℕ → List ℕ → Volume
-at n d main ram = record { state = record { sectorSize = 0; raBlocks = 0; daBlocks = 0; records = n; deletions = d }; flash = flashOf main []; ram = ram }
+at n d main ram = record { state = layout.stateOf (layout.sizesOf 0 0 0) n d; flash = flashOf main []; ram = ram }
 
 pub search-at : (h : Family) (g : layout.Geometry) (v : Volume) (key : ℕ)
     → search h g v key ≡ search h g (at (v .state .records) (v .state .deletions) (v .flash .main) (v .ram)) key

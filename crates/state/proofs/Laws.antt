@@ -8,16 +8,15 @@ use lib.Dec.{ltb}
 use borrow.Author.Tests.{ltb-false}
 use Rattle.memory.specs.Booleans.{or-eq-false-iff}
 use Rattle.layout.specs.Geometry as layout
-use Rattle.layout.specs.Flash.{flashOf}
-use Rattle.layout.specs.Calls.{badState, tooShort}
+use Rattle.layout.specs.Flash.{Flash}
+use Rattle.layout.specs.Refusals as refusal
+use Rattle.layout.specs.Calls.{Volume, badState, tooShort}
 use Rattle.geometry.specs.Shape.{geometryFor, shape, Sound, answer}
 use Rattle.geometry.specs.declared.Geometry.{Geometry}
 use Rattle.geometry.specs.declared.Shaped.{Shaped}
 use Rattle.geometry.specs.declared.Shaped.the-variants as shaped
-use Rattle.state.specs.declared.State.{State}
 use Rattle.state.specs.declared.Judged.the-variants.{Good, Refused}
-use Rattle.state.specs.Contract.{stateOf}
-use Rattle.state.specs.Judge.{geometryIn, judgedOf, judgedNew, Long, Fits, New}
+use Rattle.state.specs.Judge.{judgedOf, judgedNew, Long, Fits, New}
 
 abbrev gOf : Geometry → Shaped → Geometry
 gOf d (shaped.Good g) = g
@@ -27,90 +26,95 @@ abbrev isGood : Shaped → Bool
 isGood (shaped.Good g) = true
 isGood shaped.Bad = false
 
-good-is : (t : Bool) (S R D : ℕ) → isGood (answer t S R D) ≡ t
-good-is true S R D = refl
-good-is false S R D = refl
+good-is : (t : Bool) (sizes : layout.Sizes) → isGood (answer t sizes) ≡ t
+good-is true sizes = refl
+good-is false sizes = refl
 
-pub shaped-bad : (t : Bool) (S R D : ℕ) (r : Shaped) → r ≡ answer t S R D → r ≡ shaped.Bad → t ≡ false
-shaped-bad t S R D r p q = sym (good-is t S R D) ∙ ap isGood (sym p ∙ q)
+pub shaped-bad : (t : Bool) (sizes : layout.Sizes) (r : Shaped) → r ≡ answer t sizes → r ≡ shaped.Bad → t ≡ false
+shaped-bad t sizes r p q = sym (good-is t sizes) ∙ ap isGood (sym p ∙ q)
 
-pub shaped-good : (t : Bool) (S R D : ℕ) (r : Shaped) (g : Geometry) → r ≡ answer t S R D → r ≡ shaped.Good g → (t ≡ true) × (g ≡ geometryFor S R D)
-shaped-good true S R D r g p q = (refl, ap (gOf g) (sym q ∙ p))
-shaped-good false S R D r g p q =
+pub shaped-good : (t : Bool) (sizes : layout.Sizes) (r : Shaped) (g : Geometry) → r ≡ answer t sizes → r ≡ shaped.Good g → (t ≡ true) × (g ≡ geometryFor sizes)
+shaped-good true sizes r g p q = (refl, ap (gOf g) (sym q ∙ p))
+shaped-good false sizes r g p q =
     let z : false ≡ true = ap isGood (sym p ∙ q) in
     (z, cc)
 
-pub long-of : (g : Geometry) (main spare ram : List ℕ) → tooShort (shape g) (flashOf main spare) ram ≡ false → Long g main spare ram
+pub long-of : (g : Geometry) (flash : Flash) (ram : List ℕ) → tooShort (shape g) flash ram ≡ false → Long g (flash .main) (flash .spare) ram
 unfolding tooShort
-long-of g main spare ram q =
-    let a = or-eq-false-iff (ltb (length main) (layout.dataSize (shape g))) _ .0 q in
-    let b = or-eq-false-iff (ltb (length spare) (layout.spareSize (shape g))) _ .0 (a .1) in
+long-of g flash ram q =
+    let a = or-eq-false-iff (ltb (length (flash .main)) (layout.dataSize (shape g))) _ .0 q in
+    let b = or-eq-false-iff (ltb (length (flash .spare)) (layout.spareSize (shape g))) _ .0 (a .1) in
     record { main-fits = ltb-false _ _ (a .0); spare-fits = ltb-false _ _ (b .0); ram-fits = ltb-false _ _ (b .1) }
 
 -- n or d above its capacity, or d above n
-abbrev pub counts : Geometry → ℕ → ℕ → Bool
-counts g n d = ltb (layout.recordCapacity (shape g)) n || (ltb (layout.deletionCapacity (shape g)) d || ltb n d)
+abbrev pub counts : Geometry → layout.State → Bool
+counts g s =
+    ltb (layout.recordCapacity (shape g)) (s .records)
+    || (ltb (layout.deletionCapacity (shape g)) (s .deletions) || ltb (s .records) (s .deletions))
 
-module _ (s : State) (main spare ram : List ℕ) where
+module _ (v : Volume) where
   abbrev can : Bool
-  can = layout.allowed (s .«sector_size») (s .«ra_blocks») (s .«da_blocks»)
+  can = layout.allowed (v .state .sizes)
 
-  bad-is : can ≡ true → badState (stateOf s) ≡ counts (geometryIn s) (s .records) (s .deletions)
+  abbrev named : Geometry
+  named = geometryFor (v .state .sizes)
+
+  bad-is : can ≡ true → badState (v .state) ≡ counts named (v .state)
   unfolding badState
   bad-is q = rw q
 
-  pub judged-shape : can ≡ false → judgedOf s main spare ram ≡ Refused 1
+  pub judged-shape : can ≡ false → judgedOf v ≡ Refused refusal.badState
   unfolding badState
   judged-shape q = rw q
 
-  module _ (g : Geometry) (q : can ≡ true) (p : g ≡ geometryIn s) where
-    at-state : (b : Bool) → counts g (s .records) (s .deletions) ≡ b → counts (geometryIn s) (s .records) (s .deletions) ≡ b
+  module _ (g : Geometry) (q : can ≡ true) (p : g ≡ named) where
+    at-state : (b : Bool) → counts g (v .state) ≡ b → counts named (v .state) ≡ b
     at-state b c = rw p at c
 
-    short-at : (b : Bool) → tooShort (shape g) (flashOf main spare) ram ≡ b → tooShort (shape (geometryIn s)) (flashOf main spare) ram ≡ b
+    short-at : (b : Bool) → tooShort (shape g) (v .flash) (v .ram) ≡ b → tooShort (shape named) (v .flash) (v .ram) ≡ b
     short-at b t = rw p at t
 
-    pub judged-counts : counts g (s .records) (s .deletions) ≡ true → judgedOf s main spare ram ≡ Refused 1
+    pub judged-counts : counts g (v .state) ≡ true → judgedOf v ≡ Refused refusal.badState
     judged-counts c = rw (bad-is q, at-state true c)
 
-    pub judged-short : counts g (s .records) (s .deletions) ≡ false → tooShort (shape g) (flashOf main spare) ram ≡ true → judgedOf s main spare ram ≡ Refused 2
+    pub judged-short : counts g (v .state) ≡ false → tooShort (shape g) (v .flash) (v .ram) ≡ true → judgedOf v ≡ Refused refusal.tooShort
     judged-short c t = rw (bad-is q, at-state false c, short-at true t)
 
-    pub judged-good : counts g (s .records) (s .deletions) ≡ false → tooShort (shape g) (flashOf main spare) ram ≡ false → Good g ≡ judgedOf s main spare ram
+    pub judged-good : counts g (v .state) ≡ false → tooShort (shape g) (v .flash) (v .ram) ≡ false → Good g ≡ judgedOf v
     judged-good c t =
-        let e : judgedOf s main spare ram ≡ Good (geometryIn s) = rw (bad-is q, at-state false c, short-at false t) in
+        let e : judgedOf v ≡ Good named = rw (bad-is q, at-state false c, short-at false t) in
         ap Good p ∙ sym e
 
-    pub fits-of : Sound g → counts g (s .records) (s .deletions) ≡ false → tooShort (shape g) (flashOf main spare) ram ≡ false → Fits s main spare ram g
+    pub fits-of : Sound g → counts g (v .state) ≡ false → tooShort (shape g) (v .flash) (v .ram) ≡ false → Fits v g
     fits-of ok c t =
-        let a = or-eq-false-iff (ltb (layout.recordCapacity (shape g)) (s .records)) _ .0 c in
-        let b = or-eq-false-iff (ltb (layout.deletionCapacity (shape g)) (s .deletions)) _ .0 (a .1) in
+        let a = or-eq-false-iff (ltb (layout.recordCapacity (shape g)) (v .state .records)) _ .0 c in
+        let b = or-eq-false-iff (ltb (layout.deletionCapacity (shape g)) (v .state .deletions)) _ .0 (a .1) in
         record {
           sound = ok;
           is = p;
           good = bad-is q ∙ at-state false c;
           enough = t;
-          long = long-of g main spare ram t;
+          long = long-of g (v .flash) (v .ram) t;
           n-cap = ltb-false _ _ (a .0);
           d-cap = ltb-false _ _ (b .0);
           d-le = ltb-false _ _ (b .1);
         }
 
-module _ (S R D : ℕ) (main spare ram : List ℕ) where
-  pub new-shape : layout.allowed S R D ≡ false → judgedNew S R D main spare ram ≡ Refused 1
+module _ (sizes : layout.Sizes) (flash : Flash) (ram : List ℕ) where
+  pub new-shape : layout.allowed sizes ≡ false → judgedNew sizes flash ram ≡ Refused refusal.badState
   new-shape q = rw q
 
-  module _ (g : Geometry) (q : layout.allowed S R D ≡ true) (p : g ≡ geometryFor S R D) where
-    new-at : (b : Bool) → tooShort (shape g) (flashOf main spare) ram ≡ b → tooShort (shape (geometryFor S R D)) (flashOf main spare) ram ≡ b
+  module _ (g : Geometry) (q : layout.allowed sizes ≡ true) (p : g ≡ geometryFor sizes) where
+    new-at : (b : Bool) → tooShort (shape g) flash ram ≡ b → tooShort (shape (geometryFor sizes)) flash ram ≡ b
     new-at b t = rw p at t
 
-    pub new-short : tooShort (shape g) (flashOf main spare) ram ≡ true → judgedNew S R D main spare ram ≡ Refused 2
+    pub new-short : tooShort (shape g) flash ram ≡ true → judgedNew sizes flash ram ≡ Refused refusal.tooShort
     new-short t = rw (q, new-at true t)
 
-    pub new-good : tooShort (shape g) (flashOf main spare) ram ≡ false → Good g ≡ judgedNew S R D main spare ram
+    pub new-good : tooShort (shape g) flash ram ≡ false → Good g ≡ judgedNew sizes flash ram
     new-good t =
-        let e : judgedNew S R D main spare ram ≡ Good (geometryFor S R D) = rw (q, new-at false t) in
+        let e : judgedNew sizes flash ram ≡ Good (geometryFor sizes) = rw (q, new-at false t) in
         ap Good p ∙ sym e
 
-    pub new-of : Sound g → tooShort (shape g) (flashOf main spare) ram ≡ false → New S R D main spare ram g
-    new-of ok t = record { sound = ok; is = p; can = q; enough = t; long = long-of g main spare ram t }
+    pub new-of : Sound g → tooShort (shape g) flash ram ≡ false → New sizes flash ram g
+    new-of ok t = record { sound = ok; is = p; can = q; enough = t; long = long-of g flash ram t }

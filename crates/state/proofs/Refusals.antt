@@ -1,13 +1,21 @@
--- Refusals 1 and 2 as the judge of a state, or of a format, tells them.
+-- Refusals 1 and 2 of the layout's calls, as the judge of a volume or of a format tells them.
 use mathlib.Core.Path.{_≡_, refl, ap}
-use mathlib.Core.Bool.{Bool, true, false, cond}
+use mathlib.Core.Bool.{Bool, true, false, cond, false≢true}
 use Prim.Native.Nat.{ℕ}
 use lib.Dec.{eqb}
-use Rattle.layout.specs.Calls.{Volume, Result, refuse}
+use Rattle.layout.specs.Geometry as layout
+use Rattle.layout.specs.Refusals as refusal
+use Rattle.layout.specs.Calls.{Volume, Result, refuse, badState, tooShort, judged, format, formatted}
+use Rattle.geometry.specs.Shape.{geometryFor}
 use Rattle.geometry.specs.declared.Geometry.{Geometry}
-use Rattle.state.specs.Contract.{seen, outcomeOf}
+use Rattle.state.specs.Contract.{Left, seen, outcomeOf}
+use Rattle.state.specs.Judge.{judgedOf, judgedNew, Fits}
 use Rattle.state.specs.declared.Judged.{Judged}
 use Rattle.state.specs.declared.Judged.the-variants.{Good, Refused}
+
+-- what a refusal shows
+abbrev pub refusedLeft : Volume → ℕ → Left
+refusedLeft v i = record { outcome = outcomeOf i; count = 0; left = v }
 
 -- the number of a refusal, 0 for none
 abbrev pub number : Judged → ℕ
@@ -18,20 +26,42 @@ abbrev pub refuses : Judged → Bool
 refuses (Good g) = false
 refuses (Refused i) = true
 
--- what is seen of a refusal by its number
-pub told : (v : Volume) (k i : ℕ) → k ≡ i → eqb k 0 ≡ false → seen (refuse v k) ≡ record { outcome = outcomeOf i; count = 0; left = v }
-told v k i e c = rw (← e, c)
+-- a result that is the refusal by a number
+pub record Refusal (v : Volume) (i : ℕ) (r : Result) : Type 0 where
+  pub is : r ≡ refuse v i
+  pub some : eqb i 0 ≡ false
 
-module _ (v : Volume) where
-  -- refusals of a format, and of a state, in their order
-  pub new-refusal : (a b : Bool) (g : Geometry) (x : Result) (i : ℕ) → cond a (cond b (Refused 2) (Good g)) (Refused 1) ≡ Refused i
-      → seen (cond a (cond b (refuse v 2) x) (refuse v 1)) ≡ record { outcome = outcomeOf i; count = 0; left = v }
-  new-refusal true true g x i e = told v 2 i (ap number e) refl
-  new-refusal true false g x i e = let z : false ≡ true = ap refuses e in cc
-  new-refusal false b g x i e = told v 1 i (ap number e) refl
+pub refusal-of : (v : Volume) (k i : ℕ) → k ≡ i → eqb k 0 ≡ false → Refusal v i (refuse v k)
+refusal-of v k i e c = rw (← e) (record { is = refl; some = c })
 
-  pub state-refusal : (a b : Bool) (g : Geometry) (x : Result) (i : ℕ) → cond a (Refused 1) (cond b (Refused 2) (Good g)) ≡ Refused i
-      → seen (cond a (refuse v 1) (cond b (refuse v 2) x)) ≡ record { outcome = outcomeOf i; count = 0; left = v }
-  state-refusal true b g x i e = told v 1 i (ap number e) refl
-  state-refusal false true g x i e = told v 2 i (ap number e) refl
-  state-refusal false false g x i e = let z : false ≡ true = ap refuses e in cc
+pub refused-seen : (v : Volume) (i : ℕ) (r : Result) → Refusal v i r → refusedLeft v i ≡ seen r
+refused-seen v i r p = rw (p .is, p .some)
+
+module _ (v : Volume) (x : Result) (i : ℕ) where
+  -- in their order
+  of-volume : (a b : Bool) (g : Geometry) → cond a (Refused refusal.badState) (cond b (Refused refusal.tooShort) (Good g)) ≡ Refused i
+      → Refusal v i (cond a (refuse v refusal.badState) (cond b (refuse v refusal.tooShort) x))
+  of-volume true b g e = refusal-of v refusal.badState i (ap number e) refl
+  of-volume false true g e = refusal-of v refusal.tooShort i (ap number e) refl
+  of-volume false false g e = absurd (false≢true (ap refuses e))
+
+  of-format : (a b : Bool) (g : Geometry) → cond a (cond b (Refused refusal.tooShort) (Good g)) (Refused refusal.badState) ≡ Refused i
+      → Refusal v i (cond a (cond b (refuse v refusal.tooShort) x) (refuse v refusal.badState))
+  of-format true true g e = refusal-of v refusal.tooShort i (ap number e) refl
+  of-format true false g e = absurd (false≢true (ap refuses e))
+  of-format false b g e = refusal-of v refusal.badState i (ap number e) refl
+
+  pub judged-refused : judgedOf v ≡ Refused i → Refusal v i (judged v x)
+  unfolding judged
+  judged-refused e = of-volume (badState (v .state)) (tooShort (layout.geometry (v .state .sizes)) (v .flash) (v .ram)) (geometryFor (v .state .sizes)) e
+
+pub format-refused : (v : Volume) (sizes : layout.Sizes) (i : ℕ) → judgedNew sizes (v .flash) (v .ram) ≡ Refused i → Refusal v i (format v sizes)
+unfolding format
+format-refused v sizes i e = of-format v (formatted v sizes) i (layout.allowed sizes) (tooShort (layout.geometry sizes) (v .flash) (v .ram)) (geometryFor sizes) e
+
+-- a volume that is not refused
+pub judged-fits : (v : Volume) (g : Geometry) (x : Result) → Fits v g → judged v x ≡ x
+unfolding judged
+judged-fits v g x f =
+    let enough : tooShort (layout.geometry (v .state .sizes)) (v .flash) (v .ram) ≡ false = rw (f .is) at (f .enough) in
+    rw (f .good, enough)

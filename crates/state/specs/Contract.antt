@@ -1,4 +1,4 @@
--- What the calls' contracts compare: the code's state and answers as the layout's.
+-- What the calls' contracts compare: the code's state, records and answers as the layout's.
 use mathlib.Core.Bool.{cond}
 use mathlib.Core.List.{List}
 use Prim.Native.Nat.{ℕ}
@@ -6,17 +6,22 @@ use lib.Dec.{eqb}
 use Rattle.memory.specs.Lent.{Lent, before, after}
 use Rattle.layout.specs.Geometry as layout
 use Rattle.layout.specs.Flash.{flashOf}
+use Rattle.layout.specs.Items as items
 use Rattle.layout.specs.Calls.{Volume, Outcome, accepted, refused, Result}
+use Rattle.geometry.specs.Shape.{sizesIs}
 use Rattle.state.specs.declared.State.{State}
+use Rattle.state.specs.declared.Record.{Record}
 use Rattle.state.specs.declared.Change.{Change}
 
--- the code's state as the layout's
-abbrev pub stateOf : State → layout.State
-stateOf s = record { sectorSize = s .«sector_size»; raBlocks = s .«ra_blocks»; daBlocks = s .«da_blocks»; records = s .records; deletions = s .deletions }
+abbrev pub stateIs : State → layout.State
+stateIs s = layout.stateOf (sizesIs (s .sizes)) (s .records) (s .deletions)
+
+abbrev pub recordIs : Record → items.Record
+recordIs r = items.recordOf (r .key) (r .moves) (r .goal) (r .free)
 
 -- the volume that is handed in: state, main area, spare area and RAM
 abbrev pub volume : State → List ℕ → List ℕ → List ℕ → Volume
-volume s main spare ram = record { state = stateOf s; flash = flashOf main spare; ram = ram }
+volume s main spare ram = record { state = stateIs s; flash = flashOf main spare; ram = ram }
 
 -- the same of the slices lent to a call
 abbrev pub given : State → Lent → Lent → Lent → Volume

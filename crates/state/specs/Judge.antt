@@ -6,30 +6,25 @@ use Prim.Native.Nat.{ℕ, _≤_}
 use Prim.{Unit}
 use lib.ListN.{length}
 use Rattle.layout.specs.Geometry as layout
-use Rattle.layout.specs.Flash.{flashOf}
-use Rattle.layout.specs.Calls.{badState, tooShort}
+use Rattle.layout.specs.Flash.{Flash}
+use Rattle.layout.specs.Refusals as refusal
+use Rattle.layout.specs.Calls.{Volume, badState, tooShort}
 use Rattle.geometry.specs.Shape.{geometryFor, shape, Sound}
 use Rattle.geometry.specs.declared.Geometry.{Geometry}
-use Rattle.state.specs.declared.State.{State}
 use Rattle.state.specs.declared.Judged.{Judged}
 use Rattle.state.specs.declared.Judged.the-variants.{Good, Refused}
-use Rattle.state.specs.Contract.{stateOf}
 
--- the geometry that a state names
-abbrev pub geometryIn : State → Geometry
-geometryIn s = geometryFor (s .«sector_size») (s .«ra_blocks») (s .«da_blocks»)
+-- of a volume: 1, then 2
+abbrev pub judgedOf : Volume → Judged
+judgedOf v =
+    cond (badState (v .state)) (Refused refusal.badState)
+    (cond (tooShort (layout.geometry (v .state .sizes)) (v .flash) (v .ram)) (Refused refusal.tooShort) (Good (geometryFor (v .state .sizes))))
 
--- of a state: 1, then 2
-abbrev pub judgedOf : State → List ℕ → List ℕ → List ℕ → Judged
-judgedOf s main spare ram =
-    cond (badState (stateOf s)) (Refused 1)
-    (cond (tooShort (layout.geometryOf (stateOf s)) (flashOf main spare) ram) (Refused 2) (Good (geometryIn s)))
-
--- of a format's S, R and D
-abbrev pub judgedNew : ℕ → ℕ → ℕ → List ℕ → List ℕ → List ℕ → Judged
-judgedNew S R D main spare ram =
-    cond (layout.allowed S R D)
-    (cond (tooShort (layout.geometry S R D) (flashOf main spare) ram) (Refused 2) (Good (geometryFor S R D))) (Refused 1)
+-- of a format's sizes
+abbrev pub judgedNew : layout.Sizes → Flash → List ℕ → Judged
+judgedNew sizes flash ram =
+    cond (layout.allowed sizes)
+    (cond (tooShort (layout.geometry sizes) flash ram) (Refused refusal.tooShort) (Good (geometryFor sizes))) (Refused refusal.badState)
 
 -- the lent bytes hold a volume of the geometry
 pub record Long (g : Geometry) (main spare ram : List ℕ) : Type 0 where
@@ -37,28 +32,28 @@ pub record Long (g : Geometry) (main spare ram : List ℕ) : Type 0 where
   pub spare-fits : layout.spareSize (shape g) ≤ length spare
   pub ram-fits : layout.ramSize (shape g) ≤ length ram
 
--- what a call knows of a state that is not refused
-pub record Fits (s : State) (main spare ram : List ℕ) (g : Geometry) : Type 0 where
+-- what a call knows of a volume that is not refused
+pub record Fits (v : Volume) (g : Geometry) : Type 0 where
   pub sound : Sound g
-  pub is : g ≡ geometryIn s
-  pub good : badState (stateOf s) ≡ false
-  pub enough : tooShort (shape g) (flashOf main spare) ram ≡ false
-  pub long : Long g main spare ram
-  pub n-cap : s .records ≤ layout.recordCapacity (shape g)
-  pub d-cap : s .deletions ≤ layout.deletionCapacity (shape g)
-  pub d-le : s .deletions ≤ s .records
+  pub is : g ≡ geometryFor (v .state .sizes)
+  pub good : badState (v .state) ≡ false
+  pub enough : tooShort (shape g) (v .flash) (v .ram) ≡ false
+  pub long : Long g (v .flash .main) (v .flash .spare) (v .ram)
+  pub n-cap : v .state .records ≤ layout.recordCapacity (shape g)
+  pub d-cap : v .state .deletions ≤ layout.deletionCapacity (shape g)
+  pub d-le : v .state .deletions ≤ v .state .records
 
-abbrev pub GoodFits : State → List ℕ → List ℕ → List ℕ → Judged → Type 0
-GoodFits s main spare ram (Good g) = Fits s main spare ram g
-GoodFits s main spare ram (Refused i) = Unit
+abbrev pub GoodFits : Volume → Judged → Type 0
+GoodFits v (Good g) = Fits v g
+GoodFits v (Refused i) = Unit
 
-pub record New (S R D : ℕ) (main spare ram : List ℕ) (g : Geometry) : Type 0 where
+pub record New (sizes : layout.Sizes) (flash : Flash) (ram : List ℕ) (g : Geometry) : Type 0 where
   pub sound : Sound g
-  pub is : g ≡ geometryFor S R D
-  pub can : layout.allowed S R D ≡ true
-  pub enough : tooShort (shape g) (flashOf main spare) ram ≡ false
-  pub long : Long g main spare ram
+  pub is : g ≡ geometryFor sizes
+  pub can : layout.allowed sizes ≡ true
+  pub enough : tooShort (shape g) flash ram ≡ false
+  pub long : Long g (flash .main) (flash .spare) ram
 
-abbrev pub NewFits : ℕ → ℕ → ℕ → List ℕ → List ℕ → List ℕ → Judged → Type 0
-NewFits S R D main spare ram (Good g) = New S R D main spare ram g
-NewFits S R D main spare ram (Refused i) = Unit
+abbrev pub NewFits : layout.Sizes → Flash → List ℕ → Judged → Type 0
+NewFits sizes flash ram (Good g) = New sizes flash ram g
+NewFits sizes flash ram (Refused i) = Unit

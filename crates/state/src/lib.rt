@@ -1,5 +1,5 @@
-// The state of a volume, the answer of a changing call, and refusals 1 and 2. Document 01, "The chip and
-// the desk" and "Calls".
+// The values that calls take and give: the state of a volume, a record, the answer of a changing call, the refusals by name; and
+// refusals 1 and 2. Document 01, "The chip and the desk" and "Calls".
 ghost use mathlib.Core.Path.{_≡_};
 ghost use mathlib.Core.Bool.{_||_};
 ghost use lib.Dec.{ltb};
@@ -7,19 +7,29 @@ ghost use Rattle.memory.specs.Lent.{before};
 ghost use Rattle.layout.specs.Geometry.{recordCapacity, deletionCapacity};
 ghost use Rattle.layout.specs.Calls.{tooShort};
 ghost use Rattle.laws.specs.LentFlash.{flashBefore};
-ghost use Rattle.geometry.specs.Shape.{shape, Sound};
+ghost use Rattle.geometry.specs.Shape.{sizesIs, shape, Sound};
+ghost use Rattle.state.specs.Contract.{given};
 ghost use Rattle.state.specs.Judge.{judgedOf, judgedNew, GoodFits, NewFits};
 use geometry::Geometry;
 use geometry::Shaped;
+use geometry::Sizes;
 
-// S, R, D, n and d: sector size, blocks of records and of deletions, records and deletions accepted.
+// ---- values
+
+// S, R and D of the format, n and d: records and deletions accepted.
 #[repr(C)]
 pub struct State {
-    pub sector_size: u32,
-    pub ra_blocks: u32,
-    pub da_blocks: u32,
+    pub sizes: Sizes,
     pub records: u32,
     pub deletions: u32,
+}
+
+// A level's key, moves, goal and free word.
+pub struct Record {
+    pub key: u32,
+    pub moves: u32,
+    pub goal: u32,
+    pub free: u32,
 }
 
 // The answer of a changing call: a refusal's number, 0 for accepted, and the state after it.
@@ -28,6 +38,36 @@ pub struct Change {
     pub refusal: u32,
     pub state: State,
 }
+
+// ---- the refusals by name
+
+pub const BAD_STATE: u32 = 1;
+
+pub const TOO_SHORT: u32 = 2;
+
+pub const PRESENT: u32 = 3;
+
+pub const ABSENT: u32 = 4;
+
+pub const FULL: u32 = 5;
+
+pub const DELETIONS_FULL: u32 = 6;
+
+pub const NOT_FRESH: u32 = 7;
+
+pub const CORRUPT_ENTRY: u32 = 8;
+
+// A refusal hands the state back.
+pub fn refuse(s: State, i: u32) -> Change
+    ensures { λ r. ⌜ r ≡ record { refusal = i; state = s } ⌝ }
+{
+    Change {
+        refusal: i,
+        state: s,
+    }
+}
+
+// ---- refusals 1 and 2
 
 // The volume's geometry, or the number of the refusal.
 pub enum Judged {
@@ -63,58 +103,41 @@ fn too_short(g: Geometry, main: &[u8], spare: &[u8], ram: &[u8]) -> bool
     ram.len() < g.ram_size()
 }
 
-// Refusals 1 and 2 of a state that is handed in.
+// Of a state that is handed in.
 pub fn judge(s: State, main: &[u8], spare: &[u8], ram: &[u8]) -> Judged
-    ensures { λ r. ⌜ r ≡ judgedOf s (before main) (before spare) (before ram) ⌝ }
-    ensures { λ r. ⌜ GoodFits s (before main) (before spare) (before ram) r ⌝ }
+    ensures { λ r. ⌜ r ≡ judgedOf (given s main spare ram) ⌝ }
+    ensures { λ r. ⌜ GoodFits (given s main spare ram) r ⌝ }
 {
-    match geometry::geometry_for(s.sector_size, s.ra_blocks, s.da_blocks) {
+    match geometry::geometry_for(s.sizes) {
         Shaped::Bad => {
-            return Judged::Refused(1);
+            return Judged::Refused(BAD_STATE);
         }
         Shaped::Good(g) => {
             if counts_bad(g, s.records, s.deletions) {
-                return Judged::Refused(1);
+                return Judged::Refused(BAD_STATE);
             }
             if too_short(g, main, spare, ram) {
-                return Judged::Refused(2);
+                return Judged::Refused(TOO_SHORT);
             }
             return Judged::Good(g);
         }
     }
 }
 
-// Refusals 1 and 2 of a format.
-pub fn judge_new(
-    sector_size: u32,
-    ra_blocks: u32,
-    da_blocks: u32,
-    main: &[u8],
-    spare: &[u8],
-    ram: &[u8],
-) -> Judged
-    ensures { λ r. ⌜ r ≡ judgedNew «sector_size» «ra_blocks» «da_blocks» (before main) (before spare) (before ram) ⌝ }
-    ensures { λ r. ⌜ NewFits «sector_size» «ra_blocks» «da_blocks» (before main) (before spare) (before ram) r ⌝ }
+// Of a format.
+pub fn judge_new(sizes: Sizes, main: &[u8], spare: &[u8], ram: &[u8]) -> Judged
+    ensures { λ r. ⌜ r ≡ judgedNew (sizesIs sizes) (flashBefore main spare) (before ram) ⌝ }
+    ensures { λ r. ⌜ NewFits (sizesIs sizes) (flashBefore main spare) (before ram) r ⌝ }
 {
-    match geometry::geometry_for(sector_size, ra_blocks, da_blocks) {
+    match geometry::geometry_for(sizes) {
         Shaped::Bad => {
-            return Judged::Refused(1);
+            return Judged::Refused(BAD_STATE);
         }
         Shaped::Good(g) => {
             if too_short(g, main, spare, ram) {
-                return Judged::Refused(2);
+                return Judged::Refused(TOO_SHORT);
             }
             return Judged::Good(g);
         }
-    }
-}
-
-// A refusal hands the state back.
-pub fn refuse(s: State, i: u32) -> Change
-    ensures { λ r. ⌜ r ≡ record { refusal = i; state = s } ⌝ }
-{
-    Change {
-        refusal: i,
-        state: s,
     }
 }

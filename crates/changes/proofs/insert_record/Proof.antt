@@ -11,45 +11,39 @@ use Rattle.layout.specs.Hash.{fnvFamily}
 use Rattle.laws.specs.ItemLaws.{length-record, length-entry}
 use Rattle.geometry.specs.Shape.{shape, area}
 use Rattle.geometry.specs.Bounds.{record-capacity-le}
+use Rattle.state.specs.Contract.{recordIs}
 use Rattle.items.specs.Fits.{fits-records, spare-fits-records, fits-entries, spare-fits-entries}
 use Rattle.changes.proofs.PlanLaws.{inserted-part, inserted-full}
 use Rattle.changes.proofs.insert_record.Statement.{statement}
 use Rattle.changes.proofs.insert_record.Tie as tie
 
--- src/lib.rt:180:9
 entries-per-page-requires : tie.Need-entries-per-page-requires
 entries-per-page-requires c κs = search needs
 
--- src/lib.rt:181:17
 record-bytes-requires : tie.Need-record-bytes-requires
 record-bytes-requires c κs = search needs
 
--- src/lib.rt:182:48
 record-area-requires : tie.Need-record-area-requires
 record-area-requires c κs = search needs
 
--- src/lib.rt:182:77
 slice-aggregate-append-item : tie.Need-slice-aggregate-append-item
 slice-aggregate-append-item c = search needs
 
--- src/lib.rt:182:5
 append-item-requires : tie.Need-append-item-requires
 append-item-requires c κs =
     let x = c .before .before .before .before .before .before .before .before .before .before in
     let a = c .before .record-area in
     let size : a .result .size ≡ 16 = ap (λ (b : layout.Area). b .size) (a .ensures .0) in (
-      rw (c .before .before .before .before .before .record-bytes .ensures, size) (length-record (x .args .key) (x .args .moves) (x .args .goal) (x .args .word)),
+      rw (c .before .before .before .before .before .record-bytes .ensures, size) (length-record (recordIs (x .args .«record»))),
       (
         fits-records (x .args .g) (x .pre .0) (a .result) (a .ensures .1) (a .ensures .0) (x .args .n + 1) _ _ (omega (arith, x .pre .1)) (x .pre .2 .main-fits) (x .pre .2 .ram-fits),
         spare-fits-records (x .args .g) (x .pre .0) (a .result) (a .ensures .1) (a .ensures .0) (x .args .n + 1) _ (omega (arith, x .pre .1)) (x .pre .2 .spare-fits),
       ),
     )
 
--- src/lib.rt:183:8
 rem-if1 : tie.Need-rem-if1
 rem-if1 c = search needs
 
--- src/lib.rt:183:8
 add-if1 : tie.Need-add-if1
 add-if1 c =
     let x = c .before .before .before .before .before .before .before .before .before .before .before .before .before .before .before .before .before in
@@ -57,7 +51,6 @@ add-if1 c =
     let l : x .args .n % q .result < q .result = mod-lt (x .args .n) (omega (arith, x .pre .0 .some, q .ensures)) in
     omega (arith, x .pre .0 .most, q .ensures, l)
 
--- src/lib.rt:184:9
 enter-last-requires : tie.Need-enter-last-requires
 enter-last-requires c κs =
     let x = c .before .before .before .before .before .before .before .before .before .before .before .before .before .before .before .before .before .before .before .before .before in
@@ -71,19 +64,15 @@ enter-last-requires c κs =
       rw (c .before .before .before .before .before .before .before .before .before .before .before .before .before .before .before .before .before .entries-per-page .ensures) at (c .before .before .before .if1 .taken),
     )
 
--- src/lib.rt:185:9
 same-length : tie.Need-same-length
 same-length c = search needs
 
--- src/lib.rt:185:9
 same-length-2 : tie.Need-same-length-2
 same-length-2 c = search needs
 
--- src/lib.rt:185:9
 same-length-3 : tie.Need-same-length-3
 same-length-3 c = search needs
 
--- src/lib.rt:185:9
 returns : tie.Need-returns
 returns c =
     let x = c .before .before .before .before .before .before .before .before .before .before .before .before .before .before .before .before .before .before .before .before .before .before .before .before .before .before .before .before .args in
@@ -92,29 +81,24 @@ returns c =
     let b = c .before .before .before .before .before .before .before .before .before .before .before .before .before .before .before .before .before .before .before .before .before .before .before .record-bytes in
     let i = c .before .before .before .before .before .before .before .before .before .before .before .before .before .before .before .before .before .append-item in
     let e = c .before .before .before .before .before .before .enter-last in
-    inserted-full fnvFamily (shape (x .g)) (x .n) (x .key) (layout.recordBytes (x .key) (x .moves) (x .goal) (x .word)) (x .ram .now) (flashOf (x .main .now) (x .spare .now))
+    inserted-full fnvFamily (shape (x .g)) (x .n) (x .«record» .key) (layout.recordBytes (recordIs (x .«record»))) (x .ram .now) (flashOf (x .main .now) (x .spare .now))
     (eq-eqb _ _ (rw (q .ensures) at (c .before .before .before .before .before .before .before .before .before .before .if1 .taken))) (area (a .result)) (b .result) (i .last .1 .1 .0) (e .last .1 .1 .0) (flashOf (i .last .0) (i .last .1 .0)) (flashOf (e .last .0) (e .last .1 .0))
     (a .ensures .0) (b .ensures) (i .ensures .0) (i .ensures .1) (e .ensures .0) (e .ensures .1)
 
--- src/lib.rt:187:30
 cast-entry-bytes : tie.Need-cast-entry-bytes
 cast-entry-bytes c =
     let x = c .before .before .before .before .before .before .before .before .before .before .before .before .before .before .before .before .before .before in
     omega (arith, x .pre .1, record-capacity-le (x .args .g) (x .pre .0))
 
--- src/lib.rt:187:13
 entry-bytes-requires : tie.Need-entry-bytes-requires
 entry-bytes-requires c κs = search needs
 
--- src/lib.rt:188:48
 entry-area-requires : tie.Need-entry-area-requires
 entry-area-requires c κs = search needs
 
--- src/lib.rt:188:76
 slice-aggregate-append-item-2 : tie.Need-slice-aggregate-append-item-2
 slice-aggregate-append-item-2 c = search needs
 
--- src/lib.rt:188:5
 append-item-requires-2 : tie.Need-append-item-requires-2
 append-item-requires-2 c κs =
     let x = c .before .before .before .before .before .before .before .before .before .before .before .before .before .before .before .before .before .before .before .before .before .before .before .before in
@@ -124,26 +108,22 @@ append-item-requires-2 c κs =
     let m : length (k .last .0) ≡ length (x .args .main .now) = omega arith in
     let s : length (k .last .1 .0) ≡ length (x .args .spare .now) = omega arith in
     let r : length (k .last .1 .1 .0) ≡ length (x .args .ram .now) = omega arith in (
-      rw (c .before .before .before .before .before .entry-bytes .ensures, size) (length-entry (x .args .key) (x .args .n)),
+      rw (c .before .before .before .before .before .entry-bytes .ensures, size) (length-entry (x .args .«record» .key) (x .args .n)),
       (
         fits-entries (x .args .g) (x .pre .0) (a .result) (a .ensures .1) (a .ensures .0) (x .args .n + 1) _ _ (omega (arith, x .pre .1)) (rw m (x .pre .2 .main-fits)) (rw r (x .pre .2 .ram-fits)),
         spare-fits-entries (x .args .g) (x .pre .0) (a .result) (a .ensures .1) (a .ensures .0) (x .args .n + 1) _ (omega (arith, x .pre .1)) (rw s (x .pre .2 .spare-fits)),
       ),
     )
 
--- src/lib.rt:164:1
 same-length-4 : tie.Need-same-length-4
 same-length-4 c = search needs
 
--- src/lib.rt:164:1
 same-length-5 : tie.Need-same-length-5
 same-length-5 c = search needs
 
--- src/lib.rt:164:1
 same-length-6 : tie.Need-same-length-6
 same-length-6 c = search needs
 
--- src/lib.rt:164:1
 returns-2 : tie.Need-returns-2
 returns-2 c =
     let x = c .before .before .before .before .before .before .before .before .before .before .before .before .before .before .before .before .before .before .before .before .before .before .before .before .before .before .before .before .before .before .before .args in
@@ -154,7 +134,7 @@ returns-2 c =
     let d = c .before .before .before .before .before .before .before .before .entry-area in
     let e = c .before .before .before .before .before .before .before .before .before .before .before .before .entry-bytes in
     let k = c .before .before .before .before .before .before .append-item2 in
-    inserted-part fnvFamily (shape (x .g)) (x .n) (x .key) (layout.recordBytes (x .key) (x .moves) (x .goal) (x .word)) (x .ram .now) (flashOf (x .main .now) (x .spare .now))
+    inserted-part fnvFamily (shape (x .g)) (x .n) (x .«record» .key) (layout.recordBytes (recordIs (x .«record»))) (x .ram .now) (flashOf (x .main .now) (x .spare .now))
     (ne-eqb _ _ (rw (q .ensures) at (c .before .before .before .before .before .before .before .before .before .before .before .before .before .if1 .left))) (area (a .result)) (area (d .result)) (b .result) (e .result) (i .last .1 .1 .0) (k .last .1 .1 .0) (flashOf (i .last .0) (i .last .1 .0)) (flashOf (k .last .0) (k .last .1 .0))
     (a .ensures .0) (d .ensures .0) (b .ensures) (e .ensures) (i .ensures .0) (i .ensures .1) (k .ensures .0) (k .ensures .1)
 

@@ -5,71 +5,54 @@ use Rattle.layout.specs.Items.{recordBytes}
 use Rattle.changes.proofs.record_bytes.Statement.{statement}
 use Rattle.changes.proofs.record_bytes.Tie as tie
 
--- src/lib.rt:35:9
-cast-t18 : tie.Need-cast-t18
-cast-t18 c = search needs
+cast-t19 : tie.Need-cast-t19
+cast-t19 c = search needs
 
--- src/lib.rt:36:9
-cast-t20 : tie.Need-cast-t20
-cast-t20 c = search needs
+cast-t21 : tie.Need-cast-t21
+cast-t21 c = search needs
 
--- src/lib.rt:37:9
-cast-t22 : tie.Need-cast-t22
-cast-t22 c = search needs
+cast-t23 : tie.Need-cast-t23
+cast-t23 c = search needs
 
--- src/lib.rt:38:9
-cast-t24 : tie.Need-cast-t24
-cast-t24 c = search needs
+cast-t25 : tie.Need-cast-t25
+cast-t25 c = search needs
 
--- src/lib.rt:39:9
-cast-t26 : tie.Need-cast-t26
-cast-t26 c = search needs
+cast-t27 : tie.Need-cast-t27
+cast-t27 c = search needs
 
--- src/lib.rt:40:9
-cast-t28 : tie.Need-cast-t28
-cast-t28 c = search needs
+cast-t29 : tie.Need-cast-t29
+cast-t29 c = search needs
 
--- src/lib.rt:41:9
-cast-t30 : tie.Need-cast-t30
-cast-t30 c = search needs
+cast-t31 : tie.Need-cast-t31
+cast-t31 c = search needs
 
--- src/lib.rt:42:9
-cast-t32 : tie.Need-cast-t32
-cast-t32 c = search needs
+cast-t33 : tie.Need-cast-t33
+cast-t33 c = search needs
 
--- src/lib.rt:43:9
-cast-t34 : tie.Need-cast-t34
-cast-t34 c = search needs
+cast-t35 : tie.Need-cast-t35
+cast-t35 c = search needs
 
--- src/lib.rt:44:9
-cast-t36 : tie.Need-cast-t36
-cast-t36 c = search needs
+cast-t37 : tie.Need-cast-t37
+cast-t37 c = search needs
 
--- src/lib.rt:45:9
-cast-t38 : tie.Need-cast-t38
-cast-t38 c = search needs
+cast-t39 : tie.Need-cast-t39
+cast-t39 c = search needs
 
--- src/lib.rt:46:9
-cast-t40 : tie.Need-cast-t40
-cast-t40 c = search needs
+cast-t41 : tie.Need-cast-t41
+cast-t41 c = search needs
 
--- src/lib.rt:47:9
-cast-t42 : tie.Need-cast-t42
-cast-t42 c = search needs
+cast-t43 : tie.Need-cast-t43
+cast-t43 c = search needs
 
--- src/lib.rt:48:9
-cast-t44 : tie.Need-cast-t44
-cast-t44 c = search needs
+cast-t45 : tie.Need-cast-t45
+cast-t45 c = search needs
 
--- src/lib.rt:49:9
-cast-t46 : tie.Need-cast-t46
-cast-t46 c = search needs
+cast-t47 : tie.Need-cast-t47
+cast-t47 c = search needs
 
--- src/lib.rt:50:9
-cast-t48 : tie.Need-cast-t48
-cast-t48 c = search needs
+cast-t49 : tie.Need-cast-t49
+cast-t49 c = search needs
 
--- src/lib.rt:19:1
 returns : tie.Need-returns
 unfolding recordBytes wordsBytes
 returns c = refl
@@ -78,20 +61,20 @@ pub record-bytes-spec : {M : Type 1} → statement M
 record-bytes-spec =
     tie.close
     (tie.spec
-    cast-t18
-    cast-t20
-    cast-t22
-    cast-t24
-    cast-t26
-    cast-t28
-    cast-t30
-    cast-t32
-    cast-t34
-    cast-t36
-    cast-t38
-    cast-t40
-    cast-t42
-    cast-t44
-    cast-t46
-    cast-t48
+    cast-t19
+    cast-t21
+    cast-t23
+    cast-t25
+    cast-t27
+    cast-t29
+    cast-t31
+    cast-t33
+    cast-t35
+    cast-t37
+    cast-t39
+    cast-t41
+    cast-t43
+    cast-t45
+    cast-t47
+    cast-t49
     returns)
