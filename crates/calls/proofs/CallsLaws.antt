@@ -1,94 +1,99 @@
--- The layout's calls by what the search met, and by what the judge of the state answers.
-use mathlib.Core.Path.{_≡_, sym, _∙_}
-use mathlib.Core.Bool.{Bool, true, false, _&&_}
-use mathlib.Core.Option.{none, some}
-use mathlib.Core.List.{List}
+-- The layout's changing calls by how their key is resolved.
+use mathlib.Core.Path.{_≡_, refl, sym, ap, _∙_}
+use mathlib.Core.Bool.{Bool, true, false, cond, false≢true}
+use mathlib.Core.Option.{Option, none, some}
 use Prim.Native.Nat.{ℕ}
+use native.Mathlib.Omega.{arith}
 use Rattle.layout.specs.Geometry as layout
-use Rattle.layout.specs.Flash.{flashOf}
-use Rattle.layout.specs.Hash.{Family}
-use Rattle.layout.specs.Items.{recordBytes}
-use Rattle.layout.specs.Search.{found, corrupt}
-use Rattle.layout.specs.Calls.{Volume, Call, insert, update, delete, badState, tooShort, judged, call, answer, search, insertAfter, updateAfter, deleteAfter}
-use Rattle.geometry.specs.Shape.{shape}
+use Rattle.layout.specs.Hash.{Family, fnvFamily}
+use Rattle.layout.specs.Refusals as refusal
+use Rattle.layout.specs.Search.{Stop, found, corrupt}
+use Rattle.layout.specs.Calls.{Volume, Result, refuse, badState, tooShort, judged, search}
+use Rattle.geometry.specs.Shape.{shape, geometryFor}
 use Rattle.geometry.specs.declared.Geometry.{Geometry}
-use Rattle.state.specs.Contract.{Left, seen, volume, stateOf}
-use Rattle.state.specs.Judge.{judgedOf, geometryIn, Fits}
-use Rattle.state.specs.declared.State.{State}
-use Rattle.state.specs.declared.Judged.the-variants.{Refused}
+use Rattle.state.specs.Contract.{seen}
+use Rattle.state.specs.Judge.{judgedOf, Fits}
+use Rattle.state.specs.declared.Judged.{Judged}
+use Rattle.state.specs.declared.Judged.the-variants as judges
+use Rattle.state.proofs.Refusals as judge
+use Rattle.state.proofs.Refusals.{refusedLeft, Refusal, refusal-of, refused-seen, judged-fits}
 use Rattle.search.specs.Find.{foundOf, search-at, at as volumeAt}
 use Rattle.search.specs.declared.Found.{Found}
-use Rattle.changes.proofs.CallLaws.{refusedLeft}
-use Rattle.state.proofs.Refusals.{state-refusal}
+use Rattle.calls.specs.Resolve.{stopped, resolvedOf}
+use Rattle.calls.specs.declared.Resolved.{Resolved}
+use Rattle.calls.specs.declared.Resolved.the-variants.{Refused, Absent, Live}
 
 -- where the search on a volume ended
 pub stop-at : (h : Family) (g : layout.Geometry) (v : Volume) (key : ℕ) (r : Found)
     → foundOf r ≡ search h g (volumeAt (v .state .records) (v .state .deletions) (v .flash .main) (v .ram)) key → search h g v key ≡ foundOf r
 stop-at h g v key r e = search-at h g v key ∙ sym e
 
-module _ (h : Family) (g : layout.Geometry) (v : Volume) where
-  module _ (key moves goal word : ℕ) where
-    pub insert-corrupt : search h g v key .stop ≡ some corrupt → refusedLeft v 8 ≡ seen (answer h g v (insert key moves goal word))
-    unfolding insertAfter
-    insert-corrupt e = rw e
+-- ---- a key by what the judge and the search answer
 
-    pub insert-there : (j : ℕ) → search h g v key .stop ≡ some (found j) → refusedLeft v 3 ≡ seen (answer h g v (insert key moves goal word))
-    unfolding insertAfter
-    insert-there j e = rw e
+module _ (v : Volume) (key : ℕ) where
+  abbrev stop : Option Stop
+  stop = search fnvFamily (layout.geometry (v .state .sizes)) v key .stop
 
-    pub insert-nothing : (x : Left) → search h g v key .stop ≡ none → x ≡ seen (insertAfter h g v key (recordBytes key moves goal word) none)
-        → x ≡ seen (answer h g v (insert key moves goal word))
-    insert-nothing x e p = rw e p
+  pub resolved-refused : (i : ℕ) → judgedOf v ≡ judges.Refused i → Refused i ≡ resolvedOf v key
+  resolved-refused i e = by (badState (v .state)) (tooShort (layout.geometry (v .state .sizes)) (v .flash) (v .ram)) (geometryFor (v .state .sizes)) e
+    where
+      by : (a b : Bool) (g : Geometry) → cond a (judges.Refused refusal.badState) (cond b (judges.Refused refusal.tooShort) (judges.Good g)) ≡ judges.Refused i
+          → Refused i ≡ cond a (Refused refusal.badState) (cond b (Refused refusal.tooShort) (stopped g stop))
+      by true b g q = ap (λ (j : Judged). Refused (judge.number j)) (sym q)
+      by false true g q = ap (λ (j : Judged). Refused (judge.number j)) (sym q)
+      by false false g q = absurd (false≢true (ap judge.refuses q))
 
-    pub update-corrupt : search h g v key .stop ≡ some corrupt → refusedLeft v 8 ≡ seen (answer h g v (update key moves goal word))
-    unfolding updateAfter
-    update-corrupt e = rw e
-
-    pub update-nothing : search h g v key .stop ≡ none → refusedLeft v 4 ≡ seen (answer h g v (update key moves goal word))
-    unfolding updateAfter
-    update-nothing e = rw e
-
-    pub update-there : (j : ℕ) (x : Left) → search h g v key .stop ≡ some (found j) → x ≡ seen (updateAfter h g v key (recordBytes key moves goal word) (some (found j)))
-        → x ≡ seen (answer h g v (update key moves goal word))
-    update-there j x e p = rw e p
-
-  module _ (key : ℕ) where
-    pub delete-corrupt : search h g v key .stop ≡ some corrupt → refusedLeft v 8 ≡ seen (answer h g v (delete key))
-    unfolding deleteAfter
-    delete-corrupt e = rw e
-
-    pub delete-nothing : search h g v key .stop ≡ none → refusedLeft v 4 ≡ seen (answer h g v (delete key))
-    unfolding deleteAfter
-    delete-nothing e = rw e
-
-    pub delete-there : (j : ℕ) (x : Left) → search h g v key .stop ≡ some (found j) → x ≡ seen (deleteAfter g v (some (found j)))
-        → x ≡ seen (answer h g v (delete key))
-    delete-there j x e p = rw e p
-
--- ---- refusals 1 and 2
-
-module _ (h : Family) (s : State) (main spare ram : List ℕ) (c : Call) where
-  -- a refusal leaves everything
-  pub call-refused : (i : ℕ) → judgedOf s main spare ram ≡ Refused i → refusedLeft (volume s main spare ram) i ≡ seen (call h (volume s main spare ram) c)
-  unfolding call judged
-  call-refused i e =
-      sym (state-refusal (volume s main spare ram) (badState (stateOf s)) (tooShort (layout.geometryOf (stateOf s)) (flashOf main spare) ram) (geometryIn s)
-      (answer h (layout.geometryOf (stateOf s)) (volume s main spare ram) c) i e)
-
-  -- a state that is not refused
-  pub call-fits : (g : Geometry) → Fits s main spare ram g → answer h (shape g) (volume s main spare ram) c ≡ call h (volume s main spare ram) c
-  unfolding call judged
-  call-fits g f =
-      let enough : tooShort (layout.geometryOf (stateOf s)) (flashOf main spare) ram ≡ false = rw (f .is) at (f .enough) in
+  pub resolved-fits : (g : Geometry) → Fits v g → resolvedOf v key ≡ stopped g (search fnvFamily (shape g) v key .stop)
+  resolved-fits g f =
+      let enough : tooShort (layout.geometry (v .state .sizes)) (v .flash) (v .ram) ≡ false = rw (f .is) at (f .enough) in
       rw (f .good, enough, f .is)
 
--- ---- truth values of tests
+-- ---- a call by its resolved key, given what it does after the search
 
-pub and-first : (a b : Bool) → a ≡ false → (a && b) ≡ false
-and-first a b p = rw p
+-- which of the three, and the number in it
+abbrev kind : Resolved → ℕ
+kind (Refused i) = 0
+kind (Absent g) = 1
+kind (Live g j) = 2
 
-pub and-second : (a b : Bool) → a ≡ true → b ≡ false → (a && b) ≡ false
-and-second a b p q = rw (p, q)
+abbrev number : Resolved → ℕ
+number (Refused i) = i
+number (Absent g) = 0
+number (Live g j) = j
 
-pub and-both : (a b : Bool) → a ≡ true → b ≡ true → (a && b) ≡ true
-and-both a b p q = rw (p, q)
+stop-absent : (g g′ : Geometry) (o : Option Stop) → stopped g o ≡ Absent g′ → o ≡ none
+stop-absent g g′ none e = refl
+stop-absent g g′ (some corrupt) e = absurd (omega (arith, ap kind e))
+stop-absent g g′ (some (found j)) e = absurd (omega (arith, ap kind e))
+
+stop-live : (g g′ : Geometry) (j : ℕ) (o : Option Stop) → stopped g o ≡ Live g′ j → o ≡ some (found j)
+stop-live g g′ j none e = absurd (omega (arith, ap kind e))
+stop-live g g′ j (some corrupt) e = absurd (omega (arith, ap kind e))
+stop-live g g′ j (some (found k)) e = ap (λ (m : ℕ). some (found m)) (ap number e)
+
+module _ (v : Volume) (key : ℕ) (after : Option Stop → Result) where
+  -- 1, 2 or 8
+  pub call-refused : after (some corrupt) ≡ refuse v refusal.corruptEntry → (i : ℕ) → resolvedOf v key ≡ Refused i
+      → refusedLeft v i ≡ seen (judged v (after (search fnvFamily (layout.geometry (v .state .sizes)) v key .stop)))
+  unfolding judged
+  call-refused bad i e =
+      refused-seen v i _ (by (badState (v .state)) (tooShort (layout.geometry (v .state .sizes)) (v .flash) (v .ram)) (geometryFor (v .state .sizes)) (stop v key) e)
+    where
+      by : (a b : Bool) (g : Geometry) (o : Option Stop) → cond a (Refused refusal.badState) (cond b (Refused refusal.tooShort) (stopped g o)) ≡ Refused i
+          → Refusal v i (cond a (refuse v refusal.badState) (cond b (refuse v refusal.tooShort) (after o)))
+      by true b g o q = refusal-of v refusal.badState i (ap number q) refl
+      by false true g o q = refusal-of v refusal.tooShort i (ap number q) refl
+      by false false g (some corrupt) q = rw bad (refusal-of v refusal.corruptEntry i (ap number q) refl)
+      by false false g none q = absurd (omega (arith, ap kind q))
+      by false false g (some (found j)) q = absurd (omega (arith, ap kind q))
+
+  module _ (g : Geometry) (f : Fits v g) where
+    at-stop : (o : Option Stop) → search fnvFamily (shape g) v key .stop ≡ o
+        → after o ≡ judged v (after (search fnvFamily (layout.geometry (v .state .sizes)) v key .stop))
+    at-stop o e = sym (judged-fits v g _ f ∙ ap after (rw (f .is) at e))
+
+    pub call-absent : resolvedOf v key ≡ Absent g → after none ≡ judged v (after (search fnvFamily (layout.geometry (v .state .sizes)) v key .stop))
+    call-absent e = at-stop none (stop-absent g g _ (sym (resolved-fits v key g f) ∙ e))
+
+    pub call-live : (j : ℕ) → resolvedOf v key ≡ Live g j → after (some (found j)) ≡ judged v (after (search fnvFamily (layout.geometry (v .state .sizes)) v key .stop))
+    call-live j e = at-stop (some (found j)) (stop-live g g j _ (sym (resolved-fits v key g f) ∙ e))

@@ -1,167 +1,135 @@
--- The layout's changing calls by the tests that they make, after refusals 1 and 2 and the search.
-use mathlib.Core.Path.{_≡_, sym, ap, _∙_}
-use mathlib.Core.Bool.{Bool, true, false, _&&_}
-use mathlib.Core.Option.{none, some}
-use mathlib.Core.List.{List, _++_}
-use Prim.Native.Nat.{ℕ, _+_, _^_}
+-- The layout's change by the tests and the steps that the code has.
+use mathlib.Core.Path.{_≡_, refl, sym, ap, _∙_}
+use mathlib.Core.Bool.{Bool, true, false, not, _&&_, cond}
+use mathlib.Core.Option.{Option, none, some}
+use mathlib.Core.List.{List, [], _++_}
+use Prim.Native.Nat.{ℕ, _+_, _^_, _<_}
 use lib.Dec.{leb}
-use Rattle.layout.specs.Geometry.{Geometry, recordCapacity, deletionCapacity, workRam}
-use Rattle.layout.specs.Flash.{Flash, Op, applyAll, Planned, planOps, allFresh}
-use Rattle.layout.specs.Hash.{Family}
-use Rattle.layout.specs.Items.{DA, recordBytes, deletionBytes, zeroPage}
-use Rattle.layout.specs.Search.{found}
-use Rattle.layout.specs.Calls.{Volume, deletionPlan, deletionRam, insertionPlan, insertionRam, commit, insertAfter, updateAfter, deleteAfter}
+use borrow.Author.Tests.{leb-false}
+use Rattle.layout.specs.Geometry.{Geometry, State, stateOf, workRam}
+use Rattle.layout.specs.Flash.{Flash, flashOf, Op, applyAll, Planned, planOps, allFresh}
+use Rattle.layout.specs.Hash.{fnvFamily}
+use Rattle.layout.specs.Items.{Record, DA, recordBytes, deletionBytes, zeroPage}
+use Rattle.layout.specs.Refusals as refusal
+use Rattle.layout.specs.Calls.{Volume, Edit, one, more, noRoom, noDeletion, deletes, ramDeleted, inserts, ramInserted, deletionPlan, deletionRam, insertionPlan, insertionRam, commit, change}
 use Rattle.laws.specs.Operations.{itemOps, insertionOps}
 use Rattle.laws.specs.FlashLaws.{apply-append}
 use Rattle.laws.specs.ItemLaws.{length-record}
 use Rattle.laws.specs.RowLaws.{unit-pos}
-use Rattle.laws.specs.ChangeLaws.{deletion-ops, insertion-ops, update-ops}
+use Rattle.laws.specs.PlanLaws.{ops-append}
+use Rattle.laws.specs.ChangeLaws.{deletion-ops, insertion-ops, insertion-after}
 use Rattle.state.specs.Contract.{Left, seen, outcomeOf}
-use Rattle.items.specs.Fresh.{itemFresh, item-fresh}
-use Rattle.changes.specs.Inserted.{insertFresh, insertedFlash, insertedRam}
-use Rattle.changes.proofs.PlanLaws.{inserted-flash, inserted-ram, insertion-fresh}
+use Rattle.state.proofs.Refusals.{refusedLeft}
 use Rattle.flash.specs.Fresh.{fresh-append}
+use Rattle.items.specs.Fresh.{itemFresh, item-fresh}
+use Rattle.changes.specs.Inserted.{insertFresh, insertedFlash, insertedRam}
+use Rattle.changes.proofs.PlanLaws.{inserted-flash, inserted-ram, insertion-fresh}
+use Rattle.calls.specs.Edits.{when, oldFresh, newFresh, editFresh, doneBy}
 
--- what a refusal shows
-abbrev pub refusedLeft : Volume → ℕ → Left
-refusedLeft v i = record { outcome = outcomeOf i; count = 0; left = v }
+-- ---- one, or none
+
+pub one-when : {A : Type 0} (b : Bool) (x : A) → one (when b x) ≡ b
+one-when true x = refl
+one-when false x = refl
+
+pub more-when : {A : Type 0} (n : ℕ) (b : Bool) (x : A) → cond b (n + 1) n ≡ more n (when b x)
+more-when n true x = refl
+more-when n false x = refl
+
+-- one that is wanted has room
+pub room-for : (wanted : Bool) (capacity n : ℕ) → wanted ≡ true → (wanted && leb capacity n) ≡ false → n < capacity
+room-for wanted capacity n p q = leb-false capacity n (rw p at q)
 
 -- what an accepted change shows
 abbrev pub acceptedLeft : Volume → ℕ → ℕ → Flash → List ℕ → Left
-acceptedLeft v n d flash ram =
-    record {
-      outcome = outcomeOf 0;
-      count = 0;
-      left = record {
-        state = record { sectorSize = v .state .sectorSize; raBlocks = v .state .raBlocks; daBlocks = v .state .daBlocks; records = n; deletions = d };
-        flash = flash;
-        ram = ram;
-      };
-    }
+acceptedLeft v n d flash ram = record { outcome = outcomeOf 0; count = 0; left = record { state = stateOf (v .state .sizes) n d; flash = flash; ram = ram } }
 
-module _ (h : Family) (g : Geometry) (v : Volume) where
-  abbrev n : ℕ
-  n = v .state .records
+-- ---- the steps, each on a volume with the RAM that it is handed
 
-  abbrev d : ℕ
-  d = v .state .deletions
+module _ (g : Geometry) (v : Volume) where
+  pub deleted-done : (j : ℕ) (f : Flash) → f ≡ applyAll (g .u) (itemOps (g .u) (DA g) (v .state .deletions) (deletionBytes j) (v .ram)) (v .flash)
+      → f ≡ doneBy (g .u) (deletes g v (some j)) (v .flash)
+  deleted-done j f p = rw (deletion-ops g (v .state .deletions) j (v .ram) (v .flash)) p
 
-  abbrev spare : List ℕ
-  spare = v .flash .spare
+  module _ (power : (e : ℕ) × (g .u ≡ 2 ^ e)) (r : Record) where
+    abbrev n : ℕ
+    n = v .state .records
 
-  stale : (n′ d′ : ℕ) (plan : List Planned) (ram : List ℕ) → allFresh (v .flash .spare) (planOps (g .u) plan (v .flash)) ≡ false → seen (commit g v n′ d′ plan ram) ≡ refusedLeft v 7
-  unfolding commit
-  stale n′ d′ plan ram q = rw q
+    ops : (flash : Flash) → planOps (g .u) (inserts fnvFamily g v (some r)) flash ≡ insertionOps fnvFamily g n (r .key) (recordBytes r) (v .ram) flash
+    ops flash = insertion-ops fnvFamily g n (r .key) (recordBytes r) (power .0) (power .1) (length-record r) (v .ram) flash
 
-  done : (n′ d′ : ℕ) (plan : List Planned) (ram : List ℕ) (f : Flash) (r : List ℕ) → allFresh (v .flash .spare) (planOps (g .u) plan (v .flash)) ≡ true
-      → f ≡ applyAll (g .u) (planOps (g .u) plan (v .flash)) (v .flash) → r ≡ zeroPage (g .u) (workRam (g .u)) ram → acceptedLeft v n′ d′ f r ≡ seen (commit g v n′ d′ plan ram)
-  unfolding commit
-  done n′ d′ plan ram f r q p e = rw (q, p, e)
+    pub inserted-done : (f : Flash) → f ≡ insertedFlash fnvFamily g (v .state .records) (r .key) (recordBytes r) (v .ram) (v .flash)
+        → f ≡ doneBy (g .u) (inserts fnvFamily g v (some r)) (v .flash)
+    inserted-done f p = rw (ops (v .flash)) (p ∙ sym (inserted-flash fnvFamily g n (r .key) (recordBytes r) (v .ram) (v .flash)))
 
-  -- ---- insert of a key that is not there
+    pub inserted-left : (ram : List ℕ) → insertedRam fnvFamily g (v .state .records) (r .key) (recordBytes r) ram ≡ ramInserted fnvFamily g v (some r) ram
+    inserted-left ram = sym (inserted-ram fnvFamily g n (r .key) (recordBytes r) ram (unit-pos (g .u) (power .0) (power .1)) (length-record r))
 
-  module _ (power : (e : ℕ) × (g .u ≡ 2 ^ e)) (key moves goal word : ℕ) where
-    abbrev bytes : List ℕ
-    bytes = recordBytes key moves goal word
+    inserted-fresh : (flash : Flash) → allFresh (v .flash .spare) (planOps (g .u) (inserts fnvFamily g v (some r)) flash) ≡ insertFresh (v .flash .spare) g n
+    inserted-fresh flash = rw (ops flash) (insertion-fresh fnvFamily g n (r .key) (recordBytes r) (v .ram) flash (v .flash .spare))
 
-    ops₀ : planOps (g .u) (insertionPlan h g n key bytes (v .ram)) (v .flash) ≡ insertionOps h g n key bytes (v .ram) (v .flash)
-    ops₀ = insertion-ops h g n key bytes (power .0) (power .1) (length-record key moves goal word) (v .ram) (v .flash)
+-- ---- all of it
 
-    fresh₀ : allFresh (v .flash .spare) (planOps (g .u) (insertionPlan h g n key bytes (v .ram)) (v .flash)) ≡ insertFresh (v .flash .spare) g n
-    fresh₀ = rw ops₀ (insertion-fresh h g n key bytes (v .ram) (v .flash) (v .flash .spare))
+module _ (g : Geometry) (v : Volume) (power : (e : ℕ) × (g .u ≡ 2 ^ e)) where
+  -- the insertion's plan is the same on the RAM that the deletion leaves
+  plan-after : (w : Volume) (d : Option ℕ) (i : Option Record) → w .state ≡ v .state → w .ram ≡ ramDeleted g v d → inserts fnvFamily g v i ≡ inserts fnvFamily g w i
+  plan-after w d none s e = refl
+  plan-after w none (some r) s e = rw (s, e)
+  plan-after w (some j) (some r) s e =
+      rw (s, e) (insertion-after fnvFamily g (v .state .records) (r .key) (recordBytes r) (unit-pos (g .u) (power .0) (power .1)) (v .state .deletions) j (v .ram))
 
-    pub insert-full : leb (recordCapacity g) (v .state .records) ≡ true → refusedLeft v 5 ≡ seen (insertAfter h g v key (recordBytes key moves goal word) none)
-    unfolding insertAfter
-    insert-full q = rw q
+  -- its deletion, then its insertion
+  done-after : (w : Volume) (e : Edit) → w .state ≡ v .state → w .ram ≡ ramDeleted g v (e .deletes) → w .flash ≡ doneBy (g .u) (deletes g v (e .deletes)) (v .flash)
+      → doneBy (g .u) (inserts fnvFamily g w (e .inserts)) (w .flash) ≡ doneBy (g .u) (deletes g v (e .deletes) ++ inserts fnvFamily g v (e .inserts)) (v .flash)
+  done-after w e s r f =
+      rw (ops-append (g .u) (deletes g v (e .deletes)) (inserts fnvFamily g v (e .inserts)) (v .flash), plan-after w (e .deletes) (e .inserts) s r, f)
+      (sym (apply-append (g .u) (planOps (g .u) (deletes g v (e .deletes)) (v .flash)) _ (v .flash)))
 
-    pub insert-stale : leb (recordCapacity g) (v .state .records) ≡ false → insertFresh (v .flash .spare) g (v .state .records) ≡ false
-        → refusedLeft v 7 ≡ seen (insertAfter h g v key (recordBytes key moves goal word) none)
-    unfolding insertAfter
-    insert-stale q f = rw q (sym (stale (n + 1) d (insertionPlan h g n key bytes (v .ram)) (insertionRam h g n key bytes (v .ram)) (fresh₀ ∙ f)))
+  old-fresh : (d : Option ℕ) → allFresh (v .flash .spare) (planOps (g .u) (deletes g v d) (v .flash)) ≡ oldFresh g (v .state) (v .flash .spare) d
+  unfolding allFresh
+  old-fresh none = refl
+  old-fresh (some j) =
+      rw (deletion-ops g (v .state .deletions) j (v .ram) (v .flash))
+      (item-fresh (g .u) (DA g) (v .state .deletions) (deletionBytes j) (v .ram) (v .flash .spare))
 
-    pub insert-done : (f : Flash) (r r′ : List ℕ) → leb (recordCapacity g) (v .state .records) ≡ false → insertFresh (v .flash .spare) g (v .state .records) ≡ true
-        → f ≡ insertedFlash h g (v .state .records) key (recordBytes key moves goal word) (v .ram) (v .flash) → r ≡ insertedRam h g (v .state .records) key (recordBytes key moves goal word) (v .ram) → r′ ≡ zeroPage (g .u) (workRam (g .u)) r
-        → acceptedLeft v (v .state .records + 1) (v .state .deletions) f r′ ≡ seen (insertAfter h g v key (recordBytes key moves goal word) none)
-    unfolding insertAfter
-    insert-done f r r′ q fr p e z =
-        rw q (done (n + 1) d (insertionPlan h g n key bytes (v .ram)) (insertionRam h g n key bytes (v .ram)) f r′ (fresh₀ ∙ fr)
-        (rw ops₀ (p ∙ sym (inserted-flash h g n key bytes (v .ram) (v .flash))))
-        (z ∙ ap (zeroPage (g .u) (workRam (g .u))) (e ∙ sym (inserted-ram h g n key bytes (v .ram) (unit-pos (g .u) (power .0) (power .1)) (length-record key moves goal word)))))
+  new-fresh : (i : Option Record) (flash : Flash) → allFresh (v .flash .spare) (planOps (g .u) (inserts fnvFamily g v i) flash) ≡ newFresh g (v .state) (v .flash .spare) i
+  unfolding allFresh
+  new-fresh none flash = refl
+  new-fresh (some r) flash = inserted-fresh g v power r flash
 
-  -- ---- delete of record j
+  all-fresh : (e : Edit) → allFresh (v .flash .spare) (planOps (g .u) (deletes g v (e .deletes) ++ inserts fnvFamily g v (e .inserts)) (v .flash))
+      ≡ editFresh g (v .state) (v .flash .spare) e
+  all-fresh e =
+      rw (ops-append (g .u) (deletes g v (e .deletes)) (inserts fnvFamily g v (e .inserts)) (v .flash))
+      (fresh-append (planOps (g .u) (deletes g v (e .deletes)) (v .flash)) _ (v .flash .spare) ∙ rw (old-fresh (e .deletes), new-fresh (e .inserts) _))
 
-  module _ (j : ℕ) where
-    abbrev daOps : List Op
-    daOps = itemOps (g .u) (DA g) d (deletionBytes j) (v .ram)
+  module _ (e : Edit) where
+    pub change-full : (one (e .inserts) && noRoom g v) ≡ true → refusedLeft v refusal.full ≡ seen (change fnvFamily g v e)
+    unfolding change
+    change-full q = rw q
 
-    fresh₁ : allFresh (v .flash .spare) daOps ≡ itemFresh (v .flash .spare) (DA g) d
-    fresh₁ = item-fresh (g .u) (DA g) d (deletionBytes j) (v .ram) (v .flash .spare)
+    module _ (q : (one (e .inserts) && noRoom g v) ≡ false) where
+      pub change-deletions-full : (one (e .deletes) && noDeletion g v) ≡ true → refusedLeft v refusal.deletionsFull ≡ seen (change fnvFamily g v e)
+      unfolding change
+      change-deletions-full p = rw (q, p)
 
-    pub delete-full : leb (deletionCapacity g) (v .state .deletions) ≡ true → refusedLeft v 6 ≡ seen (deleteAfter g v (some (found j)))
-    unfolding deleteAfter
-    delete-full q = rw q
+      module _ (p : (one (e .deletes) && noDeletion g v) ≡ false) where
+        pub change-stale : editFresh g (v .state) (v .flash .spare) e ≡ false → refusedLeft v refusal.notFresh ≡ seen (change fnvFamily g v e)
+        unfolding change commit
+        change-stale f = rw (q, p, all-fresh e, f)
 
-    pub delete-stale : leb (deletionCapacity g) (v .state .deletions) ≡ false → itemFresh (v .flash .spare) (DA g) (v .state .deletions) ≡ false
-        → refusedLeft v 7 ≡ seen (deleteAfter g v (some (found j)))
-    unfolding deleteAfter
-    delete-stale q f = rw q (sym (stale n (d + 1) (deletionPlan g d j (v .ram)) (deletionRam g d j (v .ram)) (rw (deletion-ops g d j (v .ram) (v .flash)) (fresh₁ ∙ f))))
-
-    pub delete-done : (f : Flash) (r r′ : List ℕ) → leb (deletionCapacity g) (v .state .deletions) ≡ false → itemFresh (v .flash .spare) (DA g) (v .state .deletions) ≡ true
-        → f ≡ applyAll (g .u) (itemOps (g .u) (DA g) (v .state .deletions) (deletionBytes j) (v .ram)) (v .flash) → r ≡ deletionRam g (v .state .deletions) j (v .ram) → r′ ≡ zeroPage (g .u) (workRam (g .u)) r
-        → acceptedLeft v (v .state .records) (v .state .deletions + 1) f r′ ≡ seen (deleteAfter g v (some (found j)))
-    unfolding deleteAfter
-    delete-done f r r′ q fr p e z =
-        rw q (done n (d + 1) (deletionPlan g d j (v .ram)) (deletionRam g d j (v .ram)) f r′ (rw (deletion-ops g d j (v .ram) (v .flash)) (fresh₁ ∙ fr))
-        (rw (deletion-ops g d j (v .ram) (v .flash)) p) (z ∙ ap (zeroPage (g .u) (workRam (g .u))) e))
-
-    -- ---- update of record j
-
-    module _ (power : (e : ℕ) × (g .u ≡ 2 ^ e)) (key moves goal word : ℕ) where
-      abbrev bytes₁ : List ℕ
-      bytes₁ = recordBytes key moves goal word
-
-      abbrev ram₁ : List ℕ
-      ram₁ = deletionRam g d j (v .ram)
-
-      abbrev C₁ : Flash
-      C₁ = applyAll (g .u) daOps (v .flash)
-
-      abbrev plan : List Planned
-      plan = deletionPlan g d j (v .ram) ++ insertionPlan h g n key bytes₁ (v .ram)
-
-      ops₂ : planOps (g .u) plan (v .flash) ≡ daOps ++ insertionOps h g n key bytes₁ ram₁ C₁
-      ops₂ = update-ops h g n key bytes₁ (power .0) (power .1) (length-record key moves goal word) d j (v .ram) (v .flash)
-
-      fresh₂ : allFresh (v .flash .spare) (planOps (g .u) plan (v .flash)) ≡ (itemFresh (v .flash .spare) (DA g) d && insertFresh (v .flash .spare) g n)
-      fresh₂ =
-          ap (allFresh (v .flash .spare)) ops₂ ∙ fresh-append daOps (insertionOps h g n key bytes₁ ram₁ C₁) (v .flash .spare)
-          ∙ ap (λ (b : Bool). b && allFresh (v .flash .spare) (insertionOps h g n key bytes₁ ram₁ C₁)) fresh₁
-          ∙ ap (λ (b : Bool). itemFresh (v .flash .spare) (DA g) d && b) (insertion-fresh h g n key bytes₁ ram₁ C₁ (v .flash .spare))
-
-      pub update-full : leb (recordCapacity g) (v .state .records) ≡ true → refusedLeft v 5 ≡ seen (updateAfter h g v key (recordBytes key moves goal word) (some (found j)))
-      unfolding updateAfter
-      update-full q = rw q
-
-      pub update-full-deletions : leb (recordCapacity g) (v .state .records) ≡ false → leb (deletionCapacity g) (v .state .deletions) ≡ true
-          → refusedLeft v 6 ≡ seen (updateAfter h g v key (recordBytes key moves goal word) (some (found j)))
-      unfolding updateAfter
-      update-full-deletions q s = rw (q, s)
-
-      pub update-stale : leb (recordCapacity g) (v .state .records) ≡ false → leb (deletionCapacity g) (v .state .deletions) ≡ false
-          → (itemFresh (v .flash .spare) (DA g) (v .state .deletions) && insertFresh (v .flash .spare) g (v .state .records)) ≡ false
-          → refusedLeft v 7 ≡ seen (updateAfter h g v key (recordBytes key moves goal word) (some (found j)))
-      unfolding updateAfter
-      update-stale q s f = rw (q, s) (sym (stale (n + 1) (d + 1) plan (insertionRam h g n key bytes₁ ram₁) (fresh₂ ∙ f)))
-
-      pub update-done : (f f′ : Flash) (r r′ r″ : List ℕ) → leb (recordCapacity g) (v .state .records) ≡ false → leb (deletionCapacity g) (v .state .deletions) ≡ false
-          → (itemFresh (v .flash .spare) (DA g) (v .state .deletions) && insertFresh (v .flash .spare) g (v .state .records)) ≡ true
-          → f ≡ applyAll (g .u) (itemOps (g .u) (DA g) (v .state .deletions) (deletionBytes j) (v .ram)) (v .flash) → r ≡ deletionRam g (v .state .deletions) j (v .ram)
-          → f′ ≡ insertedFlash h g (v .state .records) key (recordBytes key moves goal word) r f → r′ ≡ insertedRam h g (v .state .records) key (recordBytes key moves goal word) r → r″ ≡ zeroPage (g .u) (workRam (g .u)) r′
-          → acceptedLeft v (v .state .records + 1) (v .state .deletions + 1) f′ r″ ≡ seen (updateAfter h g v key (recordBytes key moves goal word) (some (found j)))
-      unfolding updateAfter
-      update-done f f′ r r′ r″ q s fr p e p′ e′ z =
-          rw (q, s) (done (n + 1) (d + 1) plan (insertionRam h g n key bytes₁ ram₁) f′ r″ (fresh₂ ∙ fr)
-          (p′ ∙ ap (λ (x : List ℕ). insertedFlash h g n key bytes₁ x f) e ∙ ap (insertedFlash h g n key bytes₁ ram₁) p
-          ∙ sym (inserted-flash h g n key bytes₁ ram₁ C₁) ∙ sym (apply-append (g .u) daOps (insertionOps h g n key bytes₁ ram₁ C₁) (v .flash))
-          ∙ ap (λ (os : List Op). applyAll (g .u) os (v .flash)) (sym ops₂))
-          (z ∙ ap (zeroPage (g .u) (workRam (g .u))) (e′ ∙ ap (insertedRam h g n key bytes₁) e ∙ sym (inserted-ram h g n key bytes₁ ram₁ (unit-pos (g .u) (power .0) (power .1)) (length-record key moves goal word)))))
+        -- by what the steps leave
+        pub change-done : (w : Volume) (flash : Flash) (ram last : List ℕ) → editFresh g (v .state) (v .flash .spare) e ≡ true
+            → w .state ≡ v .state → w .flash ≡ doneBy (g .u) (deletes g v (e .deletes)) (v .flash) → w .ram ≡ ramDeleted g v (e .deletes)
+            → flash ≡ doneBy (g .u) (inserts fnvFamily g w (e .inserts)) (w .flash) → ram ≡ ramInserted fnvFamily g w (e .inserts) (w .ram)
+            → last ≡ zeroPage (g .u) (workRam (g .u)) ram
+            → acceptedLeft v (more (v .state .records) (e .inserts)) (more (v .state .deletions) (e .deletes)) flash last ≡ seen (change fnvFamily g v e)
+        unfolding change commit
+        change-done w flash ram last f s wf wr c r z =
+            let flash-is : flash ≡ doneBy (g .u) (deletes g v (e .deletes) ++ inserts fnvFamily g v (e .inserts)) (v .flash) = c ∙ done-after w e s wr wf in
+            let ram-is : ram ≡ ramInserted fnvFamily g v (e .inserts) (ramDeleted g v (e .deletes)) = r ∙ ram-after w (e .inserts) s ∙ ap (ramInserted fnvFamily g v (e .inserts)) wr in
+            rw (q, p, all-fresh e, f, flash-is, z, ram-is)
+          where
+            ram-after : (w : Volume) (i : Option Record) → w .state ≡ v .state → ramInserted fnvFamily g w i (w .ram) ≡ ramInserted fnvFamily g v i (w .ram)
+            ram-after w none s = refl
+            ram-after w (some r) s = rw s
