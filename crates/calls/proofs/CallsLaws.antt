@@ -5,7 +5,7 @@ use mathlib.Core.Option.{Option, none, some}
 use Prim.Native.Nat.{ℕ}
 use native.Mathlib.Omega.{arith}
 use Rattle.layout.specs.Geometry as layout
-use Rattle.layout.specs.Hash.{Family, fnvFamily}
+use Rattle.layout.specs.Hash.{fnvFamily}
 use Rattle.layout.specs.Refusals as refusal
 use Rattle.layout.specs.Search.{Stop, found, corrupt}
 use Rattle.layout.specs.Calls.{Volume, Result, refuse, badState, tooShort, judged, search}
@@ -17,16 +17,9 @@ use Rattle.state.specs.declared.Judged.{Judged}
 use Rattle.state.specs.declared.Judged.the-variants as judges
 use Rattle.state.proofs.Refusals as judge
 use Rattle.state.proofs.Refusals.{refusedLeft, Refusal, refusal-of, refused-seen, judged-fits}
-use Rattle.search.specs.Find.{foundOf, search-at, at as volumeAt}
-use Rattle.search.specs.declared.Found.{Found}
 use Rattle.calls.specs.Resolve.{stopped, resolvedOf}
 use Rattle.calls.specs.declared.Resolved.{Resolved}
 use Rattle.calls.specs.declared.Resolved.the-variants.{Refused, Absent, Live}
-
--- where the search on a volume ended
-pub stop-at : (h : Family) (g : layout.Geometry) (v : Volume) (key : ℕ) (r : Found)
-    → foundOf r ≡ search h g (volumeAt (v .state .records) (v .state .deletions) (v .flash .main) (v .ram)) key → search h g v key ≡ foundOf r
-stop-at h g v key r e = search-at h g v key ∙ sym e
 
 -- ---- a key by what the judge and the search answer
 

@@ -1,12 +1,16 @@
 // The level store for firmware in C: include/level_store.h. Each function is the store's call; any state and
 // any bytes may be handed in.
 ghost use mathlib.Core.Path.{_≡_};
+ghost use Rattle.layout.specs.Geometry.{sizesOf};
 ghost use Rattle.layout.specs.Hash.{fnvFamily};
+ghost use Rattle.layout.specs.Items.{recordOf};
 ghost use Rattle.layout.specs.Calls.{format, insert, update, delete, lookup, call};
 ghost use Rattle.state.specs.Contract.{seen, given, leftBy};
 ghost use Rattle.lookup.specs.Looked.{looked};
+use geometry::Sizes;
 use lookup::LookupResult;
 use state::Change;
+use state::Record;
 use state::State;
 
 #[no_mangle]
@@ -19,9 +23,15 @@ pub extern "C" fn level_store_format(
     spare: &mut [u8],
     ram: &mut [u8],
 ) -> Change
-    ensures { λ r. ⌜ leftBy r «data» spare ram ≡ seen (format (given old «data» spare ram) «sector_size» «ra_blocks» «da_blocks») ⌝ }
+    ensures { λ r. ⌜ leftBy r «data» spare ram
+        ≡ seen (format (given old «data» spare ram) (sizesOf «sector_size» «ra_blocks» «da_blocks»)) ⌝ }
 {
-    format::format(old, sector_size, ra_blocks, da_blocks, data, spare, ram)
+    let sizes = Sizes {
+        sector_size,
+        ra_blocks,
+        da_blocks,
+    };
+    format::format(old, sizes, data, spare, ram)
 }
 
 #[no_mangle]
@@ -35,9 +45,16 @@ pub extern "C" fn level_store_insert(
     spare: &mut [u8],
     ram: &mut [u8],
 ) -> Change
-    ensures { λ r. ⌜ leftBy r «data» spare ram ≡ seen (call fnvFamily (given state «data» spare ram) (insert key moves goal word)) ⌝ }
+    ensures { λ r. ⌜ leftBy r «data» spare ram
+        ≡ seen (call fnvFamily (given state «data» spare ram) (insert (recordOf key moves goal word))) ⌝ }
 {
-    insert::insert(state, key, moves, goal, word, data, spare, ram)
+    let record = Record {
+        key,
+        moves,
+        goal,
+        free: word,
+    };
+    insert::insert(state, record, data, spare, ram)
 }
 
 #[no_mangle]
@@ -51,9 +68,16 @@ pub extern "C" fn level_store_update(
     spare: &mut [u8],
     ram: &mut [u8],
 ) -> Change
-    ensures { λ r. ⌜ leftBy r «data» spare ram ≡ seen (call fnvFamily (given state «data» spare ram) (update key moves goal word)) ⌝ }
+    ensures { λ r. ⌜ leftBy r «data» spare ram
+        ≡ seen (call fnvFamily (given state «data» spare ram) (update (recordOf key moves goal word))) ⌝ }
 {
-    update::update(state, key, moves, goal, word, data, spare, ram)
+    let record = Record {
+        key,
+        moves,
+        goal,
+        free: word,
+    };
+    update::update(state, record, data, spare, ram)
 }
 
 #[no_mangle]

@@ -7,10 +7,11 @@ ghost use Rattle.layout.specs.Geometry.{blocks, ramSize};
 ghost use Rattle.layout.specs.Flash.{applyAll, erases};
 ghost use Rattle.layout.specs.Calls.{format};
 ghost use Rattle.laws.specs.LentFlash.{flashBefore, flashAfter};
-ghost use Rattle.geometry.specs.Shape.{shape, Sound};
+ghost use Rattle.geometry.specs.Shape.{sizesIs, shape, Sound};
 ghost use Rattle.state.specs.Contract.{seen, given, leftBy};
 ghost use Rattle.state.specs.Judge.{Long};
 use geometry::Geometry;
+use geometry::Sizes;
 use state::Change;
 use state::Judged;
 use state::State;
@@ -27,27 +28,17 @@ fn erase_volume(g: Geometry, main: &mut [u8], spare: &mut [u8], ram: &mut [u8])
 }
 
 // A new volume of the given sizes; the old state is not judged.
-pub fn format(
-    old: State,
-    sector_size: u32,
-    ra_blocks: u32,
-    da_blocks: u32,
-    main: &mut [u8],
-    spare: &mut [u8],
-    ram: &mut [u8],
-) -> Change
-    ensures { λ r. ⌜ leftBy r main spare ram ≡ seen (format (given old main spare ram) «sector_size» «ra_blocks» «da_blocks») ⌝ }
+pub fn format(old: State, sizes: Sizes, main: &mut [u8], spare: &mut [u8], ram: &mut [u8]) -> Change
+    ensures { λ r. ⌜ leftBy r main spare ram ≡ seen (format (given old main spare ram) (sizesIs sizes)) ⌝ }
 {
-    match state::judge_new(sector_size, ra_blocks, da_blocks, main, spare, ram) {
+    match state::judge_new(sizes, main, spare, ram) {
         Judged::Refused(i) => {
             return state::refuse(old, i);
         }
         Judged::Good(g) => {
             erase_volume(g, main, spare, ram);
             let s = State {
-                sector_size,
-                ra_blocks,
-                da_blocks,
+                sizes,
                 records: 0,
                 deletions: 0,
             };

@@ -1,28 +1,25 @@
 -- The layout's lookup by what the search met, and by what the judge of the state answers.
-use mathlib.Core.Path.{_≡_, refl, ap}
+use mathlib.Core.Path.{_≡_, refl, sym, ap, _∙_}
 use mathlib.Core.Bool.{Bool, true, false, cond}
 use mathlib.Core.Option.{none, some}
-use mathlib.Core.List.{List}
 use Prim.Native.Nat.{ℕ, _+_, _*_, _/_, _%_, _≤_, _<_}
 use lib.Dec.{ltb}
 use native.Mathlib.Omega.{arith}
 use native.Mathlib.Nat.{mod-lt, div-mul-le-self}
 use borrow.Author.Tests.{ltb-true}
 use Rattle.layout.specs.Geometry as layout
-use Rattle.layout.specs.Flash.{flashOf}
 use Rattle.layout.specs.Hash.{Family}
 use Rattle.layout.specs.Items.{Place, itemPlace, RA}
 use Rattle.layout.specs.Search as find
 use Rattle.layout.specs.Search.{found, corrupt}
-use Rattle.layout.specs.Calls.{Volume, Result, Call, lookup, refuse, badState, tooShort, judged, call, answer, search, lookupAfter}
+use Rattle.layout.specs.Refusals as refusal
+use Rattle.layout.specs.Calls.{Volume, lookup, call, answer, search, lookupAfter}
 use Rattle.geometry.specs.Shape.{shape, Sound}
 use Rattle.geometry.specs.Bounds.{record-capacity-le}
 use Rattle.geometry.specs.declared.Geometry.{Geometry}
-use Rattle.state.specs.Contract.{volume, stateOf}
-use Rattle.state.specs.Judge.{judgedOf, geometryIn}
-use Rattle.state.specs.declared.State.{State}
-use Rattle.state.specs.declared.Judged.the-variants.{Good, Refused}
-use Rattle.state.proofs.Refusals.{number, refuses}
+use Rattle.state.specs.Judge.{judgedOf, Fits}
+use Rattle.state.specs.declared.Judged.the-variants.{Refused}
+use Rattle.state.proofs.Refusals.{judged-refused, judged-fits}
 use Rattle.lookup.specs.Looked.{looked}
 use Rattle.lookup.specs.declared.LookupResult.{LookupResult}
 
@@ -31,7 +28,7 @@ abbrev pub refusedLookup : ℕ → LookupResult
 refusedLookup i = record { refusal = i; found = 0; count = 0; «in_ram» = 0; offset = 0 }
 
 module _ (h : Family) (g : layout.Geometry) (v : Volume) (key : ℕ) where
-  pub lookup-corrupt : (k : ℕ) → search h g v key ≡ find.reply (some corrupt) k → refusedLookup 8 ≡ looked (answer h g v (lookup key))
+  pub lookup-corrupt : (k : ℕ) → search h g v key ≡ find.reply (some corrupt) k → refusedLookup refusal.corruptEntry ≡ looked (answer h g v (lookup key))
   unfolding lookupAfter
   lookup-corrupt k e = rw e
 
@@ -65,16 +62,13 @@ module _ (g : Geometry) (s : Sound g) (n j : ℕ) (m : n ≤ layout.recordCapaci
   pub place-fits : (p : Place) → p ≡ itemPlace (g .unit) (RA (shape g)) n j → p .at < 4294967296
   place-fits p e = rw e (place-at (ltb j (n / layout.recordsPerPage (g .unit) * layout.recordsPerPage (g .unit))) refl)
 
--- refusals 1 and 2 of a lookup
-lookup-refusal : (v : Volume) (a b : Bool) (g : Geometry) (x : Result) (i : ℕ) → cond a (Refused 1) (cond b (Refused 2) (Good g)) ≡ Refused i
-    → refusedLookup i ≡ looked (cond a (refuse v 1) (cond b (refuse v 2) x))
-lookup-refusal v true b g x i e = let k : 1 ≡ i = ap number e in rw (← k)
-lookup-refusal v false true g x i e = let k : 2 ≡ i = ap number e in rw (← k)
-lookup-refusal v false false g x i e = let z : false ≡ true = ap refuses e in cc
+-- ---- by what the judge of the state answers
 
-pub lookup-refused : (h : Family) (s : State) (main spare ram : List ℕ) (c : Call) (i : ℕ) → judgedOf s main spare ram ≡ Refused i
-    → refusedLookup i ≡ looked (call h (volume s main spare ram) c)
-unfolding call judged
-lookup-refused h s main spare ram c i e =
-    lookup-refusal (volume s main spare ram) (badState (stateOf s)) (tooShort (layout.geometryOf (stateOf s)) (flashOf main spare) ram) (geometryIn s)
-    (answer h (layout.geometryOf (stateOf s)) (volume s main spare ram) c) i e
+module _ (h : Family) (v : Volume) (key : ℕ) where
+  pub lookup-refused : (i : ℕ) → judgedOf v ≡ Refused i → refusedLookup i ≡ looked (call h v (lookup key))
+  unfolding call
+  lookup-refused i e = ap looked (sym (judged-refused v _ i e .is))
+
+  pub lookup-fits : (g : Geometry) → Fits v g → answer h (shape g) v (lookup key) ≡ call h v (lookup key)
+  unfolding call
+  lookup-fits g f = ap (λ (k : Geometry). answer h (shape k) v (lookup key)) (f .is) ∙ sym (judged-fits v g _ f)

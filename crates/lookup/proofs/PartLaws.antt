@@ -16,6 +16,7 @@ use Rattle.memory.specs.Cases.{either, lt?}
 use Rattle.layout.specs.Geometry as layout
 use Rattle.layout.specs.Items.{Place, bytesAt, source}
 use Rattle.layout.specs.Hash.{Family}
+use Rattle.layout.specs.Refusals as refusal
 use Rattle.layout.specs.Search.{Stop, found, corrupt}
 use Rattle.layout.specs.Calls.{Volume, Outcome, accepted, hit, miss, refused, refuse, badState, tooShort, judged, lookup, lookupAfter, recordPlace, search, answer, call}
 use Rattle.flash.specs.Parts.{tab-part}
@@ -54,28 +55,28 @@ abbrev Inside : List ℕ → List ℕ → Place → List ℕ → Type 0
 Inside main ram p b = (b ≡ bytesAt main ram p 16) × (p .at + 16 ≤ length (source main ram p))
 
 module _ (h : Family) (v : Volume) where
-  abbrev S : ℕ
-  S = v .state .sectorSize
+  abbrev u : ℕ
+  u = layout.unitOf (v .state .sizes)
 
   abbrev g : layout.Geometry
-  g = layout.geometryOf (v .state)
+  g = layout.geometry (v .state .sizes)
 
   place-inside : badState (v .state) ≡ false → tooShort g (v .flash) (v .ram) ≡ false → (j : ℕ)
       → recordPlace g v j .at + 16 ≤ length (source (v .flash .main) (v .ram) (recordPlace g v j))
   unfolding badState tooShort
   place-inside bad short j =
-      let state = or-eq-false-iff (not (layout.allowed S (v .state .raBlocks) (v .state .daBlocks))) _ .0 bad in
+      let state = or-eq-false-iff (not (layout.allowed (v .state .sizes))) _ .0 bad in
       let counts = or-eq-false-iff (ltb (layout.recordCapacity g) (v .state .records)) _ .0 (state .1) in
       let flash = or-eq-false-iff (ltb (length (v .flash .main)) (layout.dataSize g)) _ .0 short in
       let rest = or-eq-false-iff (ltb (length (v .flash .spare)) (layout.spareSize g)) _ .0 (flash .1) in
-      let ok = sound S (v .state .raBlocks) (v .state .daBlocks) (not-false _ (state .0)) in
-      let u-pos = pu S (v .state .raBlocks) (v .state .daBlocks) ok in
+      let ok = sound (v .state .sizes) (not-false _ (state .0)) in
+      let u-pos = pu (v .state .sizes) ok in
       let cap : v .state .records ≤ layout.recordCapacity g = ltb-false _ _ (counts .0) in
       let main-fits : layout.dataSize g ≤ length (v .flash .main) = ltb-false _ _ (flash .0) in
       let ram-fits : layout.ramSize g ≤ length (v .ram) = ltb-false _ _ (rest .1) in
-      either (lt? j (v .state .records / (4 * (S / 16)) * (4 * (S / 16))))
-      (λ a. rw (a .0) (omega (arith, div-mul-le-self (v .state .records) (4 * (S / 16)), cap, main-fits)))
-      (λ a. rw (a .0) (omega (arith, mul-le-mul-right 16 (mod-lt j {m = 4 * (S / 16)} (omega (arith, u-pos))), ram-fits)))
+      either (lt? j (v .state .records / (4 * u) * (4 * u)))
+      (λ a. rw (a .0) (omega (arith, div-mul-le-self (v .state .records) (4 * u), cap, main-fits)))
+      (λ a. rw (a .0) (omega (arith, mul-le-mul-right 16 (mod-lt j {m = 4 * u} (omega (arith, u-pos))), ram-fits)))
 
   after-inside : badState (v .state) ≡ false → tooShort g (v .flash) (v .ram) ≡ false → (opened : ℕ) (o : Option Stop) (p : Place) (b : List ℕ)
       → lookupAfter g v opened o .outcome ≡ hit p b → Inside (v .flash .main) (v .ram) p b
@@ -92,7 +93,7 @@ module _ (h : Family) (v : Volume) where
   call-inside key p b e = go (badState (v .state)) (tooShort g (v .flash) (v .ram)) refl refl e
     where
       go : (x y : Bool) → badState (v .state) ≡ x → tooShort g (v .flash) (v .ram) ≡ y
-          → cond x (refuse v 1) (cond y (refuse v 2) (answer h g v (lookup key))) .outcome ≡ hit p b → Inside (v .flash .main) (v .ram) p b
+          → cond x (refuse v refusal.badState) (cond y (refuse v refusal.tooShort) (answer h g v (lookup key))) .outcome ≡ hit p b → Inside (v .flash .main) (v .ram) p b
       go true y bx by q = absurd (false≢true (ap isHit q))
       go false true bx by q = absurd (false≢true (ap isHit q))
       go false false bx by q = after-inside bx by (search h g v key .opened) (search h g v key .stop) p b q

@@ -8,7 +8,7 @@ use Prim.Native.Nat.{ℕ}
 use lib.Dec.{eqb}
 use Rattle.memory.specs.Bits.{num}
 use Rattle.memory.specs.Cases.{either, bool?}
-use Rattle.layout.specs.Geometry.{Geometry, geometryOf}
+use Rattle.layout.specs.Geometry.{Geometry, geometry}
 use Rattle.layout.specs.Hash.{Family}
 use Rattle.layout.specs.Items.{Place, bytesAt}
 use Rattle.layout.specs.Search.{Stop, found, corrupt}
@@ -55,7 +55,7 @@ module _ (g : Geometry) (v : Volume) (opened : ℕ) where
 
 module _ (h : Family) (v : Volume) (key : ℕ) where
   abbrev g : Geometry
-  g = geometryOf (v .state)
+  g = geometry (v .state .sizes)
 
   pub find-left : foundLeft v (looked (call h v (lookup key))) ≡ seen (call h v (lookup key))
   unfolding call judged

@@ -3,7 +3,7 @@ ghost use mathlib.Core.Path.{_≡_};
 ghost use Rattle.layout.specs.Hash.{fnvFamily};
 ghost use Rattle.layout.specs.Calls.{lookup, call, answer};
 ghost use Rattle.geometry.specs.Shape.{shape};
-ghost use Rattle.state.specs.Contract.{given};
+ghost use Rattle.state.specs.Contract.{volume, given};
 ghost use Rattle.state.specs.Judge.{Fits};
 ghost use Rattle.lookup.specs.Looked.{looked, partOf, whereOf};
 use geometry::Geometry;
@@ -35,7 +35,7 @@ fn refuse_lookup(i: u32) -> LookupResult
 }
 
 fn find_in(g: Geometry, s: State, key: u32, main: &[u8], spare: &[u8], ram: &[u8]) -> LookupResult
-    requires { ⌜ Fits s (now main) (now spare) (now ram) g ⌝ }
+    requires { ⌜ Fits (volume s (now main) (now spare) (now ram)) g ⌝ }
     ensures { λ r. ⌜ r ≡ looked (answer fnvFamily (shape g) (given s main spare ram) (lookup key)) ⌝ }
 {
     let n = s.records as usize;
@@ -44,7 +44,7 @@ fn find_in(g: Geometry, s: State, key: u32, main: &[u8], spare: &[u8], ram: &[u8
     let opened = f.opened;
     match stop {
         Stop::Corrupt => {
-            return refuse_lookup(8);
+            return refuse_lookup(state::CORRUPT_ENTRY);
         }
         Stop::Nothing => {
             return LookupResult {

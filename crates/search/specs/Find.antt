@@ -1,5 +1,5 @@
 -- What the search's contract compares: the code's answers as the layout's, and the volume as far as a search reads it.
-use mathlib.Core.Path.{_≡_, refl}
+use mathlib.Core.Path.{_≡_, refl, sym, _∙_}
 use mathlib.Core.Option.{Option, none, some}
 use mathlib.Core.List.{List, []}
 use Prim.Native.Nat.{ℕ, _+_, _≤_}
@@ -32,6 +32,11 @@ pub search-at : (h : Family) (g : layout.Geometry) (v : Volume) (key : ℕ)
     → search h g v key ≡ search h g (at (v .state .records) (v .state .deletions) (v .flash .main) (v .ram)) key
 unfolding search maybeIn tryAt isDeleted
 search-at h g v key = refl
+
+-- what a search found is the volume's
+pub search-is : (h : Family) (g : layout.Geometry) (v : Volume) (key : ℕ) (r : Found)
+    → foundOf r ≡ search h g (at (v .state .records) (v .state .deletions) (v .flash .main) (v .ram)) key → search h g v key ≡ foundOf r
+search-is h g v key r e = search-at h g v key ∙ sym e
 
 -- the search of the full pages below a number
 abbrev pub pagesBelow : Geometry → ℕ → ℕ → List ℕ → List ℕ → ℕ → ℕ → find.Found

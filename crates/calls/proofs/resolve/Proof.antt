@@ -5,12 +5,12 @@ use Rattle.layout.specs.Hash.{fnvFamily}
 use Rattle.layout.specs.Search as find
 use Rattle.layout.specs.Calls.{Volume}
 use Rattle.geometry.specs.Shape.{shape}
-use Rattle.search.specs.Find.{stopOf}
+use Rattle.search.specs.Find.{stopOf, search-is}
 use Rattle.search.specs.declared.Stop.{Stop}
 use Rattle.state.specs.Contract.{volume}
 use Rattle.state.specs.Judge.{Fits}
 use Rattle.calls.specs.Resolve.{stopped, resolvedOf}
-use Rattle.calls.proofs.CallsLaws.{stop-at, resolved-refused, resolved-fits}
+use Rattle.calls.proofs.CallsLaws.{resolved-refused, resolved-fits}
 use Rattle.calls.proofs.resolve.Statement.{statement}
 use Rattle.calls.proofs.resolve.Tie as tie
 
@@ -59,7 +59,7 @@ resolved c stop e =
     let s = k .before .before .before .before .before .before in
     let r = c .search in
     resolved-fits (handed s) (s .args .key) g (fits k)
-    ∙ ap (λ (f : find.Found). stopped g (f .stop)) (stop-at fnvFamily (shape g) (handed s) (s .args .key) (r .result) (r .ensures))
+    ∙ ap (λ (f : find.Found). stopped g (f .stop)) (search-is fnvFamily (shape g) (handed s) (s .args .key) (r .result) (r .ensures))
     ∙ ap (λ (t : Stop). stopped g (stopOf t)) e
 
 enum-told : tie.Need-enum-told

@@ -1,11 +1,18 @@
 use borrow.Author.Needs.{needs}
 use mathlib.Core.Path.{sym, _∙_}
 use Rattle.layout.specs.Flash.{flashOf}
+use Rattle.layout.specs.Calls.{Volume}
+use Rattle.geometry.specs.Shape.{sizesIs}
 use Rattle.state.specs.Contract.{volume}
 use Rattle.state.specs.Judge.{New}
-use Rattle.format.proofs.FormatLaws.{format-refused, format-left}
+use Rattle.state.proofs.Refusals.{format-refused, refused-seen}
+use Rattle.format.proofs.FormatLaws.{format-left}
 use Rattle.format.proofs.format.Statement.{statement}
 use Rattle.format.proofs.format.Tie as tie
+
+-- the volume that is handed in
+abbrev handed : tie.Start → Volume
+handed c = volume (c .args .old) (c .args .main .now) (c .args .spare .now) (c .args .ram .now)
 
 judge-new-requires : tie.Need-judge-new-requires
 judge-new-requires c κs = search needs
@@ -27,15 +34,16 @@ same-length-3 c = search needs
 
 returns : tie.Need-returns
 returns c =
-    let x = c .before .before .before .before .before .before .before .before .before .before .before .args in
-    let v = volume (x .old) (x .main .now) (x .spare .now) (x .ram .now) in
-    rw (c .refuse .ensures) (sym (format-refused v (x .sector-size) (x .ra-blocks) (x .da-blocks) (c .before .before .i .given .0 .0) (sym (c .before .before .before .before .judge-new .ensures .0) ∙ c .before .before .i .given .1)))
+    let s = c .before .before .before .before .before .before .before .before .before .before .before in
+    let i = c .before .before .i in
+    rw (c .refuse .ensures)
+    (refused-seen (handed s) (i .given .0 .0) _ (format-refused (handed s) (sizesIs (s .args .sizes)) (i .given .0 .0) (sym (c .before .before .before .before .judge-new .ensures .0) ∙ i .given .1)))
 
 enum-known-g : tie.Need-enum-known-g
 enum-known-g c = search needs
 
 -- what the judge says of the geometry
-new : (c : tie.After-g) → New (c .before .before .before .before .before .before .before .before .before .args .sector-size) (c .before .before .before .before .before .before .before .before .before .args .ra-blocks) (c .before .before .before .before .before .before .before .before .before .args .da-blocks) (c .before .before .before .before .before .before .before .before .before .args .main .now) (c .before .before .before .before .before .before .before .before .before .args .spare .now) (c .before .before .before .before .before .before .before .before .before .args .ram .now) (c .g .given .0 .0)
+new : (c : tie.After-g) → New (sizesIs (c .before .before .before .before .before .before .before .before .before .args .sizes)) (handed (c .before .before .before .before .before .before .before .before .before) .flash) (c .before .before .before .before .before .before .before .before .before .args .ram .now) (c .g .given .0 .0)
 new c = rw (c .g .given .1) at (c .before .before .judge-new .ensures .1)
 
 erase-volume-requires : tie.Need-erase-volume-requires
@@ -54,10 +62,10 @@ same-length-6 c = search needs
 
 returns-2 : tie.Need-returns-2
 returns-2 c =
-    let x = c .before .before .before .before .before .before .before .before .before .before .before .before .before .before .before .before .before .before .before .before .args in
-    let v = volume (x .old) (x .main .now) (x .spare .now) (x .ram .now) in
+    let s = c .before .before .before .before .before .before .before .before .before .before .before .before .before .before .before .before .before .before .before .before in
+    let k = c .before .before .before .before .before .before .before .before .before .before .before in
     let e = c .before .before .before .before .before .before .erase-volume in
-    format-left v (x .sector-size) (x .ra-blocks) (x .da-blocks) (c .before .before .before .before .before .before .before .before .before .before .before .g .given .0 .0) (flashOf (e .last .1 .0) (e .last .1 .1 .0)) (e .last .1 .1 .1 .0) (new (c .before .before .before .before .before .before .before .before .before .before .before)) (e .ensures .0) (e .ensures .1)
+    format-left (handed s) (sizesIs (s .args .sizes)) (k .g .given .0 .0) (flashOf (e .last .1 .0) (e .last .1 .1 .0)) (e .last .1 .1 .1 .0) (new k) (e .ensures .0) (e .ensures .1)
 
 pub format-spec : {M : Type 1} → statement M
 format-spec =

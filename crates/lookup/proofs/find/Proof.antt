@@ -1,12 +1,16 @@
 use borrow.Author.Needs.{needs}
 use mathlib.Core.Path.{sym, ap, _∙_}
 use Rattle.layout.specs.Hash.{fnvFamily}
-use Rattle.layout.specs.Calls.{lookup}
+use Rattle.layout.specs.Calls.{Volume}
+use Rattle.state.specs.Contract.{volume}
 use Rattle.lookup.specs.Looked.{looked}
-use Rattle.calls.proofs.CallsLaws.{call-fits}
-use Rattle.lookup.proofs.LookupLaws.{lookup-refused}
+use Rattle.lookup.proofs.LookupLaws.{lookup-refused, lookup-fits}
 use Rattle.lookup.proofs.find.Statement.{statement}
 use Rattle.lookup.proofs.find.Tie as tie
+
+-- the volume that is handed in
+abbrev handed : tie.Start → Volume
+handed c = volume (c .args .s) (c .args .main .now) (c .args .spare .now) (c .args .ram .now)
 
 judge-requires : tie.Need-judge-requires
 judge-requires c κs = search needs
@@ -19,9 +23,9 @@ refuse-lookup-requires c κs = search needs
 
 returns : tie.Need-returns
 returns c =
-    let x = c .before .before .before .before .before .before .before .before .args in
-    c .refuse-lookup .ensures
-    ∙ lookup-refused fnvFamily (x .s) (x .main .now) (x .spare .now) (x .ram .now) (lookup (x .key)) (c .before .before .i .given .0 .0) (sym (c .before .before .before .before .judge .ensures .0) ∙ c .before .before .i .given .1)
+    let s = c .before .before .before .before .before .before .before .before in
+    let i = c .before .before .i in
+    c .refuse-lookup .ensures ∙ lookup-refused fnvFamily (handed s) (s .args .key) (i .given .0 .0) (sym (c .before .before .before .before .judge .ensures .0) ∙ i .given .1)
 
 enum-known-g : tie.Need-enum-known-g
 enum-known-g c = search needs
@@ -32,9 +36,9 @@ find-in-requires c κs =
 
 returns-2 : tie.Need-returns-2
 returns-2 c =
-    let x = c .before .before .before .before .before .before .before .before .args in
-    c .find-in .ensures
-    ∙ ap looked (call-fits fnvFamily (x .s) (x .main .now) (x .spare .now) (x .ram .now) (lookup (x .key)) (c .before .before .g .given .0 .0) (rw (c .before .before .g .given .1) at (c .before .before .before .before .judge .ensures .1)))
+    let s = c .before .before .before .before .before .before .before .before in
+    let g = c .before .before .g in
+    c .find-in .ensures ∙ ap looked (lookup-fits fnvFamily (handed s) (s .args .key) (g .given .0 .0) (rw (g .given .1) at (c .before .before .before .before .judge .ensures .1)))
 
 pub find-spec : {M : Type 1} → statement M
 find-spec =

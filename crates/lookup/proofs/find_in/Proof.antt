@@ -5,10 +5,9 @@ use Rattle.layout.specs.Hash.{fnvFamily}
 use Rattle.layout.specs.Items.{Area, itemPlace}
 use Rattle.layout.specs.Search as find
 use Rattle.geometry.specs.Shape.{shape, place}
-use Rattle.search.specs.Find.{stopOf}
+use Rattle.search.specs.Find.{stopOf, search-is}
 use Rattle.search.specs.declared.Stop.{Stop}
 use Rattle.state.specs.Contract.{volume}
-use Rattle.calls.proofs.CallsLaws.{stop-at}
 use Rattle.lookup.proofs.LookupLaws.{lookup-corrupt, lookup-nothing, lookup-ram, lookup-main, place-fits}
 use Rattle.lookup.proofs.find_in.Statement.{statement}
 use Rattle.lookup.proofs.find_in.Tie as tie
@@ -37,7 +36,7 @@ returns c =
     let r = c .before .before .before .search in
     c .refuse-lookup .ensures
     ∙ lookup-corrupt fnvFamily (shape (x .g)) v (x .key) (r .result .opened)
-    (stop-at fnvFamily (shape (x .g)) v (x .key) (r .result) (r .ensures) ∙ ap (λ (y : Stop). find.reply (stopOf y) (r .result .opened)) (c .before .enum-told .given .1))
+    (search-is fnvFamily (shape (x .g)) v (x .key) (r .result) (r .ensures) ∙ ap (λ (y : Stop). find.reply (stopOf y) (r .result .opened)) (c .before .enum-told .given .1))
 
 enum-told-2 : tie.Need-enum-told-2
 enum-told-2 c = search needs
@@ -48,7 +47,7 @@ returns-2 c =
     let v = volume (x .s) (x .main .now) (x .spare .now) (x .ram .now) in
     let r = c .before .before .search in
     lookup-nothing fnvFamily (shape (x .g)) v (x .key) (r .result .opened)
-    (stop-at fnvFamily (shape (x .g)) v (x .key) (r .result) (r .ensures) ∙ ap (λ (y : Stop). find.reply (stopOf y) (r .result .opened)) (c .enum-told2 .given .1))
+    (search-is fnvFamily (shape (x .g)) v (x .key) (r .result) (r .ensures) ∙ ap (λ (y : Stop). find.reply (stopOf y) (r .result .opened)) (c .enum-told2 .given .1))
 
 enum-known-stop : tie.Need-enum-known-stop
 enum-known-stop c = search needs
@@ -76,7 +75,7 @@ returns-3 c =
     let r = c .before .before .before .before .before .before .search in
     let p = c .before .item-place in
     lookup-ram fnvFamily (shape (x .g)) v (x .key) (r .result .opened) (c .before .before .before .before .stop .given .0 .0) (p .result .at) (p .result .«in_ram»)
-    (stop-at fnvFamily (shape (x .g)) v (x .key) (r .result) (r .ensures) ∙ ap (λ (y : Stop). find.reply (stopOf y) (r .result .opened)) (c .before .before .before .before .stop .given .1))
+    (search-is fnvFamily (shape (x .g)) v (x .key) (r .result) (r .ensures) ∙ ap (λ (y : Stop). find.reply (stopOf y) (r .result .opened)) (c .before .before .before .before .stop .given .1))
     (p .ensures ∙ ap (λ (a : Area). itemPlace (x .g .unit) a (x .s .records) (c .before .before .before .before .stop .given .0 .0)) (c .before .before .record-area .ensures .0)) (c .if1 .taken)
 
 cast-t20 : tie.Need-cast-t20
@@ -93,7 +92,7 @@ returns-4 c =
     let r = c .before .before .before .before .before .before .search in
     let p = c .before .item-place in
     lookup-main fnvFamily (shape (x .g)) v (x .key) (r .result .opened) (c .before .before .before .before .stop .given .0 .0) (p .result .at) (p .result .«in_ram»)
-    (stop-at fnvFamily (shape (x .g)) v (x .key) (r .result) (r .ensures) ∙ ap (λ (y : Stop). find.reply (stopOf y) (r .result .opened)) (c .before .before .before .before .stop .given .1))
+    (search-is fnvFamily (shape (x .g)) v (x .key) (r .result) (r .ensures) ∙ ap (λ (y : Stop). find.reply (stopOf y) (r .result .opened)) (c .before .before .before .before .stop .given .1))
     (p .ensures ∙ ap (λ (a : Area). itemPlace (x .g .unit) a (x .s .records) (c .before .before .before .before .stop .given .0 .0)) (c .before .before .record-area .ensures .0)) (c .if1 .left)
 
 pub find-in-spec : {M : Type 1} → statement M
