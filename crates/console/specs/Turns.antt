@@ -40,7 +40,7 @@ Took r k chunk l = (n : ℕ) × (n ≤ length chunk) × (r .more ≡ true → r 
 
 -- "Before any format the state is all zero"
 abbrev pub noState : State
-noState = record { «sector_size» = 0; «ra_blocks» = 0; «da_blocks» = 0; records = 0; deletions = 0 }
+noState = record { sizes = record { «sector_size» = 0; «ra_blocks» = 0; «da_blocks» = 0 }; records = 0; deletions = 0 }
 
 abbrev pub blank : List ℕ → List ℕ → List ℕ → Volume
 blank main spare ram = volume noState main spare ram

@@ -11,6 +11,7 @@ ghost use Rattle.stream.specs.Kept.{keptFeed, keptClose};
 ghost use Rattle.stream.specs.Contract.{keptBefore};
 ghost use Rattle.stream.specs.Stream.{leaves};
 ghost use Rattle.console.specs.Turns.{turnedAfter, fed, Took, noState, blank, first, turns, ends, Short, Leaves};
+use geometry::Sizes;
 use libc::STDERR_FILENO;
 use libc::STDIN_FILENO;
 use libc::STDOUT_FILENO;
@@ -29,10 +30,13 @@ fn begin() -> Progress
     ensures { λ r. ⌜ r ≡ record { state = noState; fill = 0; printed = 0 } ⌝ }
     ensures { λ r. ⌜ (r .fill ≡ 0) × (r .printed ≡ 0) ⌝ }
 {
-    let state = State {
+    let sizes = Sizes {
         sector_size: 0,
         ra_blocks: 0,
         da_blocks: 0,
+    };
+    let state = State {
+        sizes,
         records: 0,
         deletions: 0,
     };

@@ -8,13 +8,13 @@ use Rattle.memory.specs.Bits.{bit, pack}
 use Rattle.memory.specs.Power.{log2up}
 use Rattle.memory.specs.Words.{wordsBytes}
 use Rattle.memory.specs.Ranges.{any, memb, allOf}
-use Rattle.layout.specs.Geometry.{allowed}
+use Rattle.layout.specs.Geometry.{sizesOf, stateOf, allowed}
 use Rattle.layout.specs.Flash.{fresh, allFresh}
 use Rattle.layout.specs.Hash.{fnvFrom, positions}
 use Rattle.layout.specs.Index.{rowBit, rowByte, bitAt, filterBit, setByte, flushAndBuild}
 use Rattle.layout.specs.Items.{recordBytes, entryBytes, deletionBytes, itemWord, put}
 use Rattle.layout.specs.Search.{scan, searchPages}
-use Rattle.layout.specs.Calls.{Volume, badState, tooShort, judged, formatted, format, isDeleted, tryAt, maybeIn, search, deletionPlan, deletionRam, pageFilter, insertionPlan, insertionRam, commit, insertAfter, updateAfter, deleteAfter, lookupAfter, call}
+use Rattle.layout.specs.Calls.{Volume, badState, tooShort, judged, formatted, format, isDeleted, tryAt, maybeIn, search, deletionPlan, deletionRam, pageFilter, insertionPlan, insertionRam, commit, change, lookupAfter, call}
 use Rattle.script.specs.Lines.{digitsFrom, number, fields, request}
 use Rattle.script.specs.Answers.{digits, text}
 use Rattle.script.specs.Script.{perform, endLine, advance, feed, prints}
@@ -23,7 +23,7 @@ use Rattle.script.specs.Script.{perform, endLine, advance, feed, prints}
 abbrev pub lent : ℕ → ℕ → ℕ → ℕ → Volume
 lent byte main spare ram =
     record {
-      state = record { sectorSize = 0; raBlocks = 0; daBlocks = 0; records = 0; deletions = 0 };
+      state = stateOf (sizesOf 0 0 0) 0 0;
       flash = record { main = replicate main byte; spare = replicate spare byte };
       ram = replicate ram byte;
     }
@@ -37,5 +37,5 @@ abbrev output : List ℕ
 output = 111 ∷ 107 ∷ 32 ∷ 48 ∷ 32 ∷ 48 ∷ 10 ∷ 111 ∷ 107 ∷ 32 ∷ 49 ∷ 32 ∷ 48 ∷ 10 ∷ 110 ∷ 111 ∷ 32 ∷ 51 ∷ 10 ∷ 104 ∷ 105 ∷ 116 ∷ 32 ∷ 52 ∷ 48 ∷ 32 ∷ 48 ∷ 10 ∷ 111 ∷ 107 ∷ 32 ∷ 50 ∷ 32 ∷ 49 ∷ 10 ∷ 104 ∷ 105 ∷ 116 ∷ 32 ∷ 52 ∷ 50 ∷ 32 ∷ 48 ∷ 10 ∷ 111 ∷ 107 ∷ 32 ∷ 50 ∷ 32 ∷ 50 ∷ 10 ∷ 109 ∷ 105 ∷ 115 ∷ 115 ∷ 32 ∷ 48 ∷ 10 ∷ 110 ∷ 111 ∷ 32 ∷ 52 ∷ 10 ∷ []
 
 pub paper : prints (lent 0 59392 3712 640) input ≡ output
-unfolding write tab tabFrom pieces bit pack log2up wordsBytes any memb allOf allowed fresh allFresh fnvFrom positions rowBit rowByte bitAt filterBit setByte flushAndBuild recordBytes entryBytes deletionBytes itemWord put scan searchPages badState tooShort judged formatted format isDeleted tryAt maybeIn search deletionPlan deletionRam pageFilter insertionPlan insertionRam commit insertAfter updateAfter deleteAfter lookupAfter call digitsFrom number fields request digits text perform endLine advance feed prints
+unfolding write tab tabFrom pieces bit pack log2up wordsBytes any memb allOf allowed fresh allFresh fnvFrom positions rowBit rowByte bitAt filterBit setByte flushAndBuild recordBytes entryBytes deletionBytes itemWord put scan searchPages badState tooShort judged formatted format isDeleted tryAt maybeIn search deletionPlan deletionRam pageFilter insertionPlan insertionRam commit change lookupAfter call digitsFrom number fields request digits text perform endLine advance feed prints
 paper = refl

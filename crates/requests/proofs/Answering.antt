@@ -11,7 +11,7 @@ use lib.ListN.{length}
 use Rattle.memory.specs.Cases.{either, bool?}
 use Rattle.memory.specs.Lists.{write, length-tab}
 use Rattle.memory.specs.Words.{word}
-use Rattle.layout.specs.Geometry.{Geometry, geometryOf}
+use Rattle.layout.specs.Geometry.{Geometry, geometry}
 use Rattle.layout.specs.Hash.{Family}
 use Rattle.layout.specs.Search.{Stop, found, corrupt}
 use Rattle.layout.specs.Calls.{Volume, Outcome, accepted, hit, miss, refused, Result, badState, tooShort, judged, lookup, lookupAfter, search, call}
@@ -85,9 +85,9 @@ module _ (h : Family) where
       either (bool? (badState (v .state)))
       (λ a. rw a (λ e. omega arith))
       (λ a.
-      either (bool? (tooShort (geometryOf (v .state)) (v .flash) (v .ram)))
+      either (bool? (tooShort (geometry (v .state .sizes)) (v .flash) (v .ram)))
       (λ b. rw (a, b) (λ e. omega arith))
-      (λ b. rw (a, b) (after-looks (geometryOf (v .state)) v (search h (geometryOf (v .state)) v key .opened) (search h (geometryOf (v .state)) v key .stop))))
+      (λ b. rw (a, b) (after-looks (geometry (v .state .sizes)) v (search h (geometry (v .state .sizes)) v key .opened) (search h (geometry (v .state .sizes)) v key .stop))))
 
   call-keeps : (v : Volume) (key : ℕ) → call h v (lookup key) .volume ≡ v
   unfolding call judged
@@ -95,9 +95,9 @@ module _ (h : Family) where
       either (bool? (badState (v .state)))
       (λ a. rw a)
       (λ a.
-      either (bool? (tooShort (geometryOf (v .state)) (v .flash) (v .ram)))
+      either (bool? (tooShort (geometry (v .state .sizes)) (v .flash) (v .ram)))
       (λ b. rw (a, b))
-      (λ b. rw (a, b) (after-keeps (geometryOf (v .state)) v (search h (geometryOf (v .state)) v key .opened) (search h (geometryOf (v .state)) v key .stop))))
+      (λ b. rw (a, b) (after-keeps (geometry (v .state .sizes)) v (search h (geometry (v .state .sizes)) v key .opened) (search h (geometry (v .state .sizes)) v key .stop))))
 
 -- the answer by the three numbers and the part that a lookup gives
 refused-said : (r : Result) (o : Outcome) (i : ℕ) → i ≡ lookedOf o (r .count) .refusal → i ≢ 0 → answers.no i ≡ said r o

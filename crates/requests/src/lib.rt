@@ -3,16 +3,19 @@ ghost use mathlib.Core.Path.{_≡_};
 ghost use Prim.Native.Nat.{_≤_};
 ghost use lib.ListN.{length};
 ghost use Rattle.memory.specs.Lent.{before, after};
+ghost use Rattle.layout.specs.Items.{recordOf};
 ghost use Rattle.layout.specs.Calls.{lookup};
-ghost use Rattle.state.specs.Contract.{given};
+ghost use Rattle.state.specs.Contract.{recordIs, given};
 ghost use Rattle.script.specs.Lines as lines;
 ghost use Rattle.script.specs.Asked.{asked};
 ghost use Rattle.answers.specs.Answered.{answered};
 ghost use Rattle.script.specs.Script.{perform};
 ghost use Rattle.requests.specs.Contract.{performed, changeAnswer, stepped, answeredLine};
 use answers::Answer;
+use geometry::Sizes;
 use script::Request;
 use state::Change;
+use state::Record;
 use state::State;
 
 // ---- requests
@@ -66,21 +69,40 @@ fn lookup<'a>(s: State, key: u32, main: &'a [u8], spare: &[u8], ram: &'a [u8]) -
     Answer::Hit(words::get32(bytes, 4), count)
 }
 
-// A request on a volume; goal and free word of a record are 0.
+// A line's record: goal and free word are 0.
+fn level(key: u32, moves: u32) -> Record
+    ensures { λ r. ⌜ recordIs r ≡ recordOf key moves 0 0 ⌝ }
+{
+    Record {
+        key,
+        moves,
+        goal: 0,
+        free: 0,
+    }
+}
+
+// A request on a volume.
 pub fn perform(s: State, q: Request, main: &mut [u8], spare: &mut [u8], ram: &mut [u8]) -> Performed
     ensures { λ r. ⌜ performed r (after main) (after spare) (after ram) ≡ perform (given s main spare ram) (asked q) ⌝ }
 {
     match q {
         Request::Format(sector_size, ra_blocks, da_blocks) => {
-            let c = format::format(s, sector_size, ra_blocks, da_blocks, main, spare, ram);
+            let sizes = Sizes {
+                sector_size,
+                ra_blocks,
+                da_blocks,
+            };
+            let c = format::format(s, sizes, main, spare, ram);
             return after_change(c);
         }
         Request::Insert(key, moves) => {
-            let c = insert::insert(s, key, moves, 0, 0, main, spare, ram);
+            let record = level(key, moves);
+            let c = insert::insert(s, record, main, spare, ram);
             return after_change(c);
         }
         Request::Update(key, moves) => {
-            let c = update::update(s, key, moves, 0, 0, main, spare, ram);
+            let record = level(key, moves);
+            let c = update::update(s, record, main, spare, ram);
             return after_change(c);
         }
         Request::Delete(key) => {

@@ -1,6 +1,7 @@
 -- The reader's answers as the definitions of Lines have them.
 use mathlib.Core.Option.{Option, none, some}
 use Prim.Native.Nat.{ℕ}
+use Rattle.layout.specs.Items.{recordOf}
 use Rattle.layout.specs.Calls.{insert, update, delete, lookup}
 use Rattle.script.specs.Lines as lines
 use Rattle.script.specs.declared.Number.{Number}
@@ -16,7 +17,7 @@ numberOf (Value v) = some v
 abbrev pub asked : Request → lines.Request
 asked Bad = lines.bad
 asked (Format S R D) = lines.format S R D
-asked (Insert key moves) = lines.call (insert key moves 0 0)
-asked (Update key moves) = lines.call (update key moves 0 0)
+asked (Insert key moves) = lines.call (insert (recordOf key moves 0 0))
+asked (Update key moves) = lines.call (update (recordOf key moves 0 0))
 asked (Delete key) = lines.call (delete key)
 asked (Lookup key) = lines.call (lookup key)

@@ -4,6 +4,7 @@ use mathlib.Core.Option.{Option, none, some}
 use mathlib.Core.List.{List, [], _∷_}
 use Prim.Native.Nat.{ℕ, _+_, _*_, _-_, _^_}
 use lib.Dec.{ltb, leb, eqb}
+use Rattle.layout.specs.Items.{recordOf}
 use Rattle.layout.specs.Calls.{Call, insert, update, delete, lookup}
 
 -- what a line asks for; any line that asks for nothing is bad
@@ -57,7 +58,7 @@ one c (some key) = cond (eqb c 100) (call (delete key)) (cond (eqb c 108) (call 
 abbrev pub two : ℕ → Option ℕ → Option ℕ → Request
 two c none moves = bad
 two c (some key) none = bad
-two c (some key) (some moves) = cond (eqb c 105) (call (insert key moves 0 0)) (cond (eqb c 117) (call (update key moves 0 0)) bad)
+two c (some key) (some moves) = cond (eqb c 105) (call (insert (recordOf key moves 0 0))) (cond (eqb c 117) (call (update (recordOf key moves 0 0))) bad)
 
 -- `f S R D`
 abbrev pub three : ℕ → Option ℕ → Option ℕ → Option ℕ → Request

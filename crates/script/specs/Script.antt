@@ -4,6 +4,7 @@ use mathlib.Core.List.{List, [], _∷_, _++_}
 use Prim.Native.Nat.{ℕ}
 use lib.Dec.{eqb}
 use Rattle.memory.specs.Words.{word}
+use Rattle.layout.specs.Geometry.{sizesOf}
 use Rattle.layout.specs.Hash.{fnvFamily}
 use Rattle.layout.specs.Calls as calls
 use Rattle.script.specs.Lines.{Request, format, call, bad, request}
@@ -27,7 +28,7 @@ done r = record { answer = said r (r .outcome); volume = r .volume }
 
 -- a request on a volume; a bad line changes nothing
 unfoldable pub perform : calls.Volume → Request → Done
-perform v (format S R D) = done (calls.format v S R D)
+perform v (format S R D) = done (calls.format v (sizesOf S R D))
 perform v (call c) = done (calls.call fnvFamily v c)
 perform v bad = record { answer = answers.bad; volume = v }
 

@@ -1,7 +1,10 @@
 -- Each request is its call's.
+use mathlib.Core.Path.{ap, _∙_}
+use Rattle.layout.specs.Geometry.{sizesOf}
 use Rattle.layout.specs.Hash.{fnvFamily}
+use Rattle.layout.specs.Items.{Record, recordOf}
 use Rattle.layout.specs.Calls as calls
-use Rattle.state.specs.Contract.{volume}
+use Rattle.state.specs.Contract.{volume, seen}
 use Rattle.answers.specs.Answered.{answered}
 use Rattle.script.specs.Script.{perform}
 use Rattle.requests.proofs.Answering.{change-done, lookup-done}
@@ -34,10 +37,13 @@ returns c =
     let x = c .before .before .before .before .before .before .before .before .before .before .before .before .before .before .before .before .before .args in
     let g = c .before .before .before .before .before .before .before .before .before .before .before .before .q .given in
     let v = volume (x .s) (x .main .now) (x .spare .now) (x .ram .now) in
-    rw (g .1) (change-done (c .after-change .result) (k .result) (k .last .1 .1 .1 .1 .0) (k .last .1 .1 .1 .1 .1 .0) (k .last .1 .1 .1 .1 .1 .1 .0) (calls.format v (g .0 .0) (g .0 .1 .0) (g .0 .1 .1 .0)) (c .after-change .ensures) (k .ensures))
+    rw (g .1) (change-done (c .after-change .result) (k .result) (k .last .1 .1 .0) (k .last .1 .1 .1 .0) (k .last .1 .1 .1 .1 .0) (calls.format v (sizesOf (g .0 .0) (g .0 .1 .0) (g .0 .1 .1 .0))) (c .after-change .ensures) (k .ensures))
 
 enum-known-q-2 : tie.Need-enum-known-q-2
 enum-known-q-2 c = search needs
+
+level-requires : tie.Need-level-requires
+level-requires c κs = search needs
 
 insert-requires : tie.Need-insert-requires
 insert-requires c κs = search needs
@@ -58,13 +64,18 @@ returns-2 : tie.Need-returns-2
 unfolding perform
 returns-2 c =
     let k = c .before .before .before .before .before .before .before .insert in
-    let x = c .before .before .before .before .before .before .before .before .before .before .before .before .before .before .before .before .before .args in
-    let g = c .before .before .before .before .before .before .before .before .before .before .before .before .q2 .given in
+    let x = c .before .before .before .before .before .before .before .before .before .before .before .before .before .before .before .before .before .before .args in
+    let g = c .before .before .before .before .before .before .before .before .before .before .before .before .before .q2 .given in
     let v = volume (x .s) (x .main .now) (x .spare .now) (x .ram .now) in
-    rw (g .1) (change-done (c .after-change2 .result) (k .result) (k .last .1 .1 .1 .1 .1 .0) (k .last .1 .1 .1 .1 .1 .1 .0) (k .last .1 .1 .1 .1 .1 .1 .1 .0) (calls.call fnvFamily v (calls.insert (g .0 .0) (g .0 .1 .0) 0 0)) (c .after-change2 .ensures) (k .ensures))
+    rw (g .1)
+    (change-done (c .after-change2 .result) (k .result) (k .last .1 .1 .0) (k .last .1 .1 .1 .0) (k .last .1 .1 .1 .1 .0) (calls.call fnvFamily v (calls.insert (recordOf (g .0 .0) (g .0 .1 .0) 0 0))) (c .after-change2 .ensures)
+    (k .ensures ∙ ap (λ (r : Record). seen (calls.call fnvFamily v (calls.insert r))) (c .before .before .before .before .before .before .before .before .before .before .before .level .ensures)))
 
 enum-known-q-3 : tie.Need-enum-known-q-3
 enum-known-q-3 c = search needs
+
+level-requires-2 : tie.Need-level-requires-2
+level-requires-2 c κs = search needs
 
 update-requires : tie.Need-update-requires
 update-requires c κs = search needs
@@ -85,10 +96,12 @@ returns-3 : tie.Need-returns-3
 unfolding perform
 returns-3 c =
     let k = c .before .before .before .before .before .before .before .update in
-    let x = c .before .before .before .before .before .before .before .before .before .before .before .before .before .before .before .before .before .args in
-    let g = c .before .before .before .before .before .before .before .before .before .before .before .before .q3 .given in
+    let x = c .before .before .before .before .before .before .before .before .before .before .before .before .before .before .before .before .before .before .args in
+    let g = c .before .before .before .before .before .before .before .before .before .before .before .before .before .q3 .given in
     let v = volume (x .s) (x .main .now) (x .spare .now) (x .ram .now) in
-    rw (g .1) (change-done (c .after-change3 .result) (k .result) (k .last .1 .1 .1 .1 .1 .0) (k .last .1 .1 .1 .1 .1 .1 .0) (k .last .1 .1 .1 .1 .1 .1 .1 .0) (calls.call fnvFamily v (calls.update (g .0 .0) (g .0 .1 .0) 0 0)) (c .after-change3 .ensures) (k .ensures))
+    rw (g .1)
+    (change-done (c .after-change3 .result) (k .result) (k .last .1 .1 .0) (k .last .1 .1 .1 .0) (k .last .1 .1 .1 .1 .0) (calls.call fnvFamily v (calls.update (recordOf (g .0 .0) (g .0 .1 .0) 0 0))) (c .after-change3 .ensures)
+    (k .ensures ∙ ap (λ (r : Record). seen (calls.call fnvFamily v (calls.update r))) (c .before .before .before .before .before .before .before .before .before .before .before .level2 .ensures)))
 
 enum-known-q-4 : tie.Need-enum-known-q-4
 enum-known-q-4 c = search needs
@@ -158,6 +171,7 @@ perform-spec =
     same-length-3
     returns
     enum-known-q-2
+    level-requires
     insert-requires
     after-change-requires-2
     same-length-4
@@ -165,6 +179,7 @@ perform-spec =
     same-length-6
     returns-2
     enum-known-q-3
+    level-requires-2
     update-requires
     after-change-requires-3
     same-length-7
