@@ -6,6 +6,7 @@ use mathlib.Core.Bool.{Bool, cond}
 use Rattle.layout.specs.Geometry as layout
 use Rattle.layout.specs.Items as items
 use Rattle.geometry.specs.declared.Sizes.{Sizes}
+use Rattle.geometry.specs.declared.chip.Chip.{Chip}
 use Rattle.geometry.specs.declared.Geometry.{Geometry}
 use Rattle.geometry.specs.declared.Shaped.{Shaped}
 use Rattle.geometry.specs.declared.Shaped.the-variants.{Good, Bad}
@@ -17,6 +18,10 @@ sizesIs s = layout.sizesOf (s .«sector_size») (s .«ra_blocks») (s .«da_bloc
 
 abbrev pub shape : Geometry → layout.Geometry
 shape g = record { u = g .unit; R = g .ra; D = g .da }
+
+-- the chip of a volume
+abbrev pub chipOf : layout.Geometry → Chip
+chipOf g = record { unit = g .u }
 
 -- the unit is a power of two up to 32, and areas of records and deletions have 1 to 4096 blocks
 pub record Sound (g : Geometry) : Type 0 where

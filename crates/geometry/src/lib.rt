@@ -1,4 +1,7 @@
 // Sizes, areas, addresses and the places of items of a volume.
+pub mod chip;
+
+pub use chip::Chip;
 ghost use mathlib.Core.Path.{_≡_};
 ghost use mathlib.Core.Bool.{_&&_};
 ghost use Prim.Native.Nat.{_*_, _<_, _≤_};
@@ -6,7 +9,7 @@ ghost use Rattle.memory.specs.Power.{log2up};
 ghost use Rattle.layout.specs.Geometry as layout;
 ghost use Rattle.layout.specs.Items.{RA, KA, DA, itemPlace};
 ghost use Rattle.geometry.specs.Rows.{rowOf, Ruled};
-ghost use Rattle.geometry.specs.Shape.{sizesIs, shape, Sound, answer, shapedOf, GoodSound, area, place, AreaSound};
+ghost use Rattle.geometry.specs.Shape.{sizesIs, shape, chipOf, Sound, answer, shapedOf, GoodSound, area, place, AreaSound};
 
 // ---- the table of sector sizes
 
@@ -83,9 +86,15 @@ pub struct Geometry {
 }
 
 impl Geometry {
-    pub const SECTORS_PER_PAGE: usize = 4;
+    pub const SECTORS_PER_PAGE: usize = Chip::SECTORS_PER_PAGE;
 
-    pub const PAGES_PER_BLOCK: usize = 16;
+    pub const PAGES_PER_BLOCK: usize = Chip::PAGES_PER_BLOCK;
+
+    pub fn chip(self) -> Chip
+        ensures { λ r. ⌜ r ≡ chipOf (shape self) ⌝ }
+    {
+        Chip { unit: self.unit }
+    }
 
     // ---- sizes in bytes
 

@@ -1,0 +1,71 @@
+// A flash chip: sectors, pages and blocks, their sizes and their addresses. Document 01, "The chip and the desk".
+ghost use mathlib.Core.Path.{_≡_};
+ghost use Prim.Native.Nat.{_*_, _<_, _≤_};
+ghost use Rattle.layout.specs.Geometry.{sectorsPerBlock, sector, page, block};
+
+// A chip by its unit, a sixteenth of the sector size.
+pub struct Chip {
+    pub unit: usize,
+}
+
+impl Chip {
+    pub const SECTORS_PER_PAGE: usize = 4;
+
+    pub const PAGES_PER_BLOCK: usize = 16;
+
+    pub const SECTORS_PER_BLOCK: usize = Chip::PAGES_PER_BLOCK * Chip::SECTORS_PER_PAGE;
+
+    // ---- sizes in bytes
+
+    pub fn sector_size(self) -> usize
+        requires { ⌜ self .unit ≤ 32 ⌝ }
+        ensures { λ r. ⌜ r ≡ sector (self .unit) ⌝ }
+    {
+        16 * self.unit
+    }
+
+    pub fn page_size(self) -> usize
+        requires { ⌜ self .unit ≤ 32 ⌝ }
+        ensures { λ r. ⌜ r ≡ page (self .unit) ⌝ }
+    {
+        Chip::SECTORS_PER_PAGE * self.sector_size()
+    }
+
+    pub fn block_size(self) -> usize
+        requires { ⌜ self .unit ≤ 32 ⌝ }
+        ensures { λ r. ⌜ r ≡ block (self .unit) ⌝ }
+    {
+        Chip::PAGES_PER_BLOCK * self.page_size()
+    }
+
+    // ---- addresses: the first byte of a sector, of a page and of a block
+
+    pub fn sector_address(self, s: usize) -> usize
+        requires { ⌜ (self .unit ≤ 32) × (s < 4294967296) ⌝ }
+        ensures { λ r. ⌜ r ≡ s * sector (self .unit) ⌝ }
+    {
+        s * self.sector_size()
+    }
+
+    pub fn page_address(self, p: usize) -> usize
+        requires { ⌜ (self .unit ≤ 32) × (p < 4294967296) ⌝ }
+        ensures { λ r. ⌜ r ≡ p * page (self .unit) ⌝ }
+    {
+        p * self.page_size()
+    }
+
+    pub fn block_address(self, b: usize) -> usize
+        requires { ⌜ (self .unit ≤ 32) × (b < 4294967296) ⌝ }
+        ensures { λ r. ⌜ r ≡ b * block (self .unit) ⌝ }
+    {
+        b * self.block_size()
+    }
+
+    // The first sector of a block.
+    pub fn first_sector(b: usize) -> usize
+        requires { ⌜ b < 4294967296 ⌝ }
+        ensures { λ r. ⌜ r ≡ b * sectorsPerBlock ⌝ }
+    {
+        b * Chip::SECTORS_PER_BLOCK
+    }
+}
