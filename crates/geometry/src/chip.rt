@@ -1,6 +1,6 @@
 // A flash chip: sectors, pages and blocks, their sizes and their addresses. Document 01, "The chip and the desk".
 ghost use mathlib.Core.Path.{_≡_};
-ghost use Prim.Native.Nat.{_*_, _<_, _≤_};
+ghost use Prim.Native.Nat.{_*_, _^_, _<_, _≤_};
 ghost use Rattle.layout.specs.Geometry.{sectorsPerBlock, sector, page, block};
 
 // A chip by its unit, a sixteenth of the sector size.
@@ -41,21 +41,21 @@ impl Chip {
     // ---- addresses: the first byte of a sector, of a page and of a block
 
     pub fn sector_address(self, s: usize) -> usize
-        requires { ⌜ (self .unit ≤ 32) × (s < 4294967296) ⌝ }
+        requires { ⌜ (self .unit ≤ 32) × (s * sector (self .unit) < 2 ^ 64) ⌝ }
         ensures { λ r. ⌜ r ≡ s * sector (self .unit) ⌝ }
     {
         s * self.sector_size()
     }
 
     pub fn page_address(self, p: usize) -> usize
-        requires { ⌜ (self .unit ≤ 32) × (p < 4294967296) ⌝ }
+        requires { ⌜ (self .unit ≤ 32) × (p * page (self .unit) < 2 ^ 64) ⌝ }
         ensures { λ r. ⌜ r ≡ p * page (self .unit) ⌝ }
     {
         p * self.page_size()
     }
 
     pub fn block_address(self, b: usize) -> usize
-        requires { ⌜ (self .unit ≤ 32) × (b < 4294967296) ⌝ }
+        requires { ⌜ (self .unit ≤ 32) × (b * block (self .unit) < 2 ^ 64) ⌝ }
         ensures { λ r. ⌜ r ≡ b * block (self .unit) ⌝ }
     {
         b * self.block_size()
@@ -63,7 +63,7 @@ impl Chip {
 
     // The first sector of a block.
     pub fn first_sector(b: usize) -> usize
-        requires { ⌜ b < 4294967296 ⌝ }
+        requires { ⌜ b * sectorsPerBlock < 2 ^ 64 ⌝ }
         ensures { λ r. ⌜ r ≡ b * sectorsPerBlock ⌝ }
     {
         b * Chip::SECTORS_PER_BLOCK

@@ -1,5 +1,6 @@
 use native.Mathlib.Omega.{arith}
-use Rattle.geometry.specs.Bounds.{product-le}
+use mathlib.Core.Path.{ap}
+use Prim.Native.Nat.{ℕ, _*_}
 use borrow.Author.Needs.{needs}
 use Rattle.geometry.proofs.chip.Chip.block_address.Statement.{statement}
 use Rattle.geometry.proofs.chip.Chip.block_address.Tie as tie
@@ -8,8 +9,7 @@ block-size-requires : tie.Need-block-size-requires
 block-size-requires c κs = search needs
 
 mul-result : tie.Need-mul-result
-mul-result c =
-    omega (arith, product-le (c .before .args .b) (c .block-size .result) 4294967296 32768 (omega arith) (omega arith))
+mul-result c = omega (arith, ap (λ (x : ℕ). c .before .args .b * x) (c .block-size .ensures))
 
 returns : tie.Need-returns
 returns c = rw (c .block-size .ensures)

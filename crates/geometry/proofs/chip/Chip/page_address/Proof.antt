@@ -1,5 +1,6 @@
 use native.Mathlib.Omega.{arith}
-use Rattle.geometry.specs.Bounds.{product-le}
+use mathlib.Core.Path.{ap}
+use Prim.Native.Nat.{ℕ, _*_}
 use borrow.Author.Needs.{needs}
 use Rattle.geometry.proofs.chip.Chip.page_address.Statement.{statement}
 use Rattle.geometry.proofs.chip.Chip.page_address.Tie as tie
@@ -8,8 +9,7 @@ page-size-requires : tie.Need-page-size-requires
 page-size-requires c κs = search needs
 
 mul-result : tie.Need-mul-result
-mul-result c =
-    omega (arith, product-le (c .before .args .p) (c .page-size .result) 4294967296 2048 (omega arith) (omega arith))
+mul-result c = omega (arith, ap (λ (x : ℕ). c .before .args .p * x) (c .page-size .ensures))
 
 returns : tie.Need-returns
 returns c = rw (c .page-size .ensures)

@@ -1,5 +1,6 @@
 use native.Mathlib.Omega.{arith}
-use Rattle.geometry.specs.Bounds.{product-le}
+use mathlib.Core.Path.{ap}
+use Prim.Native.Nat.{ℕ, _*_}
 use borrow.Author.Needs.{needs}
 use Rattle.geometry.proofs.chip.Chip.sector_address.Statement.{statement}
 use Rattle.geometry.proofs.chip.Chip.sector_address.Tie as tie
@@ -8,8 +9,7 @@ sector-size-requires : tie.Need-sector-size-requires
 sector-size-requires c κs = search needs
 
 mul-result : tie.Need-mul-result
-mul-result c =
-    omega (arith, product-le (c .before .args .s) (c .sector-size .result) 4294967296 512 (omega arith) (omega arith))
+mul-result c = omega (arith, ap (λ (x : ℕ). c .before .args .s * x) (c .sector-size .ensures))
 
 returns : tie.Need-returns
 returns c = rw (c .sector-size .ensures)
