@@ -2,12 +2,15 @@
 // sector: programming sectors, erasing blocks and looking whether sectors are fresh. Document 01,
 // "The chip and the desk". `unit` is a sixteenth of the sector size.
 ghost use mathlib.Core.Path.{_≡_};
+ghost use mathlib.Core.List.{_++_};
 ghost use Prim.Native.Nat.{_+_, _*_, _≤_, _<_};
 ghost use lib.ListN.{length, getD};
 ghost use Rattle.layout.specs.Geometry.{sector, page, block};
 ghost use Rattle.layout.specs.Flash.{flashOf, program, erase, fresh, apply, applyAll, erases};
 ghost use Rattle.laws.specs.Operations.{programs};
 ghost use Rattle.flash.specs.Fresh.{freshRun};
+ghost use Rattle.flash.specs.Lent.{flashBefore, flashAfter};
+use geometry::Chip;
 
 // What an erased byte and the mark of a fresh sector hold.
 const ERASED: u8 = 255;
@@ -33,6 +36,19 @@ pub fn program_sector(main: &mut [u8], spare: &mut [u8], unit: usize, s: usize, 
     let size = 16 * unit;
     let at = s * size;
     words::copy_at(main, at, src);
+    spare[s] = PROGRAMMED;
+}
+
+// The same out of two parts: sector s gets the bytes of a, then those of b.
+pub fn program_joined(chip: Chip, s: usize, a: &[u8], b: &[u8], main: &mut [u8], spare: &mut [u8])
+    requires { ⌜ (chip .unit ≤ 32) × (length (now a) + length (now b) ≡ sector (chip .unit)) ⌝ }
+    requires { ⌜ (s * sector (chip .unit) + sector (chip .unit) ≤ length (now main)) × (s < length (now spare)) ⌝ }
+    ensures { λ _. ⌜ flashAfter main spare
+        ≡ apply (chip .unit) (program s (now (a .entry) ++ now (b .entry))) (flashBefore main spare) ⌝ }
+{
+    let at = chip.sector_address(s);
+    words::copy_at(main, at, a);
+    words::copy_at(main, at + a.len(), b);
     spare[s] = PROGRAMMED;
 }
 
