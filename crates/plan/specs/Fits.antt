@@ -1,0 +1,105 @@
+-- Where segments fit, by the lengths of the main area, the spare area and the RAM.
+use mathlib.Core.Path.{_≡_, ap}
+use Prim.Native.Nat.{ℕ, _+_, _*_, _/_, _≤_, _<_}
+use native.Mathlib.Nat.{mul-le-mul-right}
+use native.Mathlib.Omega.{arith}
+use Rattle.layout.specs.Geometry.{sectorsPerBlock, sector, page, block, sideBlocks}
+use Rattle.layout.specs.Index.{fullBlock, setPages}
+use Rattle.sets.specs.Indexes.{indexOf}
+use Rattle.partition.specs.Indexes.{Unit?}
+use Rattle.plan.specs.declared.Page.{Page}
+use Rattle.plan.specs.declared.Segment.{Segment}
+use Rattle.plan.specs.declared.Set.{Set}
+
+pub record PageFits (u : ℕ) (p : Page) (main spare ram : ℕ) : Type 0 where
+  pub small : u ≤ 32
+  pub in-main : (p .sector + 4) * sector u ≤ main
+  pub in-spare : p .sector + 4 ≤ spare
+  pub in-ram : p .at + page u ≤ ram
+
+-- the sectors of a flush lie 16 apart
+pub record FlushFits (u : ℕ) (p : Page) (main spare ram : ℕ) : Type 0 where
+  pub some : 0 < u
+  pub small : u ≤ 32
+  pub in-main : (p .sector + 49) * sector u ≤ main
+  pub in-spare : p .sector + 49 ≤ spare
+  pub in-ram : p .at + page u ≤ ram
+
+-- the first n sectors of the next set from sector s on, and what they are made of
+pub record NextFits (u : ℕ) (set : Set) (s n main spare : ℕ) : Type 0 where
+  pub unit : Unit? u
+  pub small : u ≤ 32
+  pub rounds : set .rounds < sideBlocks u
+  pub sets : set .«full_sets» ≤ 1024
+  pub near : set .index .first ≤ 20000
+  pub sides : fullBlock u (indexOf (set .index)) 0 * block u ≤ main
+  pub sectors : n ≤ setPages (set .rounds + 1) * 4
+  pub in-main : (s + n) * sector u ≤ main
+  pub in-spare : s + n ≤ spare
+
+pub record WipeFits (u : ℕ) (b : Segment) (main spare : ℕ) : Type 0 where
+  pub small : u ≤ 32
+  pub in-main : (b .first + b .count) * block u ≤ main
+  pub in-spare : (b .first + b .count) * sectorsPerBlock ≤ spare
+
+-- the areas keep their lengths
+pub at-lengths : (F : ℕ → ℕ → Type 0) (m s m′ s′ : ℕ) → m′ ≡ m → s′ ≡ s → F m s → F m′ s′
+at-lengths F m s m′ s′ e d p = rw (e, d) p
+
+pub at-numbers : (F : ℕ → ℕ → ℕ → Type 0) (a m s a′ m′ s′ : ℕ) → a′ ≡ a → m′ ≡ m → s′ ≡ s → F a m s → F a′ m′ s′
+at-numbers F a m s a′ m′ s′ h e d p = rw (h, e, d) p
+
+-- sector j of a page; `size` is what code computes
+module _ (u : ℕ) (p : Page) (main spare ram : ℕ) (F : PageFits u p main spare ram) (j : ℕ) (h : j < 4) where
+  pub page-on-flash : (p .sector + j) * sector u + sector u ≤ main
+  page-on-flash =
+      let s : p .sector + j + 1 ≤ p .sector + 4 = omega arith in
+      omega (arith, mul-le-mul-right (sector u) s, F .in-main)
+
+  pub page-in-ram : (size : ℕ) → size ≡ sector u → p .at + j * size + size ≤ ram
+  page-in-ram size e = rw e (omega (arith, mul-le-mul-right (sector u) h, F .in-ram))
+
+-- sector j of a flush; `size` and `piece` are what code computes
+module _ (u : ℕ) (p : Page) (main spare ram : ℕ) (F : FlushFits u p main spare ram) (j : ℕ) (h : j < 4) where
+  pub flush-on-flash : (p .sector + j * 16) * sector u + sector u ≤ main
+  flush-on-flash =
+      let s : p .sector + j * 16 + 1 ≤ p .sector + 49 = omega arith in
+      omega (arith, mul-le-mul-right (sector u) s, F .in-main)
+
+  pub flush-in-ram : (size : ℕ) → size ≡ sector u → p .at + j * size + size ≤ ram
+  flush-in-ram size e = rw e (omega (arith, mul-le-mul-right (sector u) h, F .in-ram))
+
+  pub flush-in-bits : (size piece : ℕ) → size ≡ sector u → piece ≡ size / 8 → j * piece + piece ≤ 256
+  flush-in-bits size piece e d =
+      let q : piece ≡ 2 * u = omega (arith, e, d) in
+      rw q (omega (arith, mul-le-mul-right (2 * u) h, F .small))
+
+-- sector j of the next set
+pub set-on-flash : (u : ℕ) (set : Set) (s n main spare : ℕ) → NextFits u set s n main spare → (j : ℕ) → j < n
+    → (s + j) * sector u + sector u ≤ main
+set-on-flash u set s n main spare F j h =
+    let l : s + j + 1 ≤ s + n = omega arith in
+    omega (arith, mul-le-mul-right (sector u) l, F .in-main)
+
+-- fewer of its sectors
+pub fewer : (u : ℕ) (set : Set) (s n main spare : ℕ) → NextFits u set s n main spare → (k : ℕ) → k ≤ n → NextFits u set s k main spare
+fewer u set s n main spare F k h =
+    let l : s + k ≤ s + n = omega arith in
+    record {
+      unit = F .unit;
+      small = F .small;
+      rounds = F .rounds;
+      sets = F .sets;
+      near = F .near;
+      sides = F .sides;
+      sectors = omega (arith, h, F .sectors);
+      in-main = omega (arith, mul-le-mul-right (sector u) l, F .in-main);
+      in-spare = omega (arith, h, F .in-spare);
+    }
+
+-- k blocks of a segment from its f-th on
+pub blocks-inside : (u : ℕ) (b : Segment) (main spare : ℕ) → WipeFits u b main spare → (f k : ℕ) → f + k ≤ b .count
+    → (u ≤ 32) × ((b .first + f + k) * block u ≤ main) × ((b .first + f + k) * sectorsPerBlock ≤ spare)
+blocks-inside u b main spare F f k h =
+    let l : b .first + f + k ≤ b .first + b .count = omega arith in
+    (F .small, omega (arith, mul-le-mul-right (block u) l, F .in-main), omega (arith, l, F .in-spare))

@@ -1,0 +1,391 @@
+// The chip operations of a change as numbers, a run of them, and whether their sectors are fresh. The RAM is only read.
+ghost use mathlib.Core.Path.{_≡_};
+ghost use mathlib.Core.List.{List};
+ghost use Prim.Native.Nat.{ℕ, _+_, _-_, _*_, _^_, _<_, _≤_};
+ghost use lib.ListN.{length};
+ghost use Rattle.layout.specs.Geometry.{sector};
+ghost use Rattle.layout.specs.Flash.{Flash, planOps, allFresh};
+ghost use Rattle.layout.specs.Index.{setPages};
+ghost use Rattle.flash.specs.Lent.{flashBefore, flashAfter};
+ghost use Rattle.plan.specs.Runs.{doneOne, done};
+ghost use Rattle.plan.specs.Spans.{span, among, behind, runOf};
+ghost use Rattle.plan.specs.Segments.{filledPage, flushed, nextSet, wiped};
+ghost use Rattle.plan.specs.Fits.{PageFits, FlushFits, NextFits, WipeFits};
+ghost use Rattle.plan.specs.Plans.{newLength, pagesOf, buildOf, planned, plannedCount, wholeOf};
+ghost use Rattle.plan.specs.Plans.{PagesFit, BuildFits, PlanFits, SpareFits};
+use geometry::Chip;
+use sets::Index;
+
+// Filters of a flush.
+const FILTERS: usize = 8;
+
+// Flushes of a round; the sectors of a flush lie so far apart in L1.
+const FLUSHES: usize = 16;
+
+// ---- a plan
+
+// Sectors or blocks in a row: the first of them, and how many there are.
+pub struct Segment {
+    pub first: usize,
+    pub count: usize,
+}
+
+// The set that comes next in an index with so many full sets and rounds.
+pub struct Set {
+    pub index: Index,
+    pub full_sets: usize,
+    pub rounds: usize,
+}
+
+// The operations of a change, in order: the pages that its deletion, its record and its entry fill, the flush of the filters, the
+// next set, the erases of L1 and of the set before. What a change does not do has a count of 0.
+pub struct Plan {
+    pub chip: Chip,
+    pub da: Segment,
+    pub ra: Segment,
+    pub ka: Segment,
+    pub flush: Segment,
+    pub set: Segment,
+    pub l1: Segment,
+    pub old: Segment,
+    pub next: Set,
+}
+
+// Operations `from` to `to` - 1 of a list.
+pub struct Span {
+    pub from: usize,
+    pub to: usize,
+}
+
+impl Span {
+    // Those among the first n.
+    fn among(self, n: usize) -> Span
+        ensures { λ r. ⌜ r ≡ among self n ⌝ }
+    {
+        if self.to < n {
+            return self;
+        }
+        Span {
+            from: self.from,
+            to: n,
+        }
+    }
+
+    // Those behind the first n, counted from there.
+    fn behind(self, n: usize) -> Span
+        ensures { λ r. ⌜ r ≡ behind self n ⌝ }
+    {
+        Span {
+            from: less(self.from, n),
+            to: less(self.to, n),
+        }
+    }
+}
+
+// x - n, and 0 where n is more.
+fn less(x: usize, n: usize) -> usize
+    ensures { λ r. ⌜ r ≡ x - n ⌝ }
+{
+    if x <= n {
+        return 0;
+    }
+    x - n
+}
+
+// ---- segments
+
+// Where four sectors begin, and the RAM page whose bytes they get.
+pub struct Page {
+    pub sector: usize,
+    pub at: usize,
+}
+
+// Sector j of a page that an item fills: its bytes are those of the RAM page, those of the last one end with the item.
+fn page_step(
+    chip: Chip,
+    page: Page,
+    j: usize,
+    item: &[u8],
+    main: &mut [u8],
+    spare: &mut [u8],
+    ram: &[u8],
+)
+    requires { ⌜ PageFits (chip .unit) page (length (now main)) (length (now spare)) (length (now ram)) ⌝ }
+    requires { ⌜ (j < 4) × (length (now item) ≤ sector (chip .unit)) ⌝ }
+    ensures { λ _. ⌜ flashAfter main spare
+        ≡ doneOne (chip .unit) (filledPage (chip .unit) page (now (item .entry)) (now (ram .entry)) j) (flashBefore main spare) ⌝ }
+{
+    let size = chip.sector_size();
+    let s = page.sector + j;
+    let from = page.at + j * size;
+    if j + 1 < Chip::SECTORS_PER_PAGE {
+        let to = from + size;
+        flash::program_sector(main, spare, chip.unit, s, &ram[from..to]);
+        return;
+    }
+    let to = from + (size - item.len());
+    flash::program_joined(chip, s, &ram[from..to], item, main, spare);
+}
+
+// Sectors of it.
+fn page_run(
+    chip: Chip,
+    page: Page,
+    part: Span,
+    item: &[u8],
+    main: &mut [u8],
+    spare: &mut [u8],
+    ram: &[u8],
+)
+    requires { ⌜ PageFits (chip .unit) page (length (now main)) (length (now spare)) (length (now ram)) ⌝ }
+    requires { ⌜ (part .to ≤ 4) × (length (now item) ≤ sector (chip .unit)) ⌝ }
+    ensures { λ _. ⌜ flashAfter main spare
+        ≡ runOf (chip .unit) (filledPage (chip .unit) page (now (item .entry)) (now (ram .entry))) part (flashBefore main spare) ⌝ }
+{
+    let mut j = part.from;
+    while j < part.to {
+        page_step(chip, page, j, item, main, spare, ram);
+        j += 1;
+    }
+}
+
+// Sector j of a flush: seven eighths are those of the SKA page, the last is a fourth of the new filter.
+fn flush_step(
+    chip: Chip,
+    page: Page,
+    j: usize,
+    bits: &[u8],
+    main: &mut [u8],
+    spare: &mut [u8],
+    ram: &[u8],
+)
+    requires { ⌜ FlushFits (chip .unit) page (length (now main)) (length (now spare)) (length (now ram)) ⌝ }
+    requires { ⌜ (j < 4) × (length (now bits) ≡ 256) ⌝ }
+    ensures { λ _. ⌜ flashAfter main spare
+        ≡ doneOne (chip .unit) (flushed (chip .unit) page (now (bits .entry)) (now (ram .entry)) j) (flashBefore main spare) ⌝ }
+{
+    let size = chip.sector_size();
+    let piece = size / FILTERS;
+    let from = page.at + j * size;
+    let to = from + (size - piece);
+    let lo = j * piece;
+    let hi = lo + piece;
+    flash::program_joined(
+        chip,
+        page.sector + j * FLUSHES,
+        &ram[from..to],
+        &bits[lo..hi],
+        main,
+        spare,
+    );
+}
+
+// Sectors of it.
+fn flush_run(
+    chip: Chip,
+    page: Page,
+    part: Span,
+    bits: &[u8],
+    main: &mut [u8],
+    spare: &mut [u8],
+    ram: &[u8],
+)
+    requires { ⌜ FlushFits (chip .unit) page (length (now main)) (length (now spare)) (length (now ram)) ⌝ }
+    requires { ⌜ (part .to ≤ 4) × (length (now bits) ≡ 256) ⌝ }
+    ensures { λ _. ⌜ flashAfter main spare
+        ≡ runOf (chip .unit) (flushed (chip .unit) page (now (bits .entry)) (now (ram .entry))) part (flashBefore main spare) ⌝ }
+{
+    let mut j = part.from;
+    while j < part.to {
+        flush_step(chip, page, j, bits, main, spare, ram);
+        j += 1;
+    }
+}
+
+// Sectors of a set from sector s on, each by way of `buf` and out of the flash as it stands then.
+fn set_run(
+    chip: Chip,
+    set: Set,
+    s: usize,
+    part: Span,
+    buf: &mut [u8],
+    main: &mut [u8],
+    spare: &mut [u8],
+)
+    requires { ⌜ NextFits (chip .unit) set s (part .to) (length (now main)) (length (now spare)) ⌝ }
+    requires { ⌜ length (now buf) ≡ sector (chip .unit) ⌝ }
+    ensures { λ _. ⌜ flashAfter main spare ≡ runOf (chip .unit) (nextSet (chip .unit) set s) part (flashBefore main spare) ⌝ }
+{
+    let unit = chip.unit;
+    let mut j = part.from;
+    while j < part.to {
+        partition::set_sector(main, unit, set.index, set.full_sets, set.rounds, j, buf);
+        flash::program_sector(main, spare, unit, s + j, buf);
+        j += 1;
+    }
+}
+
+// Blocks of a segment.
+fn wipe_run(chip: Chip, blocks: Segment, part: Span, main: &mut [u8], spare: &mut [u8])
+    requires { ⌜ WipeFits (chip .unit) blocks (length (now main)) (length (now spare)) × (part .to ≤ blocks .count) ⌝ }
+    ensures { λ _. ⌜ flashAfter main spare ≡ runOf (chip .unit) (wiped (blocks .first)) part (flashBefore main spare) ⌝ }
+{
+    if part.to <= part.from {
+        return;
+    }
+    flash::erase_blocks(
+        main,
+        spare,
+        chip.unit,
+        blocks.first + part.from,
+        part.to - part.from,
+    );
+}
+
+// ---- plans
+
+// Operations of the three pages.
+fn pages(p: Plan, part: Span, new: &[u8], main: &mut [u8], spare: &mut [u8], ram: &[u8])
+    requires { ⌜ PagesFit p (length (now main)) (length (now spare)) (length (now ram)) × (length (now new) ≡ newLength) ⌝ }
+    ensures { λ _. ⌜ flashAfter main spare
+        ≡ done (p .chip .unit) (span (pagesOf p (now (new .entry)) (now (ram .entry))) part) (flashBefore main spare) ⌝ }
+{
+    let chip = p.chip;
+    let page = chip.page_size();
+    let da = Page {
+        sector: p.da.first,
+        at: 2 * page,
+    };
+    let ra = Page {
+        sector: p.ra.first,
+        at: 0,
+    };
+    let ka = Page {
+        sector: p.ka.first,
+        at: page,
+    };
+    let second = part.behind(p.da.count);
+    let third = second.behind(p.ra.count);
+    page_run(
+        chip,
+        da,
+        part.among(p.da.count),
+        &new[0..4],
+        main,
+        spare,
+        ram,
+    );
+    page_run(
+        chip,
+        ra,
+        second.among(p.ra.count),
+        &new[4..20],
+        main,
+        spare,
+        ram,
+    );
+    page_run(
+        chip,
+        ka,
+        third.among(p.ka.count),
+        &new[20..28],
+        main,
+        spare,
+        ram,
+    );
+}
+
+// Operations of the next set and of the erases.
+fn build(p: Plan, part: Span, main: &mut [u8], spare: &mut [u8])
+    requires { ⌜ BuildFits p (length (now main)) (length (now spare)) ⌝ }
+    ensures { λ _. ⌜ flashAfter main spare ≡ done (p .chip .unit) (span (buildOf p) part) (flashBefore main spare) ⌝ }
+{
+    let chip = p.chip;
+    let size = chip.sector_size();
+    let second = part.behind(p.set.count);
+    let third = second.behind(p.l1.count);
+    let mut buf = [0u8; 512];
+    set_run(
+        chip,
+        p.next,
+        p.set.first,
+        part.among(p.set.count),
+        &mut buf[0..size],
+        main,
+        spare,
+    );
+    wipe_run(chip, p.l1, second.among(p.l1.count), main, spare);
+    wipe_run(chip, p.old, third.among(p.old.count), main, spare);
+}
+
+// All operations of a plan.
+pub fn whole(p: Plan) -> Span
+    requires { ⌜ plannedCount p < 2 ^ 64 ⌝ }
+    ensures { λ r. ⌜ r ≡ wholeOf p ⌝ }
+{
+    let pages = p.da.count + p.ra.count + p.ka.count;
+    Span {
+        from: 0,
+        to: pages + p.flush.count + (p.set.count + p.l1.count + p.old.count),
+    }
+}
+
+// Operations of a plan, out of the RAM as handed in, with the new item over the end of a page that it fills and the new filter over the
+// ends of the sectors of a flush.
+pub fn run(
+    p: Plan,
+    part: Span,
+    new: &[u8],
+    bits: &[u8],
+    main: &mut [u8],
+    spare: &mut [u8],
+    ram: &[u8],
+)
+    requires { ⌜ PlanFits p (length (now main)) (length (now spare)) (length (now ram)) ⌝ }
+    requires { ⌜ (length (now new) ≡ newLength) × (length (now bits) ≡ 256) ⌝ }
+    ensures { λ _. ⌜ flashAfter main spare
+        ≡ done (p .chip .unit) (span (planned p (now (new .entry)) (now (bits .entry)) (now (ram .entry))) part)
+        (flashBefore main spare) ⌝ }
+{
+    let filters = part.behind(p.da.count + p.ra.count + p.ka.count);
+    let later = filters.behind(p.flush.count);
+    let page = Page {
+        sector: p.flush.first,
+        at: p.next.index.ska,
+    };
+    pages(p, part, new, main, spare, ram);
+    flush_run(
+        p.chip,
+        page,
+        filters.among(p.flush.count),
+        bits,
+        main,
+        spare,
+        ram,
+    );
+    if later.to == 0 {
+        return; // no buffer is made for a set that is not reached
+    }
+    build(p, later, main, spare);
+}
+
+// Are all sectors fresh that the plan programs, whatever the bytes.
+pub fn fresh(p: Plan, spare: &[u8]) -> bool
+    requires { ⌜ SpareFits p (length (now spare)) ⌝ }
+    ensures { λ r. ⌜ ((new bits ram : List ℕ) (flash : Flash)
+        → r ≡ allFresh (now (spare .entry)) (planOps (p .chip .unit) (planned p new bits ram) flash)) ⌝ }
+{
+    if !flash::all_fresh(spare, p.da.first, 1, p.da.count) {
+        return false;
+    }
+    if !flash::all_fresh(spare, p.ra.first, 1, p.ra.count) {
+        return false;
+    }
+    if !flash::all_fresh(spare, p.ka.first, 1, p.ka.count) {
+        return false;
+    }
+    if !flash::all_fresh(spare, p.flush.first, FLUSHES, p.flush.count) {
+        return false;
+    }
+    flash::all_fresh(spare, p.set.first, 1, p.set.count)
+}
