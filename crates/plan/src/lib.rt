@@ -17,10 +17,10 @@ use geometry::Chip;
 use sets::Index;
 
 // Filters of a flush.
-const FILTERS: usize = 8;
+pub const FILTERS_PER_FLUSH: usize = 8;
 
 // Flushes of a round; the sectors of a flush lie so far apart in L1.
-const FLUSHES: usize = 16;
+pub const FLUSHES_PER_ROUND: usize = 16;
 
 // ---- a plan
 
@@ -165,14 +165,14 @@ fn flush_step(
         ≡ doneOne (chip .unit) (flushed (chip .unit) page (now (bits .entry)) (now (ram .entry)) j) (flashBefore main spare) ⌝ }
 {
     let size = chip.sector_size();
-    let piece = size / FILTERS;
+    let piece = size / FILTERS_PER_FLUSH;
     let from = page.at + j * size;
     let to = from + (size - piece);
     let lo = j * piece;
     let hi = lo + piece;
     flash::program_joined(
         chip,
-        page.sector + j * FLUSHES,
+        page.sector + j * FLUSHES_PER_ROUND,
         &ram[from..to],
         &bits[lo..hi],
         main,
@@ -384,7 +384,7 @@ pub fn fresh(p: Plan, spare: &[u8]) -> bool
     if !flash::all_fresh(spare, p.ka.first, 1, p.ka.count) {
         return false;
     }
-    if !flash::all_fresh(spare, p.flush.first, FLUSHES, p.flush.count) {
+    if !flash::all_fresh(spare, p.flush.first, FLUSHES_PER_ROUND, p.flush.count) {
         return false;
     }
     flash::all_fresh(spare, p.set.first, 1, p.set.count)

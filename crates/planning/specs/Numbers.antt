@@ -1,0 +1,106 @@
+-- The plans of changes as numbers, from the counts alone.
+use mathlib.Core.Path.{_≡_, refl}
+use mathlib.Core.Bool.{cond}
+use Prim.Native.Nat.{ℕ, _+_, _*_, _/_}
+use lib.Dec.{eqb}
+use Rattle.layout.specs.Geometry.{Geometry, sectorsPerPage, sectorsPerBlock}
+use Rattle.layout.specs.Items.{Area, RA, KA, DA, fills}
+use Rattle.layout.specs.Index.{inSka, inL1, inSet, inFull, filtersPerFlush, flushesPerRound, setBlock, setPages, sideBlock, setBlocks}
+use Rattle.layout.specs.Calls.{keyIndex, keyFilters}
+use Rattle.geometry.specs.Shape.{chipOf}
+use Rattle.sets.specs.declared.Index.{Index}
+use Rattle.plan.specs.declared.Plan.{Plan}
+use Rattle.plan.specs.declared.Segment.{Segment}
+
+abbrev pub none : Segment
+none = record { first = 0; count = 0 }
+
+-- the page of item n: its sectors count where the item fills it
+abbrev pub pageOf : Area → ℕ → Segment
+pageOf a n = record { first = a .first * sectorsPerBlock + n / a .perPage * sectorsPerPage; count = cond (fills a n) sectorsPerPage 0 }
+
+module _ (g : Geometry) where
+  abbrev pub indexFor : Index
+  indexFor = record { first = keyIndex g .first; ska = keyIndex g .ska }
+
+  -- the page of a deletion, and no more
+  abbrev pub startPlan : Segment → Plan
+  startPlan da = record {
+    chip = chipOf g;
+    da = da;
+    ra = none;
+    ka = none;
+    flush = none;
+    set = none;
+    l1 = none;
+    old = none;
+    next = record { index = indexFor; «full_sets» = 0; rounds = 0 };
+  }
+
+  -- with the pages of record n and of its entry
+  abbrev pub addPages : ℕ → Plan → Plan
+  addPages n p = record {
+    chip = p .chip;
+    da = p .da;
+    ra = pageOf (RA g) n;
+    ka = pageOf (KA g) n;
+    flush = p .flush;
+    set = p .set;
+    l1 = p .l1;
+    old = p .old;
+    next = p .next;
+  }
+
+  -- with the flush that filter F makes
+  abbrev pub addFlush : ℕ → Plan → Plan
+  addFlush F p = record {
+    chip = p .chip;
+    da = p .da;
+    ra = p .ra;
+    ka = p .ka;
+    flush = record { first = keyIndex g .first * sectorsPerBlock + inL1 F; count = 4 };
+    set = p .set;
+    l1 = p .l1;
+    old = p .old;
+    next = p .next;
+  }
+
+  -- with the set that it completes, and the erases
+  abbrev pub addSet : ℕ → Plan → Plan
+  addSet F p = record {
+    chip = p .chip;
+    da = p .da;
+    ra = p .ra;
+    ka = p .ka;
+    flush = p .flush;
+    set = record {
+      first = setBlock (g .u) (keyIndex g) (inFull (g .u) F) (inSet (g .u) F) * sectorsPerBlock;
+      count = setPages (inSet (g .u) F + 1) * sectorsPerPage;
+    };
+    l1 = record { first = keyIndex g .first; count = 1 };
+    old = record { first = sideBlock (g .u) (keyIndex g) (inSet (g .u) F); count = setBlocks (inSet (g .u) F) };
+    next = record { index = indexFor; «full_sets» = inFull (g .u) F; rounds = inSet (g .u) F };
+  }
+
+  -- what filter F adds: the flush where it is an eighth, and the set where that ends a round
+  unfoldable pub addFilter : ℕ → Plan → Plan
+  addFilter F p =
+      cond (eqb (inSka F + 1) filtersPerFlush)
+      (cond (eqb (inL1 F + 1) flushesPerRound) (addSet F (addFlush F p)) (addFlush F p)) p
+
+  -- record n and its entry after the page of a deletion
+  unfoldable pub addRecord : Segment → ℕ → Plan
+  addRecord da n =
+      let p : Plan = addPages n (startPlan da) in
+      cond (fills (KA g) n) (addFilter (keyFilters g n) p) p
+
+  -- ---- the plans
+
+  abbrev pub deletionNumbers : ℕ → Plan
+  deletionNumbers d = startPlan (pageOf (DA g) d)
+
+  abbrev pub insertionNumbers : ℕ → Plan
+  insertionNumbers n = addRecord none n
+
+  abbrev pub updateNumbers : ℕ → ℕ → Plan
+  updateNumbers d n = addRecord (pageOf (DA g) d) n

@@ -1,0 +1,174 @@
+// The plan of a change, from the counts alone.
+ghost use mathlib.Core.Path.{_≡_};
+ghost use Prim.Native.Nat.{_<_, _≤_};
+ghost use Rattle.layout.specs.Geometry.{recordCapacity, deletionCapacity};
+ghost use Rattle.layout.specs.Index.{inFull};
+ghost use Rattle.geometry.specs.Shape.{shape, Sound, area, AreaSound};
+ghost use Rattle.planning.specs.Numbers.{none, pageOf, indexFor, startPlan, addSet, addFilter};
+ghost use Rattle.planning.specs.Numbers.{addRecord, deletionNumbers, insertionNumbers, updateNumbers};
+use geometry::Area;
+use geometry::Chip;
+use geometry::Geometry;
+use plan::Plan;
+use plan::Segment;
+use plan::Set;
+use sets::Index;
+
+// ---- segments
+
+fn nothing() -> Segment
+    ensures { λ r. ⌜ r ≡ none ⌝ }
+{
+    Segment { first: 0, count: 0 }
+}
+
+// The page of item n; its sectors count where the item fills it.
+fn page(a: Area, n: usize) -> Segment
+    requires { ⌜ AreaSound a × (n < 4294967296) ⌝ }
+    ensures { λ r. ⌜ r ≡ pageOf (area a) n ⌝ }
+{
+    let q = a.per_page;
+    let first = Chip::first_sector(a.first) + n / q * Chip::SECTORS_PER_PAGE;
+    if n % q + 1 != q {
+        return Segment { first, count: 0 };
+    }
+    Segment {
+        first,
+        count: Chip::SECTORS_PER_PAGE,
+    }
+}
+
+// ---- parts of a plan
+
+// The index over the entries.
+fn key_index(g: Geometry) -> Index
+    requires { ⌜ Sound g ⌝ }
+    ensures { λ r. ⌜ r ≡ indexFor (shape g) ⌝ }
+{
+    Index {
+        first: g.index_block(),
+        ska: g.ska_ram(),
+    }
+}
+
+// The page of a deletion, and no more.
+fn start(g: Geometry, da: Segment) -> Plan
+    requires { ⌜ Sound g ⌝ }
+    ensures { λ r. ⌜ r ≡ startPlan (shape g) da ⌝ }
+{
+    let none = nothing();
+    Plan {
+        chip: g.chip(),
+        da,
+        ra: none,
+        ka: none,
+        flush: none,
+        set: none,
+        l1: none,
+        old: none,
+        next: Set {
+            index: key_index(g),
+            full_sets: 0,
+            rounds: 0,
+        },
+    }
+}
+
+// The set that filter number `filters` completes, and the erases after it.
+fn add_set(p: Plan, g: Geometry, filters: usize) -> Plan
+    requires { ⌜ Sound g × (inFull (g .unit) filters ≤ 1024) ⌝ }
+    ensures { λ r. ⌜ r ≡ addSet (shape g) filters p ⌝ }
+{
+    let mut o = p;
+    let unit = g.unit;
+    let index = key_index(g);
+    let rounds = filters / plan::FILTERS_PER_FLUSH / plan::FLUSHES_PER_ROUND;
+    let side = g.side_blocks();
+    let z = rounds / side;
+    let c = rounds % side;
+    let set = Segment {
+        first: Chip::first_sector(sets::set_block(unit, index, z, c)),
+        count: sets::set_pages(c + 1) * Chip::SECTORS_PER_PAGE,
+    };
+    let l1 = Segment {
+        first: index.first,
+        count: 1,
+    };
+    let old = Segment {
+        first: sets::side_block(unit, index, c),
+        count: sets::set_blocks(unit, c),
+    };
+    let next = Set {
+        index,
+        full_sets: z,
+        rounds: c,
+    };
+    o.set = set;
+    o.l1 = l1;
+    o.old = old;
+    o.next = next;
+    o
+}
+
+// What filter number `filters` adds: the flush where it is an eighth, and the set where that ends a round.
+fn add_filter(p: Plan, g: Geometry, filters: usize) -> Plan
+    requires { ⌜ Sound g × (inFull (g .unit) filters ≤ 1024) ⌝ }
+    ensures { λ r. ⌜ r ≡ addFilter (shape g) filters p ⌝ }
+{
+    if filters % plan::FILTERS_PER_FLUSH + 1 != plan::FILTERS_PER_FLUSH {
+        return p;
+    }
+    let mut o = p;
+    let number = filters / plan::FILTERS_PER_FLUSH % plan::FLUSHES_PER_ROUND;
+    let flush = Segment {
+        first: Chip::first_sector(g.index_block()) + number,
+        count: 4,
+    };
+    o.flush = flush;
+    if number + 1 != plan::FLUSHES_PER_ROUND {
+        return o;
+    }
+    add_set(o, g, filters)
+}
+
+// Record n and its entry after the page of a deletion.
+fn add_record(g: Geometry, da: Segment, n: usize) -> Plan
+    requires { ⌜ Sound g × (n < recordCapacity (shape g)) ⌝ }
+    ensures { λ r. ⌜ r ≡ addRecord (shape g) da n ⌝ }
+{
+    let mut p = start(g, da);
+    let ra = page(geometry::record_area(g), n);
+    let ka = page(geometry::entry_area(g), n);
+    p.ra = ra;
+    p.ka = ka;
+    if ka.count == 0 {
+        return p;
+    }
+    add_filter(p, g, n / g.entries_per_page())
+}
+
+// ---- plans
+
+// Deletion d.
+pub fn deletion(g: Geometry, d: usize) -> Plan
+    requires { ⌜ Sound g × (d < deletionCapacity (shape g)) ⌝ }
+    ensures { λ r. ⌜ r ≡ deletionNumbers (shape g) d ⌝ }
+{
+    start(g, page(geometry::deletion_area(g), d))
+}
+
+// Record n and its entry.
+pub fn insertion(g: Geometry, n: usize) -> Plan
+    requires { ⌜ Sound g × (n < recordCapacity (shape g)) ⌝ }
+    ensures { λ r. ⌜ r ≡ insertionNumbers (shape g) n ⌝ }
+{
+    add_record(g, nothing(), n)
+}
+
+// Deletion d, then record n and its entry.
+pub fn update(g: Geometry, d: usize, n: usize) -> Plan
+    requires { ⌜ Sound g × (d < deletionCapacity (shape g)) × (n < recordCapacity (shape g)) ⌝ }
+    ensures { λ r. ⌜ r ≡ updateNumbers (shape g) d n ⌝ }
+{
+    add_record(g, page(geometry::deletion_area(g), d), n)
+}
