@@ -1,3 +1,2 @@
 pub mod Fresh
 pub mod Parts
-pub mod Lent

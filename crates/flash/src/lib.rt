@@ -9,7 +9,7 @@ ghost use Rattle.layout.specs.Geometry.{sector, page, block};
 ghost use Rattle.layout.specs.Flash.{flashOf, program, erase, fresh, apply, applyAll, erases};
 ghost use Rattle.laws.specs.Operations.{programs};
 ghost use Rattle.flash.specs.Fresh.{freshRun};
-ghost use Rattle.flash.specs.Lent.{flashBefore, flashAfter};
+ghost use Rattle.laws.specs.LentFlash.{flashBefore, flashAfter};
 use geometry::Chip;
 
 // What an erased byte and the mark of a fresh sector hold.

@@ -6,7 +6,7 @@ ghost use lib.ListN.{length};
 ghost use Rattle.layout.specs.Geometry.{sector};
 ghost use Rattle.layout.specs.Flash.{Flash, planOps, allFresh};
 ghost use Rattle.layout.specs.Index.{setPages};
-ghost use Rattle.flash.specs.Lent.{flashBefore, flashAfter};
+ghost use Rattle.laws.specs.LentFlash.{flashBefore, flashAfter};
 ghost use Rattle.plan.specs.Runs.{doneOne, done};
 ghost use Rattle.plan.specs.Spans.{span, among, behind, runOf};
 ghost use Rattle.plan.specs.Segments.{filledPage, flushed, nextSet, wiped};
