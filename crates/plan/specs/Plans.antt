@@ -1,11 +1,12 @@
 -- The operations that a plan stands for, in order, and where it fits.
 use mathlib.Core.Path.{_≡_, refl, sym, ap, _∙_}
 use mathlib.Core.List.{List, _++_}
-use Prim.Native.Nat.{ℕ, _+_, _*_, _≤_, _<_}
+use Prim.Native.Nat.{ℕ, _+_, _*_, _^_, _≤_, _<_}
 use native.Mathlib.Omega.{arith}
 use lib.ListN.{length, take, drop, length-append}
 use Rattle.layout.specs.Geometry.{raRam, kaRam, daRam}
 use Rattle.layout.specs.Flash.{Flash, Planned, plannedFrom}
+use Rattle.laws.specs.RowLaws.{blocks-fit}
 use Rattle.plan.specs.declared.Page.{Page}
 use Rattle.plan.specs.declared.Plan.{Plan}
 use Rattle.plan.specs.declared.Segment.{Segment}
@@ -108,6 +109,25 @@ pub record SpareFits (p : Plan) (spare : ℕ) : Type 0 where
   pub ka : p .ka .first + p .ka .count ≤ spare
   pub flush : p .flush .first + p .flush .count * 16 < spare + 16
   pub set : p .set .first + p .set .count ≤ spare
+
+-- where a plan fits, its sectors have marks, and there are not too many operations
+pub spare-fits : (p : Plan) (main spare ram : ℕ) → PlanFits p main spare ram → SpareFits p spare
+spare-fits p main spare ram F = record {
+  da = omega (arith, F .pages .da .in-spare, F .pages .da-count);
+  ra = omega (arith, F .pages .ra .in-spare, F .pages .ra-count);
+  ka = omega (arith, F .pages .ka .in-spare, F .pages .ka-count);
+  flush = omega (arith, F .flush .in-spare, F .flush-count);
+  set = F .build .set .in-spare;
+}
+
+pub count-fits : (p : Plan) (main spare ram : ℕ) → PlanFits p main spare ram → spare < 2 ^ 64 → plannedCount p < 2 ^ 64
+count-fits p main spare ram F h =
+    let N = F .build .set in
+    let b = blocks-fit (p .chip .unit) (N .unit .e) (N .unit .is) (p .next .rounds + 1) (omega (arith, N .rounds)) in
+    let s : p .set .count ≤ 8192 = omega (arith, b, N .sectors, N .small) in
+    let l : p .l1 .count * 64 ≤ spare = omega (arith, F .build .l1 .in-spare) in
+    let o : p .old .count * 64 ≤ spare = omega (arith, F .build .old .in-spare) in
+    omega (arith, s, l, o, h, F .pages .da-count, F .pages .ra-count, F .pages .ka-count, F .flush-count)
 
 -- ---- the parts of a run, in order, are the run; `page` is what code computes
 

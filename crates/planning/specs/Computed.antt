@@ -35,7 +35,8 @@ full-le u R n q e pos h l =
 -- ---- segments
 
 module _ (a : Area) (n s : ℕ) (e : s ≡ a .first * sectorsPerBlock) where
-  pub page-open : (n % a .perPage + 1 ≡ a .perPage → ⊥) → _≡_ {A = Segment} (record { first = s + n / a .perPage * 4; count = 0 }) (pageOf a n)
+  pub page-open : (n % a .perPage + 1 ≡ a .perPage → ⊥)
+      → _≡_ {A = Segment} (record { first = s + n / a .perPage * 4; count = 0 }) (pageOf a n)
   page-open h = rw (e, ne-eqb (n % a .perPage + 1) (a .perPage) h)
 
   pub page-full : n % a .perPage + 1 ≡ a .perPage → _≡_ {A = Segment} (record { first = s + n / a .perPage * 4; count = 4 }) (pageOf a n)
@@ -43,7 +44,8 @@ module _ (a : Area) (n s : ℕ) (e : s ≡ a .first * sectorsPerBlock) where
 
 -- ---- plans
 
-pub index-is : (g : Geometry) (f s : ℕ) → f ≡ indexFor g .first → s ≡ indexFor g .ska → _≡_ {A = Index} (record { first = f; ska = s }) (indexFor g)
+pub index-is : (g : Geometry) (f s : ℕ) → f ≡ indexFor g .first → s ≡ indexFor g .ska
+    → _≡_ {A = Index} (record { first = f; ska = s }) (indexFor g)
 index-is g f s e d = rw (e, d)
 
 pub start-is : (g : Geometry) (da z : Segment) (chip : Chip) (ix : Index) → z ≡ none → chip ≡ chipOf g → ix ≡ indexFor g
@@ -63,7 +65,8 @@ start-is g da z chip ix e d h = rw (e, d, h)
 -- `side`, `b`, `s`, `k`, `o` and `m` are what code computes
 pub set-is : (g : Geometry) (F : ℕ) (p : Plan) (ix : Index) (side b s k o m : ℕ) → ix ≡ indexFor g → side ≡ sideBlocks (g .u)
     → b ≡ setBlock (g .u) (indexOf ix) (F / 8 / 16 / side) (F / 8 / 16 % side) → s ≡ b * sectorsPerBlock
-    → k ≡ 16 * 2 ^ log2up (F / 8 / 16 % side + 1) → o ≡ sideBlock (g .u) (indexOf ix) (F / 8 / 16 % side) → m ≡ setBlocks (F / 8 / 16 % side)
+    → k ≡ 16 * 2 ^ log2up (F / 8 / 16 % side + 1) → o ≡ sideBlock (g .u) (indexOf ix) (F / 8 / 16 % side)
+    → m ≡ setBlocks (F / 8 / 16 % side)
     → _≡_ {A = Plan} (record {
       chip = p .chip;
       da = p .da;
@@ -122,10 +125,10 @@ module _ (g : Geometry) (F : ℕ) (p : Plan) where
 
 -- ---- record n after a deletion's page; `q` is what code computes
 
-then-is : {A : Type 0} (b : Bool) (x y : A) → b ≡ true → cond b x y ≡ x
+pub then-is : {A : Type 0} (b : Bool) (x y : A) → b ≡ true → cond b x y ≡ x
 then-is b x y e = rw e
 
-else-is : {A : Type 0} (b : Bool) (x y : A) → b ≡ false → cond b x y ≡ y
+pub else-is : {A : Type 0} (b : Bool) (x y : A) → b ≡ false → cond b x y ≡ y
 else-is b x y e = rw e
 
 module _ (g : Geometry) (da : Segment) (n : ℕ) (o : Plan) (o-is : o ≡ addPages g n (startPlan g da)) where

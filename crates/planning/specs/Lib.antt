@@ -1,2 +1,5 @@
 pub mod Numbers
 pub mod Computed
+pub mod Operations
+pub mod New
+pub mod Fits

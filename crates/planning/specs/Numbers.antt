@@ -1,6 +1,6 @@
 -- The plans of changes as numbers, from the counts alone.
 use mathlib.Core.Path.{_≡_, refl}
-use mathlib.Core.Bool.{cond}
+use mathlib.Core.Bool.{Bool, true, false, cond}
 use Prim.Native.Nat.{ℕ, _+_, _*_, _/_}
 use lib.Dec.{eqb}
 use Rattle.layout.specs.Geometry.{Geometry, sectorsPerPage, sectorsPerBlock}
@@ -18,6 +18,10 @@ none = record { first = 0; count = 0 }
 -- the page of item n: its sectors count where the item fills it
 abbrev pub pageOf : Area → ℕ → Segment
 pageOf a n = record { first = a .first * sectorsPerBlock + n / a .perPage * sectorsPerPage; count = cond (fills a n) sectorsPerPage 0 }
+
+by-test : {A : Type 0} (Q : A → Type 0) (b : Bool) (x y : A) → (b ≡ true → Q x) → (b ≡ false → Q y) → Q (cond b x y)
+by-test Q true x y t f = t refl
+by-test Q false x y t f = f refl
 
 module _ (g : Geometry) where
   abbrev pub indexFor : Index
@@ -93,6 +97,33 @@ module _ (g : Geometry) where
   addRecord da n =
       let p : Plan = addPages n (startPlan da) in
       cond (fills (KA g) n) (addFilter (keyFilters g n) p) p
+
+  -- what holds of a record's plan: of its pages alone, with the flush, and with the set
+  module _ (Q : Plan → Type 0) (da : Segment) (n : ℕ) where
+    abbrev F : ℕ
+    F = keyFilters g n
+
+    abbrev p : Plan
+    p = addPages n (startPlan da)
+
+    -- an entry fills its page, its filter the SKA page, and that the round
+    abbrev page? : Bool
+    page? = fills (KA g) n
+
+    abbrev flush? : Bool
+    flush? = eqb (inSka F + 1) filtersPerFlush
+
+    abbrev set? : Bool
+    set? = eqb (inL1 F + 1) flushesPerRound
+
+    pub by-record : (page? ≡ false → Q p) → (page? ≡ true → flush? ≡ false → Q p)
+        → (page? ≡ true → flush? ≡ true → set? ≡ false → Q (addFlush F p))
+        → (page? ≡ true → flush? ≡ true → set? ≡ true → Q (addSet F (addFlush F p))) → Q (addRecord da n)
+    unfolding addRecord addFilter
+    by-record no-page no-flush no-set all =
+        by-test Q page? _ _
+        (λ full. by-test Q flush? _ _ (λ eight. by-test Q set? _ _ (all full eight) (no-set full eight)) (no-flush full))
+        no-page
 
   -- ---- the plans
 
