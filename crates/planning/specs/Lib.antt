@@ -3,3 +3,4 @@ pub mod Computed
 pub mod Operations
 pub mod New
 pub mod Fits
+pub mod Edits

@@ -2,10 +2,13 @@
 ghost use mathlib.Core.Path.{_≡_};
 ghost use Prim.Native.Nat.{_<_, _≤_};
 ghost use Rattle.layout.specs.Geometry.{recordCapacity, deletionCapacity};
+ghost use Rattle.layout.specs.Items as layout;
+ghost use Rattle.layout.specs.Items.{RA, DA};
 ghost use Rattle.layout.specs.Index.{inFull};
 ghost use Rattle.geometry.specs.Shape.{shape, Sound, area, AreaSound};
 ghost use Rattle.planning.specs.Numbers.{none, pageOf, indexFor, startPlan, addSet, addFilter};
 ghost use Rattle.planning.specs.Numbers.{addRecord, deletionNumbers, insertionNumbers, updateNumbers};
+ghost use Rattle.planning.specs.Edits.{Room, numbersOf, programsIn};
 use geometry::Area;
 use geometry::Chip;
 use geometry::Geometry;
@@ -171,4 +174,64 @@ pub fn update(g: Geometry, d: usize, n: usize) -> Plan
     ensures { λ r. ⌜ r ≡ updateNumbers (shape g) d n ⌝ }
 {
     add_record(g, page(geometry::deletion_area(g), d), n)
+}
+
+// ---- the three changes
+
+// A change by the counts that it finds: deletion d; record n; deletion d, then record n.
+pub enum Edit {
+    Delete(usize),
+    Insert(usize),
+    Update(usize, usize),
+}
+
+pub fn of(g: Geometry, e: Edit) -> Plan
+    requires { ⌜ Sound g × Room (shape g) e ⌝ }
+    ensures { λ r. ⌜ r ≡ numbersOf (shape g) e ⌝ }
+{
+    match e {
+        Edit::Delete(d) => deletion(g, d),
+        Edit::Insert(n) => insertion(g, n),
+        Edit::Update(d, n) => update(g, d, n),
+    }
+}
+
+// Does item n fill its page.
+fn fills(a: Area, n: usize) -> bool
+    requires { ⌜ AreaSound a ⌝ }
+    ensures { λ r. ⌜ r ≡ layout.fills (area a) n ⌝ }
+{
+    let q = a.per_page;
+    n % q + 1 == q
+}
+
+fn deletion_fills(g: Geometry, d: usize) -> bool
+    requires { ⌜ Sound g ⌝ }
+    ensures { λ r. ⌜ r ≡ layout.fills (DA (shape g)) d ⌝ }
+{
+    fills(geometry::deletion_area(g), d)
+}
+
+fn record_fills(g: Geometry, n: usize) -> bool
+    requires { ⌜ Sound g ⌝ }
+    ensures { λ r. ⌜ r ≡ layout.fills (RA (shape g)) n ⌝ }
+{
+    fills(geometry::record_area(g), n)
+}
+
+// Does a change program anything: an entry fills no page where its record fills none.
+pub fn programs(g: Geometry, e: Edit) -> bool
+    requires { ⌜ Sound g ⌝ }
+    ensures { λ r. ⌜ r ≡ programsIn (shape g) e ⌝ }
+{
+    match e {
+        Edit::Delete(d) => deletion_fills(g, d),
+        Edit::Insert(n) => record_fills(g, n),
+        Edit::Update(d, n) => {
+            if deletion_fills(g, d) {
+                return true;
+            }
+            record_fills(g, n)
+        }
+    }
 }
