@@ -1,17 +1,29 @@
 -- A deletion, an insertion and an update as one.
-use mathlib.Core.Path.{_≡_, refl}
-use mathlib.Core.Bool.{Bool, true, false, _||_}
-use mathlib.Core.List.{List, _++_}
-use Prim.Native.Nat.{ℕ, _+_, _<_}
-use Rattle.layout.specs.Geometry.{Geometry, recordCapacity, deletionCapacity}
+use mathlib.Core.Path.{_≡_, refl, sym, _∙_}
+use mathlib.Core.Bool.{Bool, true, false, _||_, false≢true}
+use mathlib.Core.List.{List, [], _++_}
+use Prim.Native.Nat.{ℕ, _+_, _-_, _*_, _/_, _%_, _<_}
+use native.Mathlib.Omega.{arith}
+use lib.ListN.{length}
+use borrow.Author.Tests.{eqb-true, eq-eqb}
+use Rattle.memory.specs.Cases.{either, bool?}
+use Rattle.memory.specs.Numbers.{euclid, mod-of}
+use Rattle.layout.specs.Geometry.{Geometry, recordCapacity, deletionCapacity, filterBits}
 use Rattle.layout.specs.Flash.{Planned}
 use Rattle.layout.specs.Hash.{Family}
-use Rattle.layout.specs.Items.{RA, DA, fills}
-use Rattle.layout.specs.Calls.{deletionPlan, deletionRam, insertionPlan, insertionRam}
+use Rattle.layout.specs.Items.{RA, KA, DA, fills, deletionBytes, entryBytes}
+use Rattle.layout.specs.Calls.{newFilter, deletionPlan, deletionRam, insertionPlan, insertionRam}
+use Rattle.geometry.specs.declared.Geometry.{Geometry as CodeGeometry}
+use Rattle.geometry.specs.Shape.{shape, Sound}
+use Rattle.filter.specs.Filter.{arrayBit}
+use Rattle.state.specs.Judge.{Long}
 use Rattle.plan.specs.declared.Plan.{Plan}
+use Rattle.plan.specs.Plans.{PlanFits, deletionIn, recordIn, entryIn, planned}
 use Rattle.planning.specs.declared.Edit.{Edit}
 use Rattle.planning.specs.declared.Edit.the-variants.{Delete, Insert, Update}
 use Rattle.planning.specs.Numbers.{deletionNumbers, insertionNumbers, updateNumbers}
+use Rattle.planning.specs.Operations.{deletion-planned, insertion-planned, update-planned}
+use Rattle.planning.specs.Fits.{deletion-fits, insertion-fits, update-fits}
 
 module _ (g : Geometry) where
   -- there is room for it
@@ -42,10 +54,62 @@ module _ (g : Geometry) where
     ramOf (Insert n) = insertionRam h g n key bytes ram
     ramOf (Update d n) = insertionRam h g n key bytes (deletionRam g d j ram)
 
--- ---- one test or another
+-- ---- the new bytes and the bits are those of a change
 
-pub either-true : (a b : Bool) → a ≡ true → true ≡ (a || b)
-either-true a b e = rw e
+-- of record n and its entry; the bits where the entry fills its page
+pub record RecordGiven (h : Family) (g : Geometry) (n key : ℕ) (bytes new bits ram : List ℕ) : Type 0 where
+  pub size : length bytes ≡ 16
+  pub record-is : recordIn new ≡ bytes
+  pub entry-is : entryIn new ≡ entryBytes key n
+  pub filter-is : fills (KA g) n ≡ true → (x : ℕ) → x < filterBits (g .u) → arrayBit bits x ≡ newFilter h g n key ram x
 
-pub other-true : (a b : Bool) → a ≡ false → b ≡ (a || b)
-other-true a b e = rw e
+module _ (h : Family) (g : Geometry) (j key : ℕ) (bytes new bits ram : List ℕ) where
+  abbrev pub Given : Edit → Type 0
+  Given (Delete d) = deletionIn new ≡ deletionBytes j
+  Given (Insert n) = RecordGiven h g n key bytes new bits ram
+  Given (Update d n) = (deletionIn new ≡ deletionBytes j) × RecordGiven h g n key bytes new bits ram
+
+  -- then the plan stands for the layout's
+  pub edit-planned : (e : Edit) → Given e → planned (numbersOf g e) new bits ram ≡ planOf g h j key bytes ram e
+  edit-planned (Delete d) G = deletion-planned g d j new bits ram G
+  edit-planned (Insert n) G = insertion-planned h g n key bytes new bits ram (G .size) (G .record-is) (G .entry-is) (G .filter-is)
+  edit-planned (Update d n) G =
+      update-planned h g n key bytes new bits ram (G .1 .size) (G .1 .record-is) (G .1 .entry-is) (G .1 .filter-is) d j (G .0)
+
+-- and it fits
+pub edit-fits : (g : CodeGeometry) → Sound g → (main spare ram : List ℕ) → Long g main spare ram → (e : Edit) → Room (shape g) e
+    → PlanFits (numbersOf (shape g) e) (length main) (length spare) (length ram)
+edit-fits g S main spare ram L (Delete d) R = deletion-fits g S main spare ram L d R
+edit-fits g S main spare ram L (Insert n) R = insertion-fits g S main spare ram L n R
+edit-fits g S main spare ram L (Update d n) R = update-fits g S main spare ram L d n (R .0) (R .1)
+
+-- ---- a change that fills no page of records or deletions plans nothing
+
+-- an entry that fills its page comes with a record that fills its own
+entry-then-record : (g : Geometry) (n : ℕ) → 0 < g .u → fills (KA g) n ≡ true → fills (RA g) n ≡ true
+entry-then-record g n pos e =
+    let a : n % (8 * g .u) + 1 ≡ 8 * g .u = eqb-true (n % (8 * g .u) + 1) (8 * g .u) e in
+    let w = euclid n (8 * g .u) (omega (arith, pos)) in
+    let r : n % (4 * g .u) ≡ 4 * g .u - 1
+    = mod-of n (4 * g .u) (n / (8 * g .u) * 2 + 1) (4 * g .u - 1) (omega (arith, w .whole, a, pos)) (omega (arith, pos)) in
+    eq-eqb (n % (4 * g .u) + 1) (4 * g .u) (omega (arith, r, pos))
+
+module _ (h : Family) (g : Geometry) (pos : 0 < g .u) (j key : ℕ) (bytes ram : List ℕ) where
+  deletion-none : (d : ℕ) → fills (DA g) d ≡ false → deletionPlan g d j ram ≡ []
+  unfolding deletionPlan
+  deletion-none d e = rw e
+
+  insertion-none : (n : ℕ) → fills (RA g) n ≡ false → insertionPlan h g n key bytes ram ≡ []
+  unfolding insertionPlan
+  insertion-none n e =
+      let f : fills (KA g) n ≡ false
+      = either (bool? (fills (KA g) n)) (λ t. absurd (false≢true (sym e ∙ entry-then-record g n pos t))) (λ t. t) in
+      rw (e, f)
+
+  pub nothing-planned : (e : Edit) → programsIn g e ≡ false → planOf g h j key bytes ram e ≡ []
+  nothing-planned (Delete d) t = deletion-none d t
+  nothing-planned (Insert n) t = insertion-none n t
+  nothing-planned (Update d n) t =
+      either (bool? (fills (DA g) d))
+      (λ a. absurd (false≢true (sym (rw a at t))))
+      (λ a. let b : fills (RA g) n ≡ false = rw a at t in rw (deletion-none d a, insertion-none n b))

@@ -44,7 +44,7 @@ fn page(a: Area, n: usize) -> Segment
 // ---- parts of a plan
 
 // The index over the entries.
-fn key_index(g: Geometry) -> Index
+pub fn key_index(g: Geometry) -> Index
     requires { ⌜ Sound g ⌝ }
     ensures { λ r. ⌜ r ≡ indexFor (shape g) ⌝ }
 {

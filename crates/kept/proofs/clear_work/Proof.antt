@@ -1,0 +1,32 @@
+use mathlib.Core.Path.{_∙_}
+use Rattle.layout.specs.Geometry.{workRam}
+use Rattle.kept.specs.Pieces.{zero-at}
+use borrow.Author.Needs.{needs}
+use Rattle.kept.proofs.clear_work.Statement.{statement}
+use Rattle.kept.proofs.clear_work.Tie as tie
+
+work-ram-requires : tie.Need-work-ram-requires
+work-ram-requires c κs = search needs
+
+page-requires : tie.Need-page-requires
+page-requires c κs = search needs
+
+fill-at-requires : tie.Need-fill-at-requires
+fill-at-requires c κs = search needs
+
+same-length : tie.Need-same-length
+same-length c = search needs
+
+returns : tie.Need-returns
+returns c =
+    let b1 = c .before .before in
+    let b2 = b1 .before in
+    let b3 = b2 .before in
+    let b4 = b3 .before .before .before in
+    let x = b4 .args in
+    b1 .fill-at .ensures ∙ zero-at (x .g .unit) (workRam (x .g .unit)) (b3 .work-ram .result) (b2 .page .result) (x .ram .now)
+    (b3 .work-ram .ensures) (b2 .page .ensures)
+
+pub clear-work-spec : {M : Type 1} → statement M
+clear-work-spec =
+    tie.close (tie.spec work-ram-requires page-requires fill-at-requires same-length returns)
