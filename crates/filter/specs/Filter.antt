@@ -1,8 +1,8 @@
 -- The index, the filter's bits as an array, and what the sizes must fit.
 use mathlib.Core.Path.{_≡_, refl}
-use mathlib.Core.Bool.{Bool}
+use mathlib.Core.Bool.{Bool, _||_}
 use mathlib.Core.List.{List}
-use Prim.Native.Nat.{ℕ, _+_, _*_, _/_, _%_, _^_, _≤_, _<_}
+use Prim.Native.Nat.{ℕ, _+_, _-_, _*_, _/_, _%_, _^_, _≤_, _<_}
 use native.Mathlib.Omega.{arith}
 use lib.ListN.{length, getD}
 use lib.Pow.{pow-pos, pow-mono}
@@ -21,6 +21,13 @@ arrayBit a x = bit (getD a (x / 8) 0) (x % 8)
 -- the three positions of a key are bits of a filter of m bits
 abbrev pub Below : ℕ → List ℕ → Type 0
 Below m ps = (getD ps 0 0 < m) × (getD ps 1 0 < m) × (getD ps 2 0 < m)
+
+-- bit x of the filter of the page of entries from byte `at` on: of its entries but the last, and of a key
+abbrev pub keyBit : ℕ → ℕ → ℕ → Bool
+keyBit u key x = memb x (positions fnvFamily positionCount u (bytes4 key))
+
+abbrev pub withKey : ℕ → ℕ → ℕ → List ℕ → ℕ → Bool
+withKey u at key ram x = keyBit u key x || any (λ i. keyBit u (word ram (at + i * 8)) x) (8 * u - 1)
 
 -- the unit is one of the six allowed; the index lies within the flash with Z full sets, its SKA page within the RAM
 pub record Fits (unit : ℕ) (ix : LayoutIndex) (Z : ℕ) (main ram : List ℕ) : Type 0 where

@@ -1,3 +1,4 @@
 pub mod Filter
 pub mod Groups
 pub mod Pieces
+pub mod NewFilter

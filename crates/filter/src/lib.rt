@@ -16,9 +16,10 @@ ghost use Rattle.layout.specs.Index.{withFilter, inFull};
 ghost use Rattle.kernels.specs.Candidate.{candidate};
 ghost use Rattle.kernels.specs.Rows.{Within, allIn};
 ghost use Rattle.sets.specs.Indexes.{indexOf};
-ghost use Rattle.filter.specs.Filter.{arrayBit, Below, Fits};
+ghost use Rattle.filter.specs.Filter.{arrayBit, Below, Fits, withKey};
 ghost use Rattle.filter.specs.Pieces.{fourthOf};
 ghost use Rattle.filter.specs.Groups.{UnitIs, stageOf, skaLevel, l1Level, setLevel, fullLevel, levelBelow, RowsAt, bytesOf, groupHas, GroupAt};
+use geometry::Chip;
 use kernels::Rows;
 use sets::Index;
 use triples::Triple;
@@ -48,6 +49,9 @@ struct Stage {
     parted: usize,
     flash: usize,
 }
+
+// Bytes of an entry.
+const ENTRY_SIZE: usize = 8;
 
 // ---- a page's filter
 
@@ -99,6 +103,26 @@ pub fn page_filter(ram: &[u8], at: usize, unit: usize) -> [u8; 256]
         set_positions(&mut bits, ps);
         i += 1;
     }
+    bits
+}
+
+// That of a page whose last entry, with the key, is not in RAM yet.
+pub fn new_filter(chip: Chip, at: usize, key: u32, ram: &[u8]) -> [u8; 256]
+    requires { ⌜ (0 < chip .unit) × (chip .unit ≤ 32) × (at + page (chip .unit) ≤ length (now ram)) ⌝ }
+    ensures { λ r. ⌜ ((x : ℕ) → x < 2048 → arrayBit r x ≡ withKey (chip .unit) at key (now (ram .entry)) x) ⌝ }
+{
+    let unit = chip.unit as u32;
+    let last = chip.page_size() / ENTRY_SIZE - 1;
+    let mut bits = no_bits();
+    let mut i = 0;
+    while i < last {
+        let old = words::get32(ram, at + i * ENTRY_SIZE);
+        let ps = fnv::positions(unit, old);
+        set_positions(&mut bits, ps);
+        i += 1;
+    }
+    let ps = fnv::positions(unit, key);
+    set_positions(&mut bits, ps);
     bits
 }
 
