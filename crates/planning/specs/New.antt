@@ -5,13 +5,13 @@ use Prim.Native.Nat.{ℕ, _+_, _≤_}
 use native.Mathlib.Omega.{arith}
 use lib.ListN.{length, take, drop, length-append}
 use lib.Seq.{take-all, take-append-seam, drop-append-seam}
-use Rattle.layout.specs.Items.{recordBytes, entryBytes, deletionBytes}
+use Rattle.layout.specs.Items.{Record, recordBytes, entryBytes, deletionBytes}
 use Rattle.laws.specs.ItemLaws.{length-record, length-entry, length-deletion}
 use Rattle.plan.specs.Plans.{newLength, deletionIn, recordIn, entryIn}
 
 -- the deletion of record j, record n and its entry
-abbrev pub newBytes : ℕ → ℕ → ℕ → ℕ → ℕ → ℕ → List ℕ
-newBytes j key moves goal free n = deletionBytes j ++ (recordBytes key moves goal free ++ entryBytes key n)
+abbrev pub newBytes : ℕ → Record → ℕ → List ℕ
+newBytes j r n = deletionBytes j ++ (recordBytes r ++ entryBytes (r .key) n)
 
 -- parts of 4, 16 and 8 bytes
 module _ (D R E : List ℕ) (d : length D ≡ 4) (r : length R ≡ 16) (e : length E ≡ 8) where
@@ -29,26 +29,24 @@ module _ (D R E : List ℕ) (d : length D ≡ 4) (r : length R ≡ 16) (e : leng
       ap (λ (l : List ℕ). take 8 (drop 20 l)) (sym (append-assoc D R E))
       ∙ ap (λ (k : ℕ). take 8 (drop k ((D ++ R) ++ E))) k ∙ ap (take 8) (drop-append-seam (D ++ R) E) ∙ take-all 8 E (omega arith)
 
-module _ (j key moves goal free n : ℕ) where
+module _ (j : ℕ) (r : Record) (n : ℕ) where
   abbrev D : List ℕ
   D = deletionBytes j
 
   abbrev R : List ℕ
-  R = recordBytes key moves goal free
+  R = recordBytes r
 
   abbrev E : List ℕ
-  E = entryBytes key n
+  E = entryBytes (r .key) n
 
-  pub new-length : length (newBytes j key moves goal free n) ≡ newLength
-  new-length =
-      length-append D (R ++ E)
-      ∙ omega (arith, length-append R E, length-deletion j, length-record key moves goal free, length-entry key n)
+  pub new-length : length (newBytes j r n) ≡ newLength
+  new-length = length-append D (R ++ E) ∙ omega (arith, length-append R E, length-deletion j, length-record r, length-entry (r .key) n)
 
-  pub deletion-part : deletionIn (newBytes j key moves goal free n) ≡ D
-  deletion-part = part-first D R E (length-deletion j) (length-record key moves goal free) (length-entry key n)
+  pub deletion-part : deletionIn (newBytes j r n) ≡ D
+  deletion-part = part-first D R E (length-deletion j) (length-record r) (length-entry (r .key) n)
 
-  pub record-part : recordIn (newBytes j key moves goal free n) ≡ R
-  record-part = part-second D R E (length-deletion j) (length-record key moves goal free) (length-entry key n)
+  pub record-part : recordIn (newBytes j r n) ≡ R
+  record-part = part-second D R E (length-deletion j) (length-record r) (length-entry (r .key) n)
 
-  pub entry-part : entryIn (newBytes j key moves goal free n) ≡ E
-  entry-part = part-third D R E (length-deletion j) (length-record key moves goal free) (length-entry key n)
+  pub entry-part : entryIn (newBytes j r n) ≡ E
+  entry-part = part-third D R E (length-deletion j) (length-record r) (length-entry (r .key) n)
