@@ -1,2 +1,1 @@
 pub mod Resolve
-pub mod Edits

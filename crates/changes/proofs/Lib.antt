@@ -1,2 +1,3 @@
-pub mod PlanLaws
-pub mod FitLaws
+pub mod NewLaws
+pub mod CommitLaws
+pub mod ChangeLaws

@@ -1,1 +1,2 @@
-pub mod Inserted
+pub mod Edits
+pub mod Commit

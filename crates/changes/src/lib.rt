@@ -1,213 +1,255 @@
-// What an accepted deletion and an accepted insertion do to flash and RAM, and whether the sectors that
-// they program are fresh. Document 01, "Records, entries, deletions" and "Filters".
+// A change of a volume: 5, 6, 7, else its operations and then its RAM. Document 01, "Calls".
 ghost use mathlib.Core.Path.{_≡_};
-ghost use Prim.Native.Nat.{_+_, _%_, _<_, _≤_};
+ghost use Prim.Native.Nat.{_+_, _<_, _≤_};
 ghost use lib.ListN.{length};
 ghost use Rattle.memory.specs.Lent.{before, after};
-ghost use Rattle.layout.specs.Geometry.{deletionCapacity, recordCapacity, spareSize, entriesPerPage};
-ghost use Rattle.layout.specs.Flash.{applyAll};
+ghost use Rattle.layout.specs.Geometry.{recordCapacity, deletionCapacity, ramSize};
 ghost use Rattle.layout.specs.Hash.{fnvFamily};
-ghost use Rattle.layout.specs.Items.{DA, recordBytes, entryBytes, deletionBytes};
-ghost use Rattle.layout.specs.Calls.{deletionRam, keyIndex};
+ghost use Rattle.layout.specs.Calls.{more, change};
 ghost use Rattle.laws.specs.LentFlash.{flashBefore, flashAfter};
-ghost use Rattle.laws.specs.Operations.{itemOps};
-ghost use Rattle.items.specs.Fresh.{itemFresh};
 ghost use Rattle.geometry.specs.Shape.{shape, Sound};
-ghost use Rattle.sets.specs.Indexes.{indexOf};
-ghost use Rattle.state.specs.Contract.{recordIs};
-ghost use Rattle.state.specs.Judge.{Long};
-ghost use Rattle.changes.specs.Inserted.{insertFresh, lastFlash, lastRam, insertedFlash, insertedRam};
+ghost use Rattle.state.specs.Contract.{stateIs, recordIs, volume, given, seen, leftBy};
+ghost use Rattle.state.specs.Judge.{Long, Fits};
+ghost use Rattle.planning.specs.New.{newBytes};
+ghost use Rattle.planning.specs.Edits.{Room};
+ghost use Rattle.changes.specs.Edits.{editIs, slotsOf, oldNumber, newRecord, recordNumber, fullAt, deletionsFullAt, roomRefusal};
+ghost use Rattle.changes.specs.Commit.{FilterOf, BitsOf, Committed};
 use geometry::Geometry;
-use sets::Index;
+use planning::Slots;
+use state::Change;
 use state::Record;
+use state::State;
 
-// ---- the bytes of records, entries and deletions
-
-// The 16 bytes of a record.
-fn record_bytes(record: Record) -> [u8; 16]
-    ensures { λ r. ⌜ r ≡ recordBytes (recordIs «record») ⌝ }
-{
-    let key = record.key;
-    let moves = record.moves;
-    let goal = record.goal;
-    let free = record.free;
-    let k1 = key / 256;
-    let k2 = k1 / 256;
-    let k3 = k2 / 256;
-    let m1 = moves / 256;
-    let m2 = m1 / 256;
-    let m3 = m2 / 256;
-    let g1 = goal / 256;
-    let g2 = g1 / 256;
-    let g3 = g2 / 256;
-    let f1 = free / 256;
-    let f2 = f1 / 256;
-    let f3 = f2 / 256;
-    [
-        (key % 256) as u8,
-        (k1 % 256) as u8,
-        (k2 % 256) as u8,
-        (k3 % 256) as u8,
-        (moves % 256) as u8,
-        (m1 % 256) as u8,
-        (m2 % 256) as u8,
-        (m3 % 256) as u8,
-        (goal % 256) as u8,
-        (g1 % 256) as u8,
-        (g2 % 256) as u8,
-        (g3 % 256) as u8,
-        (free % 256) as u8,
-        (f1 % 256) as u8,
-        (f2 % 256) as u8,
-        (f3 % 256) as u8,
-    ]
+// What a change does: it inserts a record, deletes the record of a number, or both.
+pub enum Edit {
+    Insert(Record),
+    Delete(u32),
+    Replace(u32, Record),
 }
 
-// The 8 bytes of the entry of record j.
-fn entry_bytes(key: u32, j: u32) -> [u8; 8]
-    ensures { λ r. ⌜ r ≡ entryBytes key j ⌝ }
+// ---- an edit in parts
+
+// The places that it takes after n records and d deletions.
+fn slots(s: State, e: Edit) -> Slots
+    ensures { λ r. ⌜ r ≡ slotsOf (s .records) (s .deletions) e ⌝ }
 {
-    let k1 = key / 256;
-    let k2 = k1 / 256;
-    let k3 = k2 / 256;
-    let j1 = j / 256;
-    let j2 = j1 / 256;
-    let j3 = j2 / 256;
-    [
-        (key % 256) as u8,
-        (k1 % 256) as u8,
-        (k2 % 256) as u8,
-        (k3 % 256) as u8,
-        (j % 256) as u8,
-        (j1 % 256) as u8,
-        (j2 % 256) as u8,
-        (j3 % 256) as u8,
-    ]
+    let n = s.records as usize;
+    let d = s.deletions as usize;
+    match e {
+        Edit::Insert(_) => Slots::Insert(n),
+        Edit::Delete(_) => Slots::Delete(d),
+        Edit::Replace(_, _) => Slots::Update(d, n),
+    }
 }
 
-// The 4 bytes of the deletion of record j.
-fn deletion_bytes(j: u32) -> [u8; 4]
-    ensures { λ r. ⌜ r ≡ deletionBytes j ⌝ }
+// The number of the record that it deletes; 0 where it deletes none.
+fn old_number(e: Edit) -> u32
+    ensures { λ r. ⌜ r ≡ oldNumber e ⌝ }
 {
-    let j1 = j / 256;
-    let j2 = j1 / 256;
-    let j3 = j2 / 256;
-    [
-        (j % 256) as u8,
-        (j1 % 256) as u8,
-        (j2 % 256) as u8,
-        (j3 % 256) as u8,
-    ]
+    match e {
+        Edit::Insert(_) => 0,
+        Edit::Delete(old) => old,
+        Edit::Replace(old, _) => old,
+    }
 }
 
-// ---- a deletion
-
-// Are the sectors that deletion number d programs fresh?
-pub fn deletion_fresh(spare: &[u8], g: Geometry, d: usize) -> bool
-    requires { ⌜ Sound g × (d < deletionCapacity (shape g)) × (spareSize (shape g) ≤ length (now spare)) ⌝ }
-    ensures { λ r. ⌜ r ≡ itemFresh (before spare) (DA (shape g)) d ⌝ }
+// The record that it inserts; one of zeros where it inserts none.
+fn new_record(e: Edit) -> Record
+    ensures { λ r. ⌜ r ≡ newRecord e ⌝ }
 {
-    items::item_fresh(spare, geometry::deletion_area(g), d)
+    match e {
+        Edit::Insert(record) => record,
+        Edit::Delete(_) => Record {
+            key: 0,
+            moves: 0,
+            goal: 0,
+            free: 0,
+        },
+        Edit::Replace(_, record) => record,
+    }
 }
 
-// Deletion number d: that of record j.
-pub fn delete_record(
+// ---- refusals 5 and 6
+
+// 5 if there is no room for one more record.
+fn record_refusal(g: Geometry, n: u32) -> u32
+    requires { ⌜ Sound g ⌝ }
+    ensures { λ r. ⌜ r ≡ fullAt (recordCapacity (shape g)) n ⌝ }
+{
+    if g.record_capacity() <= n as usize {
+        return state::FULL;
+    }
+    0
+}
+
+// 6 if there is none for one more deletion.
+fn deletion_refusal(g: Geometry, d: u32) -> u32
+    requires { ⌜ Sound g ⌝ }
+    ensures { λ r. ⌜ r ≡ deletionsFullAt (deletionCapacity (shape g)) d ⌝ }
+{
+    if g.deletion_capacity() <= d as usize {
+        return state::DELETIONS_FULL;
+    }
+    0
+}
+
+// 5, then 6, of what the edit adds; 0 where there is room for it.
+fn room_refusal(g: Geometry, s: State, e: Edit) -> u32
+    requires { ⌜ Sound g ⌝ }
+    ensures { λ r. ⌜ r ≡ roomRefusal (shape g) (s .records) (s .deletions) (editIs e) ⌝ }
+{
+    match e {
+        Edit::Insert(_) => record_refusal(g, s.records),
+        Edit::Delete(_) => deletion_refusal(g, s.deletions),
+        Edit::Replace(_, _) => {
+            let i = record_refusal(g, s.records);
+            if i != 0 {
+                return i;
+            }
+            deletion_refusal(g, s.deletions)
+        }
+    }
+}
+
+// ---- the new bytes and the new filter
+
+// The number of the record that takes a place; 0 where none does.
+fn record_number(g: Geometry, e: Slots) -> u32
+    requires { ⌜ Sound g × Room (shape g) e ⌝ }
+    ensures { λ r. ⌜ r ≡ recordNumber e ⌝ }
+{
+    match e {
+        Slots::Delete(_) => 0,
+        Slots::Insert(n) => n as u32,
+        Slots::Update(_, n) => n as u32,
+    }
+}
+
+// The deletion of record `old`, then record n and its entry.
+fn new_bytes(old: u32, record: Record, n: u32) -> [u8; 28]
+    ensures { λ r. ⌜ r ≡ newBytes old (recordIs «record») n ⌝ }
+{
+    let mut b = [0u8; 28];
+    words::put32(&mut b, 0, old);
+    words::put32(&mut b, 4, record.key);
+    words::put32(&mut b, 8, record.moves);
+    words::put32(&mut b, 12, record.goal);
+    words::put32(&mut b, 16, record.free);
+    words::put32(&mut b, 20, record.key);
+    words::put32(&mut b, 24, n);
+    b
+}
+
+// The filter of the page that entry n, with the key, fills; no bits where it fills none.
+fn entry_bits(g: Geometry, n: usize, key: u32, ram: &[u8]) -> [u8; 256]
+    requires { ⌜ Sound g × (ramSize (shape g) ≤ length (now ram)) ⌝ }
+    ensures { λ r. ⌜ FilterOf (shape g) n key (before ram) r ⌝ }
+{
+    let q = g.entries_per_page();
+    if n % q + 1 != q {
+        return [0u8; 256];
+    }
+    filter::new_filter(g.chip(), g.ka_ram(), key, ram)
+}
+
+// That of the entry that takes a place.
+fn new_bits(g: Geometry, e: Slots, key: u32, ram: &[u8]) -> [u8; 256]
+    requires { ⌜ Sound g × (ramSize (shape g) ≤ length (now ram)) ⌝ }
+    ensures { λ r. ⌜ BitsOf (shape g) key (before ram) r e ⌝ }
+{
+    match e {
+        Slots::Delete(_) => [0u8; 256],
+        Slots::Insert(n) => entry_bits(g, n, key, ram),
+        Slots::Update(_, n) => entry_bits(g, n, key, ram),
+    }
+}
+
+// ---- the change
+
+// Where the sectors that a change programs are fresh, its operations and then its RAM; else nothing.
+fn commit(
+    g: Geometry,
+    e: Slots,
+    old: u32,
+    record: Record,
     main: &mut [u8],
     spare: &mut [u8],
     ram: &mut [u8],
-    g: Geometry,
-    d: usize,
-    j: u32,
-)
-    requires { ⌜ Sound g × (d < deletionCapacity (shape g)) × Long g (now main) (now spare) (now ram) ⌝ }
-    ensures { λ _. ⌜ flashAfter main spare
-        ≡ applyAll (g .unit) (itemOps (g .unit) (DA (shape g)) d (deletionBytes j) (before ram)) (flashBefore main spare) ⌝ }
-    ensures { λ _. ⌜ after ram ≡ deletionRam (shape g) d j (before ram) ⌝ }
+) -> bool
+    requires { ⌜ Sound g × Room (shape g) e × Long g (now main) (now spare) (now ram) ⌝ }
+    ensures { λ r. ⌜ Committed (shape g) e old (recordIs «record») (flashBefore main spare) (before ram)
+        r (flashAfter main spare) (after ram) ⌝ }
 {
-    let unit = g.unit;
-    let bytes = deletion_bytes(j);
-    items::append_item(
+    let new = new_bytes(old, record, record_number(g, e));
+    if !planning::programs(g, e) {
+        let none = [0u8; 256];
+        kept::finish(g, e, &new, &none, ram);
+        return true;
+    }
+    let p = planning::of(g, e);
+    let bits = new_bits(g, e, record.key, ram);
+    if !plan::fresh(p, spare) {
+        return false;
+    }
+    plan::run(p, plan::whole(p), &new, &bits, main, spare, ram);
+    kept::finish(g, e, &new, &bits, ram);
+    true
+}
+
+// The counts after a change.
+fn counted_state(s: State, e: Edit) -> State
+    requires { ⌜ (s .records < 4294967295) × (s .deletions < 4294967295) ⌝ }
+    ensures { λ r. ⌜ r ≡ record {
+      sizes = s .sizes;
+      records = more (s .records) (editIs e .inserts);
+      deletions = more (s .deletions) (editIs e .deletes);
+    } ⌝ }
+{
+    let mut t = s;
+    match e {
+        Edit::Insert(_) => {
+            t.records += 1;
+        }
+        Edit::Delete(_) => {
+            t.deletions += 1;
+        }
+        Edit::Replace(_, _) => {
+            t.records += 1;
+            t.deletions += 1;
+        }
+    }
+    t
+}
+
+// A change of a volume that is not refused before: 5, 6, 7, else its operations.
+pub fn apply(
+    g: Geometry,
+    s: State,
+    e: Edit,
+    main: &mut [u8],
+    spare: &mut [u8],
+    ram: &mut [u8],
+) -> Change
+    requires { ⌜ Fits (volume s (now main) (now spare) (now ram)) g ⌝ }
+    ensures { λ r. ⌜ leftBy r main spare ram ≡ seen (change fnvFamily (shape g) (given s main spare ram) (editIs e)) ⌝ }
+{
+    let i = room_refusal(g, s, e);
+    if i != 0 {
+        return state::refuse(s, i);
+    }
+    if !commit(
+        g,
+        slots(s, e),
+        old_number(e),
+        new_record(e),
         main,
         spare,
         ram,
-        unit,
-        geometry::deletion_area(g),
-        d,
-        &bytes,
-    );
-}
-
-// ---- an insertion
-
-// The index over the entries.
-fn key_index(g: Geometry) -> Index
-    requires { ⌜ Sound g ⌝ }
-    ensures { λ r. ⌜ indexOf r ≡ keyIndex (shape g) ⌝ }
-{
-    Index {
-        first: g.index_block(),
-        ska: g.ska_ram(),
+    ) {
+        return state::refuse(s, state::NOT_FRESH);
     }
-}
-
-// Are the sectors that the insertion of record n programs fresh?
-pub fn insertion_fresh(spare: &[u8], g: Geometry, n: usize) -> bool
-    requires { ⌜ Sound g × (n < recordCapacity (shape g)) × (spareSize (shape g) ≤ length (now spare)) ⌝ }
-    ensures { λ r. ⌜ r ≡ insertFresh (before spare) (shape g) n ⌝ }
-{
-    if !items::item_fresh(spare, geometry::record_area(g), n) {
-        return false;
+    Change {
+        refusal: 0,
+        state: counted_state(s, e),
     }
-    if !items::item_fresh(spare, geometry::entry_area(g), n) {
-        return false;
-    }
-    let q = g.entries_per_page();
-    if n % q + 1 != q {
-        return true;
-    }
-    index::index_fresh(spare, g.unit, key_index(g), n / q)
-}
-
-// The entry of record n where it fills its page: the page's filter is taken before the page is
-// programmed and zeroed.
-fn enter_last(main: &mut [u8], spare: &mut [u8], ram: &mut [u8], g: Geometry, n: usize, key: u32)
-    requires { ⌜ Sound g × (n < recordCapacity (shape g)) × Long g (now main) (now spare) (now ram)
-        × (n % entriesPerPage (g .unit) + 1 ≡ entriesPerPage (g .unit)) ⌝ }
-    ensures { λ _. ⌜ flashAfter main spare ≡ lastFlash fnvFamily (shape g) n key (before ram) (flashBefore main spare) ⌝ }
-    ensures { λ _. ⌜ after ram ≡ lastRam fnvFamily (shape g) n key (before ram) ⌝ }
-{
-    let unit = g.unit;
-    let q = g.entries_per_page();
-    let page = g.ka_ram();
-    let e = entry_bytes(key, n as u32);
-    words::copy_at(ram, page + n % q * 8, &e);
-    let bits = filter::page_filter(ram, page, unit);
-    items::append_item(main, spare, ram, unit, geometry::entry_area(g), n, &e);
-    index::add_filter(main, spare, ram, unit, key_index(g), n / q, bits);
-}
-
-// Record n and its entry.
-pub fn insert_record(
-    main: &mut [u8],
-    spare: &mut [u8],
-    ram: &mut [u8],
-    g: Geometry,
-    n: usize,
-    record: Record,
-)
-    requires { ⌜ Sound g × (n < recordCapacity (shape g)) × Long g (now main) (now spare) (now ram) ⌝ }
-    ensures { λ _. ⌜ flashAfter main spare
-        ≡ insertedFlash fnvFamily (shape g) n («record» .key) (recordBytes (recordIs «record»)) (before ram) (flashBefore main spare) ⌝ }
-    ensures { λ _. ⌜ after ram ≡ insertedRam fnvFamily (shape g) n («record» .key) (recordBytes (recordIs «record»)) (before ram) ⌝ }
-{
-    let unit = g.unit;
-    let q = g.entries_per_page();
-    let bytes = record_bytes(record);
-    items::append_item(main, spare, ram, unit, geometry::record_area(g), n, &bytes);
-    if n % q + 1 == q {
-        enter_last(main, spare, ram, g, n, record.key);
-        return;
-    }
-    let e = entry_bytes(record.key, n as u32);
-    items::append_item(main, spare, ram, unit, geometry::entry_area(g), n, &e);
 }

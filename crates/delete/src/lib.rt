@@ -4,6 +4,7 @@ ghost use Rattle.layout.specs.Hash.{fnvFamily};
 ghost use Rattle.layout.specs.Calls.{delete, call};
 ghost use Rattle.state.specs.Contract.{given, seen, leftBy};
 use calls::Resolved;
+use changes::Edit;
 use state::Change;
 use state::State;
 
@@ -19,7 +20,7 @@ pub fn delete(s: State, key: u32, main: &mut [u8], spare: &mut [u8], ram: &mut [
             return state::refuse(s, state::ABSENT);
         }
         Resolved::Live(g, old) => {
-            return calls::apply(g, s, calls::deletion(old), main, spare, ram);
+            return changes::apply(g, s, Edit::Delete(old), main, spare, ram);
         }
     }
 }

@@ -4,6 +4,7 @@ ghost use Rattle.layout.specs.Hash.{fnvFamily};
 ghost use Rattle.layout.specs.Calls.{insert, call};
 ghost use Rattle.state.specs.Contract.{recordIs, given, seen, leftBy};
 use calls::Resolved;
+use changes::Edit;
 use state::Change;
 use state::Record;
 use state::State;
@@ -20,7 +21,7 @@ pub fn insert(s: State, record: Record, main: &mut [u8], spare: &mut [u8], ram: 
             return state::refuse(s, state::PRESENT);
         }
         Resolved::Absent(g) => {
-            return calls::apply(g, s, calls::insertion(record), main, spare, ram);
+            return changes::apply(g, s, Edit::Insert(record), main, spare, ram);
         }
     }
 }

@@ -8,8 +8,8 @@ use Rattle.layout.specs.Index.{Index, inSka, withFilter, filterRam}
 use Rattle.layout.specs.Calls.{keyIndex, keyFilters}
 use Rattle.filter.specs.Filter.{arrayBit}
 use Rattle.plan.specs.Plans.{deletionIn, recordIn, entryIn}
-use Rattle.planning.specs.declared.Edit.{Edit}
-use Rattle.planning.specs.declared.Edit.the-variants.{Delete, Insert, Update}
+use Rattle.planning.specs.declared.Slots.{Slots}
+use Rattle.planning.specs.declared.Slots.the-variants.{Delete, Insert, Update}
 
 -- filter F in its place, or the SKA page that it fills zeroed
 abbrev pub filterKept : ℕ → Index → ℕ → List ℕ → List ℕ → List ℕ
@@ -27,7 +27,7 @@ module _ (g : Geometry) where
   recordKept n new bits ram =
       cond (fills (KA g) n) (filterKept (g .u) (keyIndex g) (keyFilters g n) bits (entered n new ram)) (entered n new ram)
 
-  abbrev pub kept : List ℕ → List ℕ → List ℕ → Edit → List ℕ
+  abbrev pub kept : List ℕ → List ℕ → List ℕ → Slots → List ℕ
   kept new bits ram (Delete d) = deletionKept d new ram
   kept new bits ram (Insert n) = recordKept n new bits ram
   kept new bits ram (Update d n) = recordKept n new bits (deletionKept d new ram)

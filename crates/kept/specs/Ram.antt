@@ -18,8 +18,8 @@ use Rattle.layout.specs.Calls.{keyIndex, keyFilters, keyPositions, pageFilter, 
 use Rattle.filter.specs.Filter.{arrayBit}
 use Rattle.filter.specs.Pieces.{with-filter-ext}
 use Rattle.plan.specs.Plans.{deletionIn, recordIn, entryIn}
-use Rattle.planning.specs.declared.Edit.{Edit}
-use Rattle.planning.specs.declared.Edit.the-variants.{Delete, Insert, Update}
+use Rattle.planning.specs.declared.Slots.{Slots}
+use Rattle.planning.specs.declared.Slots.the-variants.{Delete, Insert, Update}
 use Rattle.planning.specs.Edits.{RecordGiven, Given, ramOf}
 use Rattle.kept.specs.Kept.{filterKept, entered, deletionKept, recordKept, kept}
 
@@ -107,7 +107,7 @@ module _ (g : Geometry) (d : ℕ) (item ram : List ℕ) where
 
 -- ---- the RAM of a change
 
-pub kept-is : (h : Family) (g : Geometry) (j key : ℕ) (bytes new bits ram : List ℕ) → ramSize g ≤ length ram → (e : Edit)
+pub kept-is : (h : Family) (g : Geometry) (j key : ℕ) (bytes new bits ram : List ℕ) → ramSize g ≤ length ram → (e : Slots)
     → Given h g j key bytes new bits ram e → kept g new bits ram e ≡ ramOf g h j key bytes ram e
 unfolding deletionRam
 kept-is h g j key bytes new bits ram long (Delete d) G = ap (λ (l : List ℕ). itemRam (g .u) (DA g) d l ram) G

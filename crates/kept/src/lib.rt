@@ -12,7 +12,7 @@ ghost use Rattle.kept.specs.Kept.{filterKept, deletionKept, recordKept, 
 use geometry::Area;
 use geometry::Chip;
 use geometry::Geometry;
-use planning::Edit;
+use planning::Slots;
 use sets::Index;
 
 // Item n: to its place, or, where it fills its page, the page zeroed.
@@ -94,21 +94,21 @@ fn clear_work(g: Geometry, ram: &mut [u8])
 }
 
 // The RAM after a change, once the chip has all of it.
-pub fn finish(g: Geometry, e: Edit, new: &[u8], bits: &[u8], ram: &mut [u8])
+pub fn finish(g: Geometry, e: Slots, new: &[u8], bits: &[u8], ram: &mut [u8])
     requires { ⌜ Sound g × (length (now new) ≡ newLength) × (length (now bits) ≡ 256) × (ramSize (shape g) ≤ length (now ram)) ⌝ }
     ensures { λ _. ⌜ now (ram .exit)
         ≡ zeroPage (g .unit) (workRam (g .unit)) (kept (shape g) (now (new .entry)) (now (bits .entry)) (now (ram .entry)) e) ⌝ }
 {
     match e {
-        Edit::Delete(d) => {
+        Slots::Delete(d) => {
             keep_deletion(g, d, new, ram);
             clear_work(g, ram);
         }
-        Edit::Insert(n) => {
+        Slots::Insert(n) => {
             keep_record(g, n, new, bits, ram);
             clear_work(g, ram);
         }
-        Edit::Update(d, n) => {
+        Slots::Update(d, n) => {
             keep_deletion(g, d, new, ram);
             keep_record(g, n, new, bits, ram);
             clear_work(g, ram);

@@ -179,20 +179,20 @@ pub fn update(g: Geometry, d: usize, n: usize) -> Plan
 // ---- the three changes
 
 // A change by the counts that it finds: deletion d; record n; deletion d, then record n.
-pub enum Edit {
+pub enum Slots {
     Delete(usize),
     Insert(usize),
     Update(usize, usize),
 }
 
-pub fn of(g: Geometry, e: Edit) -> Plan
+pub fn of(g: Geometry, e: Slots) -> Plan
     requires { ⌜ Sound g × Room (shape g) e ⌝ }
     ensures { λ r. ⌜ r ≡ numbersOf (shape g) e ⌝ }
 {
     match e {
-        Edit::Delete(d) => deletion(g, d),
-        Edit::Insert(n) => insertion(g, n),
-        Edit::Update(d, n) => update(g, d, n),
+        Slots::Delete(d) => deletion(g, d),
+        Slots::Insert(n) => insertion(g, n),
+        Slots::Update(d, n) => update(g, d, n),
     }
 }
 
@@ -220,14 +220,14 @@ fn record_fills(g: Geometry, n: usize) -> bool
 }
 
 // Does a change program anything: an entry fills no page where its record fills none.
-pub fn programs(g: Geometry, e: Edit) -> bool
+pub fn programs(g: Geometry, e: Slots) -> bool
     requires { ⌜ Sound g ⌝ }
     ensures { λ r. ⌜ r ≡ programsIn (shape g) e ⌝ }
 {
     match e {
-        Edit::Delete(d) => deletion_fills(g, d),
-        Edit::Insert(n) => record_fills(g, n),
-        Edit::Update(d, n) => {
+        Slots::Delete(d) => deletion_fills(g, d),
+        Slots::Insert(n) => record_fills(g, n),
+        Slots::Update(d, n) => {
             if deletion_fills(g, d) {
                 return true;
             }

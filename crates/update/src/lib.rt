@@ -4,6 +4,7 @@ ghost use Rattle.layout.specs.Hash.{fnvFamily};
 ghost use Rattle.layout.specs.Calls.{update, call};
 ghost use Rattle.state.specs.Contract.{recordIs, given, seen, leftBy};
 use calls::Resolved;
+use changes::Edit;
 use state::Change;
 use state::Record;
 use state::State;
@@ -20,7 +21,7 @@ pub fn update(s: State, record: Record, main: &mut [u8], spare: &mut [u8], ram: 
             return state::refuse(s, state::ABSENT);
         }
         Resolved::Live(g, old) => {
-            return calls::apply(g, s, calls::replacement(old, record), main, spare, ram);
+            return changes::apply(g, s, Edit::Replace(old, record), main, spare, ram);
         }
     }
 }

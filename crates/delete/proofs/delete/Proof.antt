@@ -70,15 +70,12 @@ returns-2 c =
 enum-known-g : tie.Need-enum-known-g
 enum-known-g c = search needs
 
-deletion-requires : tie.Need-deletion-requires
-deletion-requires c κs = search needs
-
 -- what is known of the geometry
 fits : (c : tie.After-g) → Fits (handed (c .before .before .before .before .before .before .before .before .before)) (c .g .given .0 .0)
 fits c = rw (c .g .given .1) at (c .before .before .resolve .ensures .1)
 
 apply-requires : tie.Need-apply-requires
-apply-requires c κs = fits (c .before .before .before .before .before)
+apply-requires c κs = fits (c .before .before .before .before)
 
 same-length-7 : tie.Need-same-length-7
 same-length-7 c = search needs
@@ -92,15 +89,15 @@ same-length-9 c = search needs
 returns-3 : tie.Need-returns-3
 unfolding call
 returns-3 c =
-    let s = c .before .before .before .before .before .before .before .before .before .before .before .before .before .before .before .before .before .before .before .before .before in
+    let r = c .before .before .before .before .before .before .before .before .before .before .before .before .before in
+    let s = r .before .before .before .before .before .before .before in
     let v = handed s in
-    let k = c .before .before .before .before .before .before .before .before .before .before .before .before .g in
-    let f = fits (c .before .before .before .before .before .before .before .before .before .before .before .before) in
+    let k = c .before .before .before .before .before .before .before .before .before .before .before .g in
+    let f = fits (c .before .before .before .before .before .before .before .before .before .before .before) in
     let e : Edit = record { deletes = some (k .given .0 .1 .0); inserts = none } in
     c .before .before .before .before .before .before .apply .ensures
-    ∙ ap (λ (x : Edit). seen (change fnvFamily (shape (k .given .0 .0)) v x)) (c .before .before .before .before .before .before .before .before .before .before .deletion .ensures)
     ∙ ap (λ (g : Geometry). seen (change fnvFamily (shape g) v e)) (f .is)
-    ∙ ap seen (call-live v (s .args .key) (deleteAfter fnvFamily (layout.geometry (v .state .sizes)) v) (k .given .0 .0) f (k .given .0 .1 .0) (sym (c .before .before .before .before .before .before .before .before .before .before .before .before .before .before .resolve .ensures .0) ∙ k .given .1))
+    ∙ ap seen (call-live v (s .args .key) (deleteAfter fnvFamily (layout.geometry (v .state .sizes)) v) (k .given .0 .0) f (k .given .0 .1 .0) (sym (r .resolve .ensures .0) ∙ k .given .1))
 
 pub delete-spec : {M : Type 1} → statement M
 delete-spec =
@@ -120,7 +117,6 @@ delete-spec =
     same-length-6
     returns-2
     enum-known-g
-    deletion-requires
     apply-requires
     same-length-7
     same-length-8
