@@ -5,6 +5,7 @@ ghost use Prim.Native.Nat.{_+_, _≤_};
 ghost use lib.ListN.{length};
 ghost use Rattle.memory.specs.Lists.{write};
 ghost use Rattle.memory.specs.Lent.{before, after};
+ghost use Rattle.script.specs.Text.{ascii};
 ghost use Rattle.script.specs.Answers.{decimal, text};
 ghost use Rattle.answers.specs.Answered.{answered};
 
@@ -62,8 +63,8 @@ fn put_number(out: &mut [u8], at: usize, n: u32, mark: u8) -> usize
 // Writes a word and a number as a line.
 fn put_one(out: &mut [u8], word: &[u8], n: u32) -> usize
     requires { ⌜ length (now word) + 11 ≤ length (now out) ⌝ }
-    ensures { λ r. ⌜ (r ≡ length (before word ++ (decimal n ++ (10 ∷ [])))) × (r ≤ length (before word) + 11) ⌝ }
-    ensures { λ _. ⌜ after out ≡ write (before out) 0 (before word ++ (decimal n ++ (10 ∷ []))) ⌝ }
+    ensures { λ r. ⌜ (r ≡ length (before word ++ (decimal n ++ ascii "\n"))) × (r ≤ length (before word) + 11) ⌝ }
+    ensures { λ _. ⌜ after out ≡ write (before out) 0 (before word ++ (decimal n ++ ascii "\n")) ⌝ }
 {
     words::copy_at(out, 0, word);
     put_number(out, word.len(), n, b'\n')
@@ -72,8 +73,9 @@ fn put_one(out: &mut [u8], word: &[u8], n: u32) -> usize
 // Writes a word and two numbers as a line.
 fn put_two(out: &mut [u8], word: &[u8], n: u32, m: u32) -> usize
     requires { ⌜ length (now word) + 22 ≤ length (now out) ⌝ }
-    ensures { λ r. ⌜ (r ≡ length (before word ++ (decimal n ++ (32 ∷ (decimal m ++ (10 ∷ [])))))) × (r ≤ length (before word) + 22) ⌝ }
-    ensures { λ _. ⌜ after out ≡ write (before out) 0 (before word ++ (decimal n ++ (32 ∷ (decimal m ++ (10 ∷ []))))) ⌝ }
+    ensures { λ r. ⌜ (r ≡ length (before word ++ (decimal n ++ (ascii " " ++ (decimal m ++ ascii "\n")))))
+        × (r ≤ length (before word) + 22) ⌝ }
+    ensures { λ _. ⌜ after out ≡ write (before out) 0 (before word ++ (decimal n ++ (ascii " " ++ (decimal m ++ ascii "\n")))) ⌝ }
 {
     words::copy_at(out, 0, word);
     let at = put_number(out, word.len(), n, b' ');

@@ -1,6 +1,6 @@
 -- Document 01's replay example, computed by the definitions from its text to the text it prints.
 use mathlib.Core.Path.{_≡_, refl}
-use mathlib.Core.List.{List, [], _∷_}
+use mathlib.Core.List.{List}
 use Prim.Native.Nat.{ℕ}
 use lib.ListN.{replicate}
 use Rattle.memory.specs.Lists.{write, tab, tabFrom, pieces}
@@ -15,6 +15,7 @@ use Rattle.layout.specs.Index.{rowBit, rowByte, bitAt, filterBit, setByte, flus
 use Rattle.layout.specs.Items.{recordBytes, entryBytes, deletionBytes, itemWord, put}
 use Rattle.layout.specs.Search.{scan, searchPages}
 use Rattle.layout.specs.Calls.{Volume, badState, tooShort, judged, formatted, format, isDeleted, tryAt, maybeIn, search, deletionPlan, deletionRam, pageFilter, insertionPlan, insertionRam, commit, change, lookupAfter, call}
+use Rattle.script.specs.Text.{ascii}
 use Rattle.script.specs.Lines.{digitsFrom, number, fields, request}
 use Rattle.script.specs.Answers.{digits, text}
 use Rattle.script.specs.Script.{perform, endLine, advance, feed, prints}
@@ -28,13 +29,13 @@ lent byte main spare ram =
       ram = replicate ram byte;
     }
 
--- f 16 1 1, i 7 40, i 7 41, l 7, u 7 42, l 7, d 7, l 7, d 7
+-- "Input `f 16 1 1`, `i 7 40`, `i 7 41`, `l 7`, `u 7 42`, `l 7`, `d 7`, `l 7`, `d 7` prints:"
 abbrev input : List ℕ
-input = 102 ∷ 32 ∷ 49 ∷ 54 ∷ 32 ∷ 49 ∷ 32 ∷ 49 ∷ 10 ∷ 105 ∷ 32 ∷ 55 ∷ 32 ∷ 52 ∷ 48 ∷ 10 ∷ 105 ∷ 32 ∷ 55 ∷ 32 ∷ 52 ∷ 49 ∷ 10 ∷ 108 ∷ 32 ∷ 55 ∷ 10 ∷ 117 ∷ 32 ∷ 55 ∷ 32 ∷ 52 ∷ 50 ∷ 10 ∷ 108 ∷ 32 ∷ 55 ∷ 10 ∷ 100 ∷ 32 ∷ 55 ∷ 10 ∷ 108 ∷ 32 ∷ 55 ∷ 10 ∷ 100 ∷ 32 ∷ 55 ∷ 10 ∷ []
+input = ascii "f 16 1 1\ni 7 40\ni 7 41\nl 7\nu 7 42\nl 7\nd 7\nl 7\nd 7\n"
 
--- ok 0 0, ok 1 0, no 3, hit 40 0, ok 2 1, hit 42 0, ok 2 2, miss 0, no 4
+-- "`ok 0 0` / `ok 1 0` / `no 3` / `hit 40 0` / `ok 2 1` / `hit 42 0` / `ok 2 2` / `miss 0` / `no 4`, one a line"
 abbrev output : List ℕ
-output = 111 ∷ 107 ∷ 32 ∷ 48 ∷ 32 ∷ 48 ∷ 10 ∷ 111 ∷ 107 ∷ 32 ∷ 49 ∷ 32 ∷ 48 ∷ 10 ∷ 110 ∷ 111 ∷ 32 ∷ 51 ∷ 10 ∷ 104 ∷ 105 ∷ 116 ∷ 32 ∷ 52 ∷ 48 ∷ 32 ∷ 48 ∷ 10 ∷ 111 ∷ 107 ∷ 32 ∷ 50 ∷ 32 ∷ 49 ∷ 10 ∷ 104 ∷ 105 ∷ 116 ∷ 32 ∷ 52 ∷ 50 ∷ 32 ∷ 48 ∷ 10 ∷ 111 ∷ 107 ∷ 32 ∷ 50 ∷ 32 ∷ 50 ∷ 10 ∷ 109 ∷ 105 ∷ 115 ∷ 115 ∷ 32 ∷ 48 ∷ 10 ∷ 110 ∷ 111 ∷ 32 ∷ 52 ∷ 10 ∷ []
+output = ascii "ok 0 0\nok 1 0\nno 3\nhit 40 0\nok 2 1\nhit 42 0\nok 2 2\nmiss 0\nno 4\n"
 
 pub paper : prints (lent 0 59392 3712 640) input ≡ output
 unfolding write tab tabFrom pieces bit pack log2up wordsBytes any memb allOf allowed fresh allFresh fnvFrom positions rowBit rowByte bitAt filterBit setByte flushAndBuild recordBytes entryBytes deletionBytes itemWord put scan searchPages badState tooShort judged formatted format isDeleted tryAt maybeIn search deletionPlan deletionRam pageFilter insertionPlan insertionRam commit change lookupAfter call digitsFrom number fields request digits text perform endLine advance feed prints

@@ -2,6 +2,7 @@
 use mathlib.Core.Path.{_≡_, refl, ap, _∙_}
 use mathlib.Core.Bool.{cond}
 use mathlib.Core.List.{List, [], _∷_}
+use Prim.Native.Char.{code}
 use Prim.Native.Nat.{ℕ, suc, _+_, _≤_, _<_}
 use native.Mathlib.Numerals.{add-one}
 use native.Mathlib.Omega.{arith}
@@ -15,7 +16,7 @@ use Rattle.script.specs.Lines.{fields, lengthen}
 -- the bytes before the first space; all of them if there is none
 unfoldable pub wordLength : List ℕ → ℕ
 wordLength [] = 0
-wordLength (c ∷ cs) = cond (eqb c 32) 0 (suc (wordLength cs))
+wordLength (c ∷ cs) = cond (eqb c (code " ")) 0 (suc (wordLength cs))
 
 -- ---- from a byte on
 

@@ -2,6 +2,7 @@
 use mathlib.Core.Bool.{Bool, _&&_, cond}
 use mathlib.Core.Option.{Option, none, some}
 use mathlib.Core.List.{List, [], _∷_}
+use Prim.Native.Char.{code}
 use Prim.Native.Nat.{ℕ, _+_, _*_, _-_, _^_}
 use lib.Dec.{ltb, leb, eqb}
 use Rattle.layout.specs.Items.{recordOf}
@@ -17,12 +18,12 @@ pub data Request : Type 0 where
 
 -- the digits 0 to 9
 abbrev pub isDigit : ℕ → Bool
-isDigit c = leb 48 c && leb c 57
+isDigit c = leb (code "0") c && leb c (code "9")
 
 -- the number that decimal digits make after those that made v; none where a byte is no digit
 unfoldable pub digitsFrom : ℕ → List ℕ → Option ℕ
 digitsFrom v [] = some v
-digitsFrom v (c ∷ cs) = cond (isDigit c) (digitsFrom (v * 10 + (c - 48)) cs) none
+digitsFrom v (c ∷ cs) = cond (isDigit c) (digitsFrom (v * 10 + (c - code "0")) cs) none
 
 -- "below 2^32"
 abbrev pub small : Option ℕ → Option ℕ
@@ -33,7 +34,7 @@ small (some v) = cond (ltb v (2 ^ 32)) (some v) none
 unfoldable pub number : List ℕ → Option ℕ
 number [] = none
 number (c ∷ []) = digitsFrom 0 (c ∷ [])
-number (c ∷ d ∷ cs) = cond (eqb c 48) none (small (digitsFrom 0 (c ∷ d ∷ cs)))
+number (c ∷ d ∷ cs) = cond (eqb c (code "0")) none (small (digitsFrom 0 (c ∷ d ∷ cs)))
 
 -- ---- words
 
@@ -45,27 +46,28 @@ lengthen c (w ∷ ws) = (c ∷ w) ∷ ws
 -- the words between "single spaces": a second space in a row, or one at an end, makes an empty word
 unfoldable pub fields : List ℕ → List (List ℕ)
 fields [] = [] ∷ []
-fields (c ∷ cs) = cond (eqb c 32) ([] ∷ fields cs) (lengthen c (fields cs))
+fields (c ∷ cs) = cond (eqb c (code " ")) ([] ∷ fields cs) (lengthen c (fields cs))
 
 -- ---- requests
 
 -- `d key` and `l key`
 abbrev pub one : ℕ → Option ℕ → Request
 one c none = bad
-one c (some key) = cond (eqb c 100) (call (delete key)) (cond (eqb c 108) (call (lookup key)) bad)
+one c (some key) = cond (eqb c (code "d")) (call (delete key)) (cond (eqb c (code "l")) (call (lookup key)) bad)
 
 -- `i key moves` and `u key moves`; "goal and free word are 0"
 abbrev pub two : ℕ → Option ℕ → Option ℕ → Request
 two c none moves = bad
 two c (some key) none = bad
-two c (some key) (some moves) = cond (eqb c 105) (call (insert (recordOf key moves 0 0))) (cond (eqb c 117) (call (update (recordOf key moves 0 0))) bad)
+two c (some key) (some moves) =
+    cond (eqb c (code "i")) (call (insert (recordOf key moves 0 0))) (cond (eqb c (code "u")) (call (update (recordOf key moves 0 0))) bad)
 
 -- `f S R D`
 abbrev pub three : ℕ → Option ℕ → Option ℕ → Option ℕ → Request
 three c none R D = bad
 three c (some S) none D = bad
 three c (some S) (some R) none = bad
-three c (some S) (some R) (some D) = cond (eqb c 102) (format S R D) bad
+three c (some S) (some R) (some D) = cond (eqb c (code "f")) (format S R D) bad
 
 -- the request with the letter c and these words after it
 abbrev pub lettered : ℕ → List (List ℕ) → Request

@@ -1,6 +1,7 @@
 -- What a script does to a volume and what it prints. Document 01, "Replay program".
 use mathlib.Core.Bool.{cond}
 use mathlib.Core.List.{List, [], _∷_, _++_}
+use Prim.Native.Char.{code}
 use Prim.Native.Nat.{ℕ}
 use lib.Dec.{eqb}
 use Rattle.memory.specs.Words.{word}
@@ -48,7 +49,7 @@ endLine p =
 
 -- one byte more: a line feed ends the line, any other byte lengthens it
 unfoldable pub advance : Progress → ℕ → Progress
-advance p c = cond (eqb c 10) (endLine p) (record { line = p .line ++ (c ∷ []); volume = p .volume; printed = p .printed })
+advance p c = cond (eqb c (code "\n")) (endLine p) (record { line = p .line ++ (c ∷ []); volume = p .volume; printed = p .printed })
 
 unfoldable pub feed : Progress → List ℕ → Progress
 feed p [] = p

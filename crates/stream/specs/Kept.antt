@@ -1,6 +1,7 @@
 -- What a byte of the input, its end and a whole chunk do to what is kept between them. Document 01, "Replay program".
 use mathlib.Core.Bool.{cond}
 use mathlib.Core.List.{List, [], _∷_}
+use Prim.Native.Char.{code}
 use Prim.Native.Nat.{ℕ, _+_}
 use lib.Dec.{ltb, eqb}
 use lib.ListN.{length, take}
@@ -29,7 +30,7 @@ unfoldable pub addKept : Kept → ℕ → Kept
 addKept k c = record { volume = k .volume; buffer = write (k .buffer) (k .fill) (c ∷ []); fill = cond (ltb (k .fill) (length (k .buffer))) (k .fill + 1) (k .fill); out = k .out; printed = k .printed }
 
 unfoldable pub keptByte : Kept → ℕ → Kept
-keptByte k c = cond (eqb c 10) (endKept k) (addKept k c)
+keptByte k c = cond (eqb c (code "\n")) (endKept k) (addKept k c)
 
 unfoldable pub keptFeed : Kept → List ℕ → Kept
 keptFeed k [] = k
