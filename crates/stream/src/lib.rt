@@ -49,7 +49,7 @@ fn end_line(
     let fill = p.fill;
     let at = p.printed;
     let end = at + 32;
-    let s = volume::answer_next(state, &line[0..fill], main, spare, ram, &mut out[at..end]);
+    let s = lines::answer_next(state, &line[0..fill], main, spare, ram, &mut out[at..end]);
     let next = s.state;
     Progress {
         state: next,

@@ -5,7 +5,7 @@ use mathlib.Core.Path.{refl}
 use Prim.Native.Nat.{_+_, _-_, _≤_}
 use lib.ListN.{take, drop}
 use Rattle.state.specs.Contract.{volume}
-use Rattle.requests.specs.Contract.{LineLeft, stepped}
+use Rattle.lines.specs.Contract.{LineLeft, stepped}
 use Rattle.stream.specs.Contract.{kept}
 use Rattle.stream.proofs.Laws.{line-short, line-ends}
 use Rattle.stream.proofs.end_line.Statement.{statement}

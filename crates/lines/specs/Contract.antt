@@ -14,8 +14,8 @@ use Rattle.answers.specs.Answered.{answered}
 use Rattle.script.specs.Script.{Done, perform}
 use Rattle.answers.specs.declared.Answer.{Answer}
 use Rattle.answers.specs.declared.Answer.the-variants.{Ok, No}
-use Rattle.requests.specs.declared.Performed.{Performed}
-use Rattle.requests.specs.declared.Step.{Step}
+use Rattle.lines.specs.declared.Performed.{Performed}
+use Rattle.lines.specs.declared.Step.{Step}
 
 -- ---- a request
 

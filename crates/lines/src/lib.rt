@@ -1,16 +1,17 @@
-// What a line of a script does to a volume: its request is performed and answered. Document 01, "Replay program".
+// What a line of a script does to a volume: its request is performed and answered, and the volume is passed on to the next line.
+// Document 01, "Replay program".
 ghost use mathlib.Core.Path.{_≡_};
 ghost use Prim.Native.Nat.{_≤_};
 ghost use lib.ListN.{length};
 ghost use Rattle.memory.specs.Lent.{before, after};
 ghost use Rattle.layout.specs.Items.{recordOf};
 ghost use Rattle.layout.specs.Calls.{lookup};
-ghost use Rattle.state.specs.Contract.{recordIs, given};
-ghost use Rattle.script.specs.Lines as lines;
+ghost use Rattle.state.specs.Contract.{recordIs, volume, given};
+ghost use Rattle.script.specs.Lines.{call};
 ghost use Rattle.script.specs.Asked.{asked};
 ghost use Rattle.answers.specs.Answered.{answered};
 ghost use Rattle.script.specs.Script.{perform};
-ghost use Rattle.requests.specs.Contract.{performed, changeAnswer, stepped, answeredLine};
+ghost use Rattle.lines.specs.Contract.{performed, changeAnswer, stepped, answeredLine};
 use answers::Answer;
 use geometry::Sizes;
 use script::Request;
@@ -45,7 +46,7 @@ fn after_change(c: Change) -> Performed
 
 // The answer to a lookup; a hit's moves are its record's second word.
 fn lookup<'a>(s: State, key: u32, main: &'a [u8], spare: &[u8], ram: &'a [u8]) -> Answer
-    ensures { λ r. ⌜ answered r ≡ perform (given s main spare ram) (lines.call (lookup key)) .answer ⌝ }
+    ensures { λ r. ⌜ answered r ≡ perform (given s main spare ram) (call (lookup key)) .answer ⌝ }
 {
     let mut refusal: u32 = 0;
     let mut found: u32 = 0;
@@ -151,5 +152,51 @@ pub fn answer_line(
     Step {
         state: next,
         length,
+    }
+}
+
+// ---- the volume between lines
+
+// A volume between two lines: its state. The bytes are lent beside it.
+pub struct Volume {
+    pub state: State,
+}
+
+// A line on the volume, which is passed on from one line to the next.
+pub fn answer_on(
+    v: &mut Volume,
+    line: &[u8],
+    main: &mut [u8],
+    spare: &mut [u8],
+    ram: &mut [u8],
+    out: &mut [u8],
+) -> usize
+    requires { ⌜ 32 ≤ length (now out) ⌝ }
+    ensures { λ r. ⌜ record { length = r; volume = volume (now (v .exit) .state) (after main) (after spare) (after ram); out = after out }
+        ≡ answeredLine (given (now (v .entry) .state) main spare ram) (before line) (before out) ⌝ }
+{
+    let c = answer_line(v.state, line, main, spare, ram, out);
+    v.state = c.state;
+    c.length
+}
+
+// The same by value, so that whoever calls it needs no proof by hand.
+pub fn answer_next(
+    s: State,
+    line: &[u8],
+    main: &mut [u8],
+    spare: &mut [u8],
+    ram: &mut [u8],
+    out: &mut [u8],
+) -> Step
+    requires { ⌜ 32 ≤ length (now out) ⌝ }
+    ensures { λ r. ⌜ stepped r (after main) (after spare) (after ram) (after out)
+        ≡ answeredLine (given s main spare ram) (before line) (before out) ⌝ }
+{
+    let mut v = Volume { state: s };
+    let length = answer_on(&mut v, line, main, spare, ram, out);
+    Step {
+        state: v.state,
+        length: length,
     }
 }

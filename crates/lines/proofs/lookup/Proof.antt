@@ -6,10 +6,10 @@ use Rattle.layout.specs.Hash.{fnvFamily}
 use Rattle.state.specs.Contract.{volume}
 use Rattle.script.specs.Answers.{hit}
 use Rattle.script.specs.Script.{perform}
-use Rattle.requests.proofs.Answering.{looked-refused, looked-missed, looked-hit}
+use Rattle.lines.proofs.Answering.{looked-refused, looked-missed, looked-hit}
 use borrow.Author.Needs.{needs}
-use Rattle.requests.proofs.lookup.Statement.{statement}
-use Rattle.requests.proofs.lookup.Tie as tie
+use Rattle.lines.proofs.lookup.Statement.{statement}
+use Rattle.lines.proofs.lookup.Tie as tie
 
 lookup-requires : tie.Need-lookup-requires
 lookup-requires c κs = search needs

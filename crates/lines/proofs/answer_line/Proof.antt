@@ -1,10 +1,10 @@
 -- What is read is performed, and what is performed is written.
 use Rattle.state.specs.Contract.{volume}
 use Rattle.script.specs.Asked.{asked}
-use Rattle.requests.proofs.Answering.{line-done}
+use Rattle.lines.proofs.Answering.{line-done}
 use borrow.Author.Needs.{needs}
-use Rattle.requests.proofs.answer_line.Statement.{statement}
-use Rattle.requests.proofs.answer_line.Tie as tie
+use Rattle.lines.proofs.answer_line.Statement.{statement}
+use Rattle.lines.proofs.answer_line.Tie as tie
 
 parse-line-requires : tie.Need-parse-line-requires
 parse-line-requires c κs = search needs

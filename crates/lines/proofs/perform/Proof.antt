@@ -7,10 +7,10 @@ use Rattle.layout.specs.Calls as calls
 use Rattle.state.specs.Contract.{volume, seen}
 use Rattle.answers.specs.Answered.{answered}
 use Rattle.script.specs.Script.{perform}
-use Rattle.requests.proofs.Answering.{change-done, lookup-done}
+use Rattle.lines.proofs.Answering.{change-done, lookup-done}
 use borrow.Author.Needs.{needs}
-use Rattle.requests.proofs.perform.Statement.{statement}
-use Rattle.requests.proofs.perform.Tie as tie
+use Rattle.lines.proofs.perform.Statement.{statement}
+use Rattle.lines.proofs.perform.Tie as tie
 
 enum-known-q : tie.Need-enum-known-q
 enum-known-q c = search needs

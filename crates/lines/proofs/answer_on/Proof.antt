@@ -1,4 +1,4 @@
--- `volume::answer_on` meets its contract: a walk of its MIR, by hand. The borrow of the volume is opened, its state is read, the line and the four lent slices go to `answer_line` at their own lifetimes, and the borrow is closed at the volume with the state that `answer_line` returned.
+-- `lines::answer_on` meets its contract: a walk of its MIR, by hand. The borrow of the volume is opened, its state is read, the line and the four lent slices go to `answer_line` at their own lifetimes, and the borrow is closed at the volume with the state that `answer_line` returned.
 -- All that the proof knows of `answer_line` is that it meets its contract.
 -- Assumes nothing.
 use mathlib.Core.Path.{_≡_, refl, ap}
@@ -43,23 +43,23 @@ use denote.Triple.Walked.{says, needs, Stays, stay-ref, gave-slice, stay-dropped
 use denote.Exit.{yes}
 use Rattle.state.specs.Contract.{volume}
 use Rattle.state.specs.declared.State.{State}
-use Rattle.requests.specs.Contract.{stepped, answeredLine}
-use Rattle.requests.specs.declared.Step.{Step}
-use Rattle.volume.specs.declared.Volume.{Volume}
+use Rattle.lines.specs.Contract.{stepped, answeredLine}
+use Rattle.lines.specs.declared.Step.{Step}
+use Rattle.lines.specs.declared.Volume.{Volume}
 use Rattle.state.proofs.State as S
 use Rattle.state.proofs.State.Laws as S′
-use Rattle.requests.proofs.Step as R
-use Rattle.requests.proofs.Step.Laws as R′
-use Rattle.volume.proofs.Volume as T
-use Rattle.volume.proofs.Volume.Laws as T′
-use Rattle.requests.proofs.answer_line as g
-use Rattle.requests.proofs.answer_line.Symbol as g-def
-use Rattle.requests.proofs.answer_line.Symbol.{name as #g}
-use Rattle.requests.proofs.answer_line.Met as g-thm
-use Rattle.volume.proofs.answer_on.Key.{name as #f}
-use Rattle.volume.proofs.answer_on as f
-use Rattle.volume.proofs.answer_on.Statement as stated
-use Rattle.volume.proofs.answer_on.Code as code
+use Rattle.lines.proofs.Step as R
+use Rattle.lines.proofs.Step.Laws as R′
+use Rattle.lines.proofs.Volume as T
+use Rattle.lines.proofs.Volume.Laws as T′
+use Rattle.lines.proofs.answer_line as g
+use Rattle.lines.proofs.answer_line.Symbol as g-def
+use Rattle.lines.proofs.answer_line.Symbol.{name as #g}
+use Rattle.lines.proofs.answer_line.Met as g-thm
+use Rattle.lines.proofs.answer_on.Key.{name as #f}
+use Rattle.lines.proofs.answer_on as f
+use Rattle.lines.proofs.answer_on.Statement as stated
+use Rattle.lines.proofs.answer_on.Code as code
 
 -- the volume is still owned; nothing is asked of the line; the four slices were given up
 abbrev stayed : Stays (f.ended .signature .params) (f.ended .kept)
@@ -229,4 +229,4 @@ answer-on-spec 𝓤 H 𝓜 𝓖 𝓡 =
     entered 𝓤 H (tripleOf 𝓤 H (𝓖 .A) f.signature (f.spec 𝓤 H (𝓖 .A) (𝓜 .mem) (𝓡 .run)))
     (tables 𝓤 H 𝓜 𝓡 code.env .C) (tables 𝓤 H 𝓜 𝓡 code.env .Λ) #f code.function (code.unfolded 𝓤 H 𝓜 𝓡)
     (meets 𝓤 H (𝓖 .A) (givenOf 𝓤 H 𝓜 𝓖) (𝓜 .mem) (𝓡 .run) (tablesOf 𝓤 H 𝓜 (tables 𝓤 H 𝓜 𝓡 code.env))
-    (cited 𝓤 H (Line 𝓤 H (𝓖 .A) (𝓜 .mem) (𝓡 .run)) 𝓜 𝓡 code.env #g g-def.routine code.calls-requests·answer-line (g-thm.met 𝓤 H 𝓜 𝓖 𝓡)))
+    (cited 𝓤 H (Line 𝓤 H (𝓖 .A) (𝓜 .mem) (𝓡 .run)) 𝓜 𝓡 code.env #g g-def.routine code.calls-lines·answer-line (g-thm.met 𝓤 H 𝓜 𝓖 𝓡)))

@@ -1,7 +1,7 @@
 -- Accepted is refusal 0.
 use borrow.Author.Tests.{eq-eqb, ne-eqb}
-use Rattle.requests.proofs.after_change.Statement.{statement}
-use Rattle.requests.proofs.after_change.Tie as tie
+use Rattle.lines.proofs.after_change.Statement.{statement}
+use Rattle.lines.proofs.after_change.Tie as tie
 
 returns : tie.Need-returns
 returns c = rw (eq-eqb _ _ (c .if1 .taken))

@@ -23,8 +23,8 @@ use Rattle.script.specs.Answers.{text}
 use Rattle.script.specs.Answers as answers
 use Rattle.answers.specs.Answered.{answered}
 use Rattle.script.specs.Script.{Done, said, done, perform}
-use Rattle.requests.specs.Contract.{performed, changeAnswer, stepped, answeredLine}
-use Rattle.requests.specs.declared.Performed.{Performed}
+use Rattle.lines.specs.Contract.{performed, changeAnswer, stepped, answeredLine}
+use Rattle.lines.specs.declared.Performed.{Performed}
 
 -- ---- changes
 

@@ -1,4 +1,4 @@
--- `volume::answer_next` meets its contract: a walk of its MIR, by hand. The volume is made in a local, which is lent to `answer_on` for a lifetime that is made for the call; the line and the slices go on at their own lifetimes; the local comes back at the last value, and its state goes into the result.
+-- `lines::answer_next` meets its contract: a walk of its MIR, by hand. The volume is made in a local, which is lent to `answer_on` for a lifetime that is made for the call; the line and the slices go on at their own lifetimes; the local comes back at the last value, and its state goes into the result.
 -- All that the proof knows of `answer_on` is that it meets its contract.
 -- Assumes nothing.
 use mathlib.Core.Path.{_≡_, refl, ap}
@@ -45,24 +45,24 @@ use denote.Triple.Walked.{says, needs, Stays, gave-slice, stay-dropped, walkOf, 
 use denote.Exit.{yes}
 use Rattle.state.specs.Contract.{volume}
 use Rattle.state.specs.declared.State.{State}
-use Rattle.requests.specs.Contract.{stepped, answeredLine}
-use Rattle.requests.specs.declared.Step.{Step}
-use Rattle.volume.specs.declared.Volume.{Volume}
-use Rattle.volume.proofs.Lent.{cell-in, cell-out}
+use Rattle.lines.specs.Contract.{stepped, answeredLine}
+use Rattle.lines.specs.declared.Step.{Step}
+use Rattle.lines.specs.declared.Volume.{Volume}
+use Rattle.lines.proofs.Lent.{cell-in, cell-out}
 use Rattle.state.proofs.State as S
 use Rattle.state.proofs.State.Laws as S′
-use Rattle.requests.proofs.Step as R
-use Rattle.requests.proofs.Step.Laws as R′
-use Rattle.volume.proofs.Volume as T
-use Rattle.volume.proofs.Volume.Laws as T′
-use Rattle.volume.proofs.answer_on as g
-use Rattle.volume.proofs.answer_on.Symbol as g-def
-use Rattle.volume.proofs.answer_on.Symbol.{name as #g}
-use Rattle.volume.proofs.answer_on.Met as g-thm
-use Rattle.volume.proofs.answer_next.Key.{name as #f}
-use Rattle.volume.proofs.answer_next as f
-use Rattle.volume.proofs.answer_next.Statement as stated
-use Rattle.volume.proofs.answer_next.Code as code
+use Rattle.lines.proofs.Step as R
+use Rattle.lines.proofs.Step.Laws as R′
+use Rattle.lines.proofs.Volume as T
+use Rattle.lines.proofs.Volume.Laws as T′
+use Rattle.lines.proofs.answer_on as g
+use Rattle.lines.proofs.answer_on.Symbol as g-def
+use Rattle.lines.proofs.answer_on.Symbol.{name as #g}
+use Rattle.lines.proofs.answer_on.Met as g-thm
+use Rattle.lines.proofs.answer_next.Key.{name as #f}
+use Rattle.lines.proofs.answer_next as f
+use Rattle.lines.proofs.answer_next.Statement as stated
+use Rattle.lines.proofs.answer_next.Code as code
 
 -- nothing is asked of the state and the line; the four slices were given up
 abbrev stayed : Stays (f.ended .signature .params) (f.ended .kept)
@@ -243,4 +243,4 @@ answer-next-spec 𝓤 H 𝓜 𝓖 𝓡 =
     entered 𝓤 H (tripleOf 𝓤 H (𝓖 .A) f.signature (f.spec 𝓤 H (𝓖 .A) (𝓜 .mem) (𝓡 .run)))
     (tables 𝓤 H 𝓜 𝓡 code.env .C) (tables 𝓤 H 𝓜 𝓡 code.env .Λ) #f code.function (code.unfolded 𝓤 H 𝓜 𝓡)
     (meets 𝓤 H (𝓖 .A) (givenOf 𝓤 H 𝓜 𝓖) (𝓜 .mem) (𝓡 .run) (tablesOf 𝓤 H 𝓜 (tables 𝓤 H 𝓜 𝓡 code.env))
-    (cited 𝓤 H (On 𝓤 H (𝓖 .A) (𝓜 .mem) (𝓡 .run)) 𝓜 𝓡 code.env #g g-def.routine code.calls-volume·answer-on (g-thm.met 𝓤 H 𝓜 𝓖 𝓡)))
+    (cited 𝓤 H (On 𝓤 H (𝓖 .A) (𝓜 .mem) (𝓡 .run)) 𝓜 𝓡 code.env #g g-def.routine code.calls-lines·answer-on (g-thm.met 𝓤 H 𝓜 𝓖 𝓡)))
