@@ -9,10 +9,10 @@ use lib.ListN.{length, take}
 use lib.Seq.{length-take-le}
 use Rattle.layout.specs.Flash.{flashOf}
 use Rattle.layout.specs.Calls.{Volume}
-use Rattle.stream.specs.Kept.{Kept, endKept, keptFeed, keptClose}
-use Rattle.stream.specs.Contract.{kept}
-use Rattle.stream.specs.Stream.{into}
-use Rattle.stream.specs.declared.Progress.{Progress}
+use Rattle.console.specs.Kept.{Kept, endKept, keptFeed, keptClose}
+use Rattle.console.specs.Contract.{kept}
+use Rattle.console.specs.Stream.{into}
+use Rattle.console.specs.declared.stream.Progress.{Progress}
 use Rattle.console.specs.declared.Turn.{Turn}
 use Rattle.console.specs.Turns.{Left, turned, fed, Took, turns, ends, Short, Leaves}
 

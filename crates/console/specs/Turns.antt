@@ -9,8 +9,8 @@ use Rattle.layout.specs.Flash.{flashOf}
 use Rattle.layout.specs.Calls.{Volume}
 use Rattle.state.specs.declared.State.{State}
 use Rattle.state.specs.Contract.{volume}
-use Rattle.stream.specs.Kept.{Kept, keptFeed, keptClose}
-use Rattle.stream.specs.Stream.{into}
+use Rattle.console.specs.Kept.{Kept, keptFeed, keptClose}
+use Rattle.console.specs.Stream.{into}
 use Rattle.console.specs.declared.Turn.{Turn}
 
 -- ---- a chunk

@@ -13,8 +13,8 @@ use Rattle.layout.specs.Calls.{Volume}
 use Rattle.script.specs.Lines.{request}
 use Rattle.script.specs.Answers.{text}
 use Rattle.script.specs.Script.{perform, prints}
-use Rattle.stream.specs.Kept.{Kept, endKept, addKept, keptByte, keptFeed, keptClose}
-use Rattle.stream.specs.Stream.{Turn, Roomy, input, start, into, output, outputs, stream-prints, leaves, stream-leaves}
+use Rattle.console.specs.Kept.{Kept, endKept, addKept, keptByte, keptFeed, keptClose}
+use Rattle.console.specs.Stream.{Turn, Roomy, input, start, into, output, outputs, stream-prints, leaves, stream-leaves}
 use Rattle.console.specs.Turns.{blank, first, turns, ends, Short, Leaves}
 
 -- all chunks in one

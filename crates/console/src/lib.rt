@@ -1,5 +1,7 @@
-// A script from standard input, its answers to standard output. What matters is proved of `stream`; here
-// bytes are moved, in chunks, and nothing else.
+// A script from standard input, its answers to standard output. What the bytes of the input do is in `stream`; here they are moved, in
+// chunks, and nothing else.
+mod stream;
+
 ghost use mathlib.Core.Path.{_≡_};
 ghost use mathlib.Core.Bool.{true, false, cond};
 ghost use mathlib.Core.List.{List};
@@ -7,9 +9,9 @@ ghost use Prim.Native.Nat.{ℕ, _*_, _-_, _≤_, _<_};
 ghost use lib.ListN.{length, take};
 ghost use Rattle.memory.specs.Lent.{before, after};
 ghost use Rattle.laws.specs.LentFlash.{flashAfter};
-ghost use Rattle.stream.specs.Kept.{keptFeed, keptClose};
-ghost use Rattle.stream.specs.Contract.{keptBefore};
-ghost use Rattle.stream.specs.Stream.{leaves};
+ghost use Rattle.console.specs.Kept.{keptFeed, keptClose};
+ghost use Rattle.console.specs.Contract.{keptBefore};
+ghost use Rattle.console.specs.Stream.{leaves};
 ghost use Rattle.console.specs.Turns.{turnedAfter, fed, Took, noState, blank, first, turns, ends, Short, Leaves};
 use geometry::Sizes;
 use libc::STDERR_FILENO;

@@ -5,15 +5,15 @@ use Prim.Native.Nat.{ℕ, _-_, _≤_}
 use mathlib.Core.Bool.{Bool, true, false, cond}
 use mathlib.Core.Path.{_≡_}
 use lib.ListN.{length, take}
-use Rattle.stream.specs.Kept.{keptFeed}
-use Rattle.stream.specs.Contract.{kept}
+use Rattle.console.specs.Kept.{keptFeed}
+use Rattle.console.specs.Contract.{kept}
 use Rattle.console.proofs.Laws.{turned-is}
 use Rattle.console.proofs.answer_chunk.Statement.{statement}
 use Rattle.console.proofs.answer_chunk.Tie as tie
 use Rattle.console.proofs.answer_chunk.Reads as reads
 use Rattle.console.proofs.answer_chunk.Lts as lts
 use Rattle.console.proofs.tell.Reads as tell-reads
-use Rattle.stream.proofs.feed.Reads as feed-reads
+use Rattle.console.proofs.stream.feed.Reads as feed-reads
 
 sub-feed : tie.Need-sub-feed
 sub-feed c = search needs

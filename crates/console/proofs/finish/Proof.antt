@@ -1,13 +1,13 @@
 -- The volume and the output's buffer are those that the input's end leaves.
 use borrow.Author.Needs.{needs}
 use mathlib.Core.Path.{ap}
-use Rattle.stream.specs.Kept.{Kept}
+use Rattle.console.specs.Kept.{Kept}
 use Rattle.console.proofs.finish.Statement.{statement}
 use Rattle.console.proofs.finish.Tie as tie
 use Rattle.console.proofs.finish.Reads as reads
 use Rattle.console.proofs.finish.Lts as lts
 use Rattle.io.proofs.write_all.Reads as write-all-reads
-use Rattle.stream.proofs.close.Reads as close-reads
+use Rattle.console.proofs.stream.close.Reads as close-reads
 
 close-requires : tie.Need-close-requires
 close-requires c κs = search needs

@@ -5,7 +5,7 @@ use Prim.Native.Nat.{ℕ, _≤_, _<_}
 use mathlib.Core.Path.{_≡_, refl}
 use mathlib.Core.List.{List}
 use lib.ListN.{length}
-use Rattle.stream.specs.Contract.{kept}
+use Rattle.console.specs.Contract.{kept}
 use Rattle.console.specs.Turns.{turned, first, turns, ends, Short, Leaves}
 use Rattle.console.specs.Whole.{run-leaves}
 use Rattle.console.proofs.Laws.{Held, held-first, held-more, held-ends}

@@ -1,7 +1,7 @@
 -- What was read is answered; nothing was read at the input's end and where the read failed.
 use borrow.Author.Needs.{needs}
 use native.Mathlib.Omega.{arith}
-use Rattle.stream.specs.Contract.{kept}
+use Rattle.console.specs.Contract.{kept}
 use Rattle.console.specs.Turns.{turned}
 use Rattle.console.proofs.Laws.{took-none, took-some}
 use Rattle.console.proofs.take_turn.Statement.{statement}

@@ -18,7 +18,7 @@ use Rattle.script.specs.Answers.{text}
 use Rattle.answers.specs.Written.{text-length}
 use Rattle.script.specs.Script.{Done, perform}
 use Rattle.lines.specs.Contract.{LineLeft, answeredLine}
-use Rattle.stream.specs.Kept.{Kept, endKept, addKept, keptByte, keptFeed}
+use Rattle.console.specs.Kept.{Kept, endKept, addKept, keptByte, keptFeed}
 
 -- ---- lines
 

@@ -2,11 +2,11 @@
 use borrow.Author.Needs.{needs}
 use borrow.Author.Tests.{eq-eqb}
 use native.Mathlib.Omega.{arith}
-use Rattle.stream.specs.Kept.{keptByte}
-use Rattle.stream.specs.Contract.{kept}
-use Rattle.stream.proofs.Laws.{add-kept}
-use Rattle.stream.proofs.next_byte.Statement.{statement}
-use Rattle.stream.proofs.next_byte.Tie as tie
+use Rattle.console.specs.Kept.{keptByte}
+use Rattle.console.specs.Contract.{kept}
+use Rattle.console.proofs.stream.Laws.{add-kept}
+use Rattle.console.proofs.stream.next_byte.Statement.{statement}
+use Rattle.console.proofs.stream.next_byte.Tie as tie
 
 end-line-requires : tie.Need-end-line-requires
 end-line-requires c κs = search needs

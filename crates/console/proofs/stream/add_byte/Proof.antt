@@ -6,9 +6,9 @@ use mathlib.Core.Path.{sym}
 use mathlib.Core.List.{[], _∷_}
 use lib.ListN.{length}
 use Rattle.answers.specs.Written.{write-byte}
-use Rattle.stream.specs.Buffers.{write-past}
-use Rattle.stream.proofs.add_byte.Statement.{statement}
-use Rattle.stream.proofs.add_byte.Tie as tie
+use Rattle.console.specs.Buffers.{write-past}
+use Rattle.console.proofs.stream.add_byte.Statement.{statement}
+use Rattle.console.proofs.stream.add_byte.Tie as tie
 
 returns : tie.Need-returns
 returns c =

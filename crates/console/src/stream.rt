@@ -8,8 +8,8 @@ ghost use lib.Dec.{ltb};
 ghost use lib.ListN.{length};
 ghost use Rattle.memory.specs.Lists.{write};
 ghost use Rattle.memory.specs.Lent.{before, after};
-ghost use Rattle.stream.specs.Kept.{endKept, keptByte, keptFeed, keptClose};
-ghost use Rattle.stream.specs.Contract.{kept, keptBefore, keptAfter};
+ghost use Rattle.console.specs.Kept.{endKept, keptByte, keptFeed, keptClose};
+ghost use Rattle.console.specs.Contract.{kept, keptBefore, keptAfter};
 use state::State;
 
 // What is kept from one chunk to the next beside the buffers.

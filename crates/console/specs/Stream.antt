@@ -17,8 +17,8 @@ use Rattle.script.specs.Answers.{text}
 use Rattle.answers.specs.Written.{text-length}
 use Rattle.script.specs.Script.{Progress, perform, endLine, advance, feed, close, prints}
 use Rattle.script.specs.Cut.{cut}
-use Rattle.stream.specs.Buffers.{take-before, take-written}
-use Rattle.stream.specs.Kept.{Kept, endKept, addKept, keptByte, keptFeed, keptClose}
+use Rattle.console.specs.Buffers.{take-before, take-written}
+use Rattle.console.specs.Kept.{Kept, endKept, addKept, keptByte, keptFeed, keptClose}
 
 -- ---- the chain
 

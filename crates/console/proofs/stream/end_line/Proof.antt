@@ -6,10 +6,10 @@ use Prim.Native.Nat.{_+_, _-_, _≤_}
 use lib.ListN.{take, drop}
 use Rattle.state.specs.Contract.{volume}
 use Rattle.lines.specs.Contract.{LineLeft, stepped}
-use Rattle.stream.specs.Contract.{kept}
-use Rattle.stream.proofs.Laws.{line-short, line-ends}
-use Rattle.stream.proofs.end_line.Statement.{statement}
-use Rattle.stream.proofs.end_line.Tie as tie
+use Rattle.console.specs.Contract.{kept}
+use Rattle.console.proofs.stream.Laws.{line-short, line-ends}
+use Rattle.console.proofs.stream.end_line.Statement.{statement}
+use Rattle.console.proofs.stream.end_line.Tie as tie
 
 add-end : tie.Need-add-end
 add-end c = search needs

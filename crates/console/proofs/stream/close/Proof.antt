@@ -2,9 +2,9 @@
 use borrow.Author.Needs.{needs}
 use borrow.Author.Tests.{eq-eqb, ne-eqb}
 use native.Mathlib.Omega.{arith}
-use Rattle.stream.specs.Kept.{keptClose}
-use Rattle.stream.proofs.close.Statement.{statement}
-use Rattle.stream.proofs.close.Tie as tie
+use Rattle.console.specs.Kept.{keptClose}
+use Rattle.console.proofs.stream.close.Statement.{statement}
+use Rattle.console.proofs.stream.close.Tie as tie
 
 returns : tie.Need-returns
 unfolding keptClose

@@ -3,11 +3,11 @@ use native.Mathlib.Omega.{arith}
 use mathlib.Core.Path.{_≡_, refl, sym, _∙_}
 use Prim.Native.Nat.{_+_, _*_, _-_, _≤_}
 use lib.ListN.{length, drop}
-use Rattle.stream.specs.Kept.{keptFeed}
-use Rattle.stream.specs.Contract.{kept}
-use Rattle.stream.proofs.Laws.{feed-more, feed-end}
-use Rattle.stream.proofs.feed.Statement.{statement}
-use Rattle.stream.proofs.feed.Tie as tie
+use Rattle.console.specs.Kept.{keptFeed}
+use Rattle.console.specs.Contract.{kept}
+use Rattle.console.proofs.stream.Laws.{feed-more, feed-end}
+use Rattle.console.proofs.stream.feed.Statement.{statement}
+use Rattle.console.proofs.stream.feed.Tie as tie
 
 abbrev Inv-loop : tie.InvT-loop
 Inv-loop chunk line₀ main₀ spare₀ ram₀ out₀ q₀ i₀ line main spare ram out q i =

@@ -1,4 +1,0 @@
-pub mod Kept
-pub mod Contract
-pub mod Buffers
-pub mod Stream
