@@ -5,8 +5,8 @@ use store::{State, Store};
 /// "It lends 59,392 cells, 3,712 marks and a desk of 640 bytes."
 pub const LENT: [usize; 3] = [59_392, 3_712, 640];
 
-/// What the program `replay_sets` lends: enough for full sets at S = 16 and for sets at S = 64.
-pub const LENT_FOR_SETS: [usize; 3] = [335_872, 10_176, 1_280];
+/// What the program `replay_large` lends: enough for full sets at S = 16 and for sets at S = 64.
+pub const LENT_LARGE: [usize; 3] = [335_872, 10_176, 1_280];
 
 /// The output for a whole input: an answer a line, each ended by a line feed. So many bytes of cells, marks
 /// and desk are lent.

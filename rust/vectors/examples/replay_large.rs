@@ -1,5 +1,5 @@
-//! Writes the script of the program `replay_sets` and the model's answers to it:
-//! `cargo run --release -p vectors --example replay_sets -- ../crates/replay_sets`.
+//! Writes the script of the program `replay_large` and the model's answers to it:
+//! `cargo run --release -p vectors --example replay_large -- ../crates/replay_large`.
 //!
 //! At S = 16 the script fills sets 2 to 5, the last a full one, and set 2 of the second cycle; at S = 64
 //! it fills set 2.
@@ -7,7 +7,7 @@
 use std::fmt::Write as _;
 use std::{env, fs, io, path::Path};
 use store::ModelStore;
-use vectors::replay::{replay, LENT_FOR_SETS};
+use vectors::replay::{replay, LENT_LARGE};
 
 /// From one key to the next: an odd step visits every key once.
 const STEP: u32 = 2_654_435_769;
@@ -21,7 +21,7 @@ fn main() -> io::Result<()> {
     fs::write(folder.join("stdin"), &script)?;
     fs::write(
         folder.join("stdout"),
-        replay(&ModelStore, script.as_bytes(), LENT_FOR_SETS),
+        replay(&ModelStore, script.as_bytes(), LENT_LARGE),
     )
 }
 

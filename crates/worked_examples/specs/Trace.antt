@@ -18,7 +18,7 @@ use Rattle.layout.specs.Search.{scan, searchPages}
 use Rattle.layout.specs.Calls.{Volume, Call, insert, update, delete, lookup, Outcome, accepted, hit, miss, refused, Result, badState, tooShort, judged, formatted, format, isDeleted, tryAt, maybeIn, search, deletionPlan, deletionRam, pageFilter, insertionPlan, insertionRam, commit, change, lookupAfter, call}
 use Rattle.script.specs.Answers.{Answer, ok, no}
 use Rattle.script.specs.Script.{said}
-use Rattle.histories.specs.Example.{lent}
+use Rattle.worked_examples.specs.Example.{lent}
 
 -- the answers of calls one after another
 abbrev run : Volume → List Call → List Answer

@@ -1,16 +1,16 @@
-//! The stored script of the program `replay_sets` gets the model's answers, and reaches what `replay` cannot.
+//! The stored script of the program `replay_large` gets the model's answers, and reaches what `replay` cannot.
 
 use std::fs;
 use std::path::Path;
 use store::ModelStore;
-use vectors::replay::{replay, LENT_FOR_SETS};
+use vectors::replay::{replay, LENT_LARGE};
 
 #[test]
 fn answers_of_the_model() {
-    let folder = Path::new(env!("CARGO_MANIFEST_DIR")).join("../../crates/replay_sets");
+    let folder = Path::new(env!("CARGO_MANIFEST_DIR")).join("../../crates/replay_large");
     let script = fs::read(folder.join("stdin")).expect("the script");
     let answers = fs::read_to_string(folder.join("stdout")).expect("the answers");
-    let got = replay(&ModelStore, &script, LENT_FOR_SETS);
+    let got = replay(&ModelStore, &script, LENT_LARGE);
     assert_eq!(String::from_utf8(got).expect("plain text"), answers);
     // A set is completed by 16 flushes of 8 pages of S / 2 entries; at S = 16 four sets make a cycle.
     let most = |season: &str| -> u32 {

@@ -1,1 +1,0 @@
-// Short histories computed by the definitions: document 01's replay example, a published trace, the first filter. No code.

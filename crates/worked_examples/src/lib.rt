@@ -1,0 +1,1 @@
+// Worked examples, computed by the definitions: document 01's replay example, a published trace, the first filter. No code.
