@@ -7,7 +7,7 @@ ghost use Rattle.memory.specs.Lists.{write};
 ghost use Rattle.memory.specs.Lent.{before, after};
 ghost use Rattle.script.specs.Text.{ascii};
 ghost use Rattle.script.specs.Answers.{decimal, text};
-ghost use Rattle.answers.specs.Answered.{answered};
+ghost use Rattle.answers.specs.Values.{answerOf};
 
 // The answer to a line: n and d, a hit's moves and count, a miss's count, or a refusal's number.
 pub enum Answer {
@@ -50,14 +50,14 @@ fn put_decimal(out: &mut [u8], at: usize, n: u32) -> usize
 }
 
 // Writes a number and the byte that ends it from `at` on; gives where they end.
-fn put_number(out: &mut [u8], at: usize, n: u32, mark: u8) -> usize
+fn put_number(out: &mut [u8], at: usize, n: u32, terminator: u8) -> usize
     requires { ⌜ at + 11 ≤ length (now out) ⌝ }
-    ensures { λ r. ⌜ (r ≡ at + length (decimal n ++ (mark ∷ []))) × (r ≤ at + 11) ⌝ }
-    ensures { λ _. ⌜ after out ≡ write (before out) at (decimal n ++ (mark ∷ [])) ⌝ }
+    ensures { λ r. ⌜ (r ≡ at + length (decimal n ++ (terminator ∷ []))) × (r ≤ at + 11) ⌝ }
+    ensures { λ _. ⌜ after out ≡ write (before out) at (decimal n ++ (terminator ∷ [])) ⌝ }
 {
-    let mark_at = put_decimal(out, at, n);
-    out[mark_at] = mark;
-    mark_at + 1
+    let end = put_decimal(out, at, n);
+    out[end] = terminator;
+    end + 1
 }
 
 // Writes a word and a number as a line.
@@ -85,9 +85,9 @@ fn put_two(out: &mut [u8], word: &[u8], n: u32, m: u32) -> usize
 // Writes an answer's line at the start of `out`; gives its length.
 pub fn put_answer(out: &mut [u8], a: Answer) -> usize
     requires { ⌜ 32 ≤ length (now out) ⌝ }
-    ensures { λ r. ⌜ r ≡ length (text (answered a)) ⌝ }
+    ensures { λ r. ⌜ r ≡ length (text (answerOf a)) ⌝ }
     ensures { λ r. ⌜ r ≤ 32 ⌝ }
-    ensures { λ _. ⌜ after out ≡ write (before out) 0 (text (answered a)) ⌝ }
+    ensures { λ _. ⌜ after out ≡ write (before out) 0 (text (answerOf a)) ⌝ }
 {
     match a {
         Answer::Ok(n, d) => put_two(out, b"ok ", n, d),

@@ -1,26 +1,55 @@
--- Laws of the buffers: what a write leaves before its end, and a write past the end.
-use mathlib.Core.Path.{_≡_, refl, sym, ap, _∙_}
-use mathlib.Core.List.{List, [], _∷_, _++_, append-assoc}
-use Prim.Native.Nat.{ℕ, zero, suc, _+_, _≤_}
-use native.Mathlib.Nat.{le-of-suc-le-suc, not-suc-le-zero}
-use native.Mathlib.Omega.{arith}
-use lib.ListN.{length, take, drop, length-append}
-use lib.Seq.{length-take-le, take-at}
-use Rattle.memory.specs.Lists.{write, write-cut}
+-- What a byte of the input, a chunk and the input's end do to the buffers. Document 01, "Replay program".
+use mathlib.Core.Bool.{cond}
+use mathlib.Core.List.{List, [], _∷_}
+use Prim.Native.Char.{code}
+use Prim.Native.Nat.{ℕ, _+_}
+use lib.Dec.{ltb, eqb}
+use lib.ListN.{length, take}
+use Rattle.memory.specs.Lists.{write}
+use Rattle.layout.specs.Calls.{Volume}
+use Rattle.script.specs.Lines.{request}
+use Rattle.script.specs.Answers.{text}
+use Rattle.script.specs.Script.{Reply, perform}
 
-pub take-before : (l : List ℕ) (at : ℕ) (s : List ℕ) → take at (write l at s) ≡ take at l
-unfolding write
-take-before [] at s = refl
-take-before (x ∷ xs) zero s = refl
-take-before (x ∷ xs) (suc n) s = ap (λ (t : List ℕ). x ∷ t) (take-before xs n s)
+-- what is kept from one byte of the input to the next: the volume, the line's buffer and how much of it is in use, the output's buffer
+-- and how much of it is in use
+pub record Buffers : Type 0 where
+  pub volume : Volume
+  pub buffer : List ℕ
+  pub fill : ℕ
+  pub out : List ℕ
+  pub printed : ℕ
 
-pub take-written : (l : List ℕ) (at : ℕ) (s : List ℕ) → at + length s ≤ length l → take (at + length s) (write l at s) ≡ take at l ++ s
-take-written l at s h =
-    let e : length (take at l ++ s) ≡ at + length s = length-append (take at l) s ∙ rw (length-take-le at l (omega arith)) in
-    rw (write-cut l at s h, ← append-assoc (take at l) s (drop (at + length s) l)) (take-at (take at l ++ s) (drop (at + length s) l) (at + length s) e)
+-- a line's end: it is answered behind what was printed
+unfoldable pub endLine : Buffers → Buffers
+endLine k =
+    let r : Reply = perform (k .volume) (request (take (k .fill) (k .buffer))) in
+    record {
+      volume = r .volume;
+      buffer = k .buffer;
+      fill = 0;
+      out = write (k .out) (k .printed) (text (r .answer));
+      printed = k .printed + length (text (r .answer));
+    }
 
-pub write-past : (l : List ℕ) (at : ℕ) (s : List ℕ) → length l ≤ at → write l at s ≡ l
-unfolding write
-write-past [] at s h = refl
-write-past (x ∷ xs) zero s h = absurd (not-suc-le-zero h)
-write-past (x ∷ xs) (suc n) s h = ap (λ (t : List ℕ). x ∷ t) (write-past xs n s (le-of-suc-le-suc h))
+-- any other byte is kept as long as the buffer has room
+unfoldable pub addByte : Buffers → ℕ → Buffers
+addByte k c =
+    record {
+      volume = k .volume;
+      buffer = write (k .buffer) (k .fill) (c ∷ []);
+      fill = cond (ltb (k .fill) (length (k .buffer))) (k .fill + 1) (k .fill);
+      out = k .out;
+      printed = k .printed;
+    }
+
+unfoldable pub nextByte : Buffers → ℕ → Buffers
+nextByte k c = cond (eqb c (code "\n")) (endLine k) (addByte k c)
+
+unfoldable pub feed : Buffers → List ℕ → Buffers
+feed k [] = k
+feed k (c ∷ cs) = feed (nextByte k c) cs
+
+-- the input's end: a line without its line feed is answered too
+unfoldable pub close : Buffers → Buffers
+close k = cond (eqb (k .fill) 0) k (endLine k)

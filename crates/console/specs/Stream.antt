@@ -1,5 +1,5 @@
--- Chunks do not matter, nor does the cut of long lines: what is printed for an input that comes in chunks, through a line's buffer of 64 bytes, is what the script's definitions print for it;
--- and the volume is the one that they leave.
+-- Chunks do not matter, nor does the cut of long lines: what is printed for an input that comes in chunks, through a line's buffer of 64
+-- bytes, is what the script's definitions print for it; and the volume is the one that they leave.
 use mathlib.Core.Path.{_≡_, refl, sym, ap, _∙_}
 use mathlib.Core.Logic.{_≢_}
 use mathlib.Core.Bool.{Bool, true, false, cond}
@@ -17,76 +17,77 @@ use Rattle.script.specs.Answers.{text}
 use Rattle.answers.specs.Written.{text-length}
 use Rattle.script.specs.Script.{Progress, perform, endLine, advance, feed, close, prints}
 use Rattle.script.specs.Cut.{cut}
-use Rattle.console.specs.Buffers.{take-before, take-written}
-use Rattle.console.specs.Kept.{Kept, endKept, addKept, keptByte, keptFeed, keptClose}
+use Rattle.console.specs.BufferLaws.{take-before, take-written}
+use Rattle.console.specs.Buffers.{Buffers}
+use Rattle.console.specs.Buffers as buffers
 
 -- ---- the chain
 
 -- a chunk of the input, and the buffer for the answers to its lines
-pub record Turn : Type 0 where
-  pub chunk : List ℕ
+pub record Chunk : Type 0 where
+  pub bytes : List ℕ
   pub room : List ℕ
 
 -- an answer for each byte has room
-abbrev pub Roomy : List Turn → Type 0
+abbrev pub Roomy : List Chunk → Type 0
 Roomy [] = Unit {0}
-Roomy (t ∷ ts) = (length (t .chunk) * 32 ≤ length (t .room)) × Roomy ts
+Roomy (t ∷ ts) = (length (t .bytes) * 32 ≤ length (t .room)) × Roomy ts
 
 -- all chunks in one
-unfoldable pub input : List Turn → List ℕ
+unfoldable pub input : List Chunk → List ℕ
 input [] = []
-input (t ∷ ts) = t .chunk ++ input ts
+input (t ∷ ts) = t .bytes ++ input ts
 
 -- before the first byte
-abbrev pub start : Volume → List ℕ → Kept
+abbrev pub start : Volume → List ℕ → Buffers
 start v buffer = record { volume = v; buffer = buffer; fill = 0; out = []; printed = 0 }
 
 -- the same with nothing printed, into another buffer
-abbrev pub into : Kept → List ℕ → Kept
+abbrev pub into : Buffers → List ℕ → Buffers
 into k out = record { volume = k .volume; buffer = k .buffer; fill = k .fill; out = out; printed = 0 }
 
 -- the bytes that were printed
-abbrev pub output : Kept → List ℕ
+abbrev pub output : Buffers → List ℕ
 output k = take (k .printed) (k .out)
 
 -- the outputs of the chunks one after the other, and at last that of the input's end
-unfoldable pub outputs : Kept → List Turn → List ℕ → List ℕ
-outputs k [] room = output (keptClose (into k room))
-outputs k (t ∷ ts) room = let n : Kept = keptFeed (into k (t .room)) (t .chunk) in output n ++ outputs n ts room
+unfoldable pub outputs : Buffers → List Chunk → List ℕ → List ℕ
+outputs k [] room = output (buffers.close (into k room))
+outputs k (t ∷ ts) room = let n : Buffers = buffers.feed (into k (t .room)) (t .bytes) in output n ++ outputs n ts room
 
 -- ---- a byte
 
 -- between two bytes the buffer holds the first 64 bytes of the line that is not ended
-record Holds (k : Kept) (p : Progress) : Type 0 where
+record Holds (k : Buffers) (p : Progress) : Type 0 where
   volume-is : k .volume ≡ p .volume
   buffer-length : length (k .buffer) ≡ 64
   line-is : take (k .fill) (k .buffer) ≡ take 64 (p .line)
   fill-is : k .fill ≡ min 64 (length (p .line))
 
 -- and the output's buffer what was printed after what was printed before
-abbrev Prints : List ℕ → Kept → Progress → Type 0
+abbrev Prints : List ℕ → Buffers → Progress → Type 0
 Prints before k p = p .printed ≡ before ++ output k
 
-same-done : (k : Kept) (p : Progress) → Holds k p → perform (k .volume) (request (take (k .fill) (k .buffer))) ≡ perform (p .volume) (request (p .line))
-same-done k p H = rw (H .volume-is, H .line-is, cut (p .line))
+same-reply : (k : Buffers) (p : Progress) → Holds k p → perform (k .volume) (request (take (k .fill) (k .buffer))) ≡ perform (p .volume) (request (p .line))
+same-reply k p H = rw (H .volume-is, H .line-is, cut (p .line))
 
-end-holds : (k : Kept) (p : Progress) → Holds k p → Holds (endKept k) (endLine p)
-unfolding endKept endLine
-end-holds k p H = record { volume-is = rw (same-done k p H); buffer-length = H .buffer-length; line-is = refl; fill-is = refl }
+end-holds : (k : Buffers) (p : Progress) → Holds k p → Holds (buffers.endLine k) (endLine p)
+unfolding buffers.endLine endLine
+end-holds k p H = record { volume-is = rw (same-reply k p H); buffer-length = H .buffer-length; line-is = refl; fill-is = refl }
 
-end-prints : (before : List ℕ) (k : Kept) (p : Progress) → Holds k p → k .printed + 32 ≤ length (k .out) → Prints before k p → Prints before (endKept k) (endLine p)
-unfolding endKept endLine
+end-prints : (before : List ℕ) (k : Buffers) (p : Progress) → Holds k p → k .printed + 32 ≤ length (k .out) → Prints before k p → Prints before (buffers.endLine k) (endLine p)
+unfolding buffers.endLine endLine
 end-prints before k p H h e =
     let t = text (perform (p .volume) (request (p .line)) .answer) in
-    rw (same-done k p H, take-written (k .out) (k .printed) t (omega (arith, text-length (perform (p .volume) (request (p .line)) .answer))), e)
+    rw (same-reply k p H, take-written (k .out) (k .printed) t (omega (arith, text-length (perform (p .volume) (request (p .line)) .answer))), e)
     (append-assoc before (output k) t)
 
 -- the line with one byte more, as the script's definitions have it
 abbrev longer : Progress → ℕ → Progress
 longer p c = record { line = p .line ++ (c ∷ []); volume = p .volume; printed = p .printed }
 
-add-holds : (k : Kept) (p : Progress) (c : ℕ) → Holds k p → Holds (addKept k c) (longer p c)
-unfolding addKept
+add-holds : (k : Buffers) (p : Progress) (c : ℕ) → Holds k p → Holds (buffers.addByte k c) (longer p c)
+unfolding buffers.addByte
 add-holds k p c H =
     let n : length (p .line ++ (c ∷ [])) ≡ length (p .line) + 1 = length-append (p .line) (c ∷ []) in
     let w : length (write (k .buffer) (k .fill) (c ∷ [])) ≡ 64 = length-write (k .buffer) (k .fill) (c ∷ []) ∙ H .buffer-length in
@@ -94,11 +95,11 @@ add-holds k p c H =
     let f = H .fill-is in
     either (lt? (k .fill) (length (k .buffer)))
     (λ h.
-    let whole : take (k .fill) (k .buffer) ≡ p .line = H .line-is ∙ take-all 64 (p .line) (omega arith) in
+    let ok : take (k .fill) (k .buffer) ≡ p .line = H .line-is ∙ take-all 64 (p .line) (omega arith) in
     record {
       volume-is = H .volume-is;
       buffer-length = w;
-      line-is = rw (h .0, take-written (k .buffer) (k .fill) (c ∷ []) (omega arith), whole) (sym (take-all 64 (p .line ++ (c ∷ [])) (omega arith)));
+      line-is = rw (h .0, take-written (k .buffer) (k .fill) (c ∷ []) (omega arith), ok) (sym (take-all 64 (p .line ++ (c ∷ [])) (omega arith)));
       fill-is = rw (h .0) (omega arith);
     })
     (λ h.
@@ -109,17 +110,17 @@ add-holds k p c H =
       fill-is = rw (h .0) (omega arith);
     })
 
-byte-holds : (k : Kept) (p : Progress) (c : ℕ) → Holds k p → Holds (keptByte k c) (advance p c)
-unfolding keptByte advance
+byte-holds : (k : Buffers) (p : Progress) (c : ℕ) → Holds k p → Holds (buffers.nextByte k c) (advance p c)
+unfolding buffers.nextByte advance
 byte-holds k p c H = either (eq? c 10) (λ h. rw (h .0) (end-holds k p H)) (λ h. rw (h .0) (add-holds k p c H))
 
-byte-prints : (before : List ℕ) (k : Kept) (p : Progress) (c : ℕ) → Holds k p → k .printed + 32 ≤ length (k .out) → Prints before k p → Prints before (keptByte k c) (advance p c)
-unfolding keptByte advance addKept
+byte-prints : (before : List ℕ) (k : Buffers) (p : Progress) (c : ℕ) → Holds k p → k .printed + 32 ≤ length (k .out) → Prints before k p → Prints before (buffers.nextByte k c) (advance p c)
+unfolding buffers.nextByte advance buffers.addByte
 byte-prints before k p c H h e = either (eq? c 10) (λ x. rw (x .0) (end-prints before k p H h e)) (λ x. rw (x .0) e)
 
 -- a byte takes the room of one answer at most
-byte-room : (k : Kept) (c n : ℕ) → k .printed + suc n * 32 ≤ length (k .out) → keptByte k c .printed + n * 32 ≤ length (keptByte k c .out)
-unfolding keptByte endKept addKept
+byte-room : (k : Buffers) (c n : ℕ) → k .printed + suc n * 32 ≤ length (k .out) → buffers.nextByte k c .printed + n * 32 ≤ length (buffers.nextByte k c .out)
+unfolding buffers.nextByte buffers.endLine buffers.addByte
 byte-room k c n h =
     let a = perform (k .volume) (request (take (k .fill) (k .buffer))) .answer in
     either (eq? c 10)
@@ -128,16 +129,16 @@ byte-room k c n h =
 
 -- ---- chunks
 
-feed-holds : (cs : List ℕ) (k : Kept) (p : Progress) → Holds k p → Holds (keptFeed k cs) (feed p cs)
-unfolding keptFeed feed
+feed-holds : (cs : List ℕ) (k : Buffers) (p : Progress) → Holds k p → Holds (buffers.feed k cs) (feed p cs)
+unfolding buffers.feed feed
 feed-holds [] k p H = H
-feed-holds (c ∷ cs) k p H = feed-holds cs (keptByte k c) (advance p c) (byte-holds k p c H)
+feed-holds (c ∷ cs) k p H = feed-holds cs (buffers.nextByte k c) (advance p c) (byte-holds k p c H)
 
-feed-prints : (before cs : List ℕ) (k : Kept) (p : Progress) → Holds k p → k .printed + length cs * 32 ≤ length (k .out) → Prints before k p → Prints before (keptFeed k cs) (feed p cs)
-unfolding keptFeed feed
+feed-prints : (before cs : List ℕ) (k : Buffers) (p : Progress) → Holds k p → k .printed + length cs * 32 ≤ length (k .out) → Prints before k p → Prints before (buffers.feed k cs) (feed p cs)
+unfolding buffers.feed feed
 feed-prints before [] k p H h e = e
 feed-prints before (c ∷ cs) k p H h e =
-    feed-prints before cs (keptByte k c) (advance p c) (byte-holds k p c H) (byte-room k c (length cs) h) (byte-prints before k p c H (omega arith) e)
+    feed-prints before cs (buffers.nextByte k c) (advance p c) (byte-holds k p c H) (byte-room k c (length cs) h) (byte-prints before k p c H (omega arith) e)
 
 -- a chunk after another is one chunk
 feed-append : (p : Progress) (cs ds : List ℕ) → feed p (cs ++ ds) ≡ feed (feed p cs) ds
@@ -145,8 +146,8 @@ unfolding feed
 feed-append p [] ds = refl
 feed-append p (c ∷ cs) ds = feed-append (advance p c) cs ds
 
-close-prints : (before l : List ℕ) (k : Kept) (p : Progress) → l ≡ p .line → Holds k p → k .printed + 32 ≤ length (k .out) → Prints before k p → close p l .printed ≡ before ++ output (keptClose k)
-unfolding keptClose
+close-prints : (before l : List ℕ) (k : Buffers) (p : Progress) → l ≡ p .line → Holds k p → k .printed + 32 ≤ length (k .out) → Prints before k p → close p l .printed ≡ before ++ output (buffers.close k)
+unfolding buffers.close
 close-prints before [] k p q H h e =
     let z : k .fill ≡ 0 = omega (arith, ap length q, H .fill-is) in
     rw z e
@@ -154,27 +155,27 @@ close-prints before (c ∷ cs) k p q H h e =
     let z : k .fill ≢ 0 = λ w. omega (arith, ap length q, H .fill-is, w) in
     rw (ne-eqb (k .fill) 0 z) (end-prints before k p H h e)
 
-into-holds : (k : Kept) (p : Progress) (out : List ℕ) → Holds k p → Holds (into k out) p
+into-holds : (k : Buffers) (p : Progress) (out : List ℕ) → Holds k p → Holds (into k out) p
 into-holds k p out H = record { volume-is = H .volume-is; buffer-length = H .buffer-length; line-is = H .line-is; fill-is = H .fill-is }
 
-into-prints : (k : Kept) (p : Progress) (out : List ℕ) → Prints (p .printed) (into k out) p
+into-prints : (k : Buffers) (p : Progress) (out : List ℕ) → Prints (p .printed) (into k out) p
 into-prints k p out = sym (append-nil (p .printed))
 
 -- what the chunks print goes behind what was printed before
-outputs-print : (ts : List Turn) (room : List ℕ) (k : Kept) (p : Progress) → Holds k p → Roomy ts → 32 ≤ length room
+outputs-print : (ts : List Chunk) (room : List ℕ) (k : Buffers) (p : Progress) → Holds k p → Roomy ts → 32 ≤ length room
     → let q : Progress = feed p (input ts) in close q (q .line) .printed ≡ p .printed ++ outputs k ts room
 unfolding outputs input feed
 outputs-print [] room k p H r h = close-prints (p .printed) (p .line) (into k room) p refl (into-holds k p room H) (omega arith) (into-prints k p room)
 outputs-print (t ∷ ts) room k p H r h =
-    let m : Kept = into k (t .room) in
-    let n : Kept = keptFeed m (t .chunk) in
-    let q : Progress = feed p (t .chunk) in
+    let m : Buffers = into k (t .room) in
+    let n : Buffers = buffers.feed m (t .bytes) in
+    let q : Progress = feed p (t .bytes) in
     let I : Holds m p = into-holds k p (t .room) H in
-    let e : q .printed ≡ p .printed ++ output n = feed-prints (p .printed) (t .chunk) m p I (omega (arith, r .0)) (into-prints k p (t .room)) in
-    rw (feed-append p (t .chunk) (input ts)) (outputs-print ts room n q (feed-holds (t .chunk) m p I) (r .1) h ∙ rw e (append-assoc (p .printed) (output n) (outputs n ts room)))
+    let e : q .printed ≡ p .printed ++ output n = feed-prints (p .printed) (t .bytes) m p I (omega (arith, r .0)) (into-prints k p (t .room)) in
+    rw (feed-append p (t .bytes) (input ts)) (outputs-print ts room n q (feed-holds (t .bytes) m p I) (r .1) h ∙ rw e (append-assoc (p .printed) (output n) (outputs n ts room)))
 
 -- for every volume, every buffer of 64 bytes for the line, all chunks and all buffers for answers that are long enough
-pub stream-prints : (v : Volume) (buffer : List ℕ) (ts : List Turn) (room : List ℕ) → length buffer ≡ 64 → Roomy ts → 32 ≤ length room
+pub stream-prints : (v : Volume) (buffer : List ℕ) (ts : List Chunk) (room : List ℕ) → length buffer ≡ 64 → Roomy ts → 32 ≤ length room
     → outputs (start v buffer) ts room ≡ prints v (input ts)
 unfolding prints
 stream-prints v buffer ts room h r l =
@@ -187,8 +188,8 @@ stream-prints v buffer ts room h r l =
 abbrev pub leaves : Bool → Volume → List ℕ → Volume
 leaves ended v bytes = let p : Progress = feed (record { line = []; volume = v; printed = [] }) bytes in cond ended (close p (p .line)) p .volume
 
-close-leaves : (l : List ℕ) (k : Kept) (p : Progress) → l ≡ p .line → Holds k p → keptClose k .volume ≡ close p l .volume
-unfolding keptClose
+close-leaves : (l : List ℕ) (k : Buffers) (p : Progress) → l ≡ p .line → Holds k p → buffers.close k .volume ≡ close p l .volume
+unfolding buffers.close
 close-leaves [] k p q H =
     let z : k .fill ≡ 0 = omega (arith, ap length q, H .fill-is) in
     rw z (H .volume-is)
@@ -197,13 +198,13 @@ close-leaves (c ∷ cs) k p q H =
     rw (ne-eqb (k .fill) 0 z) (end-holds k p H .volume-is)
 
 pub stream-leaves : (v : Volume) (buffer bytes : List ℕ) (ended : Bool) → length buffer ≡ 64
-    → let k : Kept = keptFeed (start v buffer) bytes in cond ended (keptClose k) k .volume ≡ leaves ended v bytes
+    → let k : Buffers = buffers.feed (start v buffer) bytes in cond ended (buffers.close k) k .volume ≡ leaves ended v bytes
 stream-leaves v buffer bytes ended h = go ended (feed-holds bytes (start v buffer) p₀ (record { volume-is = refl; buffer-length = h; line-is = refl; fill-is = refl }))
   where
     p₀ : Progress
     p₀ = record { line = []; volume = v; printed = [] }
 
-    go : (b : Bool) → Holds (keptFeed (start v buffer) bytes) (feed p₀ bytes)
-        → cond b (keptClose (keptFeed (start v buffer) bytes)) (keptFeed (start v buffer) bytes) .volume ≡ cond b (close (feed p₀ bytes) (feed p₀ bytes .line)) (feed p₀ bytes) .volume
-    go true H = close-leaves (feed p₀ bytes .line) (keptFeed (start v buffer) bytes) (feed p₀ bytes) refl H
+    go : (b : Bool) → Holds (buffers.feed (start v buffer) bytes) (feed p₀ bytes)
+        → cond b (buffers.close (buffers.feed (start v buffer) bytes)) (buffers.feed (start v buffer) bytes) .volume ≡ cond b (close (feed p₀ bytes) (feed p₀ bytes .line)) (feed p₀ bytes) .volume
+    go true H = close-leaves (feed p₀ bytes .line) (buffers.feed (start v buffer) bytes) (feed p₀ bytes) refl H
     go false H = H .volume-is

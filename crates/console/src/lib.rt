@@ -9,10 +9,10 @@ ghost use Prim.Native.Nat.{ℕ, _*_, _-_, _≤_, _<_};
 ghost use lib.ListN.{length, take};
 ghost use Rattle.memory.specs.Lent.{before, after};
 ghost use Rattle.laws.specs.LentFlash.{flashAfter};
-ghost use Rattle.console.specs.Kept.{keptFeed, keptClose};
-ghost use Rattle.console.specs.Contract.{keptBefore};
+ghost use Rattle.console.specs.Buffers.{feed, close};
+ghost use Rattle.console.specs.Contract.{buffersBefore, buffersAfter};
 ghost use Rattle.console.specs.Stream.{leaves};
-ghost use Rattle.console.specs.Turns.{turnedAfter, fed, Took, noState, blank, first, turns, ends, Short, Leaves};
+ghost use Rattle.console.specs.Turns.{afterTurn, TurnFeeds, noState, blank, first, turns, ends, Short, Leaves};
 use geometry::Sizes;
 use libc::STDERR_FILENO;
 use libc::STDIN_FILENO;
@@ -24,7 +24,7 @@ use stream::Progress;
 struct Turn {
     progress: Progress,
     more: bool,
-    whole: bool,
+    ok: bool,
 }
 
 // "Before any format the state is all zero."
@@ -61,10 +61,10 @@ fn turns_left(turns: u64, more: bool) -> u64
     0
 }
 
-// Between two chunks: the state and the bytes of an unfinished line; nothing is left to be written.
-fn between(state: State, fill: usize, more: bool) -> Turn
+// After a turn in which nothing failed: the state and the bytes of an unfinished line; nothing is left to be written.
+fn succeed(state: State, fill: usize, more: bool) -> Turn
     ensures { λ r. ⌜ (r .more ≡ more) × (r .progress .state ≡ state) × (r .progress .fill ≡ fill) × (r .progress .printed ≡ 0)
-        × (r .whole ≡ true) ⌝ }
+        × (r .ok ≡ true) ⌝ }
 {
     let progress = Progress {
         state,
@@ -74,14 +74,14 @@ fn between(state: State, fill: usize, more: bool) -> Turn
     Turn {
         progress,
         more,
-        whole: true,
+        ok: true,
     }
 }
 
 // After a byte could not be read or written: the reason is told, and an unfinished line is not answered.
 fn fail(state: State, reason: &[u8]) -> Turn
     ensures { λ r. ⌜ (r .more ≡ false) × (r .progress .state ≡ state) × (r .progress .fill ≡ 0) × (r .progress .printed ≡ 0)
-        × (r .whole ≡ false) ⌝ }
+        × (r .ok ≡ false) ⌝ }
 {
     io::write_all(STDERR_FILENO, reason);
     let progress = Progress {
@@ -92,22 +92,22 @@ fn fail(state: State, reason: &[u8]) -> Turn
     Turn {
         progress,
         more: false,
-        whole: false,
+        ok: false,
     }
 }
 
 // Answers are written: those of a chunk, or the last.
-fn tell(q: Progress, out: &[u8]) -> Turn
+fn write_answers(q: Progress, out: &[u8]) -> Turn
     requires { ⌜ q .printed ≤ length (now out) ⌝ }
     ensures { λ r. ⌜ (r .progress .state ≡ q .state) × (r .progress .fill ≡ cond (r .more) (q .fill) 0) × (r .progress .printed ≡ 0)
-        × (r .whole ≡ r .more) ⌝ }
+        × (r .ok ≡ r .more) ⌝ }
 {
     let printed = q.printed;
     let state = q.state;
     if !io::write_all(STDOUT_FILENO, &out[0..printed]) {
         return fail(state, b"replay: cannot write the answers\n");
     }
-    between(state, q.fill, true)
+    succeed(state, q.fill, true)
 }
 
 // The lines that end in the first n bytes of a chunk are answered, and the answers are written.
@@ -124,12 +124,12 @@ fn answer_chunk(
     requires { ⌜ (p .fill ≤ length (now line)) × (p .printed ≡ 0) × (n ≤ length (now chunk))
         × (length (now chunk) * 32 ≤ length (now out)) ⌝ }
     ensures { λ r. ⌜ (r .progress .fill ≤ length (before line)) × (r .progress .printed ≡ 0) ⌝ }
-    ensures { λ r. ⌜ turnedAfter r line main spare ram out
-        ≡ fed (r .more) (keptFeed (keptBefore p line main spare ram out) (take n (before chunk))) ⌝ }
-    ensures { λ r. ⌜ r .whole ≡ r .more ⌝ }
+    ensures { λ r. ⌜ buffersAfter (r .progress) line main spare ram out
+        ≡ afterTurn (r .more) (feed (buffersBefore p line main spare ram out) (take n (before chunk))) ⌝ }
+    ensures { λ r. ⌜ r .ok ≡ r .more ⌝ }
 {
     let q = stream::feed(p, &chunk[0..n], line, main, spare, ram, out);
-    tell(q, out)
+    write_answers(q, out)
 }
 
 // A chunk is read and answered.
@@ -144,7 +144,8 @@ fn take_turn(
 ) -> Turn
     requires { ⌜ (p .fill ≤ length (now line)) × (p .printed ≡ 0) × (length (now chunk) * 32 ≤ length (now out)) ⌝ }
     ensures { λ r. ⌜ (r .progress .fill ≤ length (before line)) × (r .progress .printed ≡ 0) ⌝ }
-    ensures { λ r. ⌜ Took r (keptBefore p line main spare ram out) (after chunk) (turnedAfter r line main spare ram out) ⌝ }
+    ensures { λ r. ⌜ TurnFeeds r (buffersBefore p line main spare ram out) (after chunk)
+        (buffersAfter (r .progress) line main spare ram out) ⌝ }
 {
     let got = libc::read(STDIN_FILENO, chunk);
     let state = p.state;
@@ -153,7 +154,7 @@ fn take_turn(
     }
     let n = io::count(got, chunk);
     if n == 0 {
-        return between(state, p.fill, false);
+        return succeed(state, p.fill, false);
     }
     answer_chunk(p, chunk, n, line, main, spare, ram, out)
 }
@@ -168,12 +169,12 @@ fn finish(
     out: &mut [u8],
 )
     requires { ⌜ (p .fill ≤ length (now line)) × (p .printed ≡ 0) × (32 ≤ length (now out)) ⌝ }
-    ensures { λ _. ⌜ (flashAfter main spare ≡ keptClose (keptBefore p line main spare ram out) .volume .flash)
-        × (after ram ≡ keptClose (keptBefore p line main spare ram out) .volume .ram)
-        × (after out ≡ keptClose (keptBefore p line main spare ram out) .out) ⌝ }
+    ensures { λ _. ⌜ (flashAfter main spare ≡ close (buffersBefore p line main spare ram out) .volume .flash)
+        × (after ram ≡ close (buffersBefore p line main spare ram out) .volume .ram)
+        × (after out ≡ close (buffersBefore p line main spare ram out) .out) ⌝ }
 {
     let q = stream::close(p, line, main, spare, ram, out);
-    tell(q, out);
+    write_answers(q, out);
 }
 
 // The whole input; the answer is whether its end was reached. A proved loop ends, so it counts its turns down from a number that no run
@@ -196,13 +197,13 @@ pub fn run(
 {
     let mut p = begin();
     let mut turns = u64::MAX;
-    let mut whole = true;
+    let mut ok = true;
     while turns > 0 {
         let t = take_turn(p, chunk, line, main, spare, ram, out);
         p = t.progress;
-        whole = t.whole;
+        ok = t.ok;
         turns = turns_left(turns, t.more);
     }
     finish(p, line, main, spare, ram, out);
-    whole
+    ok
 }

@@ -8,8 +8,8 @@ ghost use lib.Dec.{ltb};
 ghost use lib.ListN.{length};
 ghost use Rattle.memory.specs.Lists.{write};
 ghost use Rattle.memory.specs.Lent.{before, after};
-ghost use Rattle.console.specs.Kept.{endKept, keptByte, keptFeed, keptClose};
-ghost use Rattle.console.specs.Contract.{kept, keptBefore, keptAfter};
+ghost use Rattle.console.specs.Buffers.{endLine, nextByte, feed, close};
+ghost use Rattle.console.specs.Contract.{buffersBefore, buffersAfter};
 use state::State;
 
 // What is kept from one chunk to the next beside the buffers.
@@ -42,7 +42,7 @@ fn end_line(
     out: &mut [u8],
 ) -> Progress
     requires { ⌜ (p .fill ≤ length (now line)) × (p .printed + 32 ≤ length (now out)) ⌝ }
-    ensures { λ r. ⌜ kept r (before line) (after main) (after spare) (after ram) (after out) ≡ endKept (keptBefore p line main spare ram out) ⌝ }
+    ensures { λ r. ⌜ buffersAfter r line main spare ram out ≡ endLine (buffersBefore p line main spare ram out) ⌝ }
     ensures { λ r. ⌜ (r .fill ≡ 0) × (r .printed ≤ p .printed + 32) ⌝ }
 {
     let state = p.state;
@@ -69,7 +69,7 @@ fn next_byte(
     out: &mut [u8],
 ) -> Progress
     requires { ⌜ (p .fill ≤ length (now line)) × (p .printed + 32 ≤ length (now out)) ⌝ }
-    ensures { λ r. ⌜ keptAfter r line main spare ram out ≡ keptByte (keptBefore p line main spare ram out) c ⌝ }
+    ensures { λ r. ⌜ buffersAfter r line main spare ram out ≡ nextByte (buffersBefore p line main spare ram out) c ⌝ }
     ensures { λ r. ⌜ (r .fill ≤ length (before line)) × (r .printed ≤ p .printed + 32) ⌝ }
 {
     if c == b'\n' {
@@ -95,7 +95,7 @@ pub fn feed(
     out: &mut [u8],
 ) -> Progress
     requires { ⌜ (p .fill ≤ length (now line)) × (p .printed + length (now chunk) * 32 ≤ length (now out)) ⌝ }
-    ensures { λ r. ⌜ keptAfter r line main spare ram out ≡ keptFeed (keptBefore p line main spare ram out) (before chunk) ⌝ }
+    ensures { λ r. ⌜ buffersAfter r line main spare ram out ≡ feed (buffersBefore p line main spare ram out) (before chunk) ⌝ }
     ensures { λ r. ⌜ (r .fill ≤ length (before line)) × (r .printed ≤ length (before out)) ⌝ }
 {
     let mut q = p;
@@ -117,7 +117,7 @@ pub fn close(
     out: &mut [u8],
 ) -> Progress
     requires { ⌜ (p .fill ≤ length (now line)) × (p .printed + 32 ≤ length (now out)) ⌝ }
-    ensures { λ r. ⌜ kept r (before line) (after main) (after spare) (after ram) (after out) ≡ keptClose (keptBefore p line main spare ram out) ⌝ }
+    ensures { λ r. ⌜ buffersAfter r line main spare ram out ≡ close (buffersBefore p line main spare ram out) ⌝ }
     ensures { λ r. ⌜ r .printed ≤ length (before out) ⌝ }
 {
     if p.fill == 0 {

@@ -10,18 +10,19 @@ use Rattle.state.specs.Contract.{volume}
 use Rattle.state.specs.declared.Change.{Change}
 use Rattle.script.specs.Lines.{request}
 use Rattle.script.specs.Answers.{text}
-use Rattle.answers.specs.Answered.{answered}
-use Rattle.script.specs.Script.{Done, perform}
+use Rattle.answers.specs.Values.{answerOf}
+use Rattle.script.specs.Script.{perform}
+use Rattle.script.specs.Script as script
 use Rattle.answers.specs.declared.Answer.{Answer}
 use Rattle.answers.specs.declared.Answer.the-variants.{Ok, No}
-use Rattle.lines.specs.declared.Performed.{Performed}
-use Rattle.lines.specs.declared.Step.{Step}
+use Rattle.lines.specs.declared.Reply.{Reply}
+use Rattle.lines.specs.declared.LineReply.{LineReply}
 
 -- ---- a request
 
--- the code's answer and what it leaves
-abbrev pub performed : Performed → List ℕ → List ℕ → List ℕ → Done
-performed r main spare ram = record { answer = answered (r .answer); volume = volume (r .state) main spare ram }
+-- the code's reply with the bytes that it leaves
+abbrev pub replyOf : Reply → List ℕ → List ℕ → List ℕ → script.Reply
+replyOf r main spare ram = record { answer = answerOf (r .answer); volume = volume (r .state) main spare ram }
 
 -- a change's answer: n and d, or the refusal's number
 abbrev pub changeAnswer : Change → Answer
@@ -30,16 +31,16 @@ changeAnswer c = cond (eqb (c .refusal) 0) (Ok (c .state .records) (c .state .de
 -- ---- a line
 
 -- what a line leaves: the length of its answer, the volume, and the bytes of `out`
-pub record LineLeft : Type 0 where
+pub record AfterLine : Type 0 where
   pub length : ℕ
   pub volume : Volume
   pub out : List ℕ
 
-abbrev pub stepped : Step → List ℕ → List ℕ → List ℕ → List ℕ → LineLeft
-stepped r main spare ram out = record { length = r .length; volume = volume (r .state) main spare ram; out = out }
+abbrev pub afterLine : LineReply → List ℕ → List ℕ → List ℕ → List ℕ → AfterLine
+afterLine r main spare ram out = record { length = r .length; volume = volume (r .state) main spare ram; out = out }
 
 -- the line's request performed, and its answer's text at the start of `out`
-unfoldable pub answeredLine : Volume → List ℕ → List ℕ → LineLeft
-answeredLine v line out =
-    let r : Done = perform v (request line) in
+unfoldable pub answerLine : Volume → List ℕ → List ℕ → AfterLine
+answerLine v line out =
+    let r : script.Reply = perform v (request line) in
     record { length = length (text (r .answer)); volume = r .volume; out = write out 0 (text (r .answer)) }

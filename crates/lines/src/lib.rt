@@ -8,10 +8,10 @@ ghost use Rattle.layout.specs.Items.{recordOf};
 ghost use Rattle.layout.specs.Calls.{lookup};
 ghost use Rattle.state.specs.Contract.{recordIs, volume, given};
 ghost use Rattle.script.specs.Lines.{call};
-ghost use Rattle.script.specs.Asked.{asked};
-ghost use Rattle.answers.specs.Answered.{answered};
+ghost use Rattle.script.specs.Values.{requestOf};
+ghost use Rattle.answers.specs.Values.{answerOf};
 ghost use Rattle.script.specs.Script.{perform};
-ghost use Rattle.lines.specs.Contract.{performed, changeAnswer, stepped, answeredLine};
+ghost use Rattle.lines.specs.Contract.{replyOf, changeAnswer, afterLine, answerLine};
 use answers::Answer;
 use geometry::Sizes;
 use script::Request;
@@ -22,23 +22,23 @@ use state::State;
 // ---- requests
 
 // The state after a request, and its answer.
-pub struct Performed {
+pub struct Reply {
     pub state: State,
     pub answer: Answer,
 }
 
 // A change is answered by n and d, or by the number of its refusal.
-fn after_change(c: Change) -> Performed
+fn after_change(c: Change) -> Reply
     ensures { λ r. ⌜ r ≡ record { state = c .state; answer = changeAnswer c } ⌝ }
 {
     let s = c.state;
     if c.refusal == 0 {
-        return Performed {
+        return Reply {
             state: s,
             answer: Answer::Ok(s.records, s.deletions),
         };
     }
-    Performed {
+    Reply {
         state: s,
         answer: Answer::No(c.refusal),
     }
@@ -46,7 +46,7 @@ fn after_change(c: Change) -> Performed
 
 // The answer to a lookup; a hit's moves are its record's second word.
 fn lookup<'a>(s: State, key: u32, main: &'a [u8], spare: &[u8], ram: &'a [u8]) -> Answer
-    ensures { λ r. ⌜ answered r ≡ perform (given s main spare ram) (call (lookup key)) .answer ⌝ }
+    ensures { λ r. ⌜ answerOf r ≡ perform (given s main spare ram) (call (lookup key)) .answer ⌝ }
 {
     let mut refusal: u32 = 0;
     let mut found: u32 = 0;
@@ -83,8 +83,8 @@ fn level(key: u32, moves: u32) -> Record
 }
 
 // A request on a volume.
-pub fn perform(s: State, q: Request, main: &mut [u8], spare: &mut [u8], ram: &mut [u8]) -> Performed
-    ensures { λ r. ⌜ performed r (after main) (after spare) (after ram) ≡ perform (given s main spare ram) (asked q) ⌝ }
+pub fn perform(s: State, q: Request, main: &mut [u8], spare: &mut [u8], ram: &mut [u8]) -> Reply
+    ensures { λ r. ⌜ replyOf r (after main) (after spare) (after ram) ≡ perform (given s main spare ram) (requestOf q) ⌝ }
 {
     match q {
         Request::Format(sector_size, ra_blocks, da_blocks) => {
@@ -112,10 +112,10 @@ pub fn perform(s: State, q: Request, main: &mut [u8], spare: &mut [u8], ram: &mu
         }
         Request::Lookup(key) => {
             let answer = lookup(s, key, main, spare, ram);
-            return Performed { state: s, answer };
+            return Reply { state: s, answer };
         }
         Request::Bad => {
-            return Performed {
+            return Reply {
                 state: s,
                 answer: Answer::Bad,
             };
@@ -126,7 +126,7 @@ pub fn perform(s: State, q: Request, main: &mut [u8], spare: &mut [u8], ram: &mu
 // ---- lines
 
 // The state after a line, and the length of its answer.
-pub struct Step {
+pub struct LineReply {
     pub state: State,
     pub length: usize,
 }
@@ -139,17 +139,17 @@ pub fn answer_line(
     spare: &mut [u8],
     ram: &mut [u8],
     out: &mut [u8],
-) -> Step
+) -> LineReply
     requires { ⌜ 32 ≤ length (now out) ⌝ }
-    ensures { λ r. ⌜ stepped r (after main) (after spare) (after ram) (after out)
-        ≡ answeredLine (given s main spare ram) (before line) (before out) ⌝ }
+    ensures { λ r. ⌜ afterLine r (after main) (after spare) (after ram) (after out)
+        ≡ answerLine (given s main spare ram) (before line) (before out) ⌝ }
 {
     let q = script::parse_line(line);
     let p = perform(s, q, main, spare, ram);
     let next = p.state;
     let answer = p.answer;
     let length = answers::put_answer(out, answer);
-    Step {
+    LineReply {
         state: next,
         length,
     }
@@ -173,7 +173,7 @@ pub fn answer_on(
 ) -> usize
     requires { ⌜ 32 ≤ length (now out) ⌝ }
     ensures { λ r. ⌜ record { length = r; volume = volume (now (v .exit) .state) (after main) (after spare) (after ram); out = after out }
-        ≡ answeredLine (given (now (v .entry) .state) main spare ram) (before line) (before out) ⌝ }
+        ≡ answerLine (given (now (v .entry) .state) main spare ram) (before line) (before out) ⌝ }
 {
     let c = answer_line(v.state, line, main, spare, ram, out);
     v.state = c.state;
@@ -188,14 +188,14 @@ pub fn answer_next(
     spare: &mut [u8],
     ram: &mut [u8],
     out: &mut [u8],
-) -> Step
+) -> LineReply
     requires { ⌜ 32 ≤ length (now out) ⌝ }
-    ensures { λ r. ⌜ stepped r (after main) (after spare) (after ram) (after out)
-        ≡ answeredLine (given s main spare ram) (before line) (before out) ⌝ }
+    ensures { λ r. ⌜ afterLine r (after main) (after spare) (after ram) (after out)
+        ≡ answerLine (given s main spare ram) (before line) (before out) ⌝ }
 {
     let mut v = Volume { state: s };
     let length = answer_on(&mut v, line, main, spare, ram, out);
-    Step {
+    LineReply {
         state: v.state,
         length: length,
     }

@@ -7,7 +7,7 @@ use native.Mathlib.Omega.{arith}
 use lib.ListN.{length, take, length-take}
 use lib.Seq.{take-all}
 use Rattle.memory.specs.Cases.{either, le?, eq?}
-use Rattle.script.specs.Lines.{bad, number, lengthen, fields, two, three, requestOf, request}
+use Rattle.script.specs.Lines.{bad, number, lengthen, fields, twoNumbers, threeNumbers, wordsRequest, request}
 use Rattle.script.specs.ReadNumber.{number-long}
 
 -- ---- the words are as long as the line
@@ -33,38 +33,38 @@ total-fields (c ∷ cs) =
 
 -- ---- one of them is too long
 
-two-none : (c : ℕ) (x : Option ℕ) → two c x none ≡ bad
+two-none : (c : ℕ) (x : Option ℕ) → twoNumbers c x none ≡ bad
 two-none c none = refl
 two-none c (some x) = refl
 
-three-none-2 : (c : ℕ) (x z : Option ℕ) → three c x none z ≡ bad
+three-none-2 : (c : ℕ) (x z : Option ℕ) → threeNumbers c x none z ≡ bad
 three-none-2 c none z = refl
 three-none-2 c (some x) z = refl
 
-three-none-3 : (c : ℕ) (x y : Option ℕ) → three c x y none ≡ bad
+three-none-3 : (c : ℕ) (x y : Option ℕ) → threeNumbers c x y none ≡ bad
 three-none-3 c none y = refl
 three-none-3 c (some x) none = refl
 three-none-3 c (some x) (some y) = refl
 
-two-long : (c : ℕ) (x y : List ℕ) → 20 < length x + length y → two c (number x) (number y) ≡ bad
+two-long : (c : ℕ) (x y : List ℕ) → 20 < length x + length y → twoNumbers c (number x) (number y) ≡ bad
 two-long c x y h =
     either (le? (length x) 10)
     (λ a. rw (number-long y (omega arith)) (two-none c (number x)))
     (λ a. rw (number-long x (a .1)))
 
-three-long-after : (c : ℕ) (x y z : List ℕ) → 20 < length y + length z → three c (number x) (number y) (number z) ≡ bad
+three-long-after : (c : ℕ) (x y z : List ℕ) → 20 < length y + length z → threeNumbers c (number x) (number y) (number z) ≡ bad
 three-long-after c x y z h =
     either (le? (length y) 10)
     (λ a. rw (number-long z (omega arith)) (three-none-3 c (number x) (number y)))
     (λ a. rw (number-long y (a .1)) (three-none-2 c (number x) (number z)))
 
-three-long : (c : ℕ) (x y z : List ℕ) → 30 < length x + length y + length z → three c (number x) (number y) (number z) ≡ bad
+three-long : (c : ℕ) (x y z : List ℕ) → 30 < length x + length y + length z → threeNumbers c (number x) (number y) (number z) ≡ bad
 three-long c x y z h =
     either (le? (length x) 10)
     (λ a. three-long-after c x y z (omega arith))
     (λ a. rw (number-long x (a .1)))
 
-long-words : (ws : List (List ℕ)) → 35 < total ws → requestOf ws ≡ bad
+long-words : (ws : List (List ℕ)) → 35 < total ws → wordsRequest ws ≡ bad
 unfolding total
 long-words [] h = refl
 long-words ([] ∷ ws) h = refl

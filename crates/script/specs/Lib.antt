@@ -2,7 +2,7 @@ pub mod Text
 pub mod Lines
 pub mod Answers
 pub mod Script
-pub mod Asked
+pub mod Values
 pub mod FirstWord
 pub mod ReadNumber
 pub mod Cut

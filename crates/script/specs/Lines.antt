@@ -51,38 +51,38 @@ fields (c ∷ cs) = cond (eqb c (code " ")) ([] ∷ fields cs) (lengthen c (fiel
 -- ---- requests
 
 -- `d key` and `l key`
-abbrev pub one : ℕ → Option ℕ → Request
-one c none = bad
-one c (some key) = cond (eqb c (code "d")) (call (delete key)) (cond (eqb c (code "l")) (call (lookup key)) bad)
+abbrev pub oneNumber : ℕ → Option ℕ → Request
+oneNumber c none = bad
+oneNumber c (some key) = cond (eqb c (code "d")) (call (delete key)) (cond (eqb c (code "l")) (call (lookup key)) bad)
 
 -- `i key moves` and `u key moves`; "goal and free word are 0"
-abbrev pub two : ℕ → Option ℕ → Option ℕ → Request
-two c none moves = bad
-two c (some key) none = bad
-two c (some key) (some moves) =
+abbrev pub twoNumbers : ℕ → Option ℕ → Option ℕ → Request
+twoNumbers c none moves = bad
+twoNumbers c (some key) none = bad
+twoNumbers c (some key) (some moves) =
     cond (eqb c (code "i")) (call (insert (recordOf key moves 0 0))) (cond (eqb c (code "u")) (call (update (recordOf key moves 0 0))) bad)
 
 -- `f S R D`
-abbrev pub three : ℕ → Option ℕ → Option ℕ → Option ℕ → Request
-three c none R D = bad
-three c (some S) none D = bad
-three c (some S) (some R) none = bad
-three c (some S) (some R) (some D) = cond (eqb c (code "f")) (format S R D) bad
+abbrev pub threeNumbers : ℕ → Option ℕ → Option ℕ → Option ℕ → Request
+threeNumbers c none R D = bad
+threeNumbers c (some S) none D = bad
+threeNumbers c (some S) (some R) none = bad
+threeNumbers c (some S) (some R) (some D) = cond (eqb c (code "f")) (format S R D) bad
 
 -- the request with the letter c and these words after it
-abbrev pub lettered : ℕ → List (List ℕ) → Request
-lettered c [] = bad
-lettered c (x ∷ []) = one c (number x)
-lettered c (x ∷ y ∷ []) = two c (number x) (number y)
-lettered c (x ∷ y ∷ z ∷ []) = three c (number x) (number y) (number z)
-lettered c (x ∷ y ∷ z ∷ w ∷ ws) = bad
+abbrev pub letterRequest : ℕ → List (List ℕ) → Request
+letterRequest c [] = bad
+letterRequest c (x ∷ []) = oneNumber c (number x)
+letterRequest c (x ∷ y ∷ []) = twoNumbers c (number x) (number y)
+letterRequest c (x ∷ y ∷ z ∷ []) = threeNumbers c (number x) (number y) (number z)
+letterRequest c (x ∷ y ∷ z ∷ w ∷ ws) = bad
 
-abbrev pub requestOf : List (List ℕ) → Request
-requestOf [] = bad
-requestOf ([] ∷ ws) = bad
-requestOf ((c ∷ []) ∷ ws) = lettered c ws
-requestOf ((c ∷ d ∷ cs) ∷ ws) = bad
+abbrev pub wordsRequest : List (List ℕ) → Request
+wordsRequest [] = bad
+wordsRequest ([] ∷ ws) = bad
+wordsRequest ((c ∷ []) ∷ ws) = letterRequest c ws
+wordsRequest ((c ∷ d ∷ cs) ∷ ws) = bad
 
 -- what a line, without its line feed, asks for
 unfoldable pub request : List ℕ → Request
-request line = requestOf (fields line)
+request line = wordsRequest (fields line)

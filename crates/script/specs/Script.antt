@@ -13,24 +13,24 @@ use Rattle.script.specs.Answers.{Answer, text}
 use Rattle.script.specs.Answers as answers
 
 -- the answer that a call's result gives: n and d; the record's second word and the count; the count; the number
-abbrev pub said : calls.Result → calls.Outcome → Answer
-said r calls.accepted = answers.ok (r .volume .state .records) (r .volume .state .deletions)
-said r (calls.hit place bytes) = answers.hit (word bytes 4) (r .count)
-said r calls.miss = answers.miss (r .count)
-said r (calls.refused i) = answers.no i
+abbrev pub resultAnswer : calls.Result → calls.Outcome → Answer
+resultAnswer r calls.accepted = answers.ok (r .volume .state .records) (r .volume .state .deletions)
+resultAnswer r (calls.hit place bytes) = answers.hit (word bytes 4) (r .count)
+resultAnswer r calls.miss = answers.miss (r .count)
+resultAnswer r (calls.refused i) = answers.no i
 
 -- an answer and the volume after it
-pub record Done : Type 0 where
+pub record Reply : Type 0 where
   pub answer : Answer
   pub volume : calls.Volume
 
-abbrev pub done : calls.Result → Done
-done r = record { answer = said r (r .outcome); volume = r .volume }
+abbrev pub resultReply : calls.Result → Reply
+resultReply r = record { answer = resultAnswer r (r .outcome); volume = r .volume }
 
 -- a request on a volume; a bad line changes nothing
-unfoldable pub perform : calls.Volume → Request → Done
-perform v (format S R D) = done (calls.format v (sizesOf S R D))
-perform v (call c) = done (calls.call fnvFamily v c)
+unfoldable pub perform : calls.Volume → Request → Reply
+perform v (format S R D) = resultReply (calls.format v (sizesOf S R D))
+perform v (call c) = resultReply (calls.call fnvFamily v c)
 perform v bad = record { answer = answers.bad; volume = v }
 
 -- ---- the input, byte by byte
@@ -44,7 +44,7 @@ pub record Progress : Type 0 where
 -- a line's end: it is answered, and the volume is passed on to the next line
 unfoldable pub endLine : Progress → Progress
 endLine p =
-    let r : Done = perform (p .volume) (request (p .line)) in
+    let r : Reply = perform (p .volume) (request (p .line)) in
     record { line = []; volume = r .volume; printed = p .printed ++ text (r .answer) }
 
 -- one byte more: a line feed ends the line, any other byte lengthens it

@@ -3,9 +3,9 @@ ghost use mathlib.Core.Path.{_≡_};
 ghost use Prim.Native.Nat.{_+_, _-_, _≤_, _<_};
 ghost use lib.ListN.{length, take, drop};
 ghost use Rattle.memory.specs.Lent.{before};
-ghost use Rattle.script.specs.Lines.{digitsFrom, small, number, fields, one, two, three, lettered, request};
+ghost use Rattle.script.specs.Lines.{digitsFrom, small, number, fields, oneNumber, twoNumbers, threeNumbers, letterRequest, request};
 ghost use Rattle.script.specs.FirstWord.{wordLength};
-ghost use Rattle.script.specs.Asked.{numberOf, asked};
+ghost use Rattle.script.specs.Values.{numberOf, requestOf};
 
 // What a line asks for.
 pub enum Request {
@@ -76,7 +76,7 @@ fn read_number(word: &[u8]) -> Number
 
 // `d key` and `l key`.
 fn one_number(letter: u8, x: Number) -> Request
-    ensures { λ r. ⌜ asked r ≡ one letter (numberOf x) ⌝ }
+    ensures { λ r. ⌜ requestOf r ≡ oneNumber letter (numberOf x) ⌝ }
 {
     let Number::Value(key) = x else {
         return Request::Bad;
@@ -92,7 +92,7 @@ fn one_number(letter: u8, x: Number) -> Request
 
 // `i key moves` and `u key moves`.
 fn two_numbers(letter: u8, x: Number, y: Number) -> Request
-    ensures { λ r. ⌜ asked r ≡ two letter (numberOf x) (numberOf y) ⌝ }
+    ensures { λ r. ⌜ requestOf r ≡ twoNumbers letter (numberOf x) (numberOf y) ⌝ }
 {
     let Number::Value(key) = x else {
         return Request::Bad;
@@ -111,7 +111,7 @@ fn two_numbers(letter: u8, x: Number, y: Number) -> Request
 
 // `f S R D`.
 fn three_numbers(letter: u8, x: Number, y: Number, z: Number) -> Request
-    ensures { λ r. ⌜ asked r ≡ three letter (numberOf x) (numberOf y) (numberOf z) ⌝ }
+    ensures { λ r. ⌜ requestOf r ≡ threeNumbers letter (numberOf x) (numberOf y) (numberOf z) ⌝ }
 {
     let Number::Value(s) = x else {
         return Request::Bad;
@@ -163,7 +163,7 @@ fn after_space(line: &[u8], n: usize) -> &[u8]
 
 // What a letter asks for with the words after it.
 fn parse_words(letter: u8, words: &[u8]) -> Request
-    ensures { λ r. ⌜ asked r ≡ lettered letter (fields (before words)) ⌝ }
+    ensures { λ r. ⌜ requestOf r ≡ letterRequest letter (fields (before words)) ⌝ }
 {
     let a = word_length(words);
     let x = number_in(words, a);
@@ -187,7 +187,7 @@ fn parse_words(letter: u8, words: &[u8]) -> Request
 
 // A letter and up to three numbers, between single spaces; any other line is bad.
 pub fn parse_line(line: &[u8]) -> Request
-    ensures { λ r. ⌜ asked r ≡ request (before line) ⌝ }
+    ensures { λ r. ⌜ requestOf r ≡ request (before line) ⌝ }
 {
     let n = word_length(line);
     if n != 1 {

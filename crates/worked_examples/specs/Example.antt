@@ -21,8 +21,8 @@ use Rattle.script.specs.Answers.{digits, text}
 use Rattle.script.specs.Script.{perform, endLine, advance, feed, prints}
 
 -- "It lends 59,392 cells, 3,712 marks and a desk of 640 bytes"; "Before any format the state is all zero"
-abbrev pub lent : ℕ → ℕ → ℕ → ℕ → Volume
-lent byte main spare ram =
+abbrev pub unformatted : ℕ → ℕ → ℕ → ℕ → Volume
+unformatted byte main spare ram =
     record {
       state = stateOf (sizesOf 0 0 0) 0 0;
       flash = record { main = replicate main byte; spare = replicate spare byte };
@@ -37,6 +37,6 @@ input = ascii "f 16 1 1\ni 7 40\ni 7 41\nl 7\nu 7 42\nl 7\nd 7\nl 7\nd 7\n"
 abbrev output : List ℕ
 output = ascii "ok 0 0\nok 1 0\nno 3\nhit 40 0\nok 2 1\nhit 42 0\nok 2 2\nmiss 0\nno 4\n"
 
-pub paper : prints (lent 0 59392 3712 640) input ≡ output
+pub replay-example : prints (unformatted 0 59392 3712 640) input ≡ output
 unfolding write tab tabFrom pieces bit pack log2up wordsBytes any memb allOf allowed fresh allFresh fnvFrom positions rowBit rowByte bitAt filterBit setByte flushAndBuild recordBytes entryBytes deletionBytes itemWord put scan searchPages badState tooShort judged formatted format isDeleted tryAt maybeIn search deletionPlan deletionRam pageFilter insertionPlan insertionRam commit change lookupAfter call digitsFrom number fields request digits text perform endLine advance feed prints
-paper = refl
+replay-example = refl

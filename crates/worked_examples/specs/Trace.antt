@@ -1,4 +1,5 @@
--- The first calls of a published trace (tests/vectors/trace/s16-small-sound), computed by the definitions: answers and the digest of the RAM's bytes.
+-- The first calls of a published trace (tests/vectors/trace/s16-small-sound), computed by the definitions: answers and the digest of the
+-- RAM's bytes.
 use mathlib.Core.Path.{_≡_, refl}
 use mathlib.Core.List.{List, [], _∷_}
 use Prim.Native.Nat.{ℕ, _+_, _*_, _%_, _^_}
@@ -17,13 +18,13 @@ use Rattle.layout.specs.Items.{recordOf, recordBytes, entryBytes, deletionBytes
 use Rattle.layout.specs.Search.{scan, searchPages}
 use Rattle.layout.specs.Calls.{Volume, Call, insert, update, delete, lookup, Outcome, accepted, hit, miss, refused, Result, badState, tooShort, judged, formatted, format, isDeleted, tryAt, maybeIn, search, deletionPlan, deletionRam, pageFilter, insertionPlan, insertionRam, commit, change, lookupAfter, call}
 use Rattle.script.specs.Answers.{Answer, ok, no}
-use Rattle.script.specs.Script.{said}
-use Rattle.worked_examples.specs.Example.{lent}
+use Rattle.script.specs.Script.{resultAnswer}
+use Rattle.worked_examples.specs.Example.{unformatted}
 
 -- the answers of calls one after another
 abbrev run : Volume → List Call → List Answer
 run v [] = []
-run v (c ∷ cs) = let r : Result = call fnvFamily v c in said r (r .outcome) ∷ run (r .volume) cs
+run v (c ∷ cs) = let r : Result = call fnvFamily v c in resultAnswer r (r .outcome) ∷ run (r .volume) cs
 
 abbrev end : Volume → List Call → Volume
 end v [] = v
@@ -34,15 +35,15 @@ abbrev digest : ℕ → List ℕ → ℕ
 digest h [] = h
 digest h (x ∷ xs) = digest (bitXor h x * 1099511628211 % 2 ^ 64) xs
 
-abbrev season : List Call
-season = delete 2147483648 ∷ insert (recordOf 2 1912169913 2025859891 2737727752) ∷ insert (recordOf 6 3688823723 3359983670 29) ∷ delete 0 ∷ insert (recordOf 11 4 35 2941484390) ∷ update (recordOf 27 23 10 1485051110) ∷ insert (recordOf 256 81 3170616314 17) ∷ update (recordOf 17 59 2916559411 11) ∷ insert (recordOf 16 12 60750187 78) ∷ insert (recordOf 21 42 1484101577 51) ∷ update (recordOf 4 521511664 3 2883145565) ∷ delete 14 ∷ []
+abbrev calls : List Call
+calls = delete 2147483648 ∷ insert (recordOf 2 1912169913 2025859891 2737727752) ∷ insert (recordOf 6 3688823723 3359983670 29) ∷ delete 0 ∷ insert (recordOf 11 4 35 2941484390) ∷ update (recordOf 27 23 10 1485051110) ∷ insert (recordOf 256 81 3170616314 17) ∷ update (recordOf 17 59 2916559411 11) ∷ insert (recordOf 16 12 60750187 78) ∷ insert (recordOf 21 42 1484101577 51) ∷ update (recordOf 4 521511664 3 2883145565) ∷ delete 14 ∷ []
 
-pub trace : run (format (lent 255 13319 832 331) (sizesOf 16 2 1) .volume) season ≡ no 4 ∷ ok 1 0 ∷ ok 2 0 ∷ no 4 ∷ ok 3 0 ∷ no 4 ∷ ok 4 0 ∷ no 4 ∷ ok 5 0 ∷ ok 6 0 ∷ no 4 ∷ no 4 ∷ []
+pub trace : run (format (unformatted 255 13319 832 331) (sizesOf 16 2 1) .volume) calls ≡ no 4 ∷ ok 1 0 ∷ ok 2 0 ∷ no 4 ∷ ok 3 0 ∷ no 4 ∷ ok 4 0 ∷ no 4 ∷ ok 5 0 ∷ ok 6 0 ∷ no 4 ∷ no 4 ∷ []
 unfolding write tab tabFrom pieces bit pack log2up wordsBytes any memb allOf allowed fresh allFresh fnvFrom positions rowBit rowByte bitAt filterBit setByte flushAndBuild recordBytes entryBytes deletionBytes itemWord put scan searchPages badState tooShort judged formatted format isDeleted tryAt maybeIn search deletionPlan deletionRam pageFilter insertionPlan insertionRam commit change lookupAfter call
 trace = refl
 
 abbrev last : Volume
-last = end (format (lent 255 13319 832 331) (sizesOf 16 2 1) .volume) season
+last = end (format (unformatted 255 13319 832 331) (sizesOf 16 2 1) .volume) calls
 
 pub trace-ram : digest 0xcbf29ce484222325 (last .ram) ≡ 0x24024ad97ecc2dcc
 unfolding write tab tabFrom pieces bit pack log2up wordsBytes any memb allOf allowed fresh allFresh fnvFrom positions rowBit rowByte bitAt filterBit setByte flushAndBuild recordBytes entryBytes deletionBytes itemWord put scan searchPages badState tooShort judged formatted format isDeleted tryAt maybeIn search deletionPlan deletionRam pageFilter insertionPlan insertionRam commit change lookupAfter call

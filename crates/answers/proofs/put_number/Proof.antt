@@ -25,8 +25,8 @@ returns c =
     let x = c .before .before .before .before .before .args in
     let k = c .before .before .put-decimal in (
       simp length-append (omega (arith, decimal-length (x .n))),
-      write-then (x .out .now) (k .last .0) _ (x .at) (k .result) (decimal (x .n)) (x .mark ∷ []) (k .ensures .1) (k .ensures .0)
-          (write-byte (k .last .0) (k .result) (x .mark)),
+      write-then (x .out .now) (k .last .0) _ (x .at) (k .result) (decimal (x .n)) (x .terminator ∷ []) (k .ensures .1) (k .ensures .0)
+          (write-byte (k .last .0) (k .result) (x .terminator)),
     )
 
 pub put-number-spec : {M : Type 1} → statement M

@@ -5,14 +5,14 @@ use Prim.Native.Nat.{ℕ, _-_, _≤_}
 use mathlib.Core.Bool.{Bool, true, false, cond}
 use mathlib.Core.Path.{_≡_}
 use lib.ListN.{length, take}
-use Rattle.console.specs.Kept.{keptFeed}
-use Rattle.console.specs.Contract.{kept}
-use Rattle.console.proofs.Laws.{turned-is}
+use Rattle.console.specs.Buffers.{feed}
+use Rattle.console.specs.Contract.{buffersOf}
+use Rattle.console.proofs.Laws.{turn-is}
 use Rattle.console.proofs.answer_chunk.Statement.{statement}
 use Rattle.console.proofs.answer_chunk.Tie as tie
 use Rattle.console.proofs.answer_chunk.Reads as reads
 use Rattle.console.proofs.answer_chunk.Lts as lts
-use Rattle.console.proofs.tell.Reads as tell-reads
+use Rattle.console.proofs.write_answers.Reads as write-answers-reads
 use Rattle.console.proofs.stream.feed.Reads as feed-reads
 
 sub-feed : tie.Need-sub-feed
@@ -27,8 +27,8 @@ part-feed-end c = search needs
 feed-requires : tie.Need-feed-requires
 feed-requires c κs = search needs
 
-tell-requires : tie.Need-tell-requires
-tell-requires c κs = search needs
+write-answers-requires : tie.Need-write-answers-requires
+write-answers-requires c κs = search needs
 
 same-length : tie.Need-same-length
 same-length c = search needs
@@ -54,11 +54,11 @@ returns : tie.Need-returns
 returns c =
     let g = c .before .before .before .before .before .before .before .before .before .before .before .before in
     let x = g .before .before .before .before .before .before .before .before .before .before .before .before .before .args in
-    let e = c .tell .ensures in
+    let e = c .write-answers .ensures in
     let f : g .feed .result .fill ≤ length (x .line .now) = omega (arith, g .feed .ensures .1) in
     let z : x .n - 0 ≡ x .n = omega arith in
-    let k : kept (g .feed .result) (g .feed .last .1 .1 .0) (g .feed .last .1 .1 .1 .0) (g .feed .last .1 .1 .1 .1 .0) (g .feed .last .1 .1 .1 .1 .1 .0) (g .feed .last .1 .1 .1 .1 .1 .1 .0) ≡ keptFeed (kept (x .p) (x .line .now) (x .main .now) (x .spare .now) (x .ram .now) (x .out .now)) (take (x .n) (x .chunk .now)) = rw z at (g .feed .ensures .0) in
-    ((filled (c .tell .result .more) (e .1) f, e .2), (turned-is (c .tell .result) (g .feed .result) (keptFeed (kept (x .p) (x .line .now) (x .main .now) (x .spare .now) (x .ram .now) (x .out .now)) (take (x .n) (x .chunk .now))) (g .feed .last .1 .1 .0) (g .feed .last .1 .1 .1 .0) (g .feed .last .1 .1 .1 .1 .0) (g .feed .last .1 .1 .1 .1 .1 .0) (g .feed .last .1 .1 .1 .1 .1 .1 .0) k (e .0) (e .1), e .3))
+    let k : buffersOf (g .feed .result) (g .feed .last .1 .1 .0) (g .feed .last .1 .1 .1 .0) (g .feed .last .1 .1 .1 .1 .0) (g .feed .last .1 .1 .1 .1 .1 .0) (g .feed .last .1 .1 .1 .1 .1 .1 .0) ≡ feed (buffersOf (x .p) (x .line .now) (x .main .now) (x .spare .now) (x .ram .now) (x .out .now)) (take (x .n) (x .chunk .now)) = rw z at (g .feed .ensures .0) in
+    ((filled (c .write-answers .result .more) (e .1) f, e .2), (turn-is (c .write-answers .result) (g .feed .result) (feed (buffersOf (x .p) (x .line .now) (x .main .now) (x .spare .now) (x .ram .now) (x .out .now)) (take (x .n) (x .chunk .now))) (g .feed .last .1 .1 .0) (g .feed .last .1 .1 .1 .0) (g .feed .last .1 .1 .1 .1 .0) (g .feed .last .1 .1 .1 .1 .1 .0) (g .feed .last .1 .1 .1 .1 .1 .1 .0) k (e .0) (e .1) (e .2), e .3))
 
 pub answer-chunk-spec : {M : Type 1} → statement M
 answer-chunk-spec =
@@ -68,7 +68,7 @@ answer-chunk-spec =
     part-feed-start
     part-feed-end
     feed-requires
-    tell-requires
+    write-answers-requires
     same-length
     same-length-2
     same-length-3

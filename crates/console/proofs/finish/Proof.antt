@@ -1,7 +1,7 @@
 -- The volume and the output's buffer are those that the input's end leaves.
 use borrow.Author.Needs.{needs}
 use mathlib.Core.Path.{ap}
-use Rattle.console.specs.Kept.{Kept}
+use Rattle.console.specs.Buffers.{Buffers}
 use Rattle.console.proofs.finish.Statement.{statement}
 use Rattle.console.proofs.finish.Tie as tie
 use Rattle.console.proofs.finish.Reads as reads
@@ -12,8 +12,8 @@ use Rattle.console.proofs.stream.close.Reads as close-reads
 close-requires : tie.Need-close-requires
 close-requires c κs = search needs
 
-tell-requires : tie.Need-tell-requires
-tell-requires c κs = search needs
+write-answers-requires : tie.Need-write-answers-requires
+write-answers-requires c κs = search needs
 
 same-length : tie.Need-same-length
 same-length c = search needs
@@ -30,14 +30,14 @@ same-length-4 c = search needs
 returns : tie.Need-returns
 returns c =
     let e = c .before .before .before .before .before .before .before .before .before .before .close .ensures .0 in
-    (ap (λ (k : Kept). k .volume .flash) e, ap (λ (k : Kept). k .volume .ram) e, ap (λ (k : Kept). k .out) e)
+    (ap (λ (k : Buffers). k .volume .flash) e, ap (λ (k : Buffers). k .volume .ram) e, ap (λ (k : Buffers). k .out) e)
 
 pub finish-spec : {M : Type 1} → statement M
 finish-spec =
     tie.close
     (tie.spec
     close-requires
-    tell-requires
+    write-answers-requires
     same-length
     same-length-2
     same-length-3

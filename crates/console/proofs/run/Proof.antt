@@ -5,21 +5,21 @@ use Prim.Native.Nat.{ℕ, _≤_, _<_}
 use mathlib.Core.Path.{_≡_, refl}
 use mathlib.Core.List.{List}
 use lib.ListN.{length}
-use Rattle.console.specs.Contract.{kept}
-use Rattle.console.specs.Turns.{turned, first, turns, ends, Short, Leaves}
+use Rattle.console.specs.Contract.{buffersOf}
+use Rattle.console.specs.Turns.{first, turns, ends, Short, Leaves}
 use Rattle.console.specs.Whole.{run-leaves}
-use Rattle.console.proofs.Laws.{Held, held-first, held-more, held-ends}
+use Rattle.console.proofs.Laws.{SoFar, so-far-first, so-far-more, so-far-ends}
 use Rattle.console.proofs.run.Statement.{statement}
 use Rattle.console.proofs.run.Tie as tie
 
 abbrev Inv-loop : tie.InvT-loop
-Inv-loop chunk₀ line₀ main₀ spare₀ ram₀ out₀ p₀ turns₀ whole₀ chunk line main spare ram out p turns whole =
+Inv-loop chunk₀ line₀ main₀ spare₀ ram₀ out₀ p₀ turns₀ ok₀ chunk line main spare ram out p turns ok =
     (p .fill ≤ length line) × (p .printed ≡ 0) × (length chunk ≡ length chunk₀) × (length line ≡ length line₀) × (length main ≡ length main₀)
     × (length spare ≡ length spare₀) × (length ram ≡ length ram₀) × (length out ≡ length out₀)
-    × Held (kept p₀ line₀ main₀ spare₀ ram₀ out₀) (length chunk₀) turns whole (kept p line main spare ram out)
+    × SoFar (buffersOf p₀ line₀ main₀ spare₀ ram₀ out₀) (length chunk₀) turns ok (buffersOf p line main spare ram out)
 
 abbrev μ-loop : tie.MeasureT-loop
-μ-loop chunk₀ line₀ main₀ spare₀ ram₀ out₀ p₀ turns₀ whole₀ chunk line main spare ram out p turns whole = turns
+μ-loop chunk₀ line₀ main₀ spare₀ ram₀ out₀ p₀ turns₀ ok₀ chunk line main spare ram out p turns ok = turns
 
 begin-requires : tie.Need-begin-requires Inv-loop μ-loop
 begin-requires c κs = search needs
@@ -35,7 +35,7 @@ loop-holds c =
       refl,
       refl,
       refl,
-      held-first (kept (c .begin .result) (x .line .now) (x .main .now) (x .spare .now) (x .ram .now) (x .out .now)) (length (x .chunk .now)) _,
+      so-far-first (buffersOf (c .begin .result) (x .line .now) (x .main .now) (x .spare .now) (x .ram .now) (x .out .now)) (length (x .chunk .now)) _,
     )
 
 take-turn-requires : tie.Need-take-turn-requires Inv-loop μ-loop
@@ -53,8 +53,8 @@ again : (c : tie.After-turns-left Inv-loop μ-loop)
     let b = t .before .before .before .before .before .before .before .before .before in
     let x = b .before .before .before .before .before .before .before .args in
     let k = t .take-turn in
-    Held (kept (b .begin .result) (x .line .now) (x .main .now) (x .spare .now) (x .ram .now) (x .out .now)) (length (x .chunk .now)) (c .turns-left .result) (k .result .whole)
-    (kept (k .result .progress) (k .last .1 .1 .0) (k .last .1 .1 .1 .0) (k .last .1 .1 .1 .1 .0) (k .last .1 .1 .1 .1 .1 .0) (k .last .1 .1 .1 .1 .1 .1 .0))
+    SoFar (buffersOf (b .begin .result) (x .line .now) (x .main .now) (x .spare .now) (x .ram .now) (x .out .now)) (length (x .chunk .now)) (c .turns-left .result) (k .result .ok)
+    (buffersOf (k .result .progress) (k .last .1 .1 .0) (k .last .1 .1 .1 .0) (k .last .1 .1 .1 .1 .0) (k .last .1 .1 .1 .1 .1 .0) (k .last .1 .1 .1 .1 .1 .1 .0))
 again c =
     let full : length (c .before .before .before .before .before .before .before .before .before .before .before .before .before .before .take-turn .last .1 .0) ≡ length (c .before .before .before .before .before .before .before .before .before .before .before .before .before .before .before .before .before .before .before .before .before .before .before .before .before .before .before .before .before .before .args .chunk .now) = omega arith in
     let pos : 0 < c .before .before .before .before .before .before .before .before .before .before .before .before .before .before .before .before .before .before .before .before .before .before .loop .turns = omega arith in
@@ -63,10 +63,10 @@ again c =
     let b = l .before in
     let x = b .before .before .before .before .before .before .before .args in
     let k = t .take-turn in
-    held-more (kept (b .begin .result) (x .line .now) (x .main .now) (x .spare .now) (x .ram .now) (x .out .now)) (kept (l .loop .p) (l .loop .line) (l .loop .main) (l .loop .spare) (l .loop .ram) (l .loop .out))
-    (length (x .chunk .now)) (l .loop .turns) (c .turns-left .result) (l .loop .whole) (k .result) (k .last .1 .0)
-    (turned (k .result) (k .last .1 .1 .0) (k .last .1 .1 .1 .0) (k .last .1 .1 .1 .1 .0) (k .last .1 .1 .1 .1 .1 .0) (k .last .1 .1 .1 .1 .1 .1 .0)) (k .result .progress .printed)
-    (l .loop .inv .8) pos (k .ensures .1) full (k .ensures .0 .1) (c .turns-left .ensures .1)
+    so-far-more (buffersOf (b .begin .result) (x .line .now) (x .main .now) (x .spare .now) (x .ram .now) (x .out .now)) (buffersOf (l .loop .p) (l .loop .line) (l .loop .main) (l .loop .spare) (l .loop .ram) (l .loop .out))
+    (buffersOf (k .result .progress) (k .last .1 .1 .0) (k .last .1 .1 .1 .0) (k .last .1 .1 .1 .1 .0) (k .last .1 .1 .1 .1 .1 .0) (k .last .1 .1 .1 .1 .1 .1 .0))
+    (length (x .chunk .now)) (l .loop .turns) (c .turns-left .result) (l .loop .ok) (k .result) (k .last .1 .0)
+    (l .loop .inv .8) pos (k .ensures .1) full (c .turns-left .ensures .1)
 
 loop-again : tie.Need-loop-again Inv-loop μ-loop
 loop-again c = (
@@ -109,11 +109,11 @@ returns c =
     let b = l .before in
     let x = b .before .before .before .before .before .before .before .args in
     let k = f .finish in
-    let h : (chunks : List (List ℕ)) × Short (length (x .chunk .now)) chunks × Leaves (ends (l .loop .whole) (turns (first (x .line .now) (x .main .now) (x .spare .now) (x .ram .now) (x .out .now)) chunks)) (l .loop .line) (k .last .1 .1 .0) (k .last .1 .1 .1 .0) (k .last .1 .1 .1 .1 .0) (k .last .1 .1 .1 .1 .1 .0) =
+    let h : (chunks : List (List ℕ)) × Short (length (x .chunk .now)) chunks × Leaves (ends (l .loop .ok) (turns (first (x .line .now) (x .main .now) (x .spare .now) (x .ram .now) (x .out .now)) chunks)) (l .loop .line) (k .last .1 .1 .0) (k .last .1 .1 .1 .0) (k .last .1 .1 .1 .1 .0) (k .last .1 .1 .1 .1 .1 .0) =
     rw (b .begin .ensures .0) at
-    (held-ends (kept (b .begin .result) (x .line .now) (x .main .now) (x .spare .now) (x .ram .now) (x .out .now)) (kept (l .loop .p) (l .loop .line) (l .loop .main) (l .loop .spare) (l .loop .ram) (l .loop .out))
-    (length (x .chunk .now)) (l .loop .turns) (l .loop .whole) (k .last .1 .1 .0) (k .last .1 .1 .1 .0) (k .last .1 .1 .1 .1 .0) (k .last .1 .1 .1 .1 .1 .0) (l .loop .inv .8) (k .ensures)) in
-    (h, λ e. run-leaves (x .line .now) (x .main .now) (x .spare .now) (x .ram .now) (x .out .now) (l .loop .line) (k .last .1 .1 .0) (k .last .1 .1 .1 .0) (k .last .1 .1 .1 .1 .0) (k .last .1 .1 .1 .1 .1 .0) (length (x .chunk .now)) (l .loop .whole) e h)
+    (so-far-ends (buffersOf (b .begin .result) (x .line .now) (x .main .now) (x .spare .now) (x .ram .now) (x .out .now)) (buffersOf (l .loop .p) (l .loop .line) (l .loop .main) (l .loop .spare) (l .loop .ram) (l .loop .out))
+    (length (x .chunk .now)) (l .loop .turns) (l .loop .ok) (k .last .1 .1 .0) (k .last .1 .1 .1 .0) (k .last .1 .1 .1 .1 .0) (k .last .1 .1 .1 .1 .1 .0) (l .loop .inv .8) (k .ensures)) in
+    (h, λ e. run-leaves (x .line .now) (x .main .now) (x .spare .now) (x .ram .now) (x .out .now) (l .loop .line) (k .last .1 .1 .0) (k .last .1 .1 .1 .0) (k .last .1 .1 .1 .1 .0) (k .last .1 .1 .1 .1 .1 .0) (length (x .chunk .now)) (l .loop .ok) e h)
 
 pub run-spec : {M : Type 1} → statement M
 run-spec =

@@ -16,9 +16,9 @@ use Rattle.layout.specs.Calls.{Volume}
 use Rattle.script.specs.Lines.{request}
 use Rattle.script.specs.Answers.{text}
 use Rattle.answers.specs.Written.{text-length}
-use Rattle.script.specs.Script.{Done, perform}
-use Rattle.lines.specs.Contract.{LineLeft, answeredLine}
-use Rattle.console.specs.Kept.{Kept, endKept, addKept, keptByte, keptFeed}
+use Rattle.script.specs.Script.{Reply, perform}
+use Rattle.lines.specs.Contract.{AfterLine, answerLine}
+use Rattle.console.specs.Buffers.{Buffers, endLine, addByte, nextByte, feed}
 
 -- ---- lines
 
@@ -39,44 +39,44 @@ write-part l zero n t h = write-front n l t h
 write-part [] (suc m) n t h = write-front n [] t h
 write-part (x ∷ xs) (suc m) n t h = ap (λ (r : List ℕ). x ∷ r) (write-part xs m n t h)
 
-answered-line : (v : Volume) (line out : List ℕ)
-    → let r : Done = perform v (request line) in
-    answeredLine v line out ≡ record { length = length (text (r .answer)); volume = r .volume; out = write out 0 (text (r .answer)) }
-unfolding answeredLine
-answered-line v line out = refl
+answer-line-is : (v : Volume) (line out : List ℕ)
+    → let r : Reply = perform v (request line) in
+    answerLine v line out ≡ record { length = length (text (r .answer)); volume = r .volume; out = write out 0 (text (r .answer)) }
+unfolding answerLine
+answer-line-is v line out = refl
 
-pub line-short : (v : Volume) (line out : List ℕ) (l : LineLeft) → l ≡ answeredLine v line out → l .length ≤ 32
+pub line-short : (v : Volume) (line out : List ℕ) (l : AfterLine) → l ≡ answerLine v line out → l .length ≤ 32
 line-short v line out l e =
-    let h : l .length ≡ length (text (perform v (request line) .answer)) = ap (λ (x : LineLeft). x .length) (e ∙ answered-line v line out) in
+    let h : l .length ≡ length (text (perform v (request line) .answer)) = ap (λ (x : AfterLine). x .length) (e ∙ answer-line-is v line out) in
     omega (arith, text-length (perform v (request line) .answer))
 
 -- the line that is kept, answered into the 32 bytes behind what was printed
-pub line-ends : (k : Kept) (l : LineLeft) → l ≡ answeredLine (k .volume) (take (k .fill - 0) (k .buffer)) (take (k .printed + 32 - k .printed) (drop (k .printed) (k .out)))
-    → _≡_ {A = Kept} (record {
+pub line-ends : (k : Buffers) (l : AfterLine) → l ≡ answerLine (k .volume) (take (k .fill - 0) (k .buffer)) (take (k .printed + 32 - k .printed) (drop (k .printed) (k .out)))
+    → _≡_ {A = Buffers} (record {
       volume = l .volume;
       buffer = k .buffer;
       fill = 0;
       out = take (k .printed) (k .out) ++ (l .out ++ drop (k .printed + 32 - k .printed) (drop (k .printed) (k .out)));
       printed = k .printed + l .length;
-    }) (endKept k)
-unfolding endKept
+    }) (endLine k)
+unfolding endLine
 line-ends k l e =
-    let r : Done = perform (k .volume) (request (take (k .fill) (k .buffer))) in
+    let r : Reply = perform (k .volume) (request (take (k .fill) (k .buffer))) in
     let n : k .printed + 32 - k .printed ≡ 32 = omega arith in
-    let f = e ∙ answered-line (k .volume) (take (k .fill - 0) (k .buffer)) (take (k .printed + 32 - k .printed) (drop (k .printed) (k .out))) in
+    let f = e ∙ answer-line-is (k .volume) (take (k .fill - 0) (k .buffer)) (take (k .printed + 32 - k .printed) (drop (k .printed) (k .out))) in
     rw (f, sub-zero (k .fill), n, write-part (k .out) (k .printed) 32 (text (r .answer)) (text-length (r .answer)))
 
 -- ---- bytes
 
-pub add-kept : (k : Kept) (c fill : ℕ) (line : List ℕ) → c ≢ 10 → fill ≡ cond (ltb (k .fill) (length (k .buffer))) (k .fill + 1) (k .fill) → line ≡ write (k .buffer) (k .fill) (c ∷ [])
-    → _≡_ {A = Kept} (record { volume = k .volume; buffer = line; fill = fill; out = k .out; printed = k .printed }) (keptByte k c)
-unfolding keptByte addKept
-add-kept k c fill line h f l = rw (ne-eqb c 10 h, f, l)
+pub add-byte : (k : Buffers) (c fill : ℕ) (line : List ℕ) → c ≢ 10 → fill ≡ cond (ltb (k .fill) (length (k .buffer))) (k .fill + 1) (k .fill) → line ≡ write (k .buffer) (k .fill) (c ∷ [])
+    → _≡_ {A = Buffers} (record { volume = k .volume; buffer = line; fill = fill; out = k .out; printed = k .printed }) (nextByte k c)
+unfolding nextByte addByte
+add-byte k c fill line h f l = rw (ne-eqb c 10 h, f, l)
 
-pub feed-more : (z k n : Kept) (cs : List ℕ) (i : ℕ) → i < length cs → z ≡ keptFeed k (drop i cs) → n ≡ keptByte k (getD cs i 0) → z ≡ keptFeed n (drop (i + 1) cs)
-unfolding keptFeed
+pub feed-more : (z k n : Buffers) (cs : List ℕ) (i : ℕ) → i < length cs → z ≡ feed k (drop i cs) → n ≡ nextByte k (getD cs i 0) → z ≡ feed n (drop (i + 1) cs)
+unfolding feed
 feed-more z k n cs i h e b = e ∙ rw (drop-cons cs i 0, add-one, b)
 
-pub feed-end : (k : Kept) (cs : List ℕ) (i : ℕ) → length cs ≤ i → keptFeed k (drop i cs) ≡ k
-unfolding keptFeed
+pub feed-end : (k : Buffers) (cs : List ℕ) (i : ℕ) → length cs ≤ i → feed k (drop i cs) ≡ k
+unfolding feed
 feed-end k cs i h = rw drop-of-length-le

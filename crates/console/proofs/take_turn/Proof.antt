@@ -1,15 +1,14 @@
 -- What was read is answered; nothing was read at the input's end and where the read failed.
 use borrow.Author.Needs.{needs}
 use native.Mathlib.Omega.{arith}
-use Rattle.console.specs.Contract.{kept}
-use Rattle.console.specs.Turns.{turned}
-use Rattle.console.proofs.Laws.{took-none, took-some}
+use Rattle.console.specs.Contract.{buffersOf}
+use Rattle.console.proofs.Laws.{feeds-none, feeds-some}
 use Rattle.console.proofs.take_turn.Statement.{statement}
 use Rattle.console.proofs.take_turn.Tie as tie
 use Rattle.console.proofs.take_turn.Reads as reads
 use Rattle.console.proofs.take_turn.Lts as lts
 use Rattle.console.proofs.answer_chunk.Reads as answer-chunk-reads
-use Rattle.console.proofs.between.Reads as between-reads
+use Rattle.console.proofs.succeed.Reads as succeed-reads
 use Rattle.console.proofs.fail.Reads as fail-reads
 use Rattle.io.proofs.count.Reads as count-reads
 use Rattle.libc.proofs.read.Reads as read-reads
@@ -31,13 +30,13 @@ returns c =
     let g = c .before .before .before .before .before .before in
     let x = g .before .before .before .before .before .before .before .before .args in
     let e = c .fail .ensures in
-    ((omega (arith, e), e .3), took-none (c .fail .result) (x .p) (g .read .last .1 .0) (x .line .now) (x .main .now) (x .spare .now) (x .ram .now) (x .out .now) (e .0) (e .1) (rw (e .4) (e .2)))
+    ((omega (arith, e), e .3), feeds-none (c .fail .result) (x .p) (g .read .last .1 .0) (x .line .now) (x .main .now) (x .spare .now) (x .ram .now) (x .out .now) (e .0) (e .1) (rw (e .4) (e .2)) (e .3))
 
 count-requires : tie.Need-count-requires
 count-requires c κs = search needs
 
-between-requires : tie.Need-between-requires
-between-requires c κs = search needs
+succeed-requires : tie.Need-succeed-requires
+succeed-requires c κs = search needs
 
 same-length-2 : tie.Need-same-length-2
 same-length-2 c = search needs
@@ -46,8 +45,8 @@ returns-2 : tie.Need-returns-2
 returns-2 c =
     let g = c .before .before .before .before .before .before .before .before in
     let x = g .before .before .before .before .before .before .before .before .args in
-    let e = c .between .ensures in
-    ((omega (arith, e), e .3), took-none (c .between .result) (x .p) (g .read .last .1 .0) (x .line .now) (x .main .now) (x .spare .now) (x .ram .now) (x .out .now) (e .0) (e .1) (rw (e .4) (e .2)))
+    let e = c .succeed .ensures in
+    ((omega (arith, e), e .3), feeds-none (c .succeed .result) (x .p) (g .read .last .1 .0) (x .line .now) (x .main .now) (x .spare .now) (x .ram .now) (x .out .now) (e .0) (e .1) (rw (e .4) (e .2)) (e .3))
 
 answer-chunk-requires : tie.Need-answer-chunk-requires
 answer-chunk-requires c κs = search needs
@@ -77,8 +76,9 @@ returns-3 c =
     let x = g .before .before .before .before .before .before .before .before .args in
     let k = a .answer-chunk in (
       k .ensures .0,
-      took-some (k .result) (kept (x .p) (x .line .now) (x .main .now) (x .spare .now) (x .ram .now) (x .out .now)) (g .read .last .1 .0) (a .before .before .before .before .before .before .before .before .count .result)
-          (turned (k .result) (k .last .1 .1 .1 .0) (k .last .1 .1 .1 .1 .0) (k .last .1 .1 .1 .1 .1 .0) (k .last .1 .1 .1 .1 .1 .1 .0) (k .last .1 .1 .1 .1 .1 .1 .1 .0)) (omega (arith, a .before .before .before .before .before .before .before .before .count .ensures .0)) (k .ensures .1 .0) (k .ensures .1 .1),
+      feeds-some (k .result) (buffersOf (x .p) (x .line .now) (x .main .now) (x .spare .now) (x .ram .now) (x .out .now))
+          (buffersOf (k .result .progress) (k .last .1 .1 .1 .0) (k .last .1 .1 .1 .1 .0) (k .last .1 .1 .1 .1 .1 .0) (k .last .1 .1 .1 .1 .1 .1 .0) (k .last .1 .1 .1 .1 .1 .1 .1 .0))
+          (g .read .last .1 .0) (a .before .before .before .before .before .before .before .before .count .result) (omega (arith, a .before .before .before .before .before .before .before .before .count .ensures .0)) (k .ensures .1 .0) (k .ensures .1 .1),
     )
 
 pub take-turn-spec : {M : Type 1} → statement M
@@ -91,7 +91,7 @@ take-turn-spec =
     same-length
     returns
     count-requires
-    between-requires
+    succeed-requires
     same-length-2
     returns-2
     answer-chunk-requires

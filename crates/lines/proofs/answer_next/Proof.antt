@@ -45,14 +45,14 @@ use denote.Triple.Walked.{says, needs, Stays, gave-slice, stay-dropped, walkOf, 
 use denote.Exit.{yes}
 use Rattle.state.specs.Contract.{volume}
 use Rattle.state.specs.declared.State.{State}
-use Rattle.lines.specs.Contract.{stepped, answeredLine}
-use Rattle.lines.specs.declared.Step.{Step}
+use Rattle.lines.specs.Contract.{afterLine, answerLine}
+use Rattle.lines.specs.declared.LineReply.{LineReply}
 use Rattle.lines.specs.declared.Volume.{Volume}
 use Rattle.lines.proofs.Lent.{cell-in, cell-out}
 use Rattle.state.proofs.State as S
 use Rattle.state.proofs.State.Laws as S′
-use Rattle.lines.proofs.Step as R
-use Rattle.lines.proofs.Step.Laws as R′
+use Rattle.lines.proofs.LineReply as R
+use Rattle.lines.proofs.LineReply.Laws as R′
 use Rattle.lines.proofs.Volume as T
 use Rattle.lines.proofs.Volume.Laws as T′
 use Rattle.lines.proofs.answer_on as g
@@ -135,14 +135,14 @@ module _ {M : Type 1} (𝓤 : URA M) (H : Heap 𝓤) (A : Atoms 𝓤) (W : Given
   Ends ν l δ = Lasts g.ended (ν ∷ [], (κ₁, (κ₂, (κ₃, (κ₄, (κ₅, tt)))))) (arg l δ)
 
   -- the result
-  abbrev step : ℕ → Volume → Step
+  abbrev step : ℕ → Volume → LineReply
   step r v = record { state = v .state; length = r }
 
   step-is : (r : ℕ) (v : Volume) → r < 2 ^ 64 → Is S.the-row (v .state) (S′.lowered (v .state) ∷ []) → Is R.the-row (step r v) (R′.lowered (step r v) ∷ [])
   step-is r v fits is = LL.owes R.the-type R′.the-laws (step r v) (is, ((refl, fits), tt))
 
   abbrev Said : ℕ → Volume → List ℕ → List ℕ → List ℕ → List ℕ → Type 0
-  Said r v l₂ l₃ l₄ l₅ = stepped (step r v) l₂ l₃ l₄ l₅ ≡ answeredLine (volume st (x₂ .now) (x₃ .now) (x₄ .now)) (x₁ .now) (x₅ .now)
+  Said r v l₂ l₃ l₄ l₅ = afterLine (step r v) l₂ l₃ l₄ l₅ ≡ answerLine (volume st (x₂ .now) (x₃ .now) (x₄ .now)) (x₁ .now) (x₅ .now)
 
   abbrev left : List ℕ → List ℕ → List ℕ → List ℕ → List (Item 𝓤)
   left l₂ l₃ l₄ l₅ = (‵ (flft κ₁ q₁) ⊛ ‵ (flft κ₂ q₂) ⊛ ‵ (flft κ₃ q₃) ⊛ ‵ (flft κ₄ q₄) ⊛ ‵ (flft κ₅ q₅) ⊛ ‵ ftrue) ∷ ‵ (finally u8 (x₂ .name) l₂) ∷ ‵ (finally u8 (x₃ .name) l₃) ∷ ‵ (finally u8 (x₄ .name) l₄) ∷ ‵ (finally u8 (x₅ .name) l₅) ∷ []

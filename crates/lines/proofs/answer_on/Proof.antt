@@ -43,13 +43,13 @@ use denote.Triple.Walked.{says, needs, Stays, stay-ref, gave-slice, stay-dropped
 use denote.Exit.{yes}
 use Rattle.state.specs.Contract.{volume}
 use Rattle.state.specs.declared.State.{State}
-use Rattle.lines.specs.Contract.{stepped, answeredLine}
-use Rattle.lines.specs.declared.Step.{Step}
+use Rattle.lines.specs.Contract.{afterLine, answerLine}
+use Rattle.lines.specs.declared.LineReply.{LineReply}
 use Rattle.lines.specs.declared.Volume.{Volume}
 use Rattle.state.proofs.State as S
 use Rattle.state.proofs.State.Laws as S′
-use Rattle.lines.proofs.Step as R
-use Rattle.lines.proofs.Step.Laws as R′
+use Rattle.lines.proofs.LineReply as R
+use Rattle.lines.proofs.LineReply.Laws as R′
 use Rattle.lines.proofs.Volume as T
 use Rattle.lines.proofs.Volume.Laws as T′
 use Rattle.lines.proofs.answer_line as g
@@ -119,21 +119,21 @@ module _ {M : Type 1} (𝓤 : URA M) (H : Heap 𝓤) (A : Atoms 𝓤) (W : Given
       owned ! S.the-row (Is S.the-row) (LL.makes S.the-type S′.the-plain 𝓤 H A) (h .state) _ is $ fjoin ! $ done !
 
   -- the volume at exit
-  abbrev h′ : Step → Volume
+  abbrev h′ : LineReply → Volume
   h′ r = record { state = r .state }
 
   -- the lists at exit
   abbrev Ends : Type 0
   Ends = Lasts g.ended (κ₁, (κ₂, (κ₃, (κ₄, (κ₅, tt))))) arg
 
-  abbrev Said : Step → List ℕ → List ℕ → List ℕ → List ℕ → Type 0
-  Said r l₂ l₃ l₄ l₅ = stepped r l₂ l₃ l₄ l₅ ≡ answeredLine (volume (h .state) (x₂ .now) (x₃ .now) (x₄ .now)) (x₁ .now) (x₅ .now)
+  abbrev Said : LineReply → List ℕ → List ℕ → List ℕ → List ℕ → Type 0
+  Said r l₂ l₃ l₄ l₅ = afterLine r l₂ l₃ l₄ l₅ ≡ answerLine (volume (h .state) (x₂ .now) (x₃ .now) (x₄ .now)) (x₁ .now) (x₅ .now)
 
-  abbrev left : Step → List ℕ → List ℕ → List ℕ → List ℕ → List (Item 𝓤)
+  abbrev left : LineReply → List ℕ → List ℕ → List ℕ → List ℕ → List (Item 𝓤)
   left r l₂ l₃ l₄ l₅ = ‵ (fobs γ (T.the-row .coded .code (h′ r))) ∷ ‵ (fbor κ₀ (Body (mem T.the-row) b o γ)) ∷ ‵ (flft κ₀ q₀) ∷ (‵ (flft κ₁ q₁) ⊛ ‵ (flft κ₂ q₂) ⊛ ‵ (flft κ₃ q₃) ⊛ ‵ (flft κ₄ q₄) ⊛ ‵ (flft κ₅ q₅) ⊛ ‵ ftrue)
       ∷ ‵ (finally u8 (x₂ .name) l₂) ∷ ‵ (finally u8 (x₃ .name) l₃) ∷ ‵ (finally u8 (x₄ .name) l₄) ∷ ‵ (finally u8 (x₅ .name) l₅) ∷ []
 
-  exits : (r : Step) (l₂ l₃ l₄ l₅ : List ℕ) → Said r l₂ l₃ l₄ l₅ → r .length < 2 ^ 64 → length l₂ ≡ length (x₂ .now) → length l₃ ≡ length (x₃ .now) → length l₄ ≡ length (x₄ .now) → length l₅ ≡ length (x₅ .now)
+  exits : (r : LineReply) (l₂ l₃ l₄ l₅ : List ℕ) → Said r l₂ l₃ l₄ l₅ → r .length < 2 ^ 64 → length l₂ ≡ length (x₂ .now) → length l₃ ≡ length (x₃ .now) → length l₄ ≡ length (x₄ .now) → length l₅ ≡ length (x₅ .now)
       → ent 𝓤 (⋆ 𝓤 H A (left r l₂ l₃ l₄ l₅)) (Post (vint w64 (r .length)))
   exits r l₂ l₃ l₄ l₅ e r-fits e₂ e₃ e₄ e₅ =
       qed W (left r l₂ l₃ l₄ l₅) ∵
@@ -175,7 +175,7 @@ module _ {M : Type 1} (𝓤 : URA M) (H : Heap 𝓤) (A : Atoms 𝓤) (W : Given
         -- [what `answer_line` asks; the volume's cell; …; _i at 5 + 2 · (16 − i)]
         calls-at ! fm (Line 𝓤 H A at-mem run) known to (and-then ! (load ! (from ! (stop !)) (look ! 21 refl)) (and-then ! (load ! (from ! (stop !)) (look ! 33 refl)) (and-then ! (load ! (from ! (stop !)) (look ! 17 refl))
         (and-then ! (load ! (from ! (stop !)) (look ! 13 refl)) (and-then ! (load ! (from ! (stop !)) (look ! 9 refl)) (and-then ! (load ! (from ! (stop !)) (look ! 5 refl)) (no-more !))))))) (λ w.
-        use1 W (later (some (λ (r : Step). ((‵ (flft κ₁ q₁) ⊛ ‵ (flft κ₂ q₂) ⊛ ‵ (flft κ₃ q₃) ⊛ ‵ (flft κ₄ q₄) ⊛ ‵ (flft κ₅ q₅) ⊛ ‵ ftrue) ⊛ ‵ (R.the-row .own r (w ∷ []))) ⊛ raw (ensured 𝓤 H A g.ended (g.clauses 𝓤 H A at-mem run) (κ₁, (κ₂, (κ₃, (κ₄, (κ₅, tt))))) arg tt r)))) (id⊢ 𝓤 _) $ await ! tt $ pick ! (λ r.
+        use1 W (later (some (λ (r : LineReply). ((‵ (flft κ₁ q₁) ⊛ ‵ (flft κ₂ q₂) ⊛ ‵ (flft κ₃ q₃) ⊛ ‵ (flft κ₄ q₄) ⊛ ‵ (flft κ₅ q₅) ⊛ ‵ ftrue) ⊛ ‵ (R.the-row .own r (w ∷ []))) ⊛ raw (ensured 𝓤 H A g.ended (g.clauses 𝓤 H A at-mem run) (κ₁, (κ₂, (κ₃, (κ₄, (κ₅, tt))))) arg tt r)))) (id⊢ 𝓤 _) $ await ! tt $ pick ! (λ r.
         split ! $ move ! (1 ∷ []) $ use1 W (some (λ (ws : Ends). ‵ (lasts g.ended (κ₁, (κ₂, (κ₃, (κ₄, (κ₅, tt))))) arg ws) ⊛ raw (fact 𝓤 (Said r (ws .1 .1 .0) (ws .1 .1 .1 .0) (ws .1 .1 .1 .1 .0) (ws .1 .1 .1 .1 .1 .0))))) (id⊢ 𝓤 _) $ pick ! (λ ws.
         split ! $ move ! (1 ∷ []) $ heard ! (Said r (ws .1 .1 .0) (ws .1 .1 .1 .0) (ws .1 .1 .1 .1 .0) (ws .1 .1 .1 .1 .1 .0)) (λ e. fsplit ! $ drop ! $ fsplit ! $ drop ! $
         fsplit ! $ fsplit ! $ move ! (1 ∷ []) $ feqL ! (λ e₂. move ! (1 ∷ []) $ fsplit ! $ fsplit ! $ move ! (1 ∷ []) $ feqL ! (λ e₃. move ! (1 ∷ []) $ fsplit ! $ fsplit ! $ move ! (1 ∷ []) $ feqL ! (λ e₄. move ! (1 ∷ []) $ fsplit ! $ fsplit ! $ move ! (1 ∷ []) $ feqL ! (λ e₅.

@@ -6,7 +6,7 @@ use Rattle.layout.specs.Hash.{fnvFamily}
 use Rattle.state.specs.Contract.{volume}
 use Rattle.script.specs.Answers.{hit}
 use Rattle.script.specs.Script.{perform}
-use Rattle.lines.proofs.Answering.{looked-refused, looked-missed, looked-hit}
+use Rattle.lines.proofs.Answering.{lookup-refused, lookup-missed, lookup-hit}
 use borrow.Author.Needs.{needs}
 use Rattle.lines.proofs.lookup.Statement.{statement}
 use Rattle.lines.proofs.lookup.Tie as tie
@@ -20,7 +20,7 @@ returns c =
     let k = c .before .lookup in
     let x = c .before .before .before .before .before .before .before .before .args in
     let v = volume (x .s) (x .main .now) (x .spare .now) (x .ram .now) in
-    looked-refused fnvFamily v (x .key) (k .last .1 .1 .1 .1 .1 .0) (k .ensures .1 .0) (c .if1 .taken)
+    lookup-refused fnvFamily v (x .key) (k .last .1 .1 .1 .1 .1 .0) (k .ensures .1 .0) (c .if1 .taken)
 
 returns-2 : tie.Need-returns-2
 unfolding perform
@@ -28,14 +28,14 @@ returns-2 c =
     let k = c .before .before .lookup in
     let x = c .before .before .before .before .before .before .before .before .before .args in
     let v = volume (x .s) (x .main .now) (x .spare .now) (x .ram .now) in
-    looked-missed fnvFamily v (x .key) (k .last .1 .1 .1 .1 .1 .0) (k .last .1 .1 .1 .1 .1 .1 .0) (k .last .1 .1 .1 .1 .1 .1 .1 .0) (k .ensures .1 .0) (k .ensures .1 .1) (k .ensures .1 .2) (c .before .if1 .left) (c .if2 .taken)
+    lookup-missed fnvFamily v (x .key) (k .last .1 .1 .1 .1 .1 .0) (k .last .1 .1 .1 .1 .1 .1 .0) (k .last .1 .1 .1 .1 .1 .1 .1 .0) (k .ensures .1 .0) (k .ensures .1 .1) (k .ensures .1 .2) (c .before .if1 .left) (c .if2 .taken)
 
 get32-requires : tie.Need-get32-requires
 get32-requires c κs =
     let k = c .before .before .lookup in
     let x = c .before .before .before .before .before .before .before .before .before .args in
     let v = volume (x .s) (x .main .now) (x .spare .now) (x .ram .now) in
-    omega (arith, looked-hit fnvFamily v (x .key) (k .last .1 .1 .1 .1 .1 .1 .0) (k .last .1 .1 .1 .1 .1 .1 .1 .0) (k .result .now) (k .ensures .1 .1) (k .ensures .1 .2) (k .ensures .0 .0) (c .if2 .left) .0)
+    omega (arith, lookup-hit fnvFamily v (x .key) (k .last .1 .1 .1 .1 .1 .1 .0) (k .last .1 .1 .1 .1 .1 .1 .1 .0) (k .result .now) (k .ensures .1 .1) (k .ensures .1 .2) (k .ensures .0 .0) (c .if2 .left) .0)
 
 returns-3 : tie.Need-returns-3
 unfolding perform
@@ -44,7 +44,7 @@ returns-3 c =
     let x = c .before .before .before .before .before .before .before .before .before .before .args in
     let v = volume (x .s) (x .main .now) (x .spare .now) (x .ram .now) in
     ap (λ (m : ℕ). hit m (k .last .1 .1 .1 .1 .1 .1 .1 .0)) (c .get32 .ensures)
-    ∙ looked-hit fnvFamily v (x .key) (k .last .1 .1 .1 .1 .1 .1 .0) (k .last .1 .1 .1 .1 .1 .1 .1 .0) (k .result .now) (k .ensures .1 .1) (k .ensures .1 .2) (k .ensures .0 .0) (c .before .if2 .left) .1
+    ∙ lookup-hit fnvFamily v (x .key) (k .last .1 .1 .1 .1 .1 .1 .0) (k .last .1 .1 .1 .1 .1 .1 .1 .0) (k .result .now) (k .ensures .1 .1) (k .ensures .1 .2) (k .ensures .0 .0) (c .before .if2 .left) .1
 
 pub lookup-spec : {M : Type 1} → statement M
 lookup-spec =

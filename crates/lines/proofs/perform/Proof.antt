@@ -5,9 +5,9 @@ use Rattle.layout.specs.Hash.{fnvFamily}
 use Rattle.layout.specs.Items.{Record, recordOf}
 use Rattle.layout.specs.Calls as calls
 use Rattle.state.specs.Contract.{volume, seen}
-use Rattle.answers.specs.Answered.{answered}
+use Rattle.answers.specs.Values.{answerOf}
 use Rattle.script.specs.Script.{perform}
-use Rattle.lines.proofs.Answering.{change-done, lookup-done}
+use Rattle.lines.proofs.Answering.{change-reply, lookup-reply}
 use borrow.Author.Needs.{needs}
 use Rattle.lines.proofs.perform.Statement.{statement}
 use Rattle.lines.proofs.perform.Tie as tie
@@ -37,7 +37,7 @@ returns c =
     let x = c .before .before .before .before .before .before .before .before .before .before .before .before .before .before .before .before .before .args in
     let g = c .before .before .before .before .before .before .before .before .before .before .before .before .q .given in
     let v = volume (x .s) (x .main .now) (x .spare .now) (x .ram .now) in
-    rw (g .1) (change-done (c .after-change .result) (k .result) (k .last .1 .1 .0) (k .last .1 .1 .1 .0) (k .last .1 .1 .1 .1 .0) (calls.format v (sizesOf (g .0 .0) (g .0 .1 .0) (g .0 .1 .1 .0))) (c .after-change .ensures) (k .ensures))
+    rw (g .1) (change-reply (c .after-change .result) (k .result) (k .last .1 .1 .0) (k .last .1 .1 .1 .0) (k .last .1 .1 .1 .1 .0) (calls.format v (sizesOf (g .0 .0) (g .0 .1 .0) (g .0 .1 .1 .0))) (c .after-change .ensures) (k .ensures))
 
 enum-known-q-2 : tie.Need-enum-known-q-2
 enum-known-q-2 c = search needs
@@ -68,7 +68,7 @@ returns-2 c =
     let g = c .before .before .before .before .before .before .before .before .before .before .before .before .before .q2 .given in
     let v = volume (x .s) (x .main .now) (x .spare .now) (x .ram .now) in
     rw (g .1)
-    (change-done (c .after-change2 .result) (k .result) (k .last .1 .1 .0) (k .last .1 .1 .1 .0) (k .last .1 .1 .1 .1 .0) (calls.call fnvFamily v (calls.insert (recordOf (g .0 .0) (g .0 .1 .0) 0 0))) (c .after-change2 .ensures)
+    (change-reply (c .after-change2 .result) (k .result) (k .last .1 .1 .0) (k .last .1 .1 .1 .0) (k .last .1 .1 .1 .1 .0) (calls.call fnvFamily v (calls.insert (recordOf (g .0 .0) (g .0 .1 .0) 0 0))) (c .after-change2 .ensures)
     (k .ensures ∙ ap (λ (r : Record). seen (calls.call fnvFamily v (calls.insert r))) (c .before .before .before .before .before .before .before .before .before .before .before .level .ensures)))
 
 enum-known-q-3 : tie.Need-enum-known-q-3
@@ -100,7 +100,7 @@ returns-3 c =
     let g = c .before .before .before .before .before .before .before .before .before .before .before .before .before .q3 .given in
     let v = volume (x .s) (x .main .now) (x .spare .now) (x .ram .now) in
     rw (g .1)
-    (change-done (c .after-change3 .result) (k .result) (k .last .1 .1 .0) (k .last .1 .1 .1 .0) (k .last .1 .1 .1 .1 .0) (calls.call fnvFamily v (calls.update (recordOf (g .0 .0) (g .0 .1 .0) 0 0))) (c .after-change3 .ensures)
+    (change-reply (c .after-change3 .result) (k .result) (k .last .1 .1 .0) (k .last .1 .1 .1 .0) (k .last .1 .1 .1 .1 .0) (calls.call fnvFamily v (calls.update (recordOf (g .0 .0) (g .0 .1 .0) 0 0))) (c .after-change3 .ensures)
     (k .ensures ∙ ap (λ (r : Record). seen (calls.call fnvFamily v (calls.update r))) (c .before .before .before .before .before .before .before .before .before .before .before .level2 .ensures)))
 
 enum-known-q-4 : tie.Need-enum-known-q-4
@@ -128,7 +128,7 @@ returns-4 c =
     let x = c .before .before .before .before .before .before .before .before .before .before .before .before .before .before .before .before .before .args in
     let g = c .before .before .before .before .before .before .before .before .before .before .before .before .q4 .given in
     let v = volume (x .s) (x .main .now) (x .spare .now) (x .ram .now) in
-    rw (g .1) (change-done (c .after-change4 .result) (k .result) (k .last .1 .1 .0) (k .last .1 .1 .1 .0) (k .last .1 .1 .1 .1 .0) (calls.call fnvFamily v (calls.delete (g .0 .0))) (c .after-change4 .ensures) (k .ensures))
+    rw (g .1) (change-reply (c .after-change4 .result) (k .result) (k .last .1 .1 .0) (k .last .1 .1 .1 .0) (k .last .1 .1 .1 .1 .0) (calls.call fnvFamily v (calls.delete (g .0 .0))) (c .after-change4 .ensures) (k .ensures))
 
 enum-known-q-5 : tie.Need-enum-known-q-5
 enum-known-q-5 c = search needs
@@ -150,7 +150,7 @@ unfolding perform
 returns-5 c =
     let x = c .before .before .before .before .before .before .before .before .before .before .args in
     rw (c .before .before .before .before .before .q5 .given .1)
-    (lookup-done fnvFamily (volume (x .s) (x .main .now) (x .spare .now) (x .ram .now)) (c .before .before .before .before .before .q5 .given .0 .0) (answered (c .lookup .result)) (c .lookup .ensures))
+    (lookup-reply fnvFamily (volume (x .s) (x .main .now) (x .spare .now) (x .ram .now)) (c .before .before .before .before .before .q5 .given .0 .0) (answerOf (c .lookup .result)) (c .lookup .ensures))
 
 enum-told : tie.Need-enum-told
 enum-told c = search needs

@@ -2,7 +2,7 @@
 use native.Mathlib.Omega.{arith}
 use mathlib.Core.Path.{_≡_, sym, _∙_}
 use Rattle.script.specs.FirstWord.{wordLength}
-use Rattle.script.proofs.Requests.{no-letter, no-words, letter}
+use Rattle.script.proofs.Parsing.{no-letter, no-words, letter}
 use borrow.Author.Needs.{needs}
 use Rattle.script.proofs.parse_line.Statement.{statement}
 use Rattle.script.proofs.parse_line.Tie as tie

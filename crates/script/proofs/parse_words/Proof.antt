@@ -1,7 +1,7 @@
 -- One word, two, three, or more.
 use native.Mathlib.Omega.{arith}
 use mathlib.Core.Path.{sym, _∙_}
-use Rattle.script.proofs.Requests.{one-word, two-words, three-words, more-words}
+use Rattle.script.proofs.Parsing.{one-word, two-words, three-words, more-words}
 use borrow.Author.Needs.{needs}
 use Rattle.script.proofs.parse_words.Statement.{statement}
 use Rattle.script.proofs.parse_words.Tie as tie

@@ -2,12 +2,12 @@
 use borrow.Author.Needs.{needs}
 use borrow.Author.Tests.{eq-eqb, ne-eqb}
 use native.Mathlib.Omega.{arith}
-use Rattle.console.specs.Kept.{keptClose}
+use Rattle.console.specs.Buffers.{close}
 use Rattle.console.proofs.stream.close.Statement.{statement}
 use Rattle.console.proofs.stream.close.Tie as tie
 
 returns : tie.Need-returns
-unfolding keptClose
+unfolding close
 returns c =
     let x = c .before .before .before .before .before .before .before .args in
     (rw (eq-eqb (x .p .fill) 0 (c .if1 .taken)), omega arith)
@@ -28,7 +28,7 @@ same-length-4 : tie.Need-same-length-4
 same-length-4 c = search needs
 
 returns-2 : tie.Need-returns-2
-unfolding keptClose
+unfolding close
 returns-2 c =
     let e = c .before .before .before .before .before .before .before .before in
     let b = e .before .before .before .before .before in

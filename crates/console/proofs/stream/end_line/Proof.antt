@@ -5,8 +5,8 @@ use mathlib.Core.Path.{refl}
 use Prim.Native.Nat.{_+_, _-_, _≤_}
 use lib.ListN.{take, drop}
 use Rattle.state.specs.Contract.{volume}
-use Rattle.lines.specs.Contract.{LineLeft, stepped}
-use Rattle.console.specs.Contract.{kept}
+use Rattle.lines.specs.Contract.{AfterLine, afterLine}
+use Rattle.console.specs.Contract.{buffersOf}
 use Rattle.console.proofs.stream.Laws.{line-short, line-ends}
 use Rattle.console.proofs.stream.end_line.Statement.{statement}
 use Rattle.console.proofs.stream.end_line.Tie as tie
@@ -36,8 +36,8 @@ answer-next-requires : tie.Need-answer-next-requires
 answer-next-requires c κs = search needs
 
 -- what the line leaves, as its contract compares it
-abbrev left : tie.After-answer-next → LineLeft
-left b = let k = b .answer-next in stepped (k .result) (k .last .1 .1 .0) (k .last .1 .1 .1 .0) (k .last .1 .1 .1 .1 .0) (k .last .1 .1 .1 .1 .1 .0)
+abbrev left : tie.After-answer-next → AfterLine
+left b = let k = b .answer-next in afterLine (k .result) (k .last .1 .1 .0) (k .last .1 .1 .1 .0) (k .last .1 .1 .1 .1 .0) (k .last .1 .1 .1 .1 .1 .0)
 
 short : (b : tie.After-answer-next) → b .answer-next .result .length ≤ 32
 short b =
@@ -67,7 +67,7 @@ returns : tie.Need-returns
 returns c =
     let b = c .before .before .before .before .before .before .before .before .before .before in
     let x = b .before .before .before .before .before .before .before .before .before .before .before .before .args in
-    (line-ends (kept (x .p) (x .line .now) (x .main .now) (x .spare .now) (x .ram .now) (x .out .now)) (left b) (b .answer-next .ensures), (refl, omega (arith, short b)))
+    (line-ends (buffersOf (x .p) (x .line .now) (x .main .now) (x .spare .now) (x .ram .now) (x .out .now)) (left b) (b .answer-next .ensures), (refl, omega (arith, short b)))
 
 pub end-line-spec : {M : Type 1} → statement M
 end-line-spec =

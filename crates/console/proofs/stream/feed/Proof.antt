@@ -3,8 +3,8 @@ use native.Mathlib.Omega.{arith}
 use mathlib.Core.Path.{_≡_, refl, sym, _∙_}
 use Prim.Native.Nat.{_+_, _*_, _-_, _≤_}
 use lib.ListN.{length, drop}
-use Rattle.console.specs.Kept.{keptFeed}
-use Rattle.console.specs.Contract.{kept}
+use Rattle.console.specs.Buffers.{feed}
+use Rattle.console.specs.Contract.{buffersOf}
 use Rattle.console.proofs.stream.Laws.{feed-more, feed-end}
 use Rattle.console.proofs.stream.feed.Statement.{statement}
 use Rattle.console.proofs.stream.feed.Tie as tie
@@ -13,7 +13,7 @@ abbrev Inv-loop : tie.InvT-loop
 Inv-loop chunk line₀ main₀ spare₀ ram₀ out₀ q₀ i₀ line main spare ram out q i =
     (i ≤ length chunk) × (length line ≡ length line₀) × (length main ≡ length main₀) × (length spare ≡ length spare₀) × (length ram ≡ length ram₀) × (length out ≡ length out₀)
     × (q .fill ≤ length line) × (q .printed + (length chunk - i) * 32 ≤ length out)
-    × (keptFeed (kept q₀ line₀ main₀ spare₀ ram₀ out₀) chunk ≡ keptFeed (kept q line main spare ram out) (drop i chunk))
+    × (feed (buffersOf q₀ line₀ main₀ spare₀ ram₀ out₀) chunk ≡ feed (buffersOf q line main spare ram out) (drop i chunk))
 
 abbrev μ-loop : tie.MeasureT-loop
 μ-loop chunk line₀ main₀ spare₀ ram₀ out₀ q₀ i₀ line main spare ram out q i = length chunk - i
@@ -38,7 +38,7 @@ loop-again c =
     let n = c .before .before .before .before .before .before .before .before .before .before in
     let l = n .before .before .before .before .before .before .before .before in
     let x = l .before .before .before .before .before .before .before .args in
-    let k = kept (l .loop .q) (l .loop .line) (l .loop .main) (l .loop .spare) (l .loop .ram) (l .loop .out) in (
+    let k = buffersOf (l .loop .q) (l .loop .line) (l .loop .main) (l .loop .spare) (l .loop .ram) (l .loop .out) in (
       omega arith,
       omega arith,
       omega arith,
@@ -47,8 +47,8 @@ loop-again c =
       omega arith,
       omega (arith, n .next-byte .ensures .1),
       omega (arith, n .next-byte .ensures .1),
-      feed-more (keptFeed (kept (x .p) (x .line .now) (x .main .now) (x .spare .now) (x .ram .now) (x .out .now)) (x .chunk .now)) k
-          (kept (n .next-byte .result) (n .next-byte .last .1 .1 .0) (n .next-byte .last .1 .1 .1 .0) (n .next-byte .last .1 .1 .1 .1 .0) (n .next-byte .last .1 .1 .1 .1 .1 .0) (n .next-byte .last .1 .1 .1 .1 .1 .1 .0))
+      feed-more (feed (buffersOf (x .p) (x .line .now) (x .main .now) (x .spare .now) (x .ram .now) (x .out .now)) (x .chunk .now)) k
+          (buffersOf (n .next-byte .result) (n .next-byte .last .1 .1 .0) (n .next-byte .last .1 .1 .1 .0) (n .next-byte .last .1 .1 .1 .1 .0) (n .next-byte .last .1 .1 .1 .1 .1 .0) (n .next-byte .last .1 .1 .1 .1 .1 .1 .0))
           (x .chunk .now) (l .loop .i) (omega arith) (l .loop .inv .8) (n .next-byte .ensures .0),
     )
 
@@ -71,7 +71,7 @@ returns : tie.Need-returns Inv-loop μ-loop
 returns c =
     let l = c .before in
     let x = l .before .before .before .before .before .before .before .args in
-    let k = kept (l .loop .q) (l .loop .line) (l .loop .main) (l .loop .spare) (l .loop .ram) (l .loop .out) in
+    let k = buffersOf (l .loop .q) (l .loop .line) (l .loop .main) (l .loop .spare) (l .loop .ram) (l .loop .out) in
     (sym (l .loop .inv .8 ∙ feed-end k (x .chunk .now) (l .loop .i) (omega arith)), (omega arith, omega arith))
 
 pub feed-spec : {M : Type 1} → statement M

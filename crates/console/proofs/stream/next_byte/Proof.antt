@@ -2,9 +2,9 @@
 use borrow.Author.Needs.{needs}
 use borrow.Author.Tests.{eq-eqb}
 use native.Mathlib.Omega.{arith}
-use Rattle.console.specs.Kept.{keptByte}
-use Rattle.console.specs.Contract.{kept}
-use Rattle.console.proofs.stream.Laws.{add-kept}
+use Rattle.console.specs.Buffers.{nextByte}
+use Rattle.console.specs.Contract.{buffersOf}
+use Rattle.console.proofs.stream.Laws.{add-byte}
 use Rattle.console.proofs.stream.next_byte.Statement.{statement}
 use Rattle.console.proofs.stream.next_byte.Tie as tie
 
@@ -27,7 +27,7 @@ same-length-5 : tie.Need-same-length-5
 same-length-5 c = search needs
 
 returns : tie.Need-returns
-unfolding keptByte
+unfolding nextByte
 returns c =
     let e = c .before .before .before .before .before .before .before .before in
     let b = e .before .before .before .before .before .before in
@@ -45,8 +45,8 @@ returns-2 c =
     let a = c .before .before in
     let b = a .before .before .before in
     let x = b .before .before .before .before .before .before .args in
-    let k = kept (x .p) (x .line .now) (x .main .now) (x .spare .now) (x .ram .now) (x .out .now) in
-    (add-kept k (x .c) (a .add-byte .result) (a .add-byte .last .0) (b .if1 .left) (a .add-byte .ensures .0 .0) (a .add-byte .ensures .0 .1), (a .add-byte .ensures .1, omega arith))
+    let k = buffersOf (x .p) (x .line .now) (x .main .now) (x .spare .now) (x .ram .now) (x .out .now) in
+    (add-byte k (x .c) (a .add-byte .result) (a .add-byte .last .0) (b .if1 .left) (a .add-byte .ensures .0 .0) (a .add-byte .ensures .0 .1), (a .add-byte .ensures .1, omega arith))
 
 pub next-byte-spec : {M : Type 1} → statement M
 next-byte-spec =

@@ -4,29 +4,29 @@ use mathlib.Core.List.{List, [], _∷_}
 use Prim.Native.Nat.{ℕ, zero, suc, _+_, _≤_, _<_}
 use native.Mathlib.Omega.{arith}
 use lib.ListN.{length, getD, take, drop}
-use Rattle.script.specs.Lines.{bad, number, fields, one, two, three, lettered, requestOf, request}
+use Rattle.script.specs.Lines.{bad, number, fields, oneNumber, twoNumbers, threeNumbers, letterRequest, wordsRequest, request}
 use Rattle.script.specs.FirstWord.{wordLength, after, fields-word, fields-last, fields-next}
 
 -- ---- the words after the letter
 
 module _ (c : ℕ) (l : List ℕ) (a : ℕ) (al : a ≡ wordLength l) where
-  pub one-word : a ≡ length l → lettered c (fields l) ≡ one c (number (take a l))
+  pub one-word : a ≡ length l → letterRequest c (fields l) ≡ oneNumber c (number (take a l))
   one-word e = rw (fields-last l a al e)
 
   module _ (h : a < length l) (m : List ℕ) (lm : m ≡ drop (a + 1) l) (b : ℕ) (bm : b ≡ wordLength m) where
-    pub two-words : b ≡ length m → lettered c (fields l) ≡ two c (number (take a l)) (number (take b m))
+    pub two-words : b ≡ length m → letterRequest c (fields l) ≡ twoNumbers c (number (take a l)) (number (take b m))
     two-words e = rw (fields-next l m a al h lm, fields-last m b bm e)
 
     module _ (k : b < length m) (n : List ℕ) (mn : n ≡ drop (b + 1) m) (d : ℕ) (dn : d ≡ wordLength n) where
-      pub three-words : d ≡ length n → lettered c (fields l) ≡ three c (number (take a l)) (number (take b m)) (number (take d n))
+      pub three-words : d ≡ length n → letterRequest c (fields l) ≡ threeNumbers c (number (take a l)) (number (take b m)) (number (take d n))
       three-words e = rw (fields-next l m a al h lm, fields-next m n b bm k mn, fields-last n d dn e)
 
-      pub more-words : d < length n → lettered c (fields l) ≡ bad
+      pub more-words : d < length n → letterRequest c (fields l) ≡ bad
       more-words j = rw (fields-next l m a al h lm, fields-next m n b bm k mn, fields-next n (drop (d + 1) n) d dn j refl, fields-word (drop (d + 1) n))
 
 -- ---- the letter
 
-first : (n : ℕ) (l : List ℕ) (ws : List (List ℕ)) → n ≤ length l → (n ≡ 1 → ⊥) → requestOf (take n l ∷ ws) ≡ bad
+first : (n : ℕ) (l : List ℕ) (ws : List (List ℕ)) → n ≤ length l → (n ≡ 1 → ⊥) → wordsRequest (take n l ∷ ws) ≡ bad
 first zero l ws h e = refl
 first (suc zero) l ws h e = absurd (e refl)
 first (suc (suc n)) [] ws h e = absurd (omega arith)
@@ -42,7 +42,7 @@ unfolding request
 no-words [] w h = absurd (omega arith)
 no-words (c ∷ cs) w h = rw (fields-last (c ∷ cs) 1 w (omega arith))
 
-pub letter : (l m : List ℕ) → 1 ≡ wordLength l → 1 < length l → m ≡ drop 2 l → request l ≡ lettered (getD l 0 0) (fields m)
+pub letter : (l m : List ℕ) → 1 ≡ wordLength l → 1 < length l → m ≡ drop 2 l → request l ≡ letterRequest (getD l 0 0) (fields m)
 unfolding request
 letter [] m w h e = absurd (omega arith)
 letter (c ∷ cs) m w h e = rw (fields-next (c ∷ cs) m 1 w h e)

@@ -1,4 +1,4 @@
--- The reader's answers as the definitions of Lines have them.
+-- The reader's numbers and requests as the definitions of Lines have them.
 use mathlib.Core.Option.{Option, none, some}
 use Prim.Native.Nat.{ℕ}
 use Rattle.layout.specs.Items.{recordOf}
@@ -14,10 +14,10 @@ numberOf No = none
 numberOf (Value v) = some v
 
 -- "goal and free word are 0"
-abbrev pub asked : Request → lines.Request
-asked Bad = lines.bad
-asked (Format S R D) = lines.format S R D
-asked (Insert key moves) = lines.call (insert (recordOf key moves 0 0))
-asked (Update key moves) = lines.call (update (recordOf key moves 0 0))
-asked (Delete key) = lines.call (delete key)
-asked (Lookup key) = lines.call (lookup key)
+abbrev pub requestOf : Request → lines.Request
+requestOf Bad = lines.bad
+requestOf (Format S R D) = lines.format S R D
+requestOf (Insert key moves) = lines.call (insert (recordOf key moves 0 0))
+requestOf (Update key moves) = lines.call (update (recordOf key moves 0 0))
+requestOf (Delete key) = lines.call (delete key)
+requestOf (Lookup key) = lines.call (lookup key)
