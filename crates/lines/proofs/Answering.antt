@@ -21,7 +21,7 @@ use Rattle.lookup.specs.Looked.{lookedOf, looked, partOf}
 use Rattle.script.specs.Lines.{Request, request}
 use Rattle.script.specs.Answers.{text}
 use Rattle.script.specs.Answers as answers
-use Rattle.answers.specs.Values.{answerOf}
+use Rattle.script.specs.Values.{answerOf}
 use Rattle.script.specs.Script.{resultAnswer, resultReply, perform}
 use Rattle.script.specs.Script as script
 use Rattle.lines.specs.Contract.{replyOf, changeAnswer, afterLine, answerLine}

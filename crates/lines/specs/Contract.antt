@@ -10,11 +10,11 @@ use Rattle.state.specs.Contract.{volume}
 use Rattle.state.specs.declared.Change.{Change}
 use Rattle.script.specs.Lines.{request}
 use Rattle.script.specs.Answers.{text}
-use Rattle.answers.specs.Values.{answerOf}
+use Rattle.script.specs.Values.{answerOf}
 use Rattle.script.specs.Script.{perform}
 use Rattle.script.specs.Script as script
-use Rattle.answers.specs.declared.Answer.{Answer}
-use Rattle.answers.specs.declared.Answer.the-variants.{Ok, No}
+use Rattle.script.specs.declared.answers.Answer.{Answer}
+use Rattle.script.specs.declared.answers.Answer.the-variants.{Ok, No}
 use Rattle.lines.specs.declared.Reply.{Reply}
 use Rattle.lines.specs.declared.LineReply.{LineReply}
 

@@ -8,13 +8,12 @@ ghost use Rattle.layout.specs.Items.{recordOf};
 ghost use Rattle.layout.specs.Calls.{lookup};
 ghost use Rattle.state.specs.Contract.{recordIs, volume, given};
 ghost use Rattle.script.specs.Lines.{call};
-ghost use Rattle.script.specs.Values.{requestOf};
-ghost use Rattle.answers.specs.Values.{answerOf};
+ghost use Rattle.script.specs.Values.{requestOf, answerOf};
 ghost use Rattle.script.specs.Script.{perform};
 ghost use Rattle.lines.specs.Contract.{replyOf, changeAnswer, afterLine, answerLine};
-use answers::Answer;
 use geometry::Sizes;
 use script::Request;
+use script::answers::Answer;
 use state::Change;
 use state::Record;
 use state::State;
@@ -148,7 +147,7 @@ pub fn answer_line(
     let p = perform(s, q, main, spare, ram);
     let next = p.state;
     let answer = p.answer;
-    let length = answers::put_answer(out, answer);
+    let length = script::answers::put_answer(answer, out);
     LineReply {
         state: next,
         length,

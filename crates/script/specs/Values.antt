@@ -1,13 +1,16 @@
--- The reader's numbers and requests as the definitions of Lines have them.
+-- The code's numbers, requests and answers as the definitions have them.
 use mathlib.Core.Option.{Option, none, some}
 use Prim.Native.Nat.{ℕ}
 use Rattle.layout.specs.Items.{recordOf}
 use Rattle.layout.specs.Calls.{insert, update, delete, lookup}
 use Rattle.script.specs.Lines as lines
+use Rattle.script.specs.Answers as answers
 use Rattle.script.specs.declared.Number.{Number}
 use Rattle.script.specs.declared.Number.the-variants.{No, Value}
 use Rattle.script.specs.declared.Request.{Request}
 use Rattle.script.specs.declared.Request.the-variants.{Bad, Format, Insert, Update, Delete, Lookup}
+use Rattle.script.specs.declared.answers.Answer.{Answer}
+use Rattle.script.specs.declared.answers.Answer.the-variants as answer
 
 abbrev pub numberOf : Number → Option ℕ
 numberOf No = none
@@ -21,3 +24,10 @@ requestOf (Insert key moves) = lines.call (insert (recordOf key moves 0 0))
 requestOf (Update key moves) = lines.call (update (recordOf key moves 0 0))
 requestOf (Delete key) = lines.call (delete key)
 requestOf (Lookup key) = lines.call (lookup key)
+
+abbrev pub answerOf : Answer → answers.Answer
+answerOf (answer.Ok n d) = answers.ok n d
+answerOf (answer.Hit moves count) = answers.hit moves count
+answerOf (answer.Miss count) = answers.miss count
+answerOf (answer.No number) = answers.no number
+answerOf answer.Bad = answers.bad

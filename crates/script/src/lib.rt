@@ -1,4 +1,7 @@
-// The reader of a script's lines. Document 01, "Replay program"; the definitions of the replay program are in `specs`.
+// The reader of a script's lines; the writer of their answers is `answers`. Document 01, "Replay program"; the definitions of the
+// replay program are in `specs`.
+pub mod answers;
+
 ghost use mathlib.Core.Path.{_≡_};
 ghost use Prim.Native.Nat.{_+_, _-_, _≤_, _<_};
 ghost use lib.ListN.{length, take, drop};

@@ -34,7 +34,7 @@ returns c =
     let q = d .before .before .before .before .parse-line in
     let x = c .before .before .before .before .before .before .before .before .before .before .before .before .before .before .before .before .before .before .before .before .before .args in
     line-answer (d .perform .result) (volume (x .s) (x .main .now) (x .spare .now) (x .ram .now)) (requestOf (q .result)) (x .line .now)
-    (d .perform .last .1 .1 .0) (d .perform .last .1 .1 .1 .0) (d .perform .last .1 .1 .1 .1 .0) (x .out .now) (w .last .0) (w .result)
+    (d .perform .last .1 .1 .0) (d .perform .last .1 .1 .1 .0) (d .perform .last .1 .1 .1 .1 .0) (x .out .now) (w .last .1 .0) (w .result)
     (q .ensures) (d .perform .ensures) (w .ensures .0) (w .ensures .1 .1)
 
 pub answer-line-spec : {M : Type 1} → statement M

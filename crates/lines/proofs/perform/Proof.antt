@@ -5,7 +5,7 @@ use Rattle.layout.specs.Hash.{fnvFamily}
 use Rattle.layout.specs.Items.{Record, recordOf}
 use Rattle.layout.specs.Calls as calls
 use Rattle.state.specs.Contract.{volume, seen}
-use Rattle.answers.specs.Values.{answerOf}
+use Rattle.script.specs.Values.{answerOf}
 use Rattle.script.specs.Script.{perform}
 use Rattle.lines.proofs.Answering.{change-reply, lookup-reply}
 use borrow.Author.Needs.{needs}

@@ -3,10 +3,10 @@ use native.Mathlib.Omega.{arith}
 use Prim.Native.Nat.{_+_, _/_, _^_, _≤_, _<_}
 use mathlib.Core.Path.{_≡_, ap}
 use lib.ListN.{length, length-append}
 use Rattle.script.specs.Answers.{decimal}
-use Rattle.answers.specs.Written.{decimal-one, decimal-more, decimal-length, decimal-there}
-use Rattle.answers.proofs.digits_of.Statement.{statement}
-use Rattle.answers.proofs.digits_of.Tie as tie
+use Rattle.script.specs.Written.{decimal-one, decimal-more, decimal-length, decimal-there}
+use Rattle.script.proofs.answers.digits_of.Statement.{statement}
+use Rattle.script.proofs.answers.digits_of.Tie as tie
 
 abbrev Inv-loop : tie.InvT-loop
 Inv-loop n left₀ k₀ left k = (left < 2 ^ 32) × (k ≤ 10) × (length (decimal n) + 1 ≡ length (decimal left) + k)

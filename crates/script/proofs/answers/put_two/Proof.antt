@@ -2,10 +2,10 @@
 use borrow.Author.Needs.{needs}
 use native.Mathlib.Omega.{arith}
 use mathlib.Core.List.{[], _∷_, _++_}
 use Rattle.script.specs.Answers.{decimal}
-use Rattle.answers.specs.Written.{write-three}
-use Rattle.answers.proofs.put_two.Statement.{statement}
-use Rattle.answers.proofs.put_two.Tie as tie
+use Rattle.script.specs.Written.{write-three}
+use Rattle.script.proofs.answers.put_two.Statement.{statement}
+use Rattle.script.proofs.answers.put_two.Tie as tie
 
 copy-at-requires : tie.Need-copy-at-requires
 copy-at-requires c κs = search needs
@@ -26,7 +26,7 @@ returns c =
     let x = a .before .before .before .before .args in
     let k = c .before .before .put-number2 in
     let e =
-    write-three (x .out .now) (a .copy-at .last .0) (b .put-number .last .0) (k .last .0) (x .word .now) (decimal (x .n)) (decimal (x .m) ++ (10 ∷ []))
+    write-three (x .out .now) (a .copy-at .last .0) (b .put-number .last .1 .1 .1 .0) (k .last .1 .1 .1 .0) (x .word .now) (decimal (x .n)) (decimal (x .m) ++ (10 ∷ []))
     (b .put-number .result) (k .result) (a .copy-at .ensures) (b .put-number .ensures .0 .0) (b .put-number .ensures .1) (k .ensures .0 .0) (k .ensures .1) in
     ((e .0, omega arith), e .1)
 

@@ -5,10 +5,10 @@ use Prim.Native.Nat.{_+_}
 use mathlib.Core.Path.{sym, _∙_}
 use mathlib.Core.List.{[], _∷_, _++_}
 use lib.ListN.{length, length-append}
 use Rattle.script.specs.Answers.{decimal}
-use Rattle.answers.specs.Written.{write-then}
-use Rattle.answers.proofs.put_one.Statement.{statement}
-use Rattle.answers.proofs.put_one.Tie as tie
+use Rattle.script.specs.Written.{write-then}
+use Rattle.script.proofs.answers.put_one.Statement.{statement}
+use Rattle.script.proofs.answers.put_one.Tie as tie
 
 copy-at-requires : tie.Need-copy-at-requires
 copy-at-requires c κs = search needs
@@ -27,7 +27,7 @@ returns c =
     let w = x .word .now in
     let t = decimal (x .n) ++ (10 ∷ []) in (
       (k .ensures .0 .0 ∙ sym (length-append w t), k .ensures .0 .1),
-      write-then (x .out .now) (a .copy-at .last .0) (k .last .0) 0 (length w) w t (a .copy-at .ensures) (omega arith) (k .ensures .1),
+      write-then (x .out .now) (a .copy-at .last .0) (k .last .1 .1 .1 .0) 0 (length w) w t (a .copy-at .ensures) (omega arith) (k .ensures .1),
     )
 
 pub put-one-spec : {M : Type 1} → statement M

@@ -6,17 +6,17 @@ use mathlib.Core.Path.{_≡_, refl, sym, ap, _∙_}
 use mathlib.Core.List.{List}
 use lib.ListN.{length, length-set, length-append}
 use Rattle.memory.specs.Lists.{write}
 use Rattle.script.specs.Answers.{decimal}
-use Rattle.answers.specs.Written.{write-byte, write-last, decimal-one, decimal-more, decimal-length, decimal-there}
-use Rattle.answers.proofs.put_decimal.Statement.{statement}
-use Rattle.answers.proofs.put_decimal.Tie as tie
+use Rattle.script.specs.Written.{write-byte, write-last, decimal-one, decimal-more, decimal-length, decimal-there}
+use Rattle.script.proofs.answers.put_decimal.Statement.{statement}
+use Rattle.script.proofs.answers.put_decimal.Tie as tie
 
 abbrev Inv-loop : tie.InvT-loop
-Inv-loop out₀ at n end left₀ i₀ out left i =
+Inv-loop n at out₀ end left₀ i₀ out left i =
     (left < 2 ^ 32) × (i ≡ at + length (decimal left)) × (length out ≡ length out₀) × (write out at (decimal left) ≡ write out₀ at (decimal n))
 
 abbrev μ-loop : tie.MeasureT-loop
-μ-loop out₀ at n end left₀ i₀ out left i = left
+μ-loop n at out₀ end left₀ i₀ out left i = left
 
 digits-of-requires : tie.Need-digits-of-requires Inv-loop μ-loop
 digits-of-requires c κs = search needs

@@ -3,10 +3,10 @@ use borrow.Author.Needs.{needs}
 use native.Mathlib.Omega.{arith}
 use mathlib.Core.List.{[], _∷_}
 use lib.ListN.{length-append}
 use Rattle.script.specs.Answers.{decimal}
-use Rattle.answers.specs.Written.{write-byte, write-then, decimal-length}
-use Rattle.answers.proofs.put_number.Statement.{statement}
-use Rattle.answers.proofs.put_number.Tie as tie
+use Rattle.script.specs.Written.{write-byte, write-then, decimal-length}
+use Rattle.script.proofs.answers.put_number.Statement.{statement}
+use Rattle.script.proofs.answers.put_number.Tie as tie
 
 put-decimal-requires : tie.Need-put-decimal-requires
 put-decimal-requires c κs = search needs
@@ -25,8 +25,8 @@ returns c =
     let x = c .before .before .before .before .before .args in
     let k = c .before .before .put-decimal in (
       simp length-append (omega (arith, decimal-length (x .n))),
-      write-then (x .out .now) (k .last .0) _ (x .at) (k .result) (decimal (x .n)) (x .terminator ∷ []) (k .ensures .1) (k .ensures .0)
-          (write-byte (k .last .0) (k .result) (x .terminator)),
+      write-then (x .out .now) (k .last .1 .1 .0) _ (x .at) (k .result) (decimal (x .n)) (x .terminator ∷ []) (k .ensures .1) (k .ensures .0)
+          (write-byte (k .last .1 .1 .0) (k .result) (x .terminator)),
     )
 
 pub put-number-spec : {M : Type 1} → statement M

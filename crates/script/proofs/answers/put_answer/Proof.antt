@@ -2,9 +2,9 @@
 use borrow.Author.Needs.{needs}
 use native.Mathlib.Omega.{arith}
 use mathlib.Core.Path.{refl}
 use Rattle.script.specs.Answers.{text}
-use Rattle.answers.proofs.put_answer.Statement.{statement}
-use Rattle.answers.proofs.put_answer.Tie as tie
+use Rattle.script.proofs.answers.put_answer.Statement.{statement}
+use Rattle.script.proofs.answers.put_answer.Tie as tie
 
 enum-known-a : tie.Need-enum-known-a
 enum-known-a c = search needs

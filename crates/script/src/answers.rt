@@ -5,9 +5,9 @@ ghost use Prim.Native.Nat.{_+_, _≤_};
 ghost use lib.ListN.{length};
 ghost use Rattle.memory.specs.Lists.{write};
 ghost use Rattle.memory.specs.Lent.{before, after};
 ghost use Rattle.script.specs.Text.{ascii};
 ghost use Rattle.script.specs.Answers.{decimal, text};
-ghost use Rattle.answers.specs.Values.{answerOf};
+ghost use Rattle.script.specs.Values.{answerOf};
 
 // The answer to a line: n and d, a hit's moves and count, a miss's count, or a refusal's number.
 pub enum Answer {
@@ -32,7 +32,7 @@ fn digits_of(n: u32) -> usize
 }
 
 // Writes a number in decimal from `at` on; gives where it ends.
-fn put_decimal(out: &mut [u8], at: usize, n: u32) -> usize
+fn put_decimal(n: u32, at: usize, out: &mut [u8]) -> usize
     requires { ⌜ at + 10 ≤ length (now out) ⌝ }
     ensures { λ r. ⌜ r ≡ at + length (decimal n) ⌝ }
     ensures { λ _. ⌜ after out ≡ write (before out) at (decimal n) ⌝ }
@@ -50,50 +50,50 @@ fn put_decimal(out: &mut [u8], at: usize, n: u32) -> usize
 }
 
 // Writes a number and the byte that ends it from `at` on; gives where they end.
-fn put_number(out: &mut [u8], at: usize, n: u32, terminator: u8) -> usize
+fn put_number(n: u32, terminator: u8, at: usize, out: &mut [u8]) -> usize
     requires { ⌜ at + 11 ≤ length (now out) ⌝ }
     ensures { λ r. ⌜ (r ≡ at + length (decimal n ++ (terminator ∷ []))) × (r ≤ at + 11) ⌝ }
     ensures { λ _. ⌜ after out ≡ write (before out) at (decimal n ++ (terminator ∷ [])) ⌝ }
 {
-    let end = put_decimal(out, at, n);
+    let end = put_decimal(n, at, out);
     out[end] = terminator;
     end + 1
 }
 
 // Writes a word and a number as a line.
-fn put_one(out: &mut [u8], word: &[u8], n: u32) -> usize
+fn put_one(word: &[u8], n: u32, out: &mut [u8]) -> usize
     requires { ⌜ length (now word) + 11 ≤ length (now out) ⌝ }
     ensures { λ r. ⌜ (r ≡ length (before word ++ (decimal n ++ ascii "\n"))) × (r ≤ length (before word) + 11) ⌝ }
     ensures { λ _. ⌜ after out ≡ write (before out) 0 (before word ++ (decimal n ++ ascii "\n")) ⌝ }
 {
     words::copy_at(out, 0, word);
-    put_number(out, word.len(), n, b'\n')
+    put_number(n, b'\n', word.len(), out)
 }
 
 // Writes a word and two numbers as a line.
-fn put_two(out: &mut [u8], word: &[u8], n: u32, m: u32) -> usize
+fn put_two(word: &[u8], n: u32, m: u32, out: &mut [u8]) -> usize
     requires { ⌜ length (now word) + 22 ≤ length (now out) ⌝ }
     ensures { λ r. ⌜ (r ≡ length (before word ++ (decimal n ++ (ascii " " ++ (decimal m ++ ascii "\n")))))
         × (r ≤ length (before word) + 22) ⌝ }
     ensures { λ _. ⌜ after out ≡ write (before out) 0 (before word ++ (decimal n ++ (ascii " " ++ (decimal m ++ ascii "\n")))) ⌝ }
 {
     words::copy_at(out, 0, word);
-    let at = put_number(out, word.len(), n, b' ');
-    put_number(out, at, m, b'\n')
+    let at = put_number(n, b' ', word.len(), out);
+    put_number(m, b'\n', at, out)
 }
 
 // Writes an answer's line at the start of `out`; gives its length.
-pub fn put_answer(out: &mut [u8], a: Answer) -> usize
+pub fn put_answer(a: Answer, out: &mut [u8]) -> usize
     requires { ⌜ 32 ≤ length (now out) ⌝ }
     ensures { λ r. ⌜ r ≡ length (text (answerOf a)) ⌝ }
     ensures { λ r. ⌜ r ≤ 32 ⌝ }
     ensures { λ _. ⌜ after out ≡ write (before out) 0 (text (answerOf a)) ⌝ }
 {
     match a {
-        Answer::Ok(n, d) => put_two(out, b"ok ", n, d),
-        Answer::Hit(moves, count) => put_two(out, b"hit ", moves, count),
-        Answer::Miss(count) => put_one(out, b"miss ", count),
-        Answer::No(number) => put_one(out, b"no ", number),
+        Answer::Ok(n, d) => put_two(b"ok ", n, d, out),
+        Answer::Hit(moves, count) => put_two(b"hit ", moves, count, out),
+        Answer::Miss(count) => put_one(b"miss ", count, out),
+        Answer::No(number) => put_one(b"no ", number, out),
         Answer::Bad => {
             words::copy_at(out, 0, b"bad\n");
             4
