@@ -2,5 +2,5 @@ pub mod Buffers
 pub mod Contract
 pub mod BufferLaws
 pub mod Stream
-pub mod Turns
-pub mod Whole
+pub mod Chunks
+pub mod WholeInput

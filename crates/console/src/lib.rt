@@ -6,13 +6,13 @@ ghost use mathlib.Core.Path.{_≡_};
 ghost use mathlib.Core.Bool.{true, false, cond};
 ghost use mathlib.Core.List.{List};
 ghost use Prim.Native.Nat.{ℕ, _*_, _-_, _≤_, _<_};
-ghost use lib.ListN.{length, take};
+ghost use lib.ListN.{length};
 ghost use Rattle.memory.specs.Lent.{before, after};
 ghost use Rattle.laws.specs.LentFlash.{flashAfter};
 ghost use Rattle.console.specs.Buffers.{feed, close};
 ghost use Rattle.console.specs.Contract.{buffersBefore, buffersAfter};
 ghost use Rattle.console.specs.Stream.{leaves};
-ghost use Rattle.console.specs.Turns.{afterTurn, TurnFeeds, noState, blank, first, turns, ends, Short, Leaves};
+ghost use Rattle.console.specs.Chunks.{afterChunk, FeedsPrefix, noState, unformatted, initial, feedAll, closeIf, Short, Leaves};
 use geometry::Sizes;
 use libc::STDERR_FILENO;
 use libc::STDIN_FILENO;
@@ -20,10 +20,10 @@ use libc::STDOUT_FILENO;
 use state::State;
 use stream::Progress;
 
-// What a turn leaves, whether more may come, and whether nothing failed.
-struct Turn {
+// What a chunk leaves, whether the input continues, and whether nothing failed.
+struct ChunkResult {
     progress: Progress,
-    more: bool,
+    continues: bool,
     ok: bool,
 }
 
@@ -49,21 +49,21 @@ fn begin() -> Progress
     }
 }
 
-// The next turn of a run: none after the input's end.
-fn turns_left(turns: u64, more: bool) -> u64
-    requires { ⌜ 0 < turns ⌝ }
-    ensures { λ r. ⌜ r < turns ⌝ }
-    ensures { λ r. ⌜ r ≡ cond more (turns - 1) 0 ⌝ }
+// How many chunks a run may still read: none where the input does not continue.
+fn chunks_left(left: u64, continues: bool) -> u64
+    requires { ⌜ 0 < left ⌝ }
+    ensures { λ r. ⌜ r < left ⌝ }
+    ensures { λ r. ⌜ r ≡ cond continues (left - 1) 0 ⌝ }
 {
-    if more {
-        return turns - 1;
+    if continues {
+        return left - 1;
     }
     0
 }
 
-// After a turn in which nothing failed: the state and the bytes of an unfinished line; nothing is left to be written.
-fn succeed(state: State, fill: usize, more: bool) -> Turn
-    ensures { λ r. ⌜ (r .more ≡ more) × (r .progress .state ≡ state) × (r .progress .fill ≡ fill) × (r .progress .printed ≡ 0)
+// After a chunk with which nothing failed: the state and the bytes of an unfinished line; nothing is left to be written.
+fn succeed(state: State, fill: usize, continues: bool) -> ChunkResult
+    ensures { λ r. ⌜ (r .continues ≡ continues) × (r .progress .state ≡ state) × (r .progress .fill ≡ fill) × (r .progress .printed ≡ 0)
         × (r .ok ≡ true) ⌝ }
 {
     let progress = Progress {
@@ -71,16 +71,16 @@ fn succeed(state: State, fill: usize, more: bool) -> Turn
         fill,
         printed: 0,
     };
-    Turn {
+    ChunkResult {
         progress,
-        more,
+        continues,
         ok: true,
     }
 }
 
 // After a byte could not be read or written: the reason is told, and an unfinished line is not answered.
-fn fail(state: State, reason: &[u8]) -> Turn
-    ensures { λ r. ⌜ (r .more ≡ false) × (r .progress .state ≡ state) × (r .progress .fill ≡ 0) × (r .progress .printed ≡ 0)
+fn fail(state: State, reason: &[u8]) -> ChunkResult
+    ensures { λ r. ⌜ (r .continues ≡ false) × (r .progress .state ≡ state) × (r .progress .fill ≡ 0) × (r .progress .printed ≡ 0)
         × (r .ok ≡ false) ⌝ }
 {
     io::write_all(STDERR_FILENO, reason);
@@ -89,18 +89,18 @@ fn fail(state: State, reason: &[u8]) -> Turn
         fill: 0,
         printed: 0,
     };
-    Turn {
+    ChunkResult {
         progress,
-        more: false,
+        continues: false,
         ok: false,
     }
 }
 
 // Answers are written: those of a chunk, or the last.
-fn write_answers(q: Progress, out: &[u8]) -> Turn
+fn write_answers(q: Progress, out: &[u8]) -> ChunkResult
     requires { ⌜ q .printed ≤ length (now out) ⌝ }
-    ensures { λ r. ⌜ (r .progress .state ≡ q .state) × (r .progress .fill ≡ cond (r .more) (q .fill) 0) × (r .progress .printed ≡ 0)
-        × (r .ok ≡ r .more) ⌝ }
+    ensures { λ r. ⌜ (r .progress .state ≡ q .state) × (r .progress .fill ≡ cond (r .continues) (q .fill) 0) × (r .progress .printed ≡ 0)
+        × (r .ok ≡ r .continues) ⌝ }
 {
     let printed = q.printed;
     let state = q.state;
@@ -110,30 +110,28 @@ fn write_answers(q: Progress, out: &[u8]) -> Turn
     succeed(state, q.fill, true)
 }
 
-// The lines that end in the first n bytes of a chunk are answered, and the answers are written.
+// The lines that end in a chunk are answered, and the answers are written.
 fn answer_chunk(
     p: Progress,
     chunk: &[u8],
-    n: usize,
     line: &mut [u8],
     main: &mut [u8],
     spare: &mut [u8],
     ram: &mut [u8],
     out: &mut [u8],
-) -> Turn
-    requires { ⌜ (p .fill ≤ length (now line)) × (p .printed ≡ 0) × (n ≤ length (now chunk))
-        × (length (now chunk) * 32 ≤ length (now out)) ⌝ }
+) -> ChunkResult
+    requires { ⌜ (p .fill ≤ length (now line)) × (p .printed ≡ 0) × (length (now chunk) * 32 ≤ length (now out)) ⌝ }
     ensures { λ r. ⌜ (r .progress .fill ≤ length (before line)) × (r .progress .printed ≡ 0) ⌝ }
     ensures { λ r. ⌜ buffersAfter (r .progress) line main spare ram out
-        ≡ afterTurn (r .more) (feed (buffersBefore p line main spare ram out) (take n (before chunk))) ⌝ }
-    ensures { λ r. ⌜ r .ok ≡ r .more ⌝ }
+        ≡ afterChunk (r .continues) (feed (buffersBefore p line main spare ram out) (before chunk)) ⌝ }
+    ensures { λ r. ⌜ r .ok ≡ r .continues ⌝ }
 {
-    let q = stream::feed(p, &chunk[0..n], line, main, spare, ram, out);
+    let q = stream::feed(p, chunk, line, main, spare, ram, out);
     write_answers(q, out)
 }
 
-// A chunk is read and answered.
-fn take_turn(
+// The next chunk is read and answered.
+fn next_chunk(
     p: Progress,
     chunk: &mut [u8],
     line: &mut [u8],
@@ -141,10 +139,10 @@ fn take_turn(
     spare: &mut [u8],
     ram: &mut [u8],
     out: &mut [u8],
-) -> Turn
+) -> ChunkResult
     requires { ⌜ (p .fill ≤ length (now line)) × (p .printed ≡ 0) × (length (now chunk) * 32 ≤ length (now out)) ⌝ }
     ensures { λ r. ⌜ (r .progress .fill ≤ length (before line)) × (r .progress .printed ≡ 0) ⌝ }
-    ensures { λ r. ⌜ TurnFeeds r (buffersBefore p line main spare ram out) (after chunk)
+    ensures { λ r. ⌜ FeedsPrefix r (buffersBefore p line main spare ram out) (after chunk)
         (buffersAfter (r .progress) line main spare ram out) ⌝ }
 {
     let got = libc::read(STDIN_FILENO, chunk);
@@ -156,7 +154,7 @@ fn take_turn(
     if n == 0 {
         return succeed(state, p.fill, false);
     }
-    answer_chunk(p, chunk, n, line, main, spare, ram, out)
+    answer_chunk(p, &chunk[0..n], line, main, spare, ram, out)
 }
 
 // The input's end.
@@ -177,7 +175,7 @@ fn finish(
     write_answers(q, out);
 }
 
-// The whole input; the answer is whether its end was reached. A proved loop ends, so it counts its turns down from a number that no run
+// The whole input; the answer is whether its end was reached. A proved loop ends, so it counts its chunks down from a number that no run
 // uses up.
 pub fn run(
     chunk: &mut [u8],
@@ -189,20 +187,20 @@ pub fn run(
 ) -> bool
     requires { ⌜ (length (now chunk) * 32 ≤ length (now out)) × (32 ≤ length (now out)) ⌝ }
     ensures { λ r. ⌜ ((chunks : List (List ℕ)) × Short (length (before chunk)) chunks
-        × Leaves (ends r (turns (first (before line) (before main) (before spare) (before ram) (before out)) chunks))
+        × Leaves (closeIf r (feedAll (initial (before line) (before main) (before spare) (before ram) (before out)) chunks))
         (after line) (after main) (after spare) (after ram) (after out)) ⌝ }
     ensures { λ r. ⌜ (length (before line) ≡ 64 → ((input : List ℕ)
-        × (flashAfter main spare ≡ leaves r (blank (before main) (before spare) (before ram)) input .flash)
-        × (after ram ≡ leaves r (blank (before main) (before spare) (before ram)) input .ram))) ⌝ }
+        × (flashAfter main spare ≡ leaves r (unformatted (before main) (before spare) (before ram)) input .flash)
+        × (after ram ≡ leaves r (unformatted (before main) (before spare) (before ram)) input .ram))) ⌝ }
 {
     let mut p = begin();
-    let mut turns = u64::MAX;
+    let mut left = u64::MAX;
     let mut ok = true;
-    while turns > 0 {
-        let t = take_turn(p, chunk, line, main, spare, ram, out);
-        p = t.progress;
-        ok = t.ok;
-        turns = turns_left(turns, t.more);
+    while left > 0 {
+        let r = next_chunk(p, chunk, line, main, spare, ram, out);
+        p = r.progress;
+        ok = r.ok;
+        left = chunks_left(left, r.continues);
     }
     finish(p, line, main, spare, ram, out);
     ok

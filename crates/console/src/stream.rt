@@ -20,7 +20,7 @@ pub struct Progress {
 }
 
 // A byte of a line is kept as long as the buffer has room.
-fn add_byte(line: &mut [u8], fill: usize, c: u8) -> usize
+fn add_byte(c: u8, fill: usize, line: &mut [u8]) -> usize
     requires { ⌜ fill ≤ length (now line) ⌝ }
     ensures { λ r. ⌜ (r ≡ cond (ltb fill (length (before line))) (fill + 1) fill) × (after line ≡ write (before line) fill (c ∷ [])) ⌝ }
     ensures { λ r. ⌜ r ≤ length (before line) ⌝ }
@@ -76,7 +76,7 @@ fn next_byte(
         return end_line(p, line, main, spare, ram, out);
     }
     let state = p.state;
-    let fill = add_byte(line, p.fill, c);
+    let fill = add_byte(c, p.fill, line);
     Progress {
         state,
         fill,

@@ -1,28 +1,19 @@
 -- The bytes of the chunk are fed; then the answers are written, or not.
 use borrow.Author.Needs.{needs}
 use native.Mathlib.Omega.{arith}
-use Prim.Native.Nat.{ℕ, _-_, _≤_}
+use Prim.Native.Nat.{ℕ, _≤_}
 use mathlib.Core.Bool.{Bool, true, false, cond}
 use mathlib.Core.Path.{_≡_}
-use lib.ListN.{length, take}
+use lib.ListN.{length}
 use Rattle.console.specs.Buffers.{feed}
 use Rattle.console.specs.Contract.{buffersOf}
-use Rattle.console.proofs.Laws.{turn-is}
+use Rattle.console.proofs.Laws.{chunk-is}
 use Rattle.console.proofs.answer_chunk.Statement.{statement}
 use Rattle.console.proofs.answer_chunk.Tie as tie
 use Rattle.console.proofs.answer_chunk.Reads as reads
 use Rattle.console.proofs.answer_chunk.Lts as lts
 use Rattle.console.proofs.write_answers.Reads as write-answers-reads
 use Rattle.console.proofs.stream.feed.Reads as feed-reads
-
-sub-feed : tie.Need-sub-feed
-sub-feed c = search needs
-
-part-feed-start : tie.Need-part-feed-start
-part-feed-start c = search needs
-
-part-feed-end : tie.Need-part-feed-end
-part-feed-end c = search needs
 
 feed-requires : tie.Need-feed-requires
 feed-requires c κs = search needs
@@ -53,20 +44,22 @@ filled false e h = omega (arith, e)
 returns : tie.Need-returns
 returns c =
     let g = c .before .before .before .before .before .before .before .before .before .before .before .before in
-    let x = g .before .before .before .before .before .before .before .before .before .before .before .before .before .args in
+    let x = g .before .before .before .before .before .before .before .before .before .before .before .before .args in
     let e = c .write-answers .ensures in
     let f : g .feed .result .fill ≤ length (x .line .now) = omega (arith, g .feed .ensures .1) in
-    let z : x .n - 0 ≡ x .n = omega arith in
-    let k : buffersOf (g .feed .result) (g .feed .last .1 .1 .0) (g .feed .last .1 .1 .1 .0) (g .feed .last .1 .1 .1 .1 .0) (g .feed .last .1 .1 .1 .1 .1 .0) (g .feed .last .1 .1 .1 .1 .1 .1 .0) ≡ feed (buffersOf (x .p) (x .line .now) (x .main .now) (x .spare .now) (x .ram .now) (x .out .now)) (take (x .n) (x .chunk .now)) = rw z at (g .feed .ensures .0) in
-    ((filled (c .write-answers .result .more) (e .1) f, e .2), (turn-is (c .write-answers .result) (g .feed .result) (feed (buffersOf (x .p) (x .line .now) (x .main .now) (x .spare .now) (x .ram .now) (x .out .now)) (take (x .n) (x .chunk .now))) (g .feed .last .1 .1 .0) (g .feed .last .1 .1 .1 .0) (g .feed .last .1 .1 .1 .1 .0) (g .feed .last .1 .1 .1 .1 .1 .0) (g .feed .last .1 .1 .1 .1 .1 .1 .0) k (e .0) (e .1) (e .2), e .3))
+    let k = feed (buffersOf (x .p) (x .line .now) (x .main .now) (x .spare .now) (x .ram .now) (x .out .now)) (x .chunk .now) in (
+      (filled (c .write-answers .result .continues) (e .1) f, e .2),
+      (
+        chunk-is (c .write-answers .result) (g .feed .result) k (g .feed .last .1 .1 .0) (g .feed .last .1 .1 .1 .0) (g .feed .last .1 .1 .1 .1 .0)
+            (g .feed .last .1 .1 .1 .1 .1 .0) (g .feed .last .1 .1 .1 .1 .1 .1 .0) (g .feed .ensures .0) (e .0) (e .1) (e .2),
+        e .3,
+      ),
+    )
 
 pub answer-chunk-spec : {M : Type 1} → statement M
 answer-chunk-spec =
     tie.close
     (tie.spec
-    sub-feed
-    part-feed-start
-    part-feed-end
     feed-requires
     write-answers-requires
     same-length

@@ -1,4 +1,4 @@
--- Before each turn stands what the chunks so far make of the lent bytes; the buffers keep their lengths.
+-- Before each chunk stands what the chunks so far make of the lent bytes; the buffers keep their lengths.
 use borrow.Author.Needs.{needs}
 use native.Mathlib.Omega.{arith}
 use Prim.Native.Nat.{ℕ, _≤_, _<_}
@@ -6,20 +6,20 @@ use mathlib.Core.Path.{_≡_, refl}
 use mathlib.Core.List.{List}
 use lib.ListN.{length}
 use Rattle.console.specs.Contract.{buffersOf}
-use Rattle.console.specs.Turns.{first, turns, ends, Short, Leaves}
-use Rattle.console.specs.Whole.{run-leaves}
+use Rattle.console.specs.Chunks.{initial, feedAll, closeIf, Short, Leaves}
+use Rattle.console.specs.WholeInput.{run-leaves}
 use Rattle.console.proofs.Laws.{SoFar, so-far-first, so-far-more, so-far-ends}
 use Rattle.console.proofs.run.Statement.{statement}
 use Rattle.console.proofs.run.Tie as tie
 
 abbrev Inv-loop : tie.InvT-loop
-Inv-loop chunk₀ line₀ main₀ spare₀ ram₀ out₀ p₀ turns₀ ok₀ chunk line main spare ram out p turns ok =
+Inv-loop chunk₀ line₀ main₀ spare₀ ram₀ out₀ p₀ left₀ ok₀ chunk line main spare ram out p left ok =
     (p .fill ≤ length line) × (p .printed ≡ 0) × (length chunk ≡ length chunk₀) × (length line ≡ length line₀) × (length main ≡ length main₀)
     × (length spare ≡ length spare₀) × (length ram ≡ length ram₀) × (length out ≡ length out₀)
-    × SoFar (buffersOf p₀ line₀ main₀ spare₀ ram₀ out₀) (length chunk₀) turns ok (buffersOf p line main spare ram out)
+    × SoFar (buffersOf p₀ line₀ main₀ spare₀ ram₀ out₀) (length chunk₀) left ok (buffersOf p line main spare ram out)
 
 abbrev μ-loop : tie.MeasureT-loop
-μ-loop chunk₀ line₀ main₀ spare₀ ram₀ out₀ p₀ turns₀ ok₀ chunk line main spare ram out p turns ok = turns
+μ-loop chunk₀ line₀ main₀ spare₀ ram₀ out₀ p₀ left₀ ok₀ chunk line main spare ram out p left ok = left
 
 begin-requires : tie.Need-begin-requires Inv-loop μ-loop
 begin-requires c κs = search needs
@@ -38,40 +38,40 @@ loop-holds c =
       so-far-first (buffersOf (c .begin .result) (x .line .now) (x .main .now) (x .spare .now) (x .ram .now) (x .out .now)) (length (x .chunk .now)) _,
     )
 
-take-turn-requires : tie.Need-take-turn-requires Inv-loop μ-loop
-take-turn-requires c κs = omega arith
+next-chunk-requires : tie.Need-next-chunk-requires Inv-loop μ-loop
+next-chunk-requires c κs = omega arith
 
-turns-left-requires : tie.Need-turns-left-requires Inv-loop μ-loop
-turns-left-requires c κs = search needs
+chunks-left-requires : tie.Need-chunks-left-requires Inv-loop μ-loop
+chunks-left-requires c κs = search needs
 
 loop-less : tie.Need-loop-less Inv-loop μ-loop
 loop-less c = omega arith
 
--- one turn more
-again : (c : tie.After-turns-left Inv-loop μ-loop)
+-- one chunk more
+again : (c : tie.After-chunks-left Inv-loop μ-loop)
     → let t = c .before .before .before .before .before .before .before .before .before .before .before .before .before .before in
     let b = t .before .before .before .before .before .before .before .before .before in
     let x = b .before .before .before .before .before .before .before .args in
-    let k = t .take-turn in
-    SoFar (buffersOf (b .begin .result) (x .line .now) (x .main .now) (x .spare .now) (x .ram .now) (x .out .now)) (length (x .chunk .now)) (c .turns-left .result) (k .result .ok)
+    let k = t .next-chunk in
+    SoFar (buffersOf (b .begin .result) (x .line .now) (x .main .now) (x .spare .now) (x .ram .now) (x .out .now)) (length (x .chunk .now)) (c .chunks-left .result) (k .result .ok)
     (buffersOf (k .result .progress) (k .last .1 .1 .0) (k .last .1 .1 .1 .0) (k .last .1 .1 .1 .1 .0) (k .last .1 .1 .1 .1 .1 .0) (k .last .1 .1 .1 .1 .1 .1 .0))
 again c =
-    let full : length (c .before .before .before .before .before .before .before .before .before .before .before .before .before .before .take-turn .last .1 .0) ≡ length (c .before .before .before .before .before .before .before .before .before .before .before .before .before .before .before .before .before .before .before .before .before .before .before .before .before .before .before .before .before .before .args .chunk .now) = omega arith in
-    let pos : 0 < c .before .before .before .before .before .before .before .before .before .before .before .before .before .before .before .before .before .before .before .before .before .before .loop .turns = omega arith in
+    let full : length (c .before .before .before .before .before .before .before .before .before .before .before .before .before .before .next-chunk .last .1 .0) ≡ length (c .before .before .before .before .before .before .before .before .before .before .before .before .before .before .before .before .before .before .before .before .before .before .before .before .before .before .before .before .before .before .args .chunk .now) = omega arith in
+    let pos : 0 < c .before .before .before .before .before .before .before .before .before .before .before .before .before .before .before .before .before .before .before .before .before .before .loop .left = omega arith in
     let t = c .before .before .before .before .before .before .before .before .before .before .before .before .before .before in
     let l = t .before .before .before .before .before .before .before .before in
     let b = l .before in
     let x = b .before .before .before .before .before .before .before .args in
-    let k = t .take-turn in
+    let k = t .next-chunk in
     so-far-more (buffersOf (b .begin .result) (x .line .now) (x .main .now) (x .spare .now) (x .ram .now) (x .out .now)) (buffersOf (l .loop .p) (l .loop .line) (l .loop .main) (l .loop .spare) (l .loop .ram) (l .loop .out))
     (buffersOf (k .result .progress) (k .last .1 .1 .0) (k .last .1 .1 .1 .0) (k .last .1 .1 .1 .1 .0) (k .last .1 .1 .1 .1 .1 .0) (k .last .1 .1 .1 .1 .1 .1 .0))
-    (length (x .chunk .now)) (l .loop .turns) (c .turns-left .result) (l .loop .ok) (k .result) (k .last .1 .0)
-    (l .loop .inv .8) pos (k .ensures .1) full (c .turns-left .ensures .1)
+    (length (x .chunk .now)) (l .loop .left) (c .chunks-left .result) (l .loop .ok) (k .result) (k .last .1 .0)
+    (l .loop .inv .8) pos (k .ensures .1) full (c .chunks-left .ensures .1)
 
 loop-again : tie.Need-loop-again Inv-loop μ-loop
 loop-again c = (
-  omega (arith, c .before .before .before .before .before .before .before .before .before .before .before .before .before .before .take-turn .ensures .0),
-  c .before .before .before .before .before .before .before .before .before .before .before .before .before .before .take-turn .ensures .0 .1,
+  omega (arith, c .before .before .before .before .before .before .before .before .before .before .before .before .before .before .next-chunk .ensures .0),
+  c .before .before .before .before .before .before .before .before .before .before .before .before .before .before .next-chunk .ensures .0 .1,
   omega arith,
   omega arith,
   omega arith,
@@ -109,10 +109,10 @@ returns c =
     let b = l .before in
     let x = b .before .before .before .before .before .before .before .args in
     let k = f .finish in
-    let h : (chunks : List (List ℕ)) × Short (length (x .chunk .now)) chunks × Leaves (ends (l .loop .ok) (turns (first (x .line .now) (x .main .now) (x .spare .now) (x .ram .now) (x .out .now)) chunks)) (l .loop .line) (k .last .1 .1 .0) (k .last .1 .1 .1 .0) (k .last .1 .1 .1 .1 .0) (k .last .1 .1 .1 .1 .1 .0) =
+    let h : (chunks : List (List ℕ)) × Short (length (x .chunk .now)) chunks × Leaves (closeIf (l .loop .ok) (feedAll (initial (x .line .now) (x .main .now) (x .spare .now) (x .ram .now) (x .out .now)) chunks)) (l .loop .line) (k .last .1 .1 .0) (k .last .1 .1 .1 .0) (k .last .1 .1 .1 .1 .0) (k .last .1 .1 .1 .1 .1 .0) =
     rw (b .begin .ensures .0) at
     (so-far-ends (buffersOf (b .begin .result) (x .line .now) (x .main .now) (x .spare .now) (x .ram .now) (x .out .now)) (buffersOf (l .loop .p) (l .loop .line) (l .loop .main) (l .loop .spare) (l .loop .ram) (l .loop .out))
-    (length (x .chunk .now)) (l .loop .turns) (l .loop .ok) (k .last .1 .1 .0) (k .last .1 .1 .1 .0) (k .last .1 .1 .1 .1 .0) (k .last .1 .1 .1 .1 .1 .0) (l .loop .inv .8) (k .ensures)) in
+    (length (x .chunk .now)) (l .loop .left) (l .loop .ok) (k .last .1 .1 .0) (k .last .1 .1 .1 .0) (k .last .1 .1 .1 .1 .0) (k .last .1 .1 .1 .1 .1 .0) (l .loop .inv .8) (k .ensures)) in
     (h, λ e. run-leaves (x .line .now) (x .main .now) (x .spare .now) (x .ram .now) (x .out .now) (l .loop .line) (k .last .1 .1 .0) (k .last .1 .1 .1 .0) (k .last .1 .1 .1 .1 .0) (k .last .1 .1 .1 .1 .1 .0) (length (x .chunk .now)) (l .loop .ok) e h)
 
 pub run-spec : {M : Type 1} → statement M
@@ -123,8 +123,8 @@ run-spec =
     μ-loop
     begin-requires
     loop-holds
-    take-turn-requires
-    turns-left-requires
+    next-chunk-requires
+    chunks-left-requires
     loop-less
     loop-again
     finish-requires

@@ -46,7 +46,7 @@ returns-2 c =
     let b = a .before .before .before in
     let x = b .before .before .before .before .before .before .args in
     let k = buffersOf (x .p) (x .line .now) (x .main .now) (x .spare .now) (x .ram .now) (x .out .now) in
-    (add-byte k (x .c) (a .add-byte .result) (a .add-byte .last .0) (b .if1 .left) (a .add-byte .ensures .0 .0) (a .add-byte .ensures .0 .1), (a .add-byte .ensures .1, omega arith))
+    (add-byte k (x .c) (a .add-byte .result) (a .add-byte .last .1 .1 .0) (b .if1 .left) (a .add-byte .ensures .0 .0) (a .add-byte .ensures .0 .1), (a .add-byte .ensures .1, omega arith))
 
 pub next-byte-spec : {M : Type 1} → statement M
 next-byte-spec =

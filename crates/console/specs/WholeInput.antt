@@ -15,7 +15,7 @@ use Rattle.script.specs.Answers.{text}
 use Rattle.script.specs.Script.{perform, prints}
 use Rattle.console.specs.Buffers.{Buffers, endLine, addByte, nextByte, feed, close}
 use Rattle.console.specs.Stream.{Chunk, Roomy, input, start, into, output, outputs, stream-prints, leaves, stream-leaves}
-use Rattle.console.specs.Turns.{blank, first, turns, ends, Short, Leaves}
+use Rattle.console.specs.Chunks.{unformatted, initial, feedAll, closeIf, Short, Leaves}
 
 -- all chunks in one
 unfoldable pub joined : List (List ℕ) → List ℕ
@@ -37,10 +37,10 @@ unfolding feed
 feed-into [] k = refl
 feed-into (c ∷ cs) k = sym (feed-into cs (nextByte (into k []) c)) ∙ ap (λ (m : Buffers). into (feed m cs) []) (byte-into k c) ∙ feed-into cs (nextByte k c)
 
-ends-into : (ended : Bool) (k : Buffers) → ends ended (into k []) .volume ≡ ends ended k .volume
+close-into : (ended : Bool) (k : Buffers) → closeIf ended (into k []) .volume ≡ closeIf ended k .volume
 unfolding close endLine
-ends-into false k = refl
-ends-into true k = go (eqb (k .fill) 0)
+close-into false k = refl
+close-into true k = go (eqb (k .fill) 0)
   where
     go : (b : Bool) → cond b (into k []) (endLine (into k [])) .volume ≡ cond b k (endLine k) .volume
     go true = refl
@@ -53,27 +53,27 @@ unfolding feed
 feed-append k [] ds = refl
 feed-append k (c ∷ cs) ds = feed-append (nextByte k c) cs ds
 
-turns-joined : (chunks : List (List ℕ)) (k : Buffers) → into (turns k chunks) [] ≡ into (feed k (joined chunks)) []
-unfolding turns joined feed
-turns-joined [] k = refl
-turns-joined (chunk ∷ chunks) k =
+chunks-joined : (chunks : List (List ℕ)) (k : Buffers) → into (feedAll k chunks) [] ≡ into (feed k (joined chunks)) []
+unfolding feedAll joined feed
+chunks-joined [] k = refl
+chunks-joined (chunk ∷ chunks) k =
     let n : Buffers = feed k chunk in
-    turns-joined chunks (into n (n .out)) ∙ sym (feed-into (joined chunks) (into n (n .out))) ∙ feed-into (joined chunks) n ∙ ap (λ (m : Buffers). into m []) (sym (feed-append k chunk (joined chunks)))
+    chunks-joined chunks (into n (n .out)) ∙ sym (feed-into (joined chunks) (into n (n .out))) ∙ feed-into (joined chunks) n ∙ ap (λ (m : Buffers). into m []) (sym (feed-append k chunk (joined chunks)))
 
 -- for all lent bytes, a line's buffer of 64 bytes among them, and all chunks
-pub turns-leaves : (line main spare ram out : List ℕ) (chunks : List (List ℕ)) (ended : Bool) → length line ≡ 64
-    → ends ended (turns (first line main spare ram out) chunks) .volume ≡ leaves ended (blank main spare ram) (joined chunks)
-turns-leaves line main spare ram out chunks ended h =
-    let k : Buffers = first line main spare ram out in
-    sym (ends-into ended (turns k chunks)) ∙ ap (λ (m : Buffers). ends ended m .volume) (turns-joined chunks k ∙ sym (feed-into (joined chunks) k))
-    ∙ ends-into ended (feed (into k []) (joined chunks)) ∙ stream-leaves (blank main spare ram) line (joined chunks) ended h
+pub chunks-leave : (line main spare ram out : List ℕ) (chunks : List (List ℕ)) (ended : Bool) → length line ≡ 64
+    → closeIf ended (feedAll (initial line main spare ram out) chunks) .volume ≡ leaves ended (unformatted main spare ram) (joined chunks)
+chunks-leave line main spare ram out chunks ended h =
+    let k : Buffers = initial line main spare ram out in
+    sym (close-into ended (feedAll k chunks)) ∙ ap (λ (m : Buffers). closeIf ended m .volume) (chunks-joined chunks k ∙ sym (feed-into (joined chunks) k))
+    ∙ close-into ended (feed (into k []) (joined chunks)) ∙ stream-leaves (unformatted main spare ram) line (joined chunks) ended h
 
 -- so of a run that left what some chunks make, the flash and the RAM are those of some input
 pub run-leaves : (line main spare ram out line′ main′ spare′ ram′ out′ : List ℕ) (most : ℕ) (ended : Bool) → length line ≡ 64
-    → ((chunks : List (List ℕ)) × Short most chunks × Leaves (ends ended (turns (first line main spare ram out) chunks)) line′ main′ spare′ ram′ out′)
-    → (input : List ℕ) × (flashOf main′ spare′ ≡ leaves ended (blank main spare ram) input .flash) × (ram′ ≡ leaves ended (blank main spare ram) input .ram)
+    → ((chunks : List (List ℕ)) × Short most chunks × Leaves (closeIf ended (feedAll (initial line main spare ram out) chunks)) line′ main′ spare′ ram′ out′)
+    → (input : List ℕ) × (flashOf main′ spare′ ≡ leaves ended (unformatted main spare ram) input .flash) × (ram′ ≡ leaves ended (unformatted main spare ram) input .ram)
 run-leaves line main spare ram out line′ main′ spare′ ram′ out′ most ended h l =
-    let e = turns-leaves line main spare ram out (l .0) ended h in
+    let e = chunks-leave line main spare ram out (l .0) ended h in
     (joined (l .0), l .2 .0 ∙ ap (λ (v : Volume). v .flash) e, l .2 .1 ∙ ap (λ (v : Volume). v .ram) e)
 
 -- ---- what is written
@@ -106,10 +106,10 @@ unfolding feed
 feed-room [] k = refl
 feed-room (c ∷ cs) k = feed-room cs (nextByte k c) ∙ byte-room k c
 
-turns-room : (chunks : List (List ℕ)) (k : Buffers) → length (turns k chunks .out) ≡ length (k .out)
-unfolding turns
-turns-room [] k = refl
-turns-room (chunk ∷ chunks) k = turns-room chunks (into (feed k chunk) (feed k chunk .out)) ∙ feed-room chunk k
+chunks-room : (chunks : List (List ℕ)) (k : Buffers) → length (feedAll k chunks .out) ≡ length (k .out)
+unfolding feedAll
+chunks-room [] k = refl
+chunks-room (chunk ∷ chunks) k = chunks-room chunks (into (feed k chunk) (feed k chunk .out)) ∙ feed-room chunk k
 
 cuts-roomy : (chunks : List (List ℕ)) (k : Buffers) (most : ℕ) → Short most chunks → most * 32 ≤ length (k .out) → Roomy (cuts k chunks)
 unfolding cuts
@@ -117,18 +117,18 @@ cuts-roomy [] k most s h = tt
 cuts-roomy (chunk ∷ chunks) k most s h =
     (omega (arith, s .0), cuts-roomy chunks (into (feed k chunk) (feed k chunk .out)) most (s .1) (omega (arith, feed-room chunk k)))
 
-writes-outputs : (chunks : List (List ℕ)) (k : Buffers) (out : List ℕ) → writes (into k out) chunks ≡ outputs k (cuts (into k out) chunks) (turns (into k out) chunks .out)
-unfolding writes outputs cuts turns
+writes-outputs : (chunks : List (List ℕ)) (k : Buffers) (out : List ℕ) → writes (into k out) chunks ≡ outputs k (cuts (into k out) chunks) (feedAll (into k out) chunks .out)
+unfolding writes outputs cuts feedAll
 writes-outputs [] k out = refl
 writes-outputs (chunk ∷ chunks) k out =
     let n : Buffers = feed (into k out) chunk in
     ap (λ (l : List ℕ). output n ++ l) (writes-outputs chunks n (n .out))
 
 -- with room for an answer to each byte of a chunk
-pub turns-print : (line main spare ram out : List ℕ) (chunks : List (List ℕ)) (most : ℕ) → length line ≡ 64 → Short most chunks → most * 32 ≤ length out → 32 ≤ length out
-    → writes (first line main spare ram out) chunks ≡ prints (blank main spare ram) (joined chunks)
-turns-print line main spare ram out chunks most h s r l =
-    let k : Buffers = first line main spare ram out in
-    writes-outputs chunks (start (blank main spare ram) line) out
-    ∙ stream-prints (blank main spare ram) line (cuts k chunks) (turns k chunks .out) h (cuts-roomy chunks k most s r) (omega (arith, turns-room chunks k))
-    ∙ ap (prints (blank main spare ram)) (cuts-input chunks k)
+pub chunks-print : (line main spare ram out : List ℕ) (chunks : List (List ℕ)) (most : ℕ) → length line ≡ 64 → Short most chunks → most * 32 ≤ length out → 32 ≤ length out
+    → writes (initial line main spare ram out) chunks ≡ prints (unformatted main spare ram) (joined chunks)
+chunks-print line main spare ram out chunks most h s r l =
+    let k : Buffers = initial line main spare ram out in
+    writes-outputs chunks (start (unformatted main spare ram) line) out
+    ∙ stream-prints (unformatted main spare ram) line (cuts k chunks) (feedAll k chunks .out) h (cuts-roomy chunks k most s r) (omega (arith, chunks-room chunks k))
+    ∙ ap (prints (unformatted main spare ram)) (cuts-input chunks k)
