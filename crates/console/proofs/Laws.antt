@@ -32,7 +32,8 @@ unfolding feed
 feeds-none r p chunk line main spare ram out m s f z = (0, omega arith, λ t. let a : false ≡ true = sym m ∙ t in cc, rw (s, f, z))
 
 -- n bytes were read
-pub feeds-some : (r : ChunkResult) (k l : Buffers) (chunk : List ℕ) (n : ℕ) → n ≤ length chunk → l ≡ afterChunk (r .continues) (feed k (take n chunk))
+pub feeds-some : (r : ChunkResult) (k l : Buffers) (chunk : List ℕ) (n : ℕ) → n ≤ length chunk
+    → l ≡ afterChunk (r .continues) (feed k (take n chunk))
     → r .ok ≡ r .continues → FeedsPrefix r k chunk l
 feeds-some r k l chunk n h e w = (n, h, λ t. w ∙ t, rw w e)
 
@@ -50,17 +51,20 @@ pub so-far-first : (k : Buffers) (most rest : ℕ) → SoFar k most rest true k
 unfolding feedAll
 so-far-first k most rest = ([], tt, λ _. refl, refl)
 
-chunks-last : (k : Buffers) (chunks : List (List ℕ)) (chunk : List ℕ) → feedAll k (chunks ++ (chunk ∷ [])) ≡ (let n : Buffers = feed (feedAll k chunks) chunk in into n (n .out))
+chunks-last : (k : Buffers) (chunks : List (List ℕ)) (chunk : List ℕ)
+    → feedAll k (chunks ++ (chunk ∷ [])) ≡ (let n : Buffers = feed (feedAll k chunks) chunk in into n (n .out))
 unfolding feedAll
 chunks-last k [] chunk = refl
 chunks-last k (c ∷ cs) chunk = chunks-last (into (feed k c) (feed k c .out)) cs chunk
 
-short-last : (most : ℕ) (chunks : List (List ℕ)) (chunk : List ℕ) → Short most chunks → length chunk ≤ most → Short most (chunks ++ (chunk ∷ []))
+short-last : (most : ℕ) (chunks : List (List ℕ)) (chunk : List ℕ) → Short most chunks → length chunk ≤ most
+    → Short most (chunks ++ (chunk ∷ []))
 short-last most [] chunk s h = (h, tt)
 short-last most (c ∷ cs) chunk s h = (s .0, short-last most cs chunk (s .1) h)
 
 chunk-last : (k m l : Buffers) (chunks : List (List ℕ)) (chunk : List ℕ) (before ok : Bool)
-    → before ≡ true → m ≡ stopped before (feedAll k chunks) → l ≡ afterChunk ok (feed m chunk) → l ≡ stopped ok (feedAll k (chunks ++ (chunk ∷ [])))
+    → before ≡ true → m ≡ stopped before (feedAll k chunks) → l ≡ afterChunk ok (feed m chunk)
+    → l ≡ stopped ok (feedAll k (chunks ++ (chunk ∷ [])))
 chunk-last k m l chunks chunk before ok b e f = rw (chunks-last k chunks chunk, f, e, b)
 
 follows : (continues : Bool) (rest next : ℕ) → next ≡ cond continues (rest - 1) 0 → 0 < next → continues ≡ true
@@ -84,7 +88,8 @@ unfolding endLine
 close-keeps true k = refl
 close-keeps false k = refl
 
-close-ends : (ok : Bool) (k m : Buffers) → m ≡ stopped ok k → (close m .volume ≡ closeIf ok k .volume) × (m .buffer ≡ closeIf ok k .buffer) × (close m .out ≡ closeIf ok k .out)
+close-ends : (ok : Bool) (k m : Buffers) → m ≡ stopped ok k
+    → (close m .volume ≡ closeIf ok k .volume) × (m .buffer ≡ closeIf ok k .buffer) × (close m .out ≡ closeIf ok k .out)
 unfolding close
 close-ends false k m e = rw e (refl, refl, refl)
 close-ends true k m e = rw e (refl, sym (close-keeps (eqb (k .fill) 0) k), refl)

@@ -17,7 +17,8 @@ take-before (x ∷ xs) (suc n) s = ap (λ (t : List ℕ). x ∷ t) (take-before 
 pub take-written : (l : List ℕ) (at : ℕ) (s : List ℕ) → at + length s ≤ length l → take (at + length s) (write l at s) ≡ take at l ++ s
 take-written l at s h =
     let e : length (take at l ++ s) ≡ at + length s = length-append (take at l) s ∙ rw (length-take-le at l (omega arith)) in
-    rw (write-cut l at s h, ← append-assoc (take at l) s (drop (at + length s) l)) (take-at (take at l ++ s) (drop (at + length s) l) (at + length s) e)
+    rw (write-cut l at s h, ← append-assoc (take at l) s (drop (at + length s) l))
+    (take-at (take at l ++ s) (drop (at + length s) l) (at + length s) e)
 
 pub write-past : (l : List ℕ) (at : ℕ) (s : List ℕ) → length l ≤ at → write l at s ≡ l
 unfolding write

@@ -20,7 +20,8 @@ afterChunk ok k = record { volume = k .volume; buffer = k .buffer; fill = cond o
 
 -- from k to l: the first bytes of the chunk as it was read are fed; no chunk follows a failure
 abbrev pub FeedsPrefix : ChunkResult → Buffers → List ℕ → Buffers → Type 0
-FeedsPrefix r k chunk l = (n : ℕ) × (n ≤ length chunk) × (r .continues ≡ true → r .ok ≡ true) × (l ≡ afterChunk (r .ok) (feed k (take n chunk)))
+FeedsPrefix r k chunk l =
+    (n : ℕ) × (n ≤ length chunk) × (r .continues ≡ true → r .ok ≡ true) × (l ≡ afterChunk (r .ok) (feed k (take n chunk)))
 
 -- ---- a run
 

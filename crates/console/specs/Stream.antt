@@ -68,18 +68,21 @@ record Holds (k : Buffers) (p : Progress) : Type 0 where
 abbrev Prints : List ℕ → Buffers → Progress → Type 0
 Prints before k p = p .printed ≡ before ++ output k
 
-same-reply : (k : Buffers) (p : Progress) → Holds k p → perform (k .volume) (request (take (k .fill) (k .buffer))) ≡ perform (p .volume) (request (p .line))
+same-reply : (k : Buffers) (p : Progress) → Holds k p
+    → perform (k .volume) (request (take (k .fill) (k .buffer))) ≡ perform (p .volume) (request (p .line))
 same-reply k p H = rw (H .volume-is, H .line-is, cut (p .line))
 
 end-holds : (k : Buffers) (p : Progress) → Holds k p → Holds (buffers.endLine k) (endLine p)
 unfolding buffers.endLine endLine
 end-holds k p H = record { volume-is = rw (same-reply k p H); buffer-length = H .buffer-length; line-is = refl; fill-is = refl }
 
-end-prints : (before : List ℕ) (k : Buffers) (p : Progress) → Holds k p → k .printed + 32 ≤ length (k .out) → Prints before k p → Prints before (buffers.endLine k) (endLine p)
+end-prints : (before : List ℕ) (k : Buffers) (p : Progress) → Holds k p → k .printed + 32 ≤ length (k .out) → Prints before k p
+    → Prints before (buffers.endLine k) (endLine p)
 unfolding buffers.endLine endLine
 end-prints before k p H h e =
     let t = text (perform (p .volume) (request (p .line)) .answer) in
-    rw (same-reply k p H, take-written (k .out) (k .printed) t (omega (arith, text-length (perform (p .volume) (request (p .line)) .answer))), e)
+    let w = take-written (k .out) (k .printed) t (omega (arith, text-length (perform (p .volume) (request (p .line)) .answer))) in
+    rw (same-reply k p H, w, e)
     (append-assoc before (output k) t)
 
 -- the line with one byte more, as the script's definitions have it
@@ -99,14 +102,16 @@ add-holds k p c H =
     record {
       volume-is = H .volume-is;
       buffer-length = w;
-      line-is = rw (h .0, take-written (k .buffer) (k .fill) (c ∷ []) (omega arith), ok) (sym (take-all 64 (p .line ++ (c ∷ [])) (omega arith)));
+      line-is = rw (h .0, take-written (k .buffer) (k .fill) (c ∷ []) (omega arith), ok)
+          (sym (take-all 64 (p .line ++ (c ∷ [])) (omega arith)));
       fill-is = rw (h .0) (omega arith);
     })
     (λ h.
     record {
       volume-is = H .volume-is;
       buffer-length = w;
-      line-is = rw (h .0, take-before (k .buffer) (k .fill) (c ∷ []), H .line-is) (sym (take-append-le 64 (p .line) (c ∷ []) (omega arith)));
+      line-is = rw (h .0, take-before (k .buffer) (k .fill) (c ∷ []), H .line-is)
+          (sym (take-append-le 64 (p .line) (c ∷ []) (omega arith)));
       fill-is = rw (h .0) (omega arith);
     })
 
@@ -114,12 +119,14 @@ byte-holds : (k : Buffers) (p : Progress) (c : ℕ) → Holds k p → Holds (buf
 unfolding buffers.nextByte advance
 byte-holds k p c H = either (eq? c 10) (λ h. rw (h .0) (end-holds k p H)) (λ h. rw (h .0) (add-holds k p c H))
 
-byte-prints : (before : List ℕ) (k : Buffers) (p : Progress) (c : ℕ) → Holds k p → k .printed + 32 ≤ length (k .out) → Prints before k p → Prints before (buffers.nextByte k c) (advance p c)
+byte-prints : (before : List ℕ) (k : Buffers) (p : Progress) (c : ℕ) → Holds k p → k .printed + 32 ≤ length (k .out) → Prints before k p
+    → Prints before (buffers.nextByte k c) (advance p c)
 unfolding buffers.nextByte advance buffers.addByte
 byte-prints before k p c H h e = either (eq? c 10) (λ x. rw (x .0) (end-prints before k p H h e)) (λ x. rw (x .0) e)
 
 -- a byte takes the room of one answer at most
-byte-room : (k : Buffers) (c n : ℕ) → k .printed + suc n * 32 ≤ length (k .out) → buffers.nextByte k c .printed + n * 32 ≤ length (buffers.nextByte k c .out)
+byte-room : (k : Buffers) (c n : ℕ) → k .printed + suc n * 32 ≤ length (k .out)
+    → buffers.nextByte k c .printed + n * 32 ≤ length (buffers.nextByte k c .out)
 unfolding buffers.nextByte buffers.endLine buffers.addByte
 byte-room k c n h =
     let a = perform (k .volume) (request (take (k .fill) (k .buffer))) .answer in
@@ -134,11 +141,13 @@ unfolding buffers.feed feed
 feed-holds [] k p H = H
 feed-holds (c ∷ cs) k p H = feed-holds cs (buffers.nextByte k c) (advance p c) (byte-holds k p c H)
 
-feed-prints : (before cs : List ℕ) (k : Buffers) (p : Progress) → Holds k p → k .printed + length cs * 32 ≤ length (k .out) → Prints before k p → Prints before (buffers.feed k cs) (feed p cs)
+feed-prints : (before cs : List ℕ) (k : Buffers) (p : Progress) → Holds k p → k .printed + length cs * 32 ≤ length (k .out)
+    → Prints before k p → Prints before (buffers.feed k cs) (feed p cs)
 unfolding buffers.feed feed
 feed-prints before [] k p H h e = e
 feed-prints before (c ∷ cs) k p H h e =
-    feed-prints before cs (buffers.nextByte k c) (advance p c) (byte-holds k p c H) (byte-room k c (length cs) h) (byte-prints before k p c H (omega arith) e)
+    feed-prints before cs (buffers.nextByte k c) (advance p c) (byte-holds k p c H) (byte-room k c (length cs) h)
+    (byte-prints before k p c H (omega arith) e)
 
 -- a chunk after another is one chunk
 feed-append : (p : Progress) (cs ds : List ℕ) → feed p (cs ++ ds) ≡ feed (feed p cs) ds
@@ -146,7 +155,8 @@ unfolding feed
 feed-append p [] ds = refl
 feed-append p (c ∷ cs) ds = feed-append (advance p c) cs ds
 
-close-prints : (before l : List ℕ) (k : Buffers) (p : Progress) → l ≡ p .line → Holds k p → k .printed + 32 ≤ length (k .out) → Prints before k p → close p l .printed ≡ before ++ output (buffers.close k)
+close-prints : (before l : List ℕ) (k : Buffers) (p : Progress) → l ≡ p .line → Holds k p → k .printed + 32 ≤ length (k .out)
+    → Prints before k p → close p l .printed ≡ before ++ output (buffers.close k)
 unfolding buffers.close
 close-prints before [] k p q H h e =
     let z : k .fill ≡ 0 = omega (arith, ap length q, H .fill-is) in
@@ -165,14 +175,17 @@ into-prints k p out = sym (append-nil (p .printed))
 outputs-print : (ts : List Chunk) (room : List ℕ) (k : Buffers) (p : Progress) → Holds k p → Roomy ts → 32 ≤ length room
     → let q : Progress = feed p (input ts) in close q (q .line) .printed ≡ p .printed ++ outputs k ts room
 unfolding outputs input feed
-outputs-print [] room k p H r h = close-prints (p .printed) (p .line) (into k room) p refl (into-holds k p room H) (omega arith) (into-prints k p room)
+outputs-print [] room k p H r h =
+    close-prints (p .printed) (p .line) (into k room) p refl (into-holds k p room H) (omega arith) (into-prints k p room)
 outputs-print (t ∷ ts) room k p H r h =
     let m : Buffers = into k (t .room) in
     let n : Buffers = buffers.feed m (t .bytes) in
     let q : Progress = feed p (t .bytes) in
     let I : Holds m p = into-holds k p (t .room) H in
-    let e : q .printed ≡ p .printed ++ output n = feed-prints (p .printed) (t .bytes) m p I (omega (arith, r .0)) (into-prints k p (t .room)) in
-    rw (feed-append p (t .bytes) (input ts)) (outputs-print ts room n q (feed-holds (t .bytes) m p I) (r .1) h ∙ rw e (append-assoc (p .printed) (output n) (outputs n ts room)))
+    let e : q .printed ≡ p .printed ++ output n =
+    feed-prints (p .printed) (t .bytes) m p I (omega (arith, r .0)) (into-prints k p (t .room)) in
+    rw (feed-append p (t .bytes) (input ts))
+    (outputs-print ts room n q (feed-holds (t .bytes) m p I) (r .1) h ∙ rw e (append-assoc (p .printed) (output n) (outputs n ts room)))
 
 -- for every volume, every buffer of 64 bytes for the line, all chunks and all buffers for answers that are long enough
 pub stream-prints : (v : Volume) (buffer : List ℕ) (ts : List Chunk) (room : List ℕ) → length buffer ≡ 64 → Roomy ts → 32 ≤ length room
@@ -186,7 +199,8 @@ stream-prints v buffer ts room h r l =
 
 -- the volume that the script's definitions leave for an input; where its end was not reached, an unfinished line is not answered
 abbrev pub leaves : Bool → Volume → List ℕ → Volume
-leaves ended v bytes = let p : Progress = feed (record { line = []; volume = v; printed = [] }) bytes in cond ended (close p (p .line)) p .volume
+leaves ended v bytes =
+    let p : Progress = feed (record { line = []; volume = v; printed = [] }) bytes in cond ended (close p (p .line)) p .volume
 
 close-leaves : (l : List ℕ) (k : Buffers) (p : Progress) → l ≡ p .line → Holds k p → buffers.close k .volume ≡ close p l .volume
 unfolding buffers.close
@@ -199,12 +213,14 @@ close-leaves (c ∷ cs) k p q H =
 
 pub stream-leaves : (v : Volume) (buffer bytes : List ℕ) (ended : Bool) → length buffer ≡ 64
     → let k : Buffers = buffers.feed (start v buffer) bytes in cond ended (buffers.close k) k .volume ≡ leaves ended v bytes
-stream-leaves v buffer bytes ended h = go ended (feed-holds bytes (start v buffer) p₀ (record { volume-is = refl; buffer-length = h; line-is = refl; fill-is = refl }))
+stream-leaves v buffer bytes ended h =
+    go ended (feed-holds bytes (start v buffer) p₀ (record { volume-is = refl; buffer-length = h; line-is = refl; fill-is = refl }))
   where
     p₀ : Progress
     p₀ = record { line = []; volume = v; printed = [] }
 
     go : (b : Bool) → Holds (buffers.feed (start v buffer) bytes) (feed p₀ bytes)
-        → cond b (buffers.close (buffers.feed (start v buffer) bytes)) (buffers.feed (start v buffer) bytes) .volume ≡ cond b (close (feed p₀ bytes) (feed p₀ bytes .line)) (feed p₀ bytes) .volume
+        → cond b (buffers.close (buffers.feed (start v buffer) bytes)) (buffers.feed (start v buffer) bytes) .volume
+        ≡ cond b (close (feed p₀ bytes) (feed p₀ bytes .line)) (feed p₀ bytes) .volume
     go true H = close-leaves (feed p₀ bytes .line) (buffers.feed (start v buffer) bytes) (feed p₀ bytes) refl H
     go false H = H .volume-is

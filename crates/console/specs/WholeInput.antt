@@ -35,7 +35,8 @@ byte-into k c = go (eqb c 10)
 feed-into : (cs : List ℕ) (k : Buffers) → into (feed (into k []) cs) [] ≡ into (feed k cs) []
 unfolding feed
 feed-into [] k = refl
-feed-into (c ∷ cs) k = sym (feed-into cs (nextByte (into k []) c)) ∙ ap (λ (m : Buffers). into (feed m cs) []) (byte-into k c) ∙ feed-into cs (nextByte k c)
+feed-into (c ∷ cs) k =
+    sym (feed-into cs (nextByte (into k []) c)) ∙ ap (λ (m : Buffers). into (feed m cs) []) (byte-into k c) ∙ feed-into cs (nextByte k c)
 
 close-into : (ended : Bool) (k : Buffers) → closeIf ended (into k []) .volume ≡ closeIf ended k .volume
 unfolding close endLine
@@ -58,20 +59,24 @@ unfolding feedAll joined feed
 chunks-joined [] k = refl
 chunks-joined (chunk ∷ chunks) k =
     let n : Buffers = feed k chunk in
-    chunks-joined chunks (into n (n .out)) ∙ sym (feed-into (joined chunks) (into n (n .out))) ∙ feed-into (joined chunks) n ∙ ap (λ (m : Buffers). into m []) (sym (feed-append k chunk (joined chunks)))
+    chunks-joined chunks (into n (n .out)) ∙ sym (feed-into (joined chunks) (into n (n .out))) ∙ feed-into (joined chunks) n
+    ∙ ap (λ (m : Buffers). into m []) (sym (feed-append k chunk (joined chunks)))
 
 -- for all lent bytes, a line's buffer of 64 bytes among them, and all chunks
 pub chunks-leave : (line main spare ram out : List ℕ) (chunks : List (List ℕ)) (ended : Bool) → length line ≡ 64
     → closeIf ended (feedAll (initial line main spare ram out) chunks) .volume ≡ leaves ended (unformatted main spare ram) (joined chunks)
 chunks-leave line main spare ram out chunks ended h =
     let k : Buffers = initial line main spare ram out in
-    sym (close-into ended (feedAll k chunks)) ∙ ap (λ (m : Buffers). closeIf ended m .volume) (chunks-joined chunks k ∙ sym (feed-into (joined chunks) k))
+    sym (close-into ended (feedAll k chunks))
+    ∙ ap (λ (m : Buffers). closeIf ended m .volume) (chunks-joined chunks k ∙ sym (feed-into (joined chunks) k))
     ∙ close-into ended (feed (into k []) (joined chunks)) ∙ stream-leaves (unformatted main spare ram) line (joined chunks) ended h
 
 -- so of a run that left what some chunks make, the flash and the RAM are those of some input
 pub run-leaves : (line main spare ram out line′ main′ spare′ ram′ out′ : List ℕ) (most : ℕ) (ended : Bool) → length line ≡ 64
-    → ((chunks : List (List ℕ)) × Short most chunks × Leaves (closeIf ended (feedAll (initial line main spare ram out) chunks)) line′ main′ spare′ ram′ out′)
-    → (input : List ℕ) × (flashOf main′ spare′ ≡ leaves ended (unformatted main spare ram) input .flash) × (ram′ ≡ leaves ended (unformatted main spare ram) input .ram)
+    → ((chunks : List (List ℕ)) × Short most chunks
+    × Leaves (closeIf ended (feedAll (initial line main spare ram out) chunks)) line′ main′ spare′ ram′ out′)
+    → (input : List ℕ) × (flashOf main′ spare′ ≡ leaves ended (unformatted main spare ram) input .flash)
+    × (ram′ ≡ leaves ended (unformatted main spare ram) input .ram)
 run-leaves line main spare ram out line′ main′ spare′ ram′ out′ most ended h l =
     let e = chunks-leave line main spare ram out (l .0) ended h in
     (joined (l .0), l .2 .0 ∙ ap (λ (v : Volume). v .flash) e, l .2 .1 ∙ ap (λ (v : Volume). v .ram) e)
@@ -117,7 +122,8 @@ cuts-roomy [] k most s h = tt
 cuts-roomy (chunk ∷ chunks) k most s h =
     (omega (arith, s .0), cuts-roomy chunks (into (feed k chunk) (feed k chunk .out)) most (s .1) (omega (arith, feed-room chunk k)))
 
-writes-outputs : (chunks : List (List ℕ)) (k : Buffers) (out : List ℕ) → writes (into k out) chunks ≡ outputs k (cuts (into k out) chunks) (feedAll (into k out) chunks .out)
+writes-outputs : (chunks : List (List ℕ)) (k : Buffers) (out : List ℕ)
+    → writes (into k out) chunks ≡ outputs k (cuts (into k out) chunks) (feedAll (into k out) chunks .out)
 unfolding writes outputs cuts feedAll
 writes-outputs [] k out = refl
 writes-outputs (chunk ∷ chunks) k out =
@@ -125,10 +131,12 @@ writes-outputs (chunk ∷ chunks) k out =
     ap (λ (l : List ℕ). output n ++ l) (writes-outputs chunks n (n .out))
 
 -- with room for an answer to each byte of a chunk
-pub chunks-print : (line main spare ram out : List ℕ) (chunks : List (List ℕ)) (most : ℕ) → length line ≡ 64 → Short most chunks → most * 32 ≤ length out → 32 ≤ length out
+pub chunks-print : (line main spare ram out : List ℕ) (chunks : List (List ℕ)) (most : ℕ) → length line ≡ 64 → Short most chunks
+    → most * 32 ≤ length out → 32 ≤ length out
     → writes (initial line main spare ram out) chunks ≡ prints (unformatted main spare ram) (joined chunks)
 chunks-print line main spare ram out chunks most h s r l =
     let k : Buffers = initial line main spare ram out in
     writes-outputs chunks (start (unformatted main spare ram) line) out
-    ∙ stream-prints (unformatted main spare ram) line (cuts k chunks) (feedAll k chunks .out) h (cuts-roomy chunks k most s r) (omega (arith, chunks-room chunks k))
+    ∙ stream-prints (unformatted main spare ram) line (cuts k chunks) (feedAll k chunks .out) h (cuts-roomy chunks k most s r)
+    (omega (arith, chunks-room chunks k))
     ∙ ap (prints (unformatted main spare ram)) (cuts-input chunks k)

@@ -98,7 +98,7 @@ fn handle(line: &[u8]) {
 
 // The bytes of a chunk go into the line buffer, of which `filled` bytes are in use; each whole line
 // is handled. The answer is how many bytes are in use afterwards.
-fn feed(chunk: &[u8], line: &mut [u8], filled: usize) -> usize
+fn feed(filled: usize, chunk: &[u8], line: &mut [u8]) -> usize
     requires { ⌜ filled ≤ length (now line) ⌝ }
     ensures { λ r. ⌜ r ≤ length (now (line .entry)) ⌝ }
 {
@@ -120,19 +120,19 @@ fn feed(chunk: &[u8], line: &mut [u8], filled: usize) -> usize
     fill
 }
 
-// Reads to the end of the input. A proved loop ends, so it counts its turns down from a number that
+// Reads to the end of the input. A proved loop ends, so it counts its reads down from a number that
 // no run uses up.
 fn pump(line: &mut [u8], chunk: &mut [u8]) {
     let mut fill = 0;
-    let mut turns = u64::MAX;
-    while turns > 0 {
-        turns -= 1;
+    let mut left = u64::MAX;
+    while left > 0 {
+        left -= 1;
         let got = libc::read(STDIN_FILENO, chunk);
         let n = io::count(got, chunk);
         if n == 0 {
             break;
         }
-        fill = feed(&chunk[0..n], line, fill);
+        fill = feed(fill, &chunk[0..n], line);
     }
     if fill > 0 {
         handle(&line[0..fill]);

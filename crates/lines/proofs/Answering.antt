@@ -14,7 +14,8 @@ use Rattle.memory.specs.Words.{word}
 use Rattle.layout.specs.Geometry.{Geometry, geometry}
 use Rattle.layout.specs.Hash.{Family}
 use Rattle.layout.specs.Search.{Stop, found, corrupt}
-use Rattle.layout.specs.Calls.{Volume, Outcome, accepted, hit, miss, refused, Result, badState, tooShort, judged, lookup, lookupAfter, search, call}
+use Rattle.layout.specs.Calls.{Volume, Outcome, accepted, hit, miss, refused, Result}
+use Rattle.layout.specs.Calls.{badState, tooShort, judged, lookup, lookupAfter, search, call}
 use Rattle.state.specs.Contract.{Left, seen, changed}
 use Rattle.state.specs.declared.Change.{Change}
 use Rattle.lookup.specs.Looked.{lookedOf, looked, partOf}
@@ -88,7 +89,9 @@ module _ (h : Family) where
       (λ a.
       either (bool? (tooShort (geometry (v .state .sizes)) (v .flash) (v .ram)))
       (λ b. rw (a, b) (λ e. omega arith))
-      (λ b. rw (a, b) (after-outcome (geometry (v .state .sizes)) v (search h (geometry (v .state .sizes)) v key .opened) (search h (geometry (v .state .sizes)) v key .stop))))
+      (λ b. rw (a, b)
+      (after-outcome (geometry (v .state .sizes)) v (search h (geometry (v .state .sizes)) v key .opened)
+      (search h (geometry (v .state .sizes)) v key .stop))))
 
   call-keeps : (v : Volume) (key : ℕ) → call h v (lookup key) .volume ≡ v
   unfolding call judged
@@ -98,7 +101,9 @@ module _ (h : Family) where
       (λ a.
       either (bool? (tooShort (geometry (v .state .sizes)) (v .flash) (v .ram)))
       (λ b. rw (a, b))
-      (λ b. rw (a, b) (after-keeps (geometry (v .state .sizes)) v (search h (geometry (v .state .sizes)) v key .opened) (search h (geometry (v .state .sizes)) v key .stop))))
+      (λ b. rw (a, b)
+      (after-keeps (geometry (v .state .sizes)) v (search h (geometry (v .state .sizes)) v key .opened)
+      (search h (geometry (v .state .sizes)) v key .stop))))
 
 -- the answer by the three numbers and the part that a lookup gives
 refused-answer : (r : Result) (o : Outcome) (i : ℕ) → i ≡ lookedOf o (r .count) .refusal → i ≢ 0 → answers.no i ≡ resultAnswer r o
@@ -107,14 +112,16 @@ refused-answer r (hit place bytes) i e n = absurd (n e)
 refused-answer r miss i e n = absurd (n e)
 refused-answer r (refused j) i e n = ap answers.no e
 
-missed-answer : (r : Result) (o : Outcome) (i f n : ℕ) → LookupOutcome o → i ≡ lookedOf o (r .count) .refusal → f ≡ lookedOf o (r .count) .found → n ≡ lookedOf o (r .count) .count
+missed-answer : (r : Result) (o : Outcome) (i f n : ℕ) → LookupOutcome o → i ≡ lookedOf o (r .count) .refusal
+    → f ≡ lookedOf o (r .count) .found → n ≡ lookedOf o (r .count) .count
     → i ≡ 0 → f ≡ 0 → answers.miss n ≡ resultAnswer r o
 missed-answer r accepted i f n l ei ef en zi zf = absurd l
 missed-answer r (hit place bytes) i f n l ei ef en zi zf = absurd (omega arith)
 missed-answer r miss i f n l ei ef en zi zf = ap answers.miss en
 missed-answer r (refused j) i f n l ei ef en zi zf = absurd (l (sym ei ∙ zi))
 
-hit-answer : (r : Result) (o : Outcome) (f n : ℕ) (bytes : List ℕ) → LookupOutcome o → f ≡ lookedOf o (r .count) .found → n ≡ lookedOf o (r .count) .count → bytes ≡ partOf o
+hit-answer : (r : Result) (o : Outcome) (f n : ℕ) (bytes : List ℕ) → LookupOutcome o → f ≡ lookedOf o (r .count) .found
+    → n ≡ lookedOf o (r .count) .count → bytes ≡ partOf o
     → f ≢ 0 → (length bytes ≡ 16) × (answers.hit (word bytes 4) n ≡ resultAnswer r o)
 hit-answer r accepted f n bytes l ef en eb nf = absurd l
 hit-answer r (hit place b) f n bytes l ef en eb nf = rw (eb, en) (l, refl)
@@ -128,7 +135,8 @@ module _ (h : Family) (v : Volume) (key : ℕ) where
   pub lookup-refused : (i : ℕ) → i ≡ looked r .refusal → i ≢ 0 → answers.no i ≡ resultReply r .answer
   lookup-refused i = refused-answer r (r .outcome) i
 
-  pub lookup-missed : (i f n : ℕ) → i ≡ looked r .refusal → f ≡ looked r .found → n ≡ looked r .count → i ≡ 0 → f ≡ 0 → answers.miss n ≡ resultReply r .answer
+  pub lookup-missed : (i f n : ℕ) → i ≡ looked r .refusal → f ≡ looked r .found → n ≡ looked r .count → i ≡ 0 → f ≡ 0
+      → answers.miss n ≡ resultReply r .answer
   lookup-missed i f n = missed-answer r (r .outcome) i f n (call-outcome h v key)
 
   pub lookup-hit : (f n : ℕ) (bytes : List ℕ) → f ≡ looked r .found → n ≡ looked r .count → bytes ≡ partOf (r .outcome)

@@ -18,11 +18,14 @@ module _ (c : ℕ) (l : List ℕ) (a : ℕ) (al : a ≡ wordLength l) where
     two-words e = rw (fields-next l m a al h lm, fields-last m b bm e)
 
     module _ (k : b < length m) (n : List ℕ) (mn : n ≡ drop (b + 1) m) (d : ℕ) (dn : d ≡ wordLength n) where
-      pub three-words : d ≡ length n → letterRequest c (fields l) ≡ threeNumbers c (number (take a l)) (number (take b m)) (number (take d n))
+      pub three-words : d ≡ length n
+          → letterRequest c (fields l) ≡ threeNumbers c (number (take a l)) (number (take b m)) (number (take d n))
       three-words e = rw (fields-next l m a al h lm, fields-next m n b bm k mn, fields-last n d dn e)
 
       pub more-words : d < length n → letterRequest c (fields l) ≡ bad
-      more-words j = rw (fields-next l m a al h lm, fields-next m n b bm k mn, fields-next n (drop (d + 1) n) d dn j refl, fields-word (drop (d + 1) n))
+      more-words j =
+          let e = fields-next n (drop (d + 1) n) d dn j refl in
+          rw (fields-next l m a al h lm, fields-next m n b bm k mn, e, fields-word (drop (d + 1) n))
 
 -- ---- the letter
 

@@ -20,7 +20,8 @@ digit? : (c : ℕ) → ((isDigit c ≡ true) × (48 ≤ c) × (c ≤ 57)) ⊎ (i
 digit? c = either (le? 48 c) (λ a. either (le? c 57) (λ b. inl (cc, a .1, b .1)) (λ b. inr cc)) (λ a. inr cc)
 
 module _ (v i : ℕ) (l : List ℕ) where
-  pub digits-more : i < length l → 48 ≤ getD l i 0 → getD l i 0 ≤ 57 → digitsFrom v (drop i l) ≡ digitsFrom (v * 10 + (getD l i 0 - 48)) (drop (i + 1) l)
+  pub digits-more : i < length l → 48 ≤ getD l i 0 → getD l i 0 ≤ 57
+      → digitsFrom v (drop i l) ≡ digitsFrom (v * 10 + (getD l i 0 - 48)) (drop (i + 1) l)
   unfolding digitsFrom
   digits-more h a b = rw (drop-cons l i 0, le-leb 48 (getD l i 0) a, le-leb (getD l i 0) 57 b, add-one)
 

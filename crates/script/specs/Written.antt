@@ -30,7 +30,8 @@ write-next (x ∷ xs) (suc n) a b =
     rw e (ap (λ (t : List ℕ). x ∷ t) (write-next xs n a b))
 
 -- the same by what each write leaves
-pub write-then : (l x y : List ℕ) (at next : ℕ) (a b : List ℕ) → x ≡ write l at a → next ≡ at + length a → y ≡ write x next b → y ≡ write l at (a ++ b)
+pub write-then : (l x y : List ℕ) (at next : ℕ) (a b : List ℕ) → x ≡ write l at a → next ≡ at + length a → y ≡ write x next b
+    → y ≡ write l at (a ++ b)
 write-then l x y at next a b p q r = r ∙ rw (p, q) (write-next l at a b)
 
 -- a word, a piece with a space after it, and the rest

@@ -3,22 +3,13 @@ use mathlib.Core.Path.{_≡_, refl}
 use mathlib.Core.List.{List}
 use Prim.Native.Nat.{ℕ}
 use lib.ListN.{replicate}
-use Rattle.memory.specs.Lists.{write, tab, tabFrom, pieces}
-use Rattle.memory.specs.Bits.{bit, pack}
-use Rattle.memory.specs.Power.{log2up}
-use Rattle.memory.specs.Words.{wordsBytes}
-use Rattle.memory.specs.Ranges.{any, memb, allOf}
-use Rattle.layout.specs.Geometry.{sizesOf, stateOf, allowed}
-use Rattle.layout.specs.Flash.{fresh, allFresh}
-use Rattle.layout.specs.Hash.{fnvFrom, positions}
-use Rattle.layout.specs.Index.{rowBit, rowByte, bitAt, filterBit, setByte, flushAndBuild}
-use Rattle.layout.specs.Items.{recordBytes, entryBytes, deletionBytes, itemWord, put}
-use Rattle.layout.specs.Search.{scan, searchPages}
-use Rattle.layout.specs.Calls.{Volume, badState, tooShort, judged, formatted, format, isDeleted, tryAt, maybeIn, search, deletionPlan, deletionRam, pageFilter, insertionPlan, insertionRam, commit, change, lookupAfter, call}
+use Rattle.layout.specs.Geometry.{sizesOf, stateOf}
+use Rattle.layout.specs.Calls.{Volume}
 use Rattle.script.specs.Text.{ascii}
 use Rattle.script.specs.Lines.{digitsFrom, number, fields, request}
 use Rattle.script.specs.Answers.{digits, text}
 use Rattle.script.specs.Script.{perform, endLine, advance, feed, prints}
+use Rattle.worked_examples.specs.Computing.{calls}
 
 -- "It lends 59,392 cells, 3,712 marks and a desk of 640 bytes"; "Before any format the state is all zero"
 abbrev pub unformatted : ℕ → ℕ → ℕ → ℕ → Volume
@@ -38,5 +29,5 @@ abbrev output : List ℕ
 output = ascii "ok 0 0\nok 1 0\nno 3\nhit 40 0\nok 2 1\nhit 42 0\nok 2 2\nmiss 0\nno 4\n"
 
 pub replay-example : prints (unformatted 0 59392 3712 640) input ≡ output
-unfolding write tab tabFrom pieces bit pack log2up wordsBytes any memb allOf allowed fresh allFresh fnvFrom positions rowBit rowByte bitAt filterBit setByte flushAndBuild recordBytes entryBytes deletionBytes itemWord put scan searchPages badState tooShort judged formatted format isDeleted tryAt maybeIn search deletionPlan deletionRam pageFilter insertionPlan insertionRam commit change lookupAfter call digitsFrom number fields request digits text perform endLine advance feed prints
+unfolding calls digitsFrom number fields request digits text perform endLine advance feed prints
 replay-example = refl

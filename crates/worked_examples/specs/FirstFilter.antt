@@ -1,20 +1,15 @@
 -- The insert that fills the first page of entries, computed by the definitions: the bytes of the SKA page.
 use mathlib.Core.Path.{_≡_, refl}
-use mathlib.Core.List.{List, [], _∷_}
+use mathlib.Core.List.{List, [], _∷_, _++_}
 use Prim.Native.Nat.{ℕ}
 use lib.ListN.{take, drop, replicate}
-use Rattle.memory.specs.Lists.{write, tab, tabFrom, pieces}
-use Rattle.memory.specs.Bits.{bit, pack}
-use Rattle.memory.specs.Power.{log2up}
-use Rattle.memory.specs.Words.{word, wordsBytes}
-use Rattle.memory.specs.Ranges.{any, memb, allOf}
-use Rattle.layout.specs.Geometry.{sizesOf, stateOf, allowed}
-use Rattle.layout.specs.Flash.{Flash, fresh, allFresh}
-use Rattle.layout.specs.Hash.{fnvFrom, fnvFamily, positions}
-use Rattle.layout.specs.Index.{rowBit, rowByte, bitAt, filterBit, setByte, flushAndBuild}
-use Rattle.layout.specs.Items.{recordOf, recordBytes, entryBytes, deletionBytes, itemWord, put}
-use Rattle.layout.specs.Search.{scan, searchPages}
-use Rattle.layout.specs.Calls.{Volume, Call, insert, update, delete, lookup, Outcome, accepted, hit, miss, refused, Result, badState, tooShort, judged, formatted, format, isDeleted, tryAt, maybeIn, search, deletionPlan, deletionRam, pageFilter, insertionPlan, insertionRam, commit, change, lookupAfter, call}
+use Rattle.memory.specs.Lists.{write}
+use Rattle.memory.specs.Words.{wordsBytes}
+use Rattle.layout.specs.Geometry.{sizesOf, stateOf}
+use Rattle.layout.specs.Hash.{fnvFamily}
+use Rattle.layout.specs.Items.{recordOf}
+use Rattle.layout.specs.Calls.{Volume, insert, call}
+use Rattle.worked_examples.specs.Computing.{calls}
 
 -- the insert that fills the first page of entries: seven entries in RAM, keys 1 to 7; the page's filter goes to slot 0 of the SKA page
 abbrev sevenEntries : Volume
@@ -25,6 +20,11 @@ sevenEntries =
       ram = write (replicate 320 0) 64 (wordsBytes (1 ∷ 0 ∷ 2 ∷ 1 ∷ 3 ∷ 2 ∷ 4 ∷ 3 ∷ 5 ∷ 4 ∷ 6 ∷ 5 ∷ 7 ∷ 6 ∷ []));
     }
 
-pub first-filter : take 64 (drop 192 (call fnvFamily sevenEntries (insert (recordOf 8 1 2 3)) .volume .ram)) ≡ 102 ∷ 136 ∷ 0 ∷ 0 ∷ 0 ∷ 0 ∷ 0 ∷ 0 ∷ 0 ∷ 0 ∷ 0 ∷ 0 ∷ 0 ∷ 0 ∷ 0 ∷ 0 ∷ 153 ∷ 68 ∷ 0 ∷ 0 ∷ 0 ∷ 0 ∷ 0 ∷ 0 ∷ 0 ∷ 0 ∷ 0 ∷ 0 ∷ 0 ∷ 0 ∷ 0 ∷ 0 ∷ 153 ∷ 34 ∷ 0 ∷ 0 ∷ 0 ∷ 0 ∷ 0 ∷ 0 ∷ 0 ∷ 0 ∷ 0 ∷ 0 ∷ 0 ∷ 0 ∷ 0 ∷ 0 ∷ 82 ∷ 37 ∷ 0 ∷ 0 ∷ 0 ∷ 0 ∷ 0 ∷ 0 ∷ 0 ∷ 0 ∷ 0 ∷ 0 ∷ 0 ∷ 0 ∷ 0 ∷ 0 ∷ []
-unfolding write tab tabFrom pieces bit pack log2up wordsBytes any memb allOf allowed fresh allFresh fnvFrom positions rowBit rowByte bitAt filterBit setByte flushAndBuild recordBytes entryBytes deletionBytes itemWord put scan searchPages badState tooShort judged formatted format isDeleted tryAt maybeIn search deletionPlan deletionRam pageFilter insertionPlan insertionRam commit change lookupAfter call
+-- a sector of the SKA page: 16 bits of the filter in slot 0, nothing in the other slots
+abbrev sector : ℕ → ℕ → List ℕ
+sector low high = low ∷ high ∷ replicate 14 0
+
+pub first-filter : take 64 (drop 192 (call fnvFamily sevenEntries (insert (recordOf 8 1 2 3)) .volume .ram))
+    ≡ sector 102 136 ++ sector 153 68 ++ sector 153 34 ++ sector 82 37
+unfolding calls
 first-filter = refl

@@ -1,3 +1,4 @@
+pub mod Computing
 pub mod Example
 pub mod Trace
 pub mod FirstFilter

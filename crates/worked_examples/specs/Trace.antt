@@ -2,23 +2,15 @@
 -- RAM's bytes.
 use mathlib.Core.Path.{_≡_, refl}
 use mathlib.Core.List.{List, [], _∷_}
-use Prim.Native.Nat.{ℕ, _+_, _*_, _%_, _^_}
+use Prim.Native.Nat.{ℕ, _*_, _%_, _^_}
 use lib.Bits.{bitXor}
-use lib.ListN.{replicate}
-use Rattle.memory.specs.Lists.{write, tab, tabFrom, pieces, part}
-use Rattle.memory.specs.Bits.{bit, pack}
-use Rattle.memory.specs.Power.{log2up}
-use Rattle.memory.specs.Words.{word, wordsBytes}
-use Rattle.memory.specs.Ranges.{any, memb, allOf}
-use Rattle.layout.specs.Geometry.{sizesOf, allowed}
-use Rattle.layout.specs.Flash.{Flash, fresh, allFresh}
-use Rattle.layout.specs.Hash.{fnvFrom, fnvFamily, positions}
-use Rattle.layout.specs.Index.{rowBit, rowByte, bitAt, filterBit, setByte, flushAndBuild}
-use Rattle.layout.specs.Items.{recordOf, recordBytes, entryBytes, deletionBytes, itemWord, put}
-use Rattle.layout.specs.Search.{scan, searchPages}
-use Rattle.layout.specs.Calls.{Volume, Call, insert, update, delete, lookup, Outcome, accepted, hit, miss, refused, Result, badState, tooShort, judged, formatted, format, isDeleted, tryAt, maybeIn, search, deletionPlan, deletionRam, pageFilter, insertionPlan, insertionRam, commit, change, lookupAfter, call}
+use Rattle.layout.specs.Geometry.{sizesOf}
+use Rattle.layout.specs.Hash.{fnvFamily}
+use Rattle.layout.specs.Items.{recordOf}
+use Rattle.layout.specs.Calls.{Volume, Call, insert, update, delete, Result, format, call}
 use Rattle.script.specs.Answers.{Answer, ok, no}
 use Rattle.script.specs.Script.{resultAnswer}
+use Rattle.worked_examples.specs.Computing.{calls}
 use Rattle.worked_examples.specs.Example.{unformatted}
 
 -- the answers of calls one after another
@@ -35,16 +27,21 @@ abbrev digest : ℕ → List ℕ → ℕ
 digest h [] = h
 digest h (x ∷ xs) = digest (bitXor h x * 1099511628211 % 2 ^ 64) xs
 
-abbrev calls : List Call
-calls = delete 2147483648 ∷ insert (recordOf 2 1912169913 2025859891 2737727752) ∷ insert (recordOf 6 3688823723 3359983670 29) ∷ delete 0 ∷ insert (recordOf 11 4 35 2941484390) ∷ update (recordOf 27 23 10 1485051110) ∷ insert (recordOf 256 81 3170616314 17) ∷ update (recordOf 17 59 2916559411 11) ∷ insert (recordOf 16 12 60750187 78) ∷ insert (recordOf 21 42 1484101577 51) ∷ update (recordOf 4 521511664 3 2883145565) ∷ delete 14 ∷ []
+abbrev history : List Call
+history =
+    delete 2147483648 ∷ insert (recordOf 2 1912169913 2025859891 2737727752) ∷ insert (recordOf 6 3688823723 3359983670 29)
+    ∷ delete 0 ∷ insert (recordOf 11 4 35 2941484390) ∷ update (recordOf 27 23 10 1485051110)
+    ∷ insert (recordOf 256 81 3170616314 17) ∷ update (recordOf 17 59 2916559411 11) ∷ insert (recordOf 16 12 60750187 78)
+    ∷ insert (recordOf 21 42 1484101577 51) ∷ update (recordOf 4 521511664 3 2883145565) ∷ delete 14 ∷ []
 
-pub trace : run (format (unformatted 255 13319 832 331) (sizesOf 16 2 1) .volume) calls ≡ no 4 ∷ ok 1 0 ∷ ok 2 0 ∷ no 4 ∷ ok 3 0 ∷ no 4 ∷ ok 4 0 ∷ no 4 ∷ ok 5 0 ∷ ok 6 0 ∷ no 4 ∷ no 4 ∷ []
-unfolding write tab tabFrom pieces bit pack log2up wordsBytes any memb allOf allowed fresh allFresh fnvFrom positions rowBit rowByte bitAt filterBit setByte flushAndBuild recordBytes entryBytes deletionBytes itemWord put scan searchPages badState tooShort judged formatted format isDeleted tryAt maybeIn search deletionPlan deletionRam pageFilter insertionPlan insertionRam commit change lookupAfter call
+pub trace : run (format (unformatted 255 13319 832 331) (sizesOf 16 2 1) .volume) history
+    ≡ no 4 ∷ ok 1 0 ∷ ok 2 0 ∷ no 4 ∷ ok 3 0 ∷ no 4 ∷ ok 4 0 ∷ no 4 ∷ ok 5 0 ∷ ok 6 0 ∷ no 4 ∷ no 4 ∷ []
+unfolding calls
 trace = refl
 
 abbrev last : Volume
-last = end (format (unformatted 255 13319 832 331) (sizesOf 16 2 1) .volume) calls
+last = end (format (unformatted 255 13319 832 331) (sizesOf 16 2 1) .volume) history
 
 pub trace-ram : digest 0xcbf29ce484222325 (last .ram) ≡ 0x24024ad97ecc2dcc
-unfolding write tab tabFrom pieces bit pack log2up wordsBytes any memb allOf allowed fresh allFresh fnvFrom positions rowBit rowByte bitAt filterBit setByte flushAndBuild recordBytes entryBytes deletionBytes itemWord put scan searchPages badState tooShort judged formatted format isDeleted tryAt maybeIn search deletionPlan deletionRam pageFilter insertionPlan insertionRam commit change lookupAfter call
+unfolding calls
 trace-ram = refl

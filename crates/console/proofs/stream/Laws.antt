@@ -33,7 +33,8 @@ write-front (suc n) (x ∷ xs) [] h = ap (λ (r : List ℕ). x ∷ r) (take-appe
 write-front (suc n) (x ∷ xs) (y ∷ ys) h = ap (λ (r : List ℕ). y ∷ r) (write-front n xs ys (le-of-suc-le-suc h))
 
 -- the same of n bytes from `at` on
-write-part : (l : List ℕ) (at n : ℕ) (t : List ℕ) → length t ≤ n → take at l ++ (write (take n (drop at l)) 0 t ++ drop n (drop at l)) ≡ write l at t
+write-part : (l : List ℕ) (at n : ℕ) (t : List ℕ) → length t ≤ n
+    → take at l ++ (write (take n (drop at l)) 0 t ++ drop n (drop at l)) ≡ write l at t
 unfolding write
 write-part l zero n t h = write-front n l t h
 write-part [] (suc m) n t h = write-front n [] t h
@@ -47,11 +48,13 @@ answer-line-is v line out = refl
 
 pub line-short : (v : Volume) (line out : List ℕ) (l : AfterLine) → l ≡ answerLine v line out → l .length ≤ 32
 line-short v line out l e =
-    let h : l .length ≡ length (text (perform v (request line) .answer)) = ap (λ (x : AfterLine). x .length) (e ∙ answer-line-is v line out) in
-    omega (arith, text-length (perform v (request line) .answer))
+    let a = perform v (request line) .answer in
+    let h : l .length ≡ length (text a) = ap (λ (x : AfterLine). x .length) (e ∙ answer-line-is v line out) in
+    omega (arith, text-length a)
 
 -- the line that is kept, answered into the 32 bytes behind what was printed
-pub line-ends : (k : Buffers) (l : AfterLine) → l ≡ answerLine (k .volume) (take (k .fill - 0) (k .buffer)) (take (k .printed + 32 - k .printed) (drop (k .printed) (k .out)))
+pub line-ends : (k : Buffers) (l : AfterLine)
+    → l ≡ answerLine (k .volume) (take (k .fill - 0) (k .buffer)) (take (k .printed + 32 - k .printed) (drop (k .printed) (k .out)))
     → _≡_ {A = Buffers} (record {
       volume = l .volume;
       buffer = k .buffer;
@@ -63,17 +66,20 @@ unfolding endLine
 line-ends k l e =
     let r : Reply = perform (k .volume) (request (take (k .fill) (k .buffer))) in
     let n : k .printed + 32 - k .printed ≡ 32 = omega arith in
-    let f = e ∙ answer-line-is (k .volume) (take (k .fill - 0) (k .buffer)) (take (k .printed + 32 - k .printed) (drop (k .printed) (k .out))) in
+    let out = take (k .printed + 32 - k .printed) (drop (k .printed) (k .out)) in
+    let f = e ∙ answer-line-is (k .volume) (take (k .fill - 0) (k .buffer)) out in
     rw (f, sub-zero (k .fill), n, write-part (k .out) (k .printed) 32 (text (r .answer)) (text-length (r .answer)))
 
 -- ---- bytes
 
-pub add-byte : (k : Buffers) (c fill : ℕ) (line : List ℕ) → c ≢ 10 → fill ≡ cond (ltb (k .fill) (length (k .buffer))) (k .fill + 1) (k .fill) → line ≡ write (k .buffer) (k .fill) (c ∷ [])
+pub add-byte : (k : Buffers) (c fill : ℕ) (line : List ℕ) → c ≢ 10
+    → fill ≡ cond (ltb (k .fill) (length (k .buffer))) (k .fill + 1) (k .fill) → line ≡ write (k .buffer) (k .fill) (c ∷ [])
     → _≡_ {A = Buffers} (record { volume = k .volume; buffer = line; fill = fill; out = k .out; printed = k .printed }) (nextByte k c)
 unfolding nextByte addByte
 add-byte k c fill line h f l = rw (ne-eqb c 10 h, f, l)
 
-pub feed-more : (z k n : Buffers) (cs : List ℕ) (i : ℕ) → i < length cs → z ≡ feed k (drop i cs) → n ≡ nextByte k (getD cs i 0) → z ≡ feed n (drop (i + 1) cs)
+pub feed-more : (z k n : Buffers) (cs : List ℕ) (i : ℕ) → i < length cs → z ≡ feed k (drop i cs) → n ≡ nextByte k (getD cs i 0)
+    → z ≡ feed n (drop (i + 1) cs)
 unfolding feed
 feed-more z k n cs i h e b = e ∙ rw (drop-cons cs i 0, add-one, b)
 

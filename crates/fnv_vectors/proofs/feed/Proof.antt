@@ -9,11 +9,11 @@ use Rattle.fnv_vectors.proofs.feed.Statement.{statement}
 use Rattle.fnv_vectors.proofs.feed.Tie as tie
 
 abbrev Inv-loop : tie.InvT-loop
-Inv-loop chunk line₀ filled fill₀ i₀ line fill i =
+Inv-loop filled chunk line₀ fill₀ i₀ line fill i =
     (i ≤ length chunk) × (fill ≤ length line) × (length line ≡ length line₀)
 
 abbrev μ-loop : tie.MeasureT-loop
-μ-loop chunk line₀ filled fill₀ i₀ line fill i = length chunk - i
+μ-loop filled chunk line₀ fill₀ i₀ line fill i = length chunk - i
 
 loop-holds : tie.Need-loop-holds Inv-loop μ-loop
 loop-holds c = omega arith

@@ -9,17 +9,17 @@ use Rattle.fnv_vectors.proofs.pump.Statement.{statement}
 use Rattle.fnv_vectors.proofs.pump.Tie as tie
 
 abbrev Inv-loop : tie.InvT-loop
-Inv-loop line₀ chunk₀ fill₀ turns₀ line chunk fill turns =
+Inv-loop line₀ chunk₀ fill₀ left₀ line chunk fill left =
     (fill ≤ length line) × (length line ≡ length line₀) × (length chunk ≡ length chunk₀)
 
 abbrev μ-loop : tie.MeasureT-loop
-μ-loop line₀ chunk₀ fill₀ turns₀ line chunk fill turns = turns
+μ-loop line₀ chunk₀ fill₀ left₀ line chunk fill left = left
 
 loop-holds : tie.Need-loop-holds Inv-loop μ-loop
 loop-holds c = omega arith
 
-sub-turns : tie.Need-sub-turns Inv-loop μ-loop
-sub-turns c = omega arith
+sub-left : tie.Need-sub-left Inv-loop μ-loop
+sub-left c = omega arith
 
 read-requires : tie.Need-read-requires Inv-loop μ-loop
 read-requires c κs = search needs
@@ -46,7 +46,8 @@ loop-again : tie.Need-loop-again Inv-loop μ-loop
 loop-again c = omega arith
 
 -- the ways out of the loop meet: at its test, or after a read of nothing
-chunk-kept : (c : tie.Left-loop Inv-loop μ-loop) → length (c .loop-test .chunk) ≡ length (c .before .before .before .before .args .chunk .now)
+chunk-kept : (c : tie.Left-loop Inv-loop μ-loop)
+    → length (c .loop-test .chunk) ≡ length (c .before .before .before .before .args .chunk .now)
 chunk-kept c = ⊎-elim (λ w. omega (arith, ap length (w .1))) (λ w. omega (arith, ap length (w .8))) (c .loop-test .came)
 
 sub-handle : tie.Need-sub-handle Inv-loop μ-loop
@@ -86,7 +87,7 @@ pump-spec =
     Inv-loop
     μ-loop
     loop-holds
-    sub-turns
+    sub-left
     read-requires
     count-requires
     sub-feed

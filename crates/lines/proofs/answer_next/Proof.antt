@@ -1,4 +1,6 @@
--- `lines::answer_next` meets its contract: a walk of its MIR, by hand. The volume is made in a local, which is lent to `answer_on` for a lifetime that is made for the call; the line and the slices go on at their own lifetimes; the local comes back at the last value, and its state goes into the result.
+-- `lines::answer_next` meets its contract: a walk of its MIR, by hand. The volume is made in a local, which is lent to `answer_on` for a
+-- lifetime that is made for the call; the line and the slices go on at their own lifetimes; the local comes back at the last value,
+-- and its state goes into the result.
 -- All that the proof knows of `answer_on` is that it meets its contract.
 -- Assumes nothing.
 use mathlib.Core.Path.{_≡_, refl, ap}
@@ -48,7 +50,7 @@ use Rattle.state.specs.declared.State.{State}
 use Rattle.lines.specs.Contract.{afterLine, answerLine}
 use Rattle.lines.specs.declared.LineReply.{LineReply}
 use Rattle.lines.specs.declared.Volume.{Volume}
-use Rattle.lines.proofs.Lent.{cell-in, cell-out}
+use Rattle.lines.proofs.LocalLaws.{cell-in, cell-out}
 use Rattle.state.proofs.State as S
 use Rattle.state.proofs.State.Laws as S′
 use Rattle.lines.proofs.LineReply as R

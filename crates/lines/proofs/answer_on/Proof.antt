@@ -1,4 +1,6 @@
--- `lines::answer_on` meets its contract: a walk of its MIR, by hand. The borrow of the volume is opened, its state is read, the line and the four lent slices go to `answer_line` at their own lifetimes, and the borrow is closed at the volume with the state that `answer_line` returned.
+-- `lines::answer_on` meets its contract: a walk of its MIR, by hand. The borrow of the volume is opened, its state is read, the line and
+-- the four lent slices go to `answer_line` at their own lifetimes, and the borrow is closed at the volume with the state that
+-- `answer_line` returned.
 -- All that the proof knows of `answer_line` is that it meets its contract.
 -- Assumes nothing.
 use mathlib.Core.Path.{_≡_, refl, ap}

@@ -1,4 +1,5 @@
--- A value that lies in a cell, as the lender of a `&mut` has it: what `denote.Lend`'s `lends-ref` takes and `ref-back` gives. It says nothing of the crate.
+-- A value that lies in a cell, as the lender of a `&mut` has it: what `denote.Lend`'s `lends-ref` takes and `ref-back` gives. It says
+-- nothing of the crate.
 --     cell-in      the cell at the machine values vs ∗ what the type owns there  ⊢  h lies there
 --     cell-out     h lies there  ⊢  ∃ vs. the cell at vs ∗ what the type owns there
 -- Assumes `Given`.

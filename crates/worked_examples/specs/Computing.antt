@@ -1,0 +1,22 @@
+-- `unfolding calls` opens every definition that a call on a volume computes with.
+use Prim.{Unit}
+use Rattle.memory.specs.Lists.{write, tab, tabFrom, pieces}
+use Rattle.memory.specs.Bits.{bit, pack}
+use Rattle.memory.specs.Power.{log2up}
+use Rattle.memory.specs.Words.{wordsBytes}
+use Rattle.memory.specs.Ranges.{any, memb, allOf}
+use Rattle.layout.specs.Geometry.{allowed}
+use Rattle.layout.specs.Flash.{fresh, allFresh}
+use Rattle.layout.specs.Hash.{fnvFrom, positions}
+use Rattle.layout.specs.Index.{rowBit, rowByte, bitAt, filterBit, setByte, flushAndBuild}
+use Rattle.layout.specs.Items.{recordBytes, entryBytes, deletionBytes, itemWord, put}
+use Rattle.layout.specs.Search.{scan, searchPages}
+use Rattle.layout.specs.Calls.{badState, tooShort, judged, formatted, format, isDeleted, tryAt, maybeIn, search, deletionPlan}
+use Rattle.layout.specs.Calls.{deletionRam, pageFilter, insertionPlan, insertionRam, commit, change, lookupAfter, call}
+
+unfoldable pub calls : Unit {0}
+unfolding write tab tabFrom pieces bit pack log2up wordsBytes any memb allOf allowed fresh allFresh fnvFrom positions
+    rowBit rowByte bitAt filterBit setByte flushAndBuild recordBytes entryBytes deletionBytes itemWord put scan searchPages
+    badState tooShort judged formatted format isDeleted tryAt maybeIn search deletionPlan deletionRam pageFilter insertionPlan
+    insertionRam commit change lookupAfter call
+calls = tt
