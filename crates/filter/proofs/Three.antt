@@ -3,7 +3,7 @@ use mathlib.Core.Path.{_≡_, refl}
 use mathlib.Core.List.{List, [], _∷_}
 use Prim.Native.Nat.{ℕ}
 use lib.ListN.{getD}
-use Rattle.kernels.specs.Candidate.{candidate, candidate-ext}
+use Rattle.memory.specs.Candidate.{candidate, candidate-ext}
 use Rattle.kernels.specs.Rows.{allIn}
 
 -- only the first three numbers decide

@@ -13,7 +13,7 @@ ghost use Rattle.memory.specs.Lent.{before, after};
 ghost use Rattle.layout.specs.Geometry.{page};
 ghost use Rattle.layout.specs.Hash.{fnvFamily, positions, positionCount};
 ghost use Rattle.layout.specs.Index.{withFilter, inFull};
-ghost use Rattle.kernels.specs.Candidate.{candidate};
+ghost use Rattle.memory.specs.Candidate.{candidate};
 ghost use Rattle.kernels.specs.Rows.{Within, allIn};
 ghost use Rattle.sets.specs.Indexes.{indexOf};
 ghost use Rattle.filter.specs.Filter.{arrayBit, Below, Fits, withKey};

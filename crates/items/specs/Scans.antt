@@ -10,7 +10,7 @@ use lib.Dec.{eqb}
 use Rattle.memory.specs.Words.{word}
 use Rattle.memory.specs.Cases.{bool?, either}
 use Rattle.memory.specs.Ranges.{any}
-use Rattle.kernels.specs.Candidate.{candidate, candidate-open, candidate-shut}
+use Rattle.memory.specs.Candidate.{candidate, candidate-open, candidate-shut}
 
 -- is word i from byte `at` on the number j
 unfoldable pub isWord : List ℕ → ℕ → ℕ → ℕ → Bool

@@ -6,7 +6,7 @@ ghost use lib.Count.{leadingZeros};
 ghost use lib.ListN.{length, getD};
 ghost use Rattle.memory.specs.Bits.{bit, bitIn};
 ghost use Rattle.memory.specs.Lent.{before};
-ghost use Rattle.kernels.specs.Candidate.{candidate};
+ghost use Rattle.memory.specs.Candidate.{candidate};
 ghost use Rattle.kernels.specs.Rows.{allIn, Word, Words, Within, WordIn, BytesIn};
 ghost use Rattle.kernels.specs.Width.{IsWidth};
 

@@ -7,3 +7,4 @@ pub mod Power
 pub mod Words
 pub mod Ranges
 pub mod Lent
+pub mod Candidate

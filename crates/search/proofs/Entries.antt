@@ -10,7 +10,7 @@ use lib.Dec.{leb}
 use Rattle.memory.specs.Cases.{bool?, either}
 use Rattle.memory.specs.Words.{word}
 use Rattle.layout.specs.Search.{Stop, found, corrupt, tryEntry, orElse, scan}
-use Rattle.kernels.specs.Candidate.{candidate, candidate-le, candidate-opens}
+use Rattle.memory.specs.Candidate.{candidate, candidate-le, candidate-opens}
 use Rattle.items.specs.Scans.{hasKey, lastEntry}
 
 -- ---- the newest that passes

@@ -6,7 +6,7 @@ use Prim.Native.Nat.{ℕ, zero, suc, _+_, _*_, _-_, _≤_, _<_}
 use native.Mathlib.Omega.{arith}
 use Rattle.memory.specs.Cases.{bool?, either}
 use Rattle.layout.specs.Search.{Stop, Found, reply, scan, opening, searchPages}
-use Rattle.kernels.specs.Candidate.{candidate, candidate-le, candidate-opens}
+use Rattle.memory.specs.Candidate.{candidate, candidate-le, candidate-opens}
 use Rattle.search.specs.Find.{onward}
 
 -- what is found after k pages were opened in vain

@@ -4,7 +4,7 @@ ghost use mathlib.Core.List.{[], _∷_};
 ghost use Prim.Native.Nat.{_+_, _*_, _/_, _%_, _^_, _<_};
 ghost use lib.ListN.{length};
 ghost use Rattle.memory.specs.Lent.{before};
-ghost use Rattle.kernels.specs.Candidate.{candidate};
+ghost use Rattle.memory.specs.Candidate.{candidate};
 ghost use Rattle.kernels.specs.Rows.{allIn, Words};
 ghost use Rattle.kernels.specs.Width.{IsWidth};
 ghost use Rattle.triples.specs.Triple.{Rooms, Lows, Within3};

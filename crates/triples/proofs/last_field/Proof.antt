@@ -3,7 +3,7 @@ use native.Mathlib.Omega.{arith}
 use mathlib.Core.List.{[], _∷_}
 use mathlib.Core.Path.{_≡_, refl, sym, _∙_}
 use Prim.Native.Nat.{_-_, _≤_}
-use Rattle.kernels.specs.Candidate.{candidate}
+use Rattle.memory.specs.Candidate.{candidate}
 use Rattle.kernels.specs.Rows.{allIn}
 use Rattle.kernels.proofs.Fields.{Turn, turn, field-none, field-hit}
 use Rattle.triples.proofs.Three.{lows-lt}

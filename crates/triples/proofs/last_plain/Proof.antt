@@ -4,7 +4,7 @@ use native.Mathlib.Omega.{arith}
 use mathlib.Core.List.{[], _∷_}
 use mathlib.Core.Path.{_≡_, refl, sym, ap, _∙_}
 use Prim.Native.Nat.{ℕ, suc, _*_, _-_, _/_, _≤_}
-use Rattle.kernels.specs.Candidate.{candidate, candidate-open, candidate-shut}
+use Rattle.memory.specs.Candidate.{candidate, candidate-open, candidate-shut}
 use Rattle.kernels.specs.Rows.{allIn}
 use Rattle.kernels.proofs.Filters.{all-from}
 use Rattle.triples.proofs.last_plain.Statement.{statement}

@@ -5,7 +5,7 @@ use mathlib.Core.Path.{ap, sym, _∙_}
 use native.Mathlib.Nat.{mul-le-mul-left}
 use Prim.Native.Nat.{ℕ, _*_, _≤_}
 use borrow.Author.Needs.{needs}
-use Rattle.kernels.specs.Candidate.{candidate}
+use Rattle.memory.specs.Candidate.{candidate}
 use Rattle.kernels.specs.Rows.{allIn}
 use Rattle.kernels.proofs.Turns.{single-is}
 use Rattle.kernels.proofs.Widths.{between, whole-bytes}
