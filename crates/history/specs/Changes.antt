@@ -16,8 +16,9 @@ use Rattle.memory.specs.Words.{word}
 use Rattle.layout.specs.Geometry.{Geometry, filterBits, kaBlocks, indexBlock, fullSets, recordCapacity, deletionCapacity, spareSize, kaRam}
 use Rattle.layout.specs.Flash.{Flash, Op, applyAll, planOps, allFresh}
 use Rattle.layout.specs.Hash.{Family}
-use Rattle.layout.specs.Items.{RA, KA, DA, entryBytes, deletionBytes, put, fills, Record, recordBytes, recordOf}
+use Rattle.layout.specs.Items.{RA, KA, DA, entryBytes, deletionBytes, put, fills, Record, recordBytes, noRecord}
 use Rattle.layout.specs.Index.{inFull, fullBlock, filterRam}
+use Rattle.layout.specs.Keys.{Key, KeyOk, keyAt}
 use Rattle.layout.specs.Calls.{keyIndex, keyFilters, keyPositions, pageFilter, deletionPlan, deletionRam, insertionPlan, insertionRam}
 use Rattle.laws.specs.Operations.{filterOps, recordOps, recordRam, entryOps, entryRam, entered, filteredRam}
 use Rattle.laws.specs.ChangeLaws.{deletion-ops, insertion-ops, insertion-ram}
@@ -89,7 +90,7 @@ module _ (h : Family) (g : Geometry) (e : ℕ) (pow : g .u ≡ 2 ^ e) where
 
   module _ (H : History) (r : Record) (d : ℕ) (C : Flash) (ram : List ℕ)
       (P : Parts h g e pow H (length (H .records)) (length (H .records)) d (keyFilters g (length (H .records))) C ram)
-      (room : length (H .records) < recordCapacity g) (key-word : r .key < 2 ^ 32) (words : (j : ℕ) → j < length (H .records) → recordAt H j .key < 2 ^ 32) where
+      (room : length (H .records) < recordCapacity g) (key-word : KeyOk (r .key)) (words : (j : ℕ) → j < length (H .records) → KeyOk (recordAt H j .key)) where
     abbrev n : ℕ
     n = length (H .records)
 
@@ -100,10 +101,10 @@ module _ (h : Family) (g : Geometry) (e : ℕ) (pow : g .u ≡ 2 ^ e) where
     N = keyFilters g (length (H .records))
 
     old : (j : ℕ) → j < length (H .records) → recordAt H j ≡ recordAt (withRecord H r) j
-    old j l = sym (List·getD-append (H .records) (r ∷ []) (recordOf 0 0 0 0) j l)
+    old j l = sym (List·getD-append (H .records) (r ∷ []) noRecord j l)
 
     last : r ≡ recordAt (withRecord H r) (length (H .records))
-    last = sym (getD-append-seam (H .records) r [] (recordOf 0 0 0 0))
+    last = sym (getD-append-seam (H .records) r [] noRecord)
 
     filter-old : (f x : ℕ) → f < length (H .records) / (8 * g .u) → x < filterBits (g .u) → keyFilter h g H f x ≡ keyFilter h g (withRecord H r) f x
     unfolding keyFilter
@@ -176,14 +177,14 @@ module _ (h : Family) (g : Geometry) (e : ℕ) (pow : g .u ≡ 2 ^ e) where
     abbrev keys : List ℕ
     keys = put (KA g) (length (H .records)) entry ram₁
 
-    words′ : (j : ℕ) → j < length (H .records) + 1 → recordAt (withRecord H r) j .key < 2 ^ 32
+    words′ : (j : ℕ) → j < length (H .records) + 1 → KeyOk (recordAt (withRecord H r) j .key)
     words′ j l =
         either (lt? j (length (H .records)))
         (λ a. rw (← (old j (a .1))) (words j (a .1)))
         (λ a. let q : j ≡ length (H .records) = omega arith in rw (q, ← last) key-word)
 
     module _ (full : length (H .records) % (8 * g .u) + 1 ≡ 8 * g .u) where
-      key-at : (i : ℕ) → i < 8 * g .u → word keys (kaRam (g .u) + i * 8) ≡ recordAt (withRecord H r) (length (H .records) / (8 * g .u) * (8 * g .u) + i) .key
+      key-at : (i : ℕ) → i < 8 * g .u → keyAt keys (kaRam (g .u) + i * 8) ≡ recordAt (withRecord H r) (length (H .records) / (8 * g .u) * (8 * g .u) + i) .key
       key-at i l =
           let E = euclid (length (H .records)) (8 * g .u) (omega (arith, pu)) in
           let at : kaRam (g .u) + i * 8 + 0 * 4 ≡ kaRam (g .u) + i * 8 = omega arith in
@@ -197,7 +198,7 @@ module _ (h : Family) (g : Geometry) (e : ℕ) (pow : g .u ≡ 2 ^ e) where
 
       same : (x : ℕ) → x < filterBits (g .u) → pageFilter h g keys x ≡ keyFilter h g (withRecord H r) (length (H .records) / (8 * g .u)) x
       unfolding pageFilter keyFilter
-      same x l = any-ext _ _ (8 * g .u) (λ i m. ap (λ (k : ℕ). memb x (keyPositions h g k)) (key-at i m))
+      same x l = any-ext _ _ (8 * g .u) (λ i m. ap (λ (k : Key). memb x (keyPositions h g k)) (key-at i m))
 
       next : (length (H .records) + 1) / (8 * g .u) ≡ length (H .records) / (8 * g .u) + 1
       next = either (carry (length (H .records)) (8 * g .u) (omega (arith, pu))) (λ c. c .1) (λ c. absurd (c .0 full))

@@ -9,6 +9,7 @@ use lib.ListN.{length, getD}
 use Rattle.layout.specs.Geometry.{Geometry, geometry, allowed, blocks, recordCapacity, deletionCapacity, spareSize, Sizes, unitOf, stateOf}
 use Rattle.layout.specs.Flash.{Op, applyAll}
 use Rattle.layout.specs.Hash.{Family}
+use Rattle.layout.specs.Keys.{Key, KeyOk}
 use Rattle.layout.specs.Calls.{Volume, Call, lookup, accepted, tooShort, format, formatted, call}
 use Rattle.layout.specs.FiniteMap.{emptyMap}
 use Rattle.laws.specs.FlashLaws.{apply-append}
@@ -100,10 +101,10 @@ module _ (h : Family) (v : Volume) (sizes : Sizes) (calls : List Call) (can : al
   reply-is none = refl
   reply-is (some j) = refl
 
-  found : (key : ℕ) → key < 2 ^ 32 → replyOf (call h (volumeOf h sizes ok H (end .flash) (end .ram)) (lookup key) .outcome) ≡ liveReply H (findLive H key)
+  found : (key : Key) → KeyOk key → replyOf (call h (volumeOf h sizes ok H (end .flash) (end .ram)) (lookup key) .outcome) ≡ liveReply H (findLive H key)
   found key l = call-done h sizes ok can H (end .flash) (end .ram) (ran .holds) (lookup key) l (ran .room) .says ∙ reply-is (findLive H key)
 
-  looked-up : (e : Volume) → e ≡ volumeOf h sizes ok H (end .flash) (end .ram) → (key : ℕ) → key < 2 ^ 32 → replyOf (call h e (lookup key) .outcome) ≡ liveReply H (findLive H key)
+  looked-up : (e : Volume) → e ≡ volumeOf h sizes ok H (end .flash) (end .ram) → (key : Key) → KeyOk key → replyOf (call h e (lookup key) .outcome) ≡ liveReply H (findLive H key)
   looked-up e q key l = rw q (found key l)
 
   image : ImageOf h g H v end

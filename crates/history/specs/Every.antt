@@ -17,7 +17,8 @@ use Rattle.layout.specs.Flash.{Flash, Op, applyAll, erases, Planned, planOps, a
 use Rattle.layout.specs.Hash.{Family, fnvFamily}
 use Rattle.layout.specs.Items.{RA, KA, DA, entryBytes, deletionBytes, fills, Record, recordBytes}
 use Rattle.layout.specs.Search.{Stop, found, corrupt}
-use Rattle.layout.specs.Calls.{Volume, Call, insert, update, delete, lookup, Outcome, accepted, hit, miss, refused, Result, refuse, badState, tooShort, judged, format, formatted, keyIndex, keyFilters, keyPositions, tryAt, maybeIn, search, deletionPlan, deletionRam, newFilter, insertionPlan, insertionRam, commit, noRoom, noDeletion, insertAfter, updateAfter, deleteAfter, lookupAfter, answer, call, Edit, one, change}
+use Rattle.layout.specs.Keys.{Key}
+use Rattle.layout.specs.Calls.{Volume, Call, insert, update, delete, lookup, Outcome, accepted, hit, miss, refused, Result, refuse, badState, tooShort, judged, format, formatted, keyIndex, keyFilters, keyPositions, tryAt, maybeIn, searchAt, search, deletionPlan, deletionRam, newFilter, insertionPlan, insertionRam, commit, noRoom, noDeletion, insertAfter, updateAfter, deleteAfter, lookupAfter, answer, call, Edit, one, change}
 use Rattle.laws.specs.Operations.{recordRam, entryOps, entryRam, entered}
 use Rattle.laws.specs.FlashLaws.{apply-main-length, apply-spare-length}
 use Rattle.laws.specs.ItemLaws.{length-record, length-entry, length-deletion}
@@ -160,12 +161,13 @@ module _ (h : Family) (g : Geometry) (v : Volume) (m : ℕ) where
   lookup-most opened (some (found j)) l = l
 
 answer-most : (h : Family) (g : Geometry) (v : Volume) (c : Call) → Most (v .state .records / entriesPerPage (g .u)) (answer h g v c)
-unfolding search
+unfolding searchAt
 answer-most h g v (insert r) = insert-most h g v _ r (search h g v (r .key) .stop)
 answer-most h g v (update r) = update-most h g v _ r (search h g v (r .key) .stop)
 answer-most h g v (delete key) = delete-most h g v _ (search h g v key .stop)
 answer-most h g v (lookup key) =
-    lookup-most h g v _ (search h g v key .opened) (search h g v key .stop) (search-opened (maybeIn g v (keyPositions h g key)) (tryAt g v key) (entriesPerPage (g .u)) (v .state .records))
+    lookup-most h g v _ (search h g v key .opened) (search h g v key .stop)
+    (search-opened (maybeIn g v (keyPositions h g key)) (tryAt g v (v .state .records) (v .state .deletions) key) (entriesPerPage (g .u)) (v .state .records))
 
 pub count-most : (h : Family) (v : Volume) (c : Call) → call h v c .count ≤ v .state .records / entriesPerPage (unitOf (v .state .sizes))
 unfolding call judged
@@ -210,7 +212,7 @@ module _ (h : Family) (sizes : Sizes) (ok : Sound sizes) where
       = either (carry n (8 * u) (omega (arith, pu))) (λ c. c .1) (λ c. absurd (c .0 full)) in
       rw (← next) (places-suffice u (sizes .raBlocks) (n + 1) pu (omega arith))
 
-  module _ (n key : ℕ) (bytes ram : List ℕ) (C : Flash) (room : n < recordCapacity g) (size : length bytes ≡ 16) where
+  module _ (n : ℕ) (key : Key) (bytes ram : List ℕ) (C : Flash) (room : n < recordCapacity g) (size : length bytes ≡ 16) where
     inside-if : (b : Bool) (ops : List Op) → (b ≡ true → Inside u (blocks g) ops) → Inside u (blocks g) (cond b ops [])
     inside-if true ops a = a refl
     inside-if false ops a = inside-none u (blocks g)
@@ -236,7 +238,7 @@ module _ (h : Family) (sizes : Sizes) (ok : Sound sizes) where
           (past-then (ramSize g) ram _ _ entry-past (past-filter u pu (keyIndex g) (keyFilters g n) (ramSize g) (newFilter h g n key (recordRam g n bytes ram)) _ (omega arith))) entry-past);
     }
 
-  update-bounded : (n d j key : ℕ) (bytes ram : List ℕ) (C : Flash) → n < recordCapacity g → d < deletionCapacity g → length bytes ≡ 16
+  update-bounded : (n d j : ℕ) (key : Key) (bytes ram : List ℕ) (C : Flash) → n < recordCapacity g → d < deletionCapacity g → length bytes ≡ 16
       → Bounded g ram (planOps u (deletionPlan g d j ram ++ insertionPlan h g n key bytes ram) C) (insertionRam h g n key bytes (deletionRam g d j ram))
   update-bounded n d j key bytes ram C room less size =
       let D₁ = deletion-bounded d j ram C less in

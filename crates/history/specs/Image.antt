@@ -8,7 +8,7 @@ use lib.Dec.{ltb, eqb}
 use Rattle.memory.specs.Ranges.{any, memb}
 use Rattle.layout.specs.Geometry.{Geometry, sector, page, block, sideBlocks, entriesPerPage, kaBlock, daBlock, indexBlock, kaRam, daRam, skaRam, workRam}
 use Rattle.layout.specs.Hash.{Family}
-use Rattle.layout.specs.Items.{Area, RA, KA, DA, Record, recordOf, recordBytes, entryBytes, deletionBytes}
+use Rattle.layout.specs.Items.{Area, RA, KA, DA, Record, noRecord, recordBytes, entryBytes, deletionBytes}
 use Rattle.layout.specs.Index.{Index, rowByte, inSka, inL1, inSet, inFull, setWidth, setBlocks, fullFilters, sideBlock, fullBlock}
 use Rattle.layout.specs.Calls.{keyPositions, keyFilters}
 
@@ -20,7 +20,7 @@ pub record History : Type 0 where
   pub deleted : List ℕ
 
 abbrev pub recordAt : History → ℕ → Record
-recordAt H j = getD (H .records) j (recordOf 0 0 0 0)
+recordAt H j = getD (H .records) j noRecord
 
 -- ---- RA, KA and DA: byte b of item j
 

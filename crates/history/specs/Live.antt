@@ -6,22 +6,24 @@ use mathlib.Core.List.{List, [], _∷_, _++_}
 use Prim.Native.Nat.{ℕ, _+_, _≤_, _<_}
 use native.Mathlib.Nat.{not-suc-le-zero}
 use lib.ListN.{length}
-use lib.Dec.{leb, eqb}
-use Rattle.memory.specs.Cases.{eq?, either}
+use lib.Dec.{leb}
+use Rattle.memory.specs.Cases.{either}
 use Rattle.memory.specs.Ranges.{last, last-some, memb}
+use Rattle.layout.specs.Keys.{Key, sameKey}
 use Rattle.layout.specs.Calls.{Call, insert, update, delete, lookup}
 use Rattle.layout.specs.FiniteMap.{Level, levelOf, Map, emptyMap, find, Reply, accepts, hits, misses, refuses}
 use Rattle.layout.specs.Items.{Record, recordBytes}
+use Rattle.laws.specs.KeyLaws.{key?}
 use Rattle.history.specs.Image.{History, recordAt}
 
 -- ---- which records are live
 
 -- record j is live and has key k: it is no deleted record
-unfoldable pub liveAt : History → ℕ → ℕ → Bool
-liveAt H k j = eqb (recordAt H j .key) k && not (memb j (H .deleted))
+unfoldable pub liveAt : History → Key → ℕ → Bool
+liveAt H k j = sameKey (recordAt H j .key) k && not (memb j (H .deleted))
 
 -- the newest live record of a key
-abbrev pub findLive : History → ℕ → Option ℕ
+abbrev pub findLive : History → Key → Option ℕ
 findLive H k = last (liveAt H k) (length (H .records))
 
 -- ---- the two changes: one more record, one more deletion
@@ -85,12 +87,12 @@ pub record Live (H : History) (M : Map) : Type 0 where
   pub n-is : M .n ≡ length (H .records)
   pub d-is : M .d ≡ length (H .deleted)
   -- the map holds a key's newest live record
-  pub same : (k : ℕ) → find (M .levels) k ≡ Option·map (levelAt H) (findLive H k)
+  pub same : (k : Key) → find (M .levels) k ≡ Option·map (levelAt H) (findLive H k)
   -- n - d keys are in the map
   pub count : length (M .levels) + length (H .deleted) ≡ length (H .records)
   pub once : Nodup (M .levels)
   -- a key has at most one live record
-  pub one : (k i j : ℕ) → i < length (H .records) → j < length (H .records) → liveAt H k i ≡ true → liveAt H k j ≡ true → i ≡ j
+  pub one : (k : Key) (i j : ℕ) → i < length (H .records) → j < length (H .records) → liveAt H k i ≡ true → liveAt H k j ≡ true → i ≡ j
   -- no number of a record to come is deleted
   pub below : (j : ℕ) → length (H .records) ≤ j → memb j (H .deleted) ≡ false
 
@@ -109,9 +111,9 @@ live-start = record {
 
 -- ---- what a search finds is a record that is there
 
-pub live-key : (H : History) (k j : ℕ) → liveAt H k j ≡ true → recordAt H j .key ≡ k
+pub live-key : (H : History) (k : Key) (j : ℕ) → liveAt H k j ≡ true → recordAt H j .key ≡ k
 unfolding liveAt
-live-key H k j e = either (eq? (recordAt H j .key) k) (λ a. a .1) (λ a. let z : false ≡ true = sym (rw (a .0)) ∙ e in cc)
+live-key H k j e = either (key? (recordAt H j .key) k) (λ a. a .1) (λ a. let z : false ≡ true = sym (rw (a .0)) ∙ e in cc)
 
-pub found-below : (H : History) (k j : ℕ) → findLive H k ≡ some j → (j < length (H .records)) × (recordAt H j .key ≡ k)
+pub found-below : (H : History) (k : Key) (j : ℕ) → findLive H k ≡ some j → (j < length (H .records)) × (recordAt H j .key ≡ k)
 found-below H k j e = let s = last-some (liveAt H k) (length (H .records)) j e in (s .0, live-key H k j (s .1))

@@ -10,12 +10,14 @@ use native.Mathlib.Omega.{arith}
 use lib.ListN.{length, length-append, List·getD-append}
 use lib.Seq.{getD-append-seam}
 use lib.Dec.{leb, eqb}
-use borrow.Author.Tests.{eqb-true, eq-eqb, ne-eqb}
+use borrow.Author.Tests.{eq-eqb, ne-eqb}
 use Rattle.memory.specs.Cases.{bool?, lt?, eq?, either}
 use Rattle.memory.specs.Ranges.{last, last-some, last-none, last-ext, last-no, memb}
+use Rattle.layout.specs.Keys.{Key, sameKey}
 use Rattle.layout.specs.Calls.{Call, insert, update, delete, lookup}
 use Rattle.layout.specs.FiniteMap.{Level, Map, find, without, Step, insertMap, updateMap, deleteMap, lookupMap, stepMap, levelOf}
 use Rattle.layout.specs.Items.{Record}
+use Rattle.laws.specs.KeyLaws.{key?, same-key, key-other}
 use Rattle.history.specs.Image.{History, recordAt}
 use Rattle.history.specs.Live.{liveAt, findLive, withRecord, withDeletion, HistoryStep, insertHistory, updateHistory, deleteHistory, lookupHistory, stepHistory, levelAt, Nodup, Live}
 
@@ -28,49 +30,49 @@ memb-snoc x y (z ∷ l) = let ih = memb-snoc x y l in either (bool? (eqb z x)) (
 
 -- ---- the levels of the map
 
-pub find-front : (x : Level) (xs : List Level) (k : ℕ) → find (x ∷ xs) k ≡ cond (eqb (x .key) k) (some x) (find xs k)
+pub find-front : (x : Level) (xs : List Level) (k : Key) → find (x ∷ xs) k ≡ cond (sameKey (x .key) k) (some x) (find xs k)
 unfolding find
 find-front x xs k = refl
 
 -- a key left out is not found
-pub find-without : (k : ℕ) (l : List Level) → find (without k l) k ≡ none
+pub find-without : (k : Key) (l : List Level) → find (without k l) k ≡ none
 unfolding find without
 find-without k [] = refl
 find-without k (x ∷ xs) =
     let ih = find-without k xs in
-    either (bool? (eqb (x .key) k)) (λ h. rw h ih) (λ h. rw (h, h) ih)
+    either (bool? (sameKey (x .key) k)) (λ h. rw h ih) (λ h. rw (h, h) ih)
 
 -- any other key is found as before
-pub find-other : (k k′ : ℕ) (l : List Level) → k ≢ k′ → find (without k l) k′ ≡ find l k′
+pub find-other : (k k′ : Key) (l : List Level) → k ≢ k′ → find (without k l) k′ ≡ find l k′
 unfolding find without
 find-other k k′ [] n = refl
 find-other k k′ (x ∷ xs) n =
     let ih = find-other k k′ xs n in
-    either (eq? (x .key) k)
-    (λ h. let f : eqb (x .key) k′ ≡ false = ne-eqb (x .key) k′ (λ e. n (sym (h .1) ∙ e)) in cc)
-    (λ h. either (bool? (eqb (x .key) k′)) (λ g. cc) (λ g. cc))
+    either (key? (x .key) k)
+    (λ h. let f : sameKey (x .key) k′ ≡ false = key-other (x .key) k′ (λ e. n (sym (h .1) ∙ e)) in cc)
+    (λ h. either (bool? (sameKey (x .key) k′)) (λ g. cc) (λ g. cc))
 
-pub nodup-without : (k : ℕ) (l : List Level) → Nodup l → Nodup (without k l)
+pub nodup-without : (k : Key) (l : List Level) → Nodup l → Nodup (without k l)
 unfolding without
 nodup-without k [] u = tt
 nodup-without k (x ∷ xs) u =
     let ih = nodup-without k xs (u .1) in
-    either (eq? (x .key) k)
+    either (key? (x .key) k)
     (λ h. rw (h .0) ih)
     (λ h. rw (h .0) (find-other k (x .key) xs (λ e. h .1 (sym e)) ∙ u .0, ih))
 
 -- leaving out a key that is not there changes nothing
-pub without-absent : (k : ℕ) (l : List Level) → find l k ≡ none → without k l ≡ l
+pub without-absent : (k : Key) (l : List Level) → find l k ≡ none → without k l ≡ l
 unfolding find without
 without-absent k [] e = refl
 without-absent k (x ∷ xs) e =
-    either (bool? (eqb (x .key) k)) (λ h. cc) (λ h. let ih = without-absent k xs (cc) in cc)
+    either (bool? (sameKey (x .key) k)) (λ h. cc) (λ h. let ih = without-absent k xs (cc) in cc)
 
-pub length-without : (k : ℕ) (l : List Level) (o : Level) → Nodup l → find l k ≡ some o → suc (length (without k l)) ≡ length l
+pub length-without : (k : Key) (l : List Level) (o : Level) → Nodup l → find l k ≡ some o → suc (length (without k l)) ≡ length l
 unfolding find without
 length-without k [] o u e = cc
 length-without k (x ∷ xs) o u e =
-    either (eq? (x .key) k)
+    either (key? (x .key) k)
     (λ h. let a : without k xs ≡ xs = without-absent k xs (rw (← (h .1)) (u .0)) in rw (h .0, a))
     (λ h. let ih = length-without k xs o (u .1) (cc) in rw (h .0) (ap suc ih))
 
@@ -83,40 +85,40 @@ module _ (H : History) (r : Record) where
   pub record-new : recordAt (withRecord H r) (length (H .records)) ≡ r
   record-new = getD-append-seam (H .records) r [] _
 
-  pub live-old : (k j : ℕ) → j < length (H .records) → liveAt (withRecord H r) k j ≡ liveAt H k j
+  pub live-old : (k : Key) (j : ℕ) → j < length (H .records) → liveAt (withRecord H r) k j ≡ liveAt H k j
   unfolding liveAt
   live-old k j h = rw (record-old j h)
 
-  pub live-new : (k : ℕ) → memb (length (H .records)) (H .deleted) ≡ false → liveAt (withRecord H r) k (length (H .records)) ≡ eqb (r .key) k
+  pub live-new : (k : Key) → memb (length (H .records)) (H .deleted) ≡ false → liveAt (withRecord H r) k (length (H .records)) ≡ sameKey (r .key) k
   unfolding liveAt
-  live-new k e = rw (record-new, e) (and-true (eqb (r .key) k))
+  live-new k e = rw (record-new, e) (and-true (sameKey (r .key) k))
 
   pub length-with : length (withRecord H r .records) ≡ suc (length (H .records))
   length-with = length-append (H .records) _ ∙ add-one _
 
-  pub find-with : (k : ℕ) → memb (length (H .records)) (H .deleted) ≡ false
-      → findLive (withRecord H r) k ≡ cond (eqb (r .key) k) (some (length (H .records))) (findLive H k)
+  pub find-with : (k : Key) → memb (length (H .records)) (H .deleted) ≡ false
+      → findLive (withRecord H r) k ≡ cond (sameKey (r .key) k) (some (length (H .records))) (findLive H k)
   unfolding last
   find-with k e = rw (length-with, live-new k e, last-ext (liveAt (withRecord H r) k) (liveAt H k) (length (H .records)) (live-old k))
 
 -- ---- the history with one more deletion
 
-pub live-deletion : (H : History) (j k i : ℕ) → liveAt (withDeletion H j) k i ≡ (liveAt H k i && not (eqb j i))
+pub live-deletion : (H : History) (j : ℕ) (k : Key) (i : ℕ) → liveAt (withDeletion H j) k i ≡ (liveAt H k i && not (eqb j i))
 unfolding liveAt
 live-deletion H j k i =
     rw memb-snoc
-    (either (bool? (eqb (recordAt H i .key) k))
+    (either (bool? (sameKey (recordAt H i .key) k))
     (λ a. either (bool? (memb i (H .deleted)))
     (λ b. either (bool? (eqb j i)) (λ c. cc) (λ c. cc))
     (λ b. either (bool? (eqb j i)) (λ c. cc) (λ c. cc)))
     (λ a. cc))
 
 -- a live record has one key
-pub live-other : (H : History) (j k k′ : ℕ) → liveAt H k j ≡ true → k ≢ k′ → liveAt H k′ j ≡ false
+pub live-other : (H : History) (j : ℕ) (k k′ : Key) → liveAt H k j ≡ true → k ≢ k′ → liveAt H k′ j ≡ false
 unfolding liveAt
 live-other H j k k′ e ne =
-    either (eq? (recordAt H j .key) k)
-    (λ h. rw (ne-eqb (recordAt H j .key) k′ (λ q. ne (sym (h .1) ∙ q))))
+    either (key? (recordAt H j .key) k)
+    (λ h. rw (key-other (recordAt H j .key) k′ (λ q. ne (sym (h .1) ∙ q))))
     (λ h. let z : false ≡ true = sym (rw (h .0)) ∙ e in cc)
 
 -- ---- the invariant after an insertion
@@ -136,25 +138,25 @@ Live-record H M r L e = record {
     fresh : memb (length (H .records)) (H .deleted) ≡ false
     fresh = L .below (length (H .records)) (omega arith)
 
-    old : (o : Option ℕ) (k : ℕ) → findLive H k ≡ o → Option·map (levelAt H) o ≡ Option·map (levelAt (withRecord H r)) o
+    old : (o : Option ℕ) (k : Key) → findLive H k ≡ o → Option·map (levelAt H) o ≡ Option·map (levelAt (withRecord H r)) o
     old none k q = refl
     old (some j) k q = ap (λ (x : Record). some (levelOf x)) (sym (record-old H r j (last-some (liveAt H k) (length (H .records)) j q .0)))
 
-    same′ : (k : ℕ) → find (levelOf r ∷ M .levels) k ≡ Option·map (levelAt (withRecord H r)) (findLive (withRecord H r) k)
+    same′ : (k : Key) → find (levelOf r ∷ M .levels) k ≡ Option·map (levelAt (withRecord H r)) (findLive (withRecord H r) k)
     same′ k = find-front (levelOf r) (M .levels) k ∙ rw (find-with H r k fresh)
-        (either (bool? (eqb (r .key) k))
+        (either (bool? (sameKey (r .key) k))
         (λ t. rw t (ap (λ (x : Record). some (levelOf x)) (sym (record-new H r))))
         (λ t. rw t (L .same k ∙ old (findLive H k) k refl)))
 
     -- the new record shares its key with no live one
-    new-old : (k i j : ℕ) → i < length (H .records) → j ≡ length (H .records) → liveAt (withRecord H r) k i ≡ true → liveAt (withRecord H r) k j ≡ true → ⊥
+    new-old : (k : Key) (i j : ℕ) → i < length (H .records) → j ≡ length (H .records) → liveAt (withRecord H r) k i ≡ true → liveAt (withRecord H r) k j ≡ true → ⊥
     new-old k i j h q a b =
-        let t : eqb (r .key) k ≡ true = sym (live-new H r k fresh) ∙ rw (← q) b in
-        let k-is : r .key ≡ k = eqb-true (r .key) k t in
+        let t : sameKey (r .key) k ≡ true = sym (live-new H r k fresh) ∙ rw (← q) b in
+        let k-is : r .key ≡ k = same-key (r .key) k t in
         let f : liveAt H k i ≡ false = rw (← k-is) (last-none (liveAt H (r .key)) (length (H .records)) i e h) in
         true≢false (sym a ∙ live-old H r k i h ∙ f)
 
-    one′ : (k i j : ℕ) → i < length (withRecord H r .records) → j < length (withRecord H r .records)
+    one′ : (k : Key) (i j : ℕ) → i < length (withRecord H r .records) → j < length (withRecord H r .records)
         → liveAt (withRecord H r) k i ≡ true → liveAt (withRecord H r) k j ≡ true → i ≡ j
     one′ k i j hi hj a b =
         let len = length-with H r in
@@ -168,7 +170,7 @@ Live-record H M r L e = record {
 
 -- ---- the invariant after a deletion
 
-pub Live-deletion : (H : History) (M : Map) (k j : ℕ) → Live H M → findLive H k ≡ some j
+pub Live-deletion : (H : History) (M : Map) (k : Key) (j : ℕ) → Live H M → findLive H k ≡ some j
     → Live (withDeletion H j) (record { levels = without k (M .levels); n = M .n; d = M .d + 1 })
 Live-deletion H M k j L e = record {
   n-is = L .n-is;
@@ -187,7 +189,7 @@ Live-deletion H M k j L e = record {
     at = last-some (liveAt H k) (length (H .records)) j e
 
     -- a deletion makes nothing live
-    was : (k′ i : ℕ) → liveAt (withDeletion H j) k′ i ≡ true → liveAt H k′ i ≡ true
+    was : (k′ : Key) (i : ℕ) → liveAt (withDeletion H j) k′ i ≡ true → liveAt H k′ i ≡ true
     was k′ i p =
         let q = live-deletion H j k′ i in
         either (bool? (liveAt H k′ i)) (λ h. h) (λ h. cc)
@@ -201,16 +203,16 @@ Live-deletion H M k j L e = record {
         (λ t. rw t)
 
     -- the records of any other key are as before
-    kept : (k′ : ℕ) → k ≢ k′ → (i : ℕ) → i < length (H .records) → liveAt (withDeletion H j) k′ i ≡ liveAt H k′ i
+    kept : (k′ : Key) → k ≢ k′ → (i : ℕ) → i < length (H .records) → liveAt (withDeletion H j) k′ i ≡ liveAt H k′ i
     kept k′ ne i h =
         live-deletion H j k′ i
         ∙ either (eq? j i)
         (λ t. let f : liveAt H k′ i ≡ false = rw (← (t .1)) (live-other H j k k′ (at .1) ne) in rw f)
         (λ t. rw (t .0) (and-true (liveAt H k′ i)))
 
-    same′ : (k′ : ℕ) → find (without k (M .levels)) k′ ≡ Option·map (levelAt H) (findLive (withDeletion H j) k′)
+    same′ : (k′ : Key) → find (without k (M .levels)) k′ ≡ Option·map (levelAt H) (findLive (withDeletion H j) k′)
     same′ k′ =
-        either (eq? k k′)
+        either (key? k k′)
         (λ q.
         let none-left : findLive (withDeletion H j) k ≡ none = last-no (liveAt (withDeletion H j) k) (length (H .records)) gone in
         rw (← (q .1)) (find-without k (M .levels) ∙ rw none-left))
@@ -261,7 +263,7 @@ module _ (capacity deletionCapacity : ℕ) where
       both : Live (withRecord (withDeletion H j) r) (record { levels = levelOf r ∷ without (r .key) (M .levels); n = M .n + 1; d = M .d + 1 })
       both = Live-record (withDeletion H j) _ r one-less (map-eq-none-iff _ _ .0 (sym (one-less .same (r .key)) ∙ find-without (r .key) (M .levels)))
 
-  delete-same : (H : History) (M : Map) (k : ℕ) (o : Option ℕ) → Live H M → findLive H k ≡ o
+  delete-same : (H : History) (M : Map) (k : Key) (o : Option ℕ) → Live H M → findLive H k ≡ o
       → Same (deleteHistory capacity deletionCapacity H o) (deleteMap capacity deletionCapacity M k (Option·map (levelAt H) o))
   delete-same H M k none L e = (refl, L)
   delete-same H M k (some j) L e = either (room-deletion L) (λ s. rw (s .0, s .1) (refl, L)) (λ s. rw (s .0, s .1) (refl, Live-deletion H M k j L e))

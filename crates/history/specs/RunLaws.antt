@@ -17,6 +17,7 @@ use Rattle.layout.specs.Geometry.{Geometry, geometry, allowed, kaBlocks, blocks
 use Rattle.layout.specs.Flash.{Flash, Op, applyAll, erases}
 use Rattle.layout.specs.Hash.{Family}
 use Rattle.layout.specs.Items.{RA, KA, DA}
+use Rattle.layout.specs.Keys.{Key}
 use Rattle.layout.specs.Calls.{Volume, Call, insert, update, delete, lookup, Outcome, accepted, hit, miss, refused, keyIndex, tooShort, format, formatted, call}
 use Rattle.layout.specs.FiniteMap.{Map, Reply, accepts, hits, misses, refuses, mapOf}
 use Rattle.laws.specs.FlashLaws.{AllAllowed, apply-append, allowed-append, erases-main-in, erases-main-out, erases-spare-in, erases-spare-out, apply-main-length, apply-spare-length}
@@ -169,10 +170,10 @@ module _ (h : Family) (sizes : Sizes) (ok : Sound sizes) (can : allowed sizes �
     pub volume-is : after h v cs ≡ volumeOf h sizes ok (historyOf h v H cs) (after h v cs .flash) (after h v cs .ram)
     pub holds : Holds h sizes ok (historyOf h v H cs) (after h v cs .flash) (after h v cs .ram)
     pub beyond : Beyond g (v .flash) (after h v cs .flash) (v .ram) (after h v cs .ram)
-    pub room : (k j : ℕ) → findLive (historyOf h v H cs) k ≡ some j → length (historyOf h v H cs .deleted) < length (historyOf h v H cs .records)
+    pub room : (k : Key) (j : ℕ) → findLive (historyOf h v H cs) k ≡ some j → length (historyOf h v H cs .deleted) < length (historyOf h v H cs .records)
 
   -- a live key leaves room for its deletion
-  pub less : (H : History) (m : Map) → Live H m → (k j : ℕ) → findLive H k ≡ some j → length (H .deleted) < length (H .records)
+  pub less : (H : History) (m : Map) → Live H m → (k : Key) (j : ℕ) → findLive H k ≡ some j → length (H .deleted) < length (H .records)
   less H m L k j q =
       let L′ = Live-deletion H m k j L q in
       omega (arith, L′ .count, length-append (H .deleted) (j ∷ []))

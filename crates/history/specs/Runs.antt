@@ -11,6 +11,7 @@ use Rattle.layout.specs.Geometry.{State, Geometry, geometry, dataSize, spareSiz
 use Rattle.layout.specs.Flash.{Op, program, erase}
 use Rattle.layout.specs.Hash.{Family}
 use Rattle.layout.specs.Refusals as refusal
+use Rattle.layout.specs.Keys.{Key, KeyOk}
 use Rattle.layout.specs.Calls.{Volume, Call, insert, update, delete, lookup, Outcome, accepted, hit, miss, refused, Result, call}
 use Rattle.layout.specs.FiniteMap.{Map, Reply, accepts, hits, misses, refuses, Step, mapOf}
 use Rattle.layout.specs.Items.{recordBytes}
@@ -19,12 +20,12 @@ use Rattle.history.specs.Live.{findLive, withRecord, withDeletion, Nodup
 
 -- ---- runs
 
--- the key of a call is a 32-bit number; nothing is asked of its other arguments
+-- the key of a call is allowed; nothing is asked of its other arguments
 abbrev pub KeyWord : Call → Type 0
-KeyWord (insert r) = r .key < 2 ^ 32
-KeyWord (update r) = r .key < 2 ^ 32
-KeyWord (delete key) = key < 2 ^ 32
-KeyWord (lookup key) = key < 2 ^ 32
+KeyWord (insert r) = KeyOk (r .key)
+KeyWord (update r) = KeyOk (r .key)
+KeyWord (delete key) = KeyOk key
+KeyWord (lookup key) = KeyOk key
 
 abbrev pub KeyWords : List Call → Type 0
 KeyWords [] = Unit {0}
@@ -140,4 +141,4 @@ pub record ImageOf (h : Family) (g : Geometry) (H : History) (handed v : Volume)
   pub records : v .state .records ≡ length (H .records)
   pub deletions : v .state .deletions ≡ length (H .deleted)
   -- lookups give the live records back
-  pub lookups : (key : ℕ) → key < 2 ^ 32 → replyOf (call h v (lookup key) .outcome) ≡ liveReply H (findLive H key)
+  pub lookups : (key : Key) → KeyOk key → replyOf (call h v (lookup key) .outcome) ≡ liveReply H (findLive H key)

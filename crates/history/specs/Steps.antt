@@ -15,8 +15,9 @@ use Rattle.memory.specs.Lists.{length-write, getD-write-before, getD-write-in, 
 use Rattle.layout.specs.Geometry.{Geometry, geometry, allowed, page, entriesPerPage, kaBlocks, fullSets, recordCapacity, deletionCapacity, spareSize, workRam, Sizes, unitOf}
 use Rattle.layout.specs.Flash.{Flash, Op, applyAll, Planned, planOps, allFresh}
 use Rattle.layout.specs.Hash.{Family}
-use Rattle.layout.specs.Items.{RA, KA, DA, zeroPage, Record, recordBytes, recordOf}
+use Rattle.layout.specs.Items.{RA, KA, DA, zeroPage, Record, noRecord, recordBytes}
 use Rattle.layout.specs.Search.{found}
+use Rattle.layout.specs.Keys.{Key, KeyOk}
 use Rattle.layout.specs.Calls.{Volume, Call, insert, update, delete, lookup, Result, refuse, judged, keyIndex, keyFilters, deletionPlan, deletionRam, insertionPlan, insertionRam, commit, insertAfter, updateAfter, deleteAfter, lookupAfter, answer, call, change}
 use Rattle.layout.specs.FiniteMap.{accepts, hits, refuses}
 use Rattle.laws.specs.FlashLaws.{fresh-append, AllAllowed, apply-append, allowed-append}
@@ -123,7 +124,7 @@ module _ (h : Family) (sizes : Sizes) (ok : Sound sizes) (can : allowed sizes �
         → Parts h g (ok .e) (units.pow sizes ok) H′ n′ n′ d′ (keyFilters g n′) (applyAll (unitOf sizes) ops C) ram′
         → AllAllowed (unitOf sizes) ops C → Beyond g C (applyAll (unitOf sizes) ops C) ram ram′ → allFresh (C .spare) ops ≡ true → Below (spareSize g) ops
         → n′ ≤ recordCapacity g → d′ ≤ deletionCapacity g → d′ ≤ n′
-        → ((j : ℕ) → j < n′ → recordAt H′ j .key < 2 ^ 32) → ((i : ℕ) → i < d′ → getD (H′ .deleted) i 0 < n′)
+        → ((j : ℕ) → j < n′ → KeyOk (recordAt H′ j .key)) → ((i : ℕ) → i < d′ → getD (H′ .deleted) i 0 < n′)
         → Done H C ram (commit g v n′ d′ plan ram′) (historyStep accepts H′)
     unfolding commit
     commit-done H′ n′ d′ plan ops ram′ ops-are n-is d-is P allow past fresh low n-cap d-cap d-le keys gone =
@@ -158,13 +159,13 @@ module _ (h : Family) (sizes : Sizes) (ok : Sound sizes) (can : allowed sizes �
     length-deletion : (j : ℕ) → length (H .deleted) + 1 ≡ length (withDeletion H j .deleted)
     length-deletion j = sym (length-append (H .deleted) (j ∷ []))
 
-    keys-record : (r : Record) → r .key < 2 ^ 32 → (j : ℕ) → j < length (H .records) + 1 → recordAt (withRecord H r) j .key < 2 ^ 32
+    keys-record : (r : Record) → KeyOk (r .key) → (j : ℕ) → j < length (H .records) + 1 → KeyOk (recordAt (withRecord H r) j .key)
     keys-record r w j l =
         either (lt? j (length (H .records)))
-        (λ a. rw (List·getD-append (H .records) (r ∷ []) (recordOf 0 0 0 0) j (a .1)) (I .keys j (a .1)))
+        (λ a. rw (List·getD-append (H .records) (r ∷ []) noRecord j (a .1)) (I .keys j (a .1)))
         (λ a.
         let q : j ≡ length (H .records) = omega arith in
-        rw (q, getD-append-seam (H .records) r [] (recordOf 0 0 0 0)) w)
+        rw (q, getD-append-seam (H .records) r [] noRecord) w)
 
     gone-deletion : (j : ℕ) → j < length (H .records) → (i : ℕ) → i < length (H .deleted) + 1 → getD (withDeletion H j .deleted) i 0 < length (H .records)
     gone-deletion j m i l =
@@ -176,7 +177,7 @@ module _ (h : Family) (sizes : Sizes) (ok : Sound sizes) (can : allowed sizes �
 
     -- ---- insert
 
-    module _ (r : Record) (word : r .key < 2 ^ 32) where
+    module _ (r : Record) (word : KeyOk (r .key)) where
       insert-accepted : leb (recordCapacity g) (length (H .records)) ≡ false
           → Done H C ram (commit g v (n + 1) d (insertionPlan h g n (r .key) (recordBytes r) ram) (insertionRam h g n (r .key) (recordBytes r) ram)) (historyStep accepts (withRecord H r))
       insert-accepted c =
@@ -234,7 +235,7 @@ module _ (h : Family) (sizes : Sizes) (ok : Sound sizes) (can : allowed sizes �
           (fresh-below (spareSize g) (C .spare) ops inside₀)
           (I .n-cap) (omega (arith, room-d)) (omega arith) (I .keys) (gone-deletion j below)
 
-      update-accepted : (r : Record) → r .key < 2 ^ 32 → leb (recordCapacity g) (length (H .records)) ≡ false
+      update-accepted : (r : Record) → KeyOk (r .key) → leb (recordCapacity g) (length (H .records)) ≡ false
           → Done H C ram (commit g v (n + 1) (d + 1) (deletionPlan g d j ram ++ insertionPlan h g n (r .key) (recordBytes r) ram) (insertionRam h g n (r .key) (recordBytes r) (deletionRam g d j ram)))
           (historyStep accepts (withRecord (withDeletion H j) r))
       update-accepted r word c5 =
@@ -253,7 +254,7 @@ module _ (h : Family) (sizes : Sizes) (ok : Sound sizes) (can : allowed sizes �
           (X .fresh (take (spareSize g) (C .spare)) (λ x l o. getD-take (spareSize g) (C .spare) x 0 l ∙ sym (did .frame .spare x o)))))
           (omega arith) (omega (arith, room-d)) (omega (arith, I .d-le)) (keys-record r word) (λ i l. omega (arith, gone-deletion j below i l))
 
-    update-done : (r : Record) → r .key < 2 ^ 32 → (o : Option ℕ) → findLive H (r .key) ≡ o
+    update-done : (r : Record) → KeyOk (r .key) → (o : Option ℕ) → findLive H (r .key) ≡ o
         → Done H C ram (updateAfter h g v r (Option·map found o)) (updateHistory (recordCapacity g) (deletionCapacity g) H r o)
     unfolding change
     update-done r word none q = refuse-done 4 (omega arith, omega arith, omega arith, omega arith)
@@ -264,7 +265,7 @@ module _ (h : Family) (sizes : Sizes) (ok : Sound sizes) (can : allowed sizes �
         (λ c6. rw (c, c6) (refuse-done 6 (omega arith, omega arith, omega arith, omega arith)))
         (λ c6. rw (c, c6) (update-accepted j (found-below H (r .key) j q .0) c6 r word c)))
 
-    delete-done : (k : ℕ) → ((j : ℕ) → findLive H k ≡ some j → length (H .deleted) < length (H .records)) → (o : Option ℕ) → findLive H k ≡ o
+    delete-done : (k : Key) → ((j : ℕ) → findLive H k ≡ some j → length (H .deleted) < length (H .records)) → (o : Option ℕ) → findLive H k ≡ o
         → Done H C ram (deleteAfter h g v (Option·map found o)) (deleteHistory (recordCapacity g) (deletionCapacity g) H o)
     unfolding change
     delete-done k less none q = refuse-done 4 (omega arith, omega arith, omega arith, omega arith)
@@ -275,7 +276,7 @@ module _ (h : Family) (sizes : Sizes) (ok : Sound sizes) (can : allowed sizes �
 
     -- ---- lookup
 
-    lookup-done : (k opened : ℕ) → opened ≤ length (H .records) / entriesPerPage (unitOf sizes) → (o : Option ℕ) → findLive H k ≡ o
+    lookup-done : (k : Key) (opened : ℕ) → opened ≤ length (H .records) / entriesPerPage (unitOf sizes) → (o : Option ℕ) → findLive H k ≡ o
         → Done H C ram (lookupAfter g v opened (Option·map found o)) (lookupHistory (recordCapacity g) (deletionCapacity g) H o)
     unfolding lookupAfter
     lookup-done k opened le none q = record {
@@ -310,7 +311,7 @@ module _ (h : Family) (sizes : Sizes) (ok : Sound sizes) (can : allowed sizes �
     unfolding judged
     judged-is r = rw (volumes.state-good h sizes ok H C ram I can, volumes.long-enough h sizes ok H C ram I)
 
-    answer-done : (c : Call) → KeyWord c → ((k j : ℕ) → findLive H k ≡ some j → length (H .deleted) < length (H .records))
+    answer-done : (c : Call) → KeyWord c → ((k : Key) (j : ℕ) → findLive H k ≡ some j → length (H .deleted) < length (H .records))
         → Done H C ram (answer h g v c) (stepHistory (recordCapacity g) (deletionCapacity g) H c)
     answer-done (insert r) w less = rw (volumes.search-is h sizes ok H C ram I (r .key)) (insert-done r w (findLive H (r .key)) refl)
     answer-done (update r) w less = rw (volumes.search-is h sizes ok H C ram I (r .key)) (update-done r w (findLive H (r .key)) refl)
@@ -318,7 +319,7 @@ module _ (h : Family) (sizes : Sizes) (ok : Sound sizes) (can : allowed sizes �
     answer-done (lookup key) w less =
         rw (volumes.search-is h sizes ok H C ram I key) (lookup-done key _ (volumes.count-is h sizes ok H C ram I key) (findLive H key) refl)
 
-    pub call-done : (c : Call) → KeyWord c → ((k j : ℕ) → findLive H k ≡ some j → length (H .deleted) < length (H .records))
+    pub call-done : (c : Call) → KeyWord c → ((k : Key) (j : ℕ) → findLive H k ≡ some j → length (H .deleted) < length (H .records))
         → Done H C ram (call h v c) (stepHistory (recordCapacity g) (deletionCapacity g) H c)
     unfolding call
     call-done c w less = rw (judged-is (answer h g v c)) (answer-done c w less)

@@ -13,14 +13,14 @@ use borrow.Author.Tests.{lt-leb, le-ltb}
 use Rattle.memory.specs.Cases.{either, bool?}
 use Rattle.memory.specs.Numbers.{euclid}
 use Rattle.memory.specs.Ranges.{any-ext, any-at, memb}
-use Rattle.memory.specs.Words.{bytes4}
+use Rattle.layout.specs.Keys.{Key, KeyOk, sameKey, keyBytes, keyIn, numberIn}
 use Rattle.layout.specs.Geometry.{Geometry, geometry, allowed, page, block, filterBits, entriesPerPage, kaBlocks, fullSets, recordCapacity, deletionCapacity, workRam, Sizes, unitOf, stateOf}
 use Rattle.layout.specs.Flash.{Flash}
 use Rattle.layout.specs.Hash.{Family, positions}
 use Rattle.layout.specs.Items.{RA, KA, DA, itemWord, itemPlace, bytesAt, recordBytes}
 use Rattle.layout.specs.Index.{filterBit}
 use Rattle.layout.specs.Search.{found}
-use Rattle.layout.specs.Calls.{Volume, keyIndex, keyFilters, keyPositions, badState, tooShort, isDeleted, tryAt, maybeIn, search}
+use Rattle.layout.specs.Calls.{Volume, keyIndex, keyFilters, keyPositions, badState, tooShort, isDeleted, entryWord, tryAt, maybeIn, searchAt, search}
 use Rattle.history.specs.Image.{History, recordAt, raItem, kaItem, daItem, keyFilter}
 use Rattle.history.specs.Live.{liveAt, findLive, live-key}
 use Rattle.laws.specs.SearchLaws.{search-all, search-opened, scan-live, any-memb, allOf-true, memb-tab-all}
@@ -50,8 +50,8 @@ module _ (h : Family) (sizes : Sizes) (ok : Sound sizes) where
     pub n-cap : length (H .records) ≤ recordCapacity g
     pub d-cap : length (H .deleted) ≤ deletionCapacity g
     pub d-le : length (H .deleted) ≤ length (H .records)
-    -- keys are 32-bit numbers, and a deletion names a record
-    pub keys : (j : ℕ) → j < length (H .records) → recordAt H j .key < 2 ^ 32
+    -- keys are allowed, and a deletion names a record
+    pub keys : (j : ℕ) → j < length (H .records) → KeyOk (recordAt H j .key)
     pub gone : (i : ℕ) → i < length (H .deleted) → getD (H .deleted) i 0 < length (H .records)
 
   -- the volume with the history's counts
@@ -84,62 +84,63 @@ module _ (h : Family) (sizes : Sizes) (ok : Sound sizes) where
         let half : (sizes .raBlocks) ≤ ((sizes .raBlocks) + 1) / 2 * 2 = omega arith in
         omega (arith, I .n-cap, mul-le-mul-right (unitOf sizes) half)
 
-    key-at : (j : ℕ) → j < length (H .records) → itemWord (unitOf sizes) (KA g) n (C .main) ram j 0 ≡ recordAt H j .key
+    pub key-at : (j : ℕ) → j < length (H .records) → keyIn (entryWord g v j 0) (entryWord g v j 1) ≡ recordAt H j .key
     key-at j l =
         read-word (unitOf sizes) pu (KA g) (kaBlocks g) (omega arith) (omega (arith, pu)) (omega arith) (kaItem H) n (C .main) (C .spare) ram (I .parts .ka) ka-room
         j 0 (recordAt H j .key) l (omega arith) (I .keys j l) (λ b m. entry-key (recordAt H j .key) j b m)
 
-    number-at : (j : ℕ) → j < length (H .records) → itemWord (unitOf sizes) (KA g) n (C .main) ram j 1 ≡ j
+    pub number-at : (j : ℕ) → j < length (H .records) → numberIn (entryWord g v j 1) ≡ j
     number-at j l =
         read-word (unitOf sizes) pu (KA g) (kaBlocks g) (omega arith) (omega (arith, pu)) (omega arith) (kaItem H) n (C .main) (C .spare) ram (I .parts .ka) ka-room
         j 1 j l (omega arith) (omega (arith, n-word)) (λ b m. entry-number (recordAt H j .key) j b m)
 
-    deletion-at : (i : ℕ) → i < length (H .deleted) → itemWord (unitOf sizes) (DA g) d (C .main) ram i 0 ≡ getD (H .deleted) i 0
+    pub deletion-at : (i : ℕ) → i < length (H .deleted) → itemWord (unitOf sizes) (DA g) d (C .main) ram i 0 ≡ getD (H .deleted) i 0
     deletion-at i l =
         read-word (unitOf sizes) pu (DA g) (sizes .daBlocks) (omega arith) (omega (arith, pu)) (omega arith) (daItem H) d (C .main) (C .spare) ram (I .parts .da) (omega (arith, I .d-cap))
         i 0 (getD (H .deleted) i 0) l (omega arith) (omega (arith, I .gone i l, n-word)) (λ b m. deletion-number (getD (H .deleted) i 0) b m)
 
-    deleted-is : (j : ℕ) → isDeleted g v j ≡ memb j (H .deleted)
+    pub deleted-is : (j : ℕ) → isDeleted g v d j ≡ memb j (H .deleted)
     unfolding isDeleted
     deleted-is j =
         any-ext _ (λ i. eqb (getD (H .deleted) i 0) j) (length (H .deleted)) (λ i l. ap (λ (x : ℕ). eqb x j) (deletion-at i l))
         ∙ any-memb j (H .deleted)
 
-    try-is : (k j : ℕ) → j < length (H .records) → tryAt g v k j ≡ cond (liveAt H k j) (some (found j)) none
+    pub try-is : (k : Key) (j : ℕ) → j < length (H .records) → tryAt g v n d k j ≡ cond (liveAt H k j) (some (found j)) none
     unfolding tryAt liveAt
     try-is k j l =
         rw (key-at j l, number-at j l, lt-leb (length (H .records)) j l, deleted-is j)
-        (either (bool? (eqb (recordAt H j .key) k))
+        (either (bool? (sameKey (recordAt H j .key) k))
         (λ a. either (bool? (memb j (H .deleted))) (λ b. rw (a, b)) (λ b. rw (a, b)))
         (λ a. rw a))
 
     -- every filter on the volume reads as the history says
-    filter-is : (f x : ℕ) → f < length (H .records) / (8 * (unitOf sizes)) → x < filterBits (unitOf sizes)
+    pub filter-is : (f x : ℕ) → f < length (H .records) / (8 * (unitOf sizes)) → x < filterBits (unitOf sizes)
         → filterBit (unitOf sizes) (keyIndex g) (C .main) ram (keyFilters g n) f x ≡ keyFilter h g H f x
     filter-is f x l m =
         read-filter (unitOf sizes) (ok .e) pow (keyIndex g) (fullSets g) (keyFilter h g H) (keyFilters g n) (C .main) (C .spare) ram (I .parts .filters)
         (places-suffice (unitOf sizes) (sizes .raBlocks) (length (H .records)) pu (I .n-cap)) f x l m
 
-    position-lt : (k x : ℕ) → memb x (keyPositions h g k) ≡ true → x < filterBits (unitOf sizes)
+    pub position-lt : (k : Key) (x : ℕ) → memb x (keyPositions h g k) ≡ true → x < filterBits (unitOf sizes)
     unfolding positions
     position-lt k x q =
-        memb-tab-all (λ y. y < 64 * (unitOf sizes)) 3 (λ j. h 0 (bytes4 k) % 4 * (16 * (unitOf sizes)) + h (j + 1) (bytes4 k) % (16 * (unitOf sizes)))
+        memb-tab-all (λ y. y < 64 * (unitOf sizes)) 3 (λ j. h 0 (keyBytes k) % 4 * (16 * (unitOf sizes)) + h (j + 1) (keyBytes k) % (16 * (unitOf sizes)))
         (λ j l.
-        let a : h 0 (bytes4 k) % 4 * (16 * (unitOf sizes)) + h (j + 1) (bytes4 k) % (16 * (unitOf sizes)) < 4 * (16 * (unitOf sizes))
-        = digits-lt (mod-lt (h 0 (bytes4 k)) {m = 4} (omega arith)) (mod-lt (h (j + 1) (bytes4 k)) (omega (arith, pu))) in
+        let a : h 0 (keyBytes k) % 4 * (16 * (unitOf sizes)) + h (j + 1) (keyBytes k) % (16 * (unitOf sizes)) < 4 * (16 * (unitOf sizes))
+        = digits-lt (mod-lt (h 0 (keyBytes k)) {m = 4} (omega arith)) (mod-lt (h (j + 1) (keyBytes k)) (omega (arith, pu))) in
         omega arith)
         x q
 
     -- a page that holds a live record of the key has all its bits: no false negatives
-    passes : (k f i : ℕ) → f < length (H .records) / (8 * (unitOf sizes)) → i < 8 * (unitOf sizes) → recordAt H (f * (8 * (unitOf sizes)) + i) .key ≡ k → maybeIn g v (keyPositions h g k) f ≡ true
+    pub passes : (k : Key) (f i : ℕ) → f < length (H .records) / (8 * (unitOf sizes)) → i < 8 * (unitOf sizes)
+        → recordAt H (f * (8 * (unitOf sizes)) + i) .key ≡ k → maybeIn g v (keyPositions h g k) f ≡ true
     unfolding maybeIn keyFilter
     passes k f i l m q =
         allOf-true _ (keyPositions h g k) (λ x a.
         filter-is f x l (position-lt k x a)
         ∙ any-at (λ i. memb x (keyPositions h g (recordAt H (f * (8 * (unitOf sizes)) + i) .key))) (8 * (unitOf sizes)) i m (rw q a))
 
-    skipped : (k f i : ℕ) → f < length (H .records) / (8 * (unitOf sizes)) → i < 8 * (unitOf sizes) → maybeIn g v (keyPositions h g k) f ≡ false
-        → tryAt g v k (f * (8 * (unitOf sizes)) + i) ≡ none
+    pub skipped : (k : Key) (f i : ℕ) → f < length (H .records) / (8 * (unitOf sizes)) → i < 8 * (unitOf sizes) → maybeIn g v (keyPositions h g k) f ≡ false
+        → tryAt g v n d k (f * (8 * (unitOf sizes)) + i) ≡ none
     skipped k f i l m c =
         let E = euclid (length (H .records)) (8 * (unitOf sizes)) (omega (arith, pu)) in
         let j : f * (8 * (unitOf sizes)) + i < length (H .records) = omega (arith, mul-le-mul-right (8 * (unitOf sizes)) l) in
@@ -149,15 +150,15 @@ module _ (h : Family) (sizes : Sizes) (ok : Sound sizes) where
         (λ t. rw t)
 
     -- the search ends at the newest live record of the key, or finds none
-    pub search-is : (k : ℕ) → search h g v k .stop ≡ Option·map found (findLive H k)
-    unfolding search
+    pub search-is : (k : Key) → search h g v k .stop ≡ Option·map found (findLive H k)
+    unfolding searchAt
     search-is k =
-        search-all (maybeIn g v (keyPositions h g k)) (tryAt g v k) (8 * (unitOf sizes)) (length (H .records)) (omega (arith, pu)) (λ f i a b c. skipped k f i a b c)
-        ∙ scan-live (tryAt g v k) (liveAt H k) (length (H .records)) (λ j l. try-is k j l)
+        search-all (maybeIn g v (keyPositions h g k)) (tryAt g v n d k) (8 * (unitOf sizes)) (length (H .records)) (omega (arith, pu)) (λ f i a b c. skipped k f i a b c)
+        ∙ scan-live (tryAt g v n d k) (liveAt H k) (length (H .records)) (λ j l. try-is k j l)
 
-    pub count-is : (k : ℕ) → search h g v k .opened ≤ length (H .records) / entriesPerPage (unitOf sizes)
-    unfolding search
-    count-is k = search-opened (maybeIn g v (keyPositions h g k)) (tryAt g v k) (8 * (unitOf sizes)) (length (H .records))
+    pub count-is : (k : Key) → search h g v k .opened ≤ length (H .records) / entriesPerPage (unitOf sizes)
+    unfolding searchAt
+    count-is k = search-opened (maybeIn g v (keyPositions h g k)) (tryAt g v n d k) (8 * (unitOf sizes)) (length (H .records))
 
     -- the bytes of a record where it lies
     pub record-is : (j : ℕ) → j < length (H .records) → bytesAt (C .main) ram (itemPlace (unitOf sizes) (RA g) n j) 16 ≡ recordBytes (recordAt H j)

@@ -12,6 +12,7 @@ use Rattle.layout.specs.Flash.{Flash, applyAll, Planned, planOps}
 use Rattle.layout.specs.Hash.{Family}
 use Rattle.layout.specs.Items.{RA, KA, DA, entryBytes, deletionBytes, fills, itemPlan, itemRam}
 use Rattle.layout.specs.Index.{inSka, filterPlan, filterRam}
+use Rattle.layout.specs.Keys.{Key}
 use Rattle.layout.specs.Calls.{keyIndex, keyFilters, deletionPlan, deletionRam, newFilter, summarized, insertionPlan, insertionRam}
 use Rattle.laws.specs.Operations.{itemOps, recordRam, entryRam, entered, filteredRam, insertionOps}
 use Rattle.laws.specs.PlanLaws.{ops-both, ops-if, item-ops, filter-ops}
@@ -23,7 +24,7 @@ pub deletion-ops : (g : Geometry) (d j : ℕ) (ram : List ℕ) (C : Flash) → p
 unfolding deletionPlan
 deletion-ops g d j ram C = item-ops (g .u) (DA g) d (deletionBytes j) ram C
 
-module _ (h : Family) (g : Geometry) (n key : ℕ) where
+module _ (h : Family) (g : Geometry) (n : ℕ) (key : Key) where
   -- the filter of the page that entry n fills, out of RAMs that agree on KA's page; the SKA page with it
   new-filter-same : (r r′ : List ℕ) → SamePage (g .u) (kaRam (g .u)) r r′ → newFilter h g n key r ≡ newFilter h g n key r′
   new-filter-same r r′ p = page-filter-same h g _ _ (put-same (g .u) (KA g) n (kaRam (g .u)) (entryBytes key n) r r′ p)

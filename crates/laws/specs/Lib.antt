@@ -1,3 +1,4 @@
+pub mod KeyLaws
 pub mod Operations
 pub mod FlashLaws
 pub mod RowLaws

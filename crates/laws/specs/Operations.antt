@@ -10,6 +10,7 @@ use Rattle.layout.specs.Flash.{Flash, Op, program, erases, applyAll}
 use Rattle.layout.specs.Hash.{Family}
 use Rattle.layout.specs.Items.{Area, RA, KA, entryBytes, put, fills, itemRam}
 use Rattle.layout.specs.Index.{Index, inSka, inL1, inSet, inFull, setPages, setBlocks, sideBlock, setBlock, setByte}
+use Rattle.layout.specs.Keys.{Key}
 use Rattle.layout.specs.Calls.{keyIndex, keyFilters, summarized}
 
 module _ (u : ℕ) where
@@ -53,21 +54,21 @@ recordOps g n bytes ram = itemOps (g .u) (RA g) n bytes ram
 abbrev pub recordRam : Geometry → ℕ → List ℕ → List ℕ → List ℕ
 recordRam g n bytes ram = itemRam (g .u) (RA g) n bytes ram
 
-abbrev pub entryOps : Geometry → ℕ → ℕ → List ℕ → List ℕ → List Op
+abbrev pub entryOps : Geometry → ℕ → Key → List ℕ → List ℕ → List Op
 entryOps g n key bytes ram = itemOps (g .u) (KA g) n (entryBytes key n) (recordRam g n bytes ram)
 
-abbrev pub entryRam : Geometry → ℕ → ℕ → List ℕ → List ℕ → List ℕ
+abbrev pub entryRam : Geometry → ℕ → Key → List ℕ → List ℕ → List ℕ
 entryRam g n key bytes ram = itemRam (g .u) (KA g) n (entryBytes key n) (recordRam g n bytes ram)
 
 -- the chip after both
-abbrev pub entered : Geometry → ℕ → ℕ → List ℕ → List ℕ → Flash → Flash
+abbrev pub entered : Geometry → ℕ → Key → List ℕ → List ℕ → Flash → Flash
 entered g n key bytes ram flash = applyAll (g .u) (entryOps g n key bytes ram) (applyAll (g .u) (recordOps g n bytes ram) flash)
 
 -- the RAM with the filter of the page that the entry fills
-abbrev pub filteredRam : Family → Geometry → ℕ → ℕ → List ℕ → List ℕ → List ℕ
+abbrev pub filteredRam : Family → Geometry → ℕ → Key → List ℕ → List ℕ → List ℕ
 filteredRam h g n key bytes ram = summarized h g n key (recordRam g n bytes ram) (entryRam g n key bytes ram)
 
-abbrev pub insertionOps : Family → Geometry → ℕ → ℕ → List ℕ → List ℕ → Flash → List Op
+abbrev pub insertionOps : Family → Geometry → ℕ → Key → List ℕ → List ℕ → Flash → List Op
 insertionOps h g n key bytes ram flash =
     recordOps g n bytes ram
     ++ (entryOps g n key bytes ram

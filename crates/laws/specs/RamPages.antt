@@ -11,12 +11,12 @@ use lib.Dec.{eqb}
 use Rattle.memory.specs.Cases.{either, bool?}
 use Rattle.memory.specs.Lists.{tab, tab-ext, length-write, write-same, getD-write-before, getD-write-after, length-pieces, pieces-same}
 use Rattle.memory.specs.Ranges.{any-ext, memb}
-use Rattle.memory.specs.Words.{word}
 use Rattle.layout.specs.Geometry.{Geometry, sector, page, kaRam}
 use Rattle.layout.specs.Flash.{Planned, known, plannedFrom}
 use Rattle.layout.specs.Hash.{Family}
 use Rattle.layout.specs.Items.{Area, put, fills, itemPlan, itemRam, zeroPage}
 use Rattle.layout.specs.Index.{Index, inSka, inL1, inSet, inFull, withFilter, buildPlan, flushAndBuild, filterPlan}
+use Rattle.layout.specs.Keys.{Key, keyAt}
 use Rattle.layout.specs.Calls.{keyPositions, pageFilter}
 
 -- two RAMs of one length that agree on the page from byte `at` on
@@ -107,11 +107,11 @@ page-filter-same h g r r′ p = λ q x. bit x q
     byte : (i b : ℕ) → i < 8 * g .u → b < 4 → getD r (kaRam (g .u) + i * 8 + b) 0 ≡ getD r′ (kaRam (g .u) + i * 8 + b) 0
     byte i b l m = p .bytes (kaRam (g .u) + i * 8 + b) (omega arith) (omega arith)
 
-    key : (i : ℕ) → i < 8 * g .u → word r (kaRam (g .u) + i * 8) ≡ word r′ (kaRam (g .u) + i * 8)
+    key : (i : ℕ) → i < 8 * g .u → keyAt r (kaRam (g .u) + i * 8) ≡ keyAt r′ (kaRam (g .u) + i * 8)
     key i l =
         let z : kaRam (g .u) + i * 8 + 0 ≡ kaRam (g .u) + i * 8 = omega arith in
         let first = rw z at (byte i 0 l (omega arith)) in
         rw (first, byte i 1 l (omega arith), byte i 2 l (omega arith), byte i 3 l (omega arith))
 
     bit : (x : ℕ) → pageFilter h g r x ≡ pageFilter h g r′ x
-    bit x = any-ext _ _ (8 * g .u) (λ i l. ap (λ (k : ℕ). memb x (keyPositions h g k)) (key i l))
+    bit x = any-ext _ _ (8 * g .u) (λ i l. ap (λ (k : Key). memb x (keyPositions h g k)) (key i l))

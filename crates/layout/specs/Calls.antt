@@ -6,8 +6,8 @@ use Prim.Native.Nat.{ℕ, _+_, _*_, _/_}
 use lib.ListN.{length, replicate}
 use lib.Dec.{ltb, leb, eqb}
 use Rattle.memory.specs.Lists.{write}
-use Rattle.memory.specs.Words.{word, bytes4}
 use Rattle.memory.specs.Ranges.{any, memb, allOf}
+use Rattle.layout.specs.Keys.{Key, keyBytes, keyIn, numberIn, keyAt}
 use Rattle.layout.specs.Geometry.{State, Geometry, geometry, Sizes, stateOf, allowed, recordCapacity, deletionCapacity, dataSize, spareSize, ramSize, blocks, indexBlock, entriesPerPage, kaRam, skaRam, workRam}
 use Rattle.layout.specs.Flash.{Flash, Op, applyAll, erases, Planned, planOps, allFresh}
 use Rattle.layout.specs.Hash.{Family, positions, positionCount}
@@ -28,8 +28,8 @@ pub record Volume : Type 0 where
 pub data Call : Type 0 where
   insert : Record → Call
   update : Record → Call
-  delete : ℕ → Call
-  lookup : ℕ → Call
+  delete : Key → Call
+  lookup : Key → Call
 
 pub data Outcome : Type 0 where
   accepted : Outcome
@@ -96,29 +96,36 @@ keyIndex g = record { first = indexBlock g; ska = skaRam (g .u) }
 abbrev pub keyFilters : Geometry → ℕ → ℕ
 keyFilters g n = n / entriesPerPage (g .u)
 
--- ---- the search on a volume
+-- ---- the search on a volume, by bounds n₀ and d₀: among the first n₀ records and the first d₀ deletions. Where these and the filters lie goes
+-- by the volume's own n and d, of which the bounds are at most as many
 
--- record numbers in DA
-unfoldable pub isDeleted : Geometry → Volume → ℕ → Bool
-isDeleted g v j = any (λ i. eqb (itemWord (g .u) (DA g) (v .state .deletions) (v .flash .main) (v .ram) i 0) j) (v .state .deletions)
+-- is record number j one of the first d₀ in DA
+unfoldable pub isDeleted : Geometry → Volume → ℕ → ℕ → Bool
+isDeleted g v d₀ j = any (λ i. eqb (itemWord (g .u) (DA g) (v .state .deletions) (v .flash .main) (v .ram) i 0) j) d₀
 
--- entry j of KA
-unfoldable pub tryAt : Geometry → Volume → ℕ → ℕ → Option Stop
-tryAt g v key j =
-    tryEntry (v .state .records) (isDeleted g v) key
-    (itemWord (g .u) (KA g) (v .state .records) (v .flash .main) (v .ram) j 0)
-    (itemWord (g .u) (KA g) (v .state .records) (v .flash .main) (v .ram) j 1)
+-- word i of entry j of KA
+abbrev pub entryWord : Geometry → Volume → ℕ → ℕ → ℕ
+entryWord g v j i = itemWord (g .u) (KA g) (v .state .records) (v .flash .main) (v .ram) j i
+
+-- entry j of KA; a number of n₀ or more is no record's
+unfoldable pub tryAt : Geometry → Volume → ℕ → ℕ → Key → ℕ → Option Stop
+tryAt g v n₀ d₀ key j = tryEntry n₀ (isDeleted g v d₀) key (keyIn (entryWord g v j 0) (entryWord g v j 1)) (numberIn (entryWord g v j 1))
 
 -- has the filter of full page f all bits of these positions, "read from the bytes lent"
 unfoldable pub maybeIn : Geometry → Volume → List ℕ → ℕ → Bool
 maybeIn g v ps f = allOf (filterBit (g .u) (keyIndex g) (v .flash .main) (v .ram) (keyFilters g (v .state .records)) f) ps
 
--- the positions of a key: those of its four bytes
-abbrev pub keyPositions : Family → Geometry → ℕ → List ℕ
-keyPositions h g key = positions h positionCount (g .u) (bytes4 key)
+-- the positions of a key
+abbrev pub keyPositions : Family → Geometry → Key → List ℕ
+keyPositions h g key = positions h positionCount (g .u) (keyBytes key)
 
-unfoldable pub search : Family → Geometry → Volume → ℕ → Found
-search h g v key = searchFrom (maybeIn g v (keyPositions h g key)) (tryAt g v key) (entriesPerPage (g .u)) (v .state .records)
+-- pages that n₀ records fill are opened by their filters; the entries past them are tried first, as those in RAM are, wherever they lie by now
+unfoldable pub searchAt : Family → Geometry → Volume → ℕ → ℕ → Key → Found
+searchAt h g v n₀ d₀ key = searchFrom (maybeIn g v (keyPositions h g key)) (tryAt g v n₀ d₀ key) (entriesPerPage (g .u)) n₀
+
+-- among all of them
+abbrev pub search : Family → Geometry → Volume → Key → Found
+search h g v key = searchAt h g v (v .state .records) (v .state .deletions) key
 
 -- ---- what an accepted change plans, and the RAM after it. Every sector is planned out of the RAM handed in, which no change touches
 -- before its last operation
@@ -133,24 +140,24 @@ deletionRam g d j ram = itemRam (g .u) (DA g) d (deletionBytes j) ram
 module _ (h : Family) where
   -- "A full KA page gives one filter of m bits with the positions of all its keys set"; the keys in the page's bytes
   unfoldable pub pageFilter : Geometry → List ℕ → ℕ → Bool
-  pageFilter g ram x = any (λ i. memb x (keyPositions h g (word ram (kaRam (g .u) + i * 8)))) (entriesPerPage (g .u))
+  pageFilter g ram x = any (λ i. memb x (keyPositions h g (keyAt ram (kaRam (g .u) + i * 8)))) (entriesPerPage (g .u))
 
   -- the filter of the page that entry n fills
-  abbrev pub newFilter : Geometry → ℕ → ℕ → List ℕ → ℕ → Bool
+  abbrev pub newFilter : Geometry → ℕ → Key → List ℕ → ℕ → Bool
   newFilter g n key ram = pageFilter g (put (KA g) n (entryBytes key n) ram)
 
   -- the SKA page with this filter in its place
-  abbrev pub summarized : Geometry → ℕ → ℕ → List ℕ → List ℕ → List ℕ
+  abbrev pub summarized : Geometry → ℕ → Key → List ℕ → List ℕ → List ℕ
   summarized g n key keys ram = withFilter (g .u) (keyIndex g) (inSka (keyFilters g n)) (newFilter g n key keys) ram
 
   -- record n and its entry: "RA page, KA page, SKA sectors, set pages, .. last the erases"
-  unfoldable pub insertionPlan : Geometry → ℕ → ℕ → List ℕ → List ℕ → List Planned
+  unfoldable pub insertionPlan : Geometry → ℕ → Key → List ℕ → List ℕ → List Planned
   insertionPlan g n key bytes ram =
       itemPlan (g .u) (RA g) n bytes ram
       ++ (itemPlan (g .u) (KA g) n (entryBytes key n) ram
       ++ cond (fills (KA g) n) (filterPlan (g .u) (keyIndex g) (keyFilters g n) (summarized g n key ram ram)) [])
 
-  unfoldable pub insertionRam : Geometry → ℕ → ℕ → List ℕ → List ℕ → List ℕ
+  unfoldable pub insertionRam : Geometry → ℕ → Key → List ℕ → List ℕ → List ℕ
   insertionRam g n key bytes ram =
       let entered : List ℕ = itemRam (g .u) (KA g) n (entryBytes key n) (itemRam (g .u) (RA g) n bytes ram) in
       cond (fills (KA g) n) (filterRam (g .u) (keyIndex g) (keyFilters g n) (summarized g n key ram entered)) entered

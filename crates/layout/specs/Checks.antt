@@ -11,13 +11,14 @@ use Rattle.memory.specs.Bits.{pack}
 use Rattle.memory.specs.Power.{log2up}
 use Rattle.memory.specs.Words.{bytes4, wordsBytes}
 use Rattle.memory.specs.Ranges.{any, memb}
+use Rattle.layout.specs.Keys.{sameKey}
 use Rattle.layout.specs.Geometry.{State, sizesOf, stateOf, geometry, allowed, indexBlock, sector, page, block}
 use Rattle.layout.specs.Flash.{flashOf, program, fresh, apply, Planned, known, made, wipe, planOps}
 use Rattle.layout.specs.Hash.{fnvFrom, fnvFamily, positions, positionCount}
 use Rattle.layout.specs.Index.{BitPlace, rowBit, rowByte, withFilter, filterPlace, filterPlan, flushAndBuild}
-use Rattle.layout.specs.Items.{recordOf, recordBytes, entryBytes, deletionBytes}
+use Rattle.layout.specs.Items.{recordOf, recordBytes, entryBytes, deletionBytes, itemWord}
 use Rattle.layout.specs.Search.{Stop, found, corrupt, tryEntry, scan, searchPages, searchFrom}
-use Rattle.layout.specs.Calls.{Call, insert, update, delete, lookup, keyIndex, badState, tooShort, pageFilter}
+use Rattle.layout.specs.Calls.{Volume, Call, insert, update, delete, lookup, keyIndex, badState, tooShort, isDeleted, tryAt, searchAt, pageFilter}
 use Rattle.layout.specs.FiniteMap.{Map, emptyMap, Reply, accepts, hits, misses, refuses, stepMap, find, without}
 use Rattle.layout.specs.Examples.{sectorsOf, blocksOf}
 
@@ -107,18 +108,38 @@ gateExample p = true
 
 -- a newer deleted entry is not "the end of the search"; both pages are opened, the RAM's entry is not counted
 pub search-past-deleted : searchFrom gateExample (tryExample 10) 4 10 ≡ record { stop = some (found 1); opened = 2 }
-unfolding searchPages scan memb
+unfolding sameKey searchPages scan memb
 search-past-deleted = refl
 
 -- a record number of n or more ends it at once
 pub search-corrupt : searchFrom gateExample (λ j. tryEntry 3 (λ i. false) 7 7 j) 4 10 ≡ record { stop = some corrupt; opened = 0 }
-unfolding searchPages scan
+unfolding sameKey searchPages scan
 search-corrupt = refl
 
 -- a page whose gate is shut is neither opened nor counted
 pub search-shut : searchFrom (λ p. false) (tryExample 8) 4 8 ≡ record { stop = none; opened = 0 }
-unfolding searchPages scan memb
+unfolding sameKey searchPages scan memb
 search-shut = refl
+
+-- ---- the search by bounds
+
+-- nine records, the first eight entries on flash, and a deletion of record 2; key 7 has entries 0, 1, 2 and 6, key 9 has entry 3, numbered 5
+abbrev nine : Volume
+nine =
+    record {
+      state = stateOf (sizesOf 16 1 1) 9 1;
+      flash = flashOf (write (replicate 2048 255) 1024 (wordsBytes (7 ∷ 0 ∷ 7 ∷ 1 ∷ 7 ∷ 2 ∷ 9 ∷ 5 ∷ 1 ∷ 4 ∷ 2 ∷ 5 ∷ 7 ∷ 6 ∷ 3 ∷ 7 ∷ []))) [];
+      ram = write (replicate 320 0) 128 (wordsBytes (2 ∷ []));
+    }
+
+abbrev among : ℕ → ℕ → ℕ → Option Stop
+among n₀ d₀ key = searchAt fnvFamily (geometry (sizesOf 16 1 1)) nine n₀ d₀ key .stop
+
+-- the last of the first n₀ entries is on flash by now; a deletion of later does not count, nor does a record
+pub search-among : among 3 0 7 ∷ among 3 1 7 ∷ among 7 1 7 ∷ among 4 0 9 ∷ among 6 0 9 ∷ among 3 1 9 ∷ []
+    ≡ some (found 2) ∷ some (found 1) ∷ some (found 6) ∷ some corrupt ∷ some (found 5) ∷ none ∷ []
+unfolding write wordsBytes any sameKey itemWord scan searchPages isDeleted tryAt searchAt
+search-among = refl
 
 -- ---- refusals 1 and 2: n and d may be at capacity, "under" is strict
 
@@ -150,7 +171,7 @@ says m (c ∷ cs) = stepMap 3 1 m c .says ∷ says (stepMap 3 1 m c .next) cs
 pub map-run :
     says emptyMap (lookup 7 ∷ delete 7 ∷ update (recordOf 7 1 0 0) ∷ insert (recordOf 7 1 0 0) ∷ insert (recordOf 7 2 0 0) ∷ update (recordOf 7 3 0 0) ∷ lookup 7 ∷ update (recordOf 7 4 0 0) ∷ insert (recordOf 8 5 0 0) ∷ insert (recordOf 9 6 0 0) ∷ update (recordOf 7 7 0 0) ∷ delete 7 ∷ lookup 8 ∷ [])
     ≡ misses ∷ refuses 4 ∷ refuses 4 ∷ accepts ∷ refuses 3 ∷ accepts ∷ hits (recordBytes (recordOf 7 3 0 0)) ∷ refuses 6 ∷ accepts ∷ refuses 5 ∷ refuses 5 ∷ refuses 6 ∷ hits (recordBytes (recordOf 8 5 0 0)) ∷ []
-unfolding find without
+unfolding sameKey find without
 map-run = refl
 
 -- ---- items: little-endian words in the document's order

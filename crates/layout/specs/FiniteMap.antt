@@ -3,7 +3,8 @@ use mathlib.Core.Bool.{cond}
 use mathlib.Core.Option.{Option, none, some}
 use mathlib.Core.List.{List, [], _∷_}
 use Prim.Native.Nat.{ℕ, _+_}
-use lib.Dec.{leb, eqb}
+use lib.Dec.{leb}
+use Rattle.layout.specs.Keys.{Key, sameKey}
 use Rattle.layout.specs.Geometry.{Geometry, recordCapacity, deletionCapacity}
 use Rattle.layout.specs.Items.{Record, recordBytes}
 use Rattle.layout.specs.Refusals as refusal
@@ -11,7 +12,7 @@ use Rattle.layout.specs.Calls.{Call, insert, update, delete, lookup}
 
 -- a record by its level key: "16 bytes made of key, moves, goal and free word"
 pub record Level : Type 0 where
-  pub key : ℕ
+  pub key : Key
   pub bytes : List ℕ
 
 abbrev pub levelOf : Record → Level
@@ -26,13 +27,13 @@ pub record Map : Type 0 where
 abbrev pub emptyMap : Map
 emptyMap = record { levels = []; n = 0; d = 0 }
 
-unfoldable pub find : List Level → ℕ → Option Level
+unfoldable pub find : List Level → Key → Option Level
 find [] k = none
-find (l ∷ ls) k = cond (eqb (l .key) k) (some l) (find ls k)
+find (l ∷ ls) k = cond (sameKey (l .key) k) (some l) (find ls k)
 
-unfoldable pub without : ℕ → List Level → List Level
+unfoldable pub without : Key → List Level → List Level
 without k [] = []
-without k (l ∷ ls) = cond (eqb (l .key) k) (without k ls) (l ∷ without k ls)
+without k (l ∷ ls) = cond (sameKey (l .key) k) (without k ls) (l ∷ without k ls)
 
 -- what is compared at each call
 pub data Reply : Type 0 where
@@ -63,7 +64,7 @@ module _ (capacity deletionCapacity : ℕ) where
       (step accepts (record { levels = l ∷ without (l .key) (m .levels); n = m .n + 1; d = m .d + 1 })))
 
   -- "Delete: key absent, 4; else d at deletion capacity, 6; else the key leaves the map, and d rises by one"
-  abbrev pub deleteMap : Map → ℕ → Option Level → Step
+  abbrev pub deleteMap : Map → Key → Option Level → Step
   deleteMap m k none = step (refuses refusal.absent) m
   deleteMap m k (some o) = cond (leb deletionCapacity (m .d)) (step (refuses refusal.deletionsFull) m) (step accepts (record { levels = without k (m .levels); n = m .n; d = m .d + 1 }))
 

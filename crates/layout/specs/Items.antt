@@ -6,6 +6,7 @@ use lib.ListN.{getD, replicate}
 use lib.Dec.{ltb, eqb}
 use Rattle.memory.specs.Lists.{write, part, tab}
 use Rattle.memory.specs.Words.{word, wordsBytes}
+use Rattle.layout.specs.Keys.{Key}
 use Rattle.layout.specs.Geometry.{Geometry, sectorsPerPage, sectorsPerBlock, sector, page, block, recordsPerPage, entriesPerPage, deletionsPerPage, raBlock, kaBlock, daBlock, raRam, kaRam, daRam}
 use Rattle.layout.specs.Flash.{Planned, known, plannedFrom}
 
@@ -29,19 +30,23 @@ module _ (g : Geometry) where
 
 -- "level key, moves, goal, free word"
 pub record Record : Type 0 where
-  pub key : ℕ
+  pub key : Key
   pub moves : ℕ
   pub goal : ℕ
   pub free : ℕ
 
-abbrev pub recordOf : ℕ → ℕ → ℕ → ℕ → Record
+abbrev pub recordOf : Key → ℕ → ℕ → ℕ → Record
 recordOf key moves goal free = record { key = key; moves = moves; goal = goal; free = free }
+
+-- in the place of a record that is not there
+abbrev pub noRecord : Record
+noRecord = recordOf 0 0 0 0
 
 -- "4 bytes each"; "key, then j"; the record number
 unfoldable pub recordBytes : Record → List ℕ
 recordBytes r = wordsBytes (r .key ∷ r .moves ∷ r .goal ∷ r .free ∷ [])
 
-unfoldable pub entryBytes : ℕ → ℕ → List ℕ
+unfoldable pub entryBytes : Key → ℕ → List ℕ
 entryBytes key j = wordsBytes (key ∷ j ∷ [])
 
 unfoldable pub deletionBytes : ℕ → List ℕ

@@ -1,3 +1,4 @@
+pub mod Keys
 pub mod Geometry
 pub mod Flash
 pub mod Hash

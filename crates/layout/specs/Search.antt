@@ -2,7 +2,8 @@
 use mathlib.Core.Bool.{Bool, cond}
 use mathlib.Core.Option.{Option, none, some}
 use Prim.Native.Nat.{ℕ, zero, suc, _+_, _*_, _/_, _%_}
-use lib.Dec.{leb, eqb}
+use lib.Dec.{leb}
+use Rattle.layout.specs.Keys.{Key, sameKey}
 
 -- where a search ends: at a live entry, with its record number, or at a number of n or more (refusal 8)
 pub data Stop : Type 0 where
@@ -18,9 +19,9 @@ abbrev pub reply : Option Stop → ℕ → Found
 reply s c = record { stop = s; opened = c }
 
 -- an entry of key `k′` and number `j` when `k` is looked for among n records: "An entry with the key whose record number is not in DA is live"
-abbrev pub tryEntry : ℕ → (ℕ → Bool) → ℕ → ℕ → ℕ → Option Stop
+abbrev pub tryEntry : ℕ → (ℕ → Bool) → Key → Key → ℕ → Option Stop
 tryEntry n deleted k k′ j =
-    cond (eqb k′ k) (cond (leb n j) (some corrupt) (cond (deleted j) none (some (found j)))) none
+    cond (sameKey k′ k) (cond (leb n j) (some corrupt) (cond (deleted j) none (some (found j)))) none
 
 abbrev pub orElse : Option Stop → Option Stop → Option Stop
 orElse none y = y
