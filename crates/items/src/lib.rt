@@ -95,7 +95,7 @@ pub fn item_word(main: &[u8], ram: &[u8], unit: usize, a: Area, n: usize, j: usi
 
 // Is one of the n words from byte `at` on the number j. No exit before the end, so that many words
 // are compared at once.
-fn has_word(s: &[u8], at: usize, n: usize, j: u32) -> bool
+pub fn has_word(s: &[u8], at: usize, n: usize, j: u32) -> bool
     requires { ⌜ at + n * 4 ≤ length (now s) ⌝ }
     ensures { λ r. ⌜ r ≡ hasWord (now (s .entry)) at n j ⌝ }
 {

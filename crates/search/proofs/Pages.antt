@@ -7,99 +7,95 @@ use native.Mathlib.Omega.{arith}
 use Rattle.memory.specs.Cases.{bool?, either}
 use Rattle.layout.specs.Search.{Stop, Found, reply, scan, opening, searchPages}
 use Rattle.memory.specs.Candidate.{candidate, candidate-le, candidate-opens}
+use Rattle.laws.specs.SearchLaws.{opened-le}
 use Rattle.search.specs.Find.{onward}
 
 -- what is found after k pages were opened in vain
 abbrev pub after : ℕ → Found → Found
 after k r = reply (r .stop) (k + r .opened)
 
-module _ (gate : ℕ → Bool) (try : ℕ → Option Stop) (q : ℕ) where
-  pages-open : (p : ℕ) → gate p ≡ true → searchPages gate try q (suc p) ≡ opening (scan try (p * q) q) (searchPages gate try q p)
+-- ---- the pages of a group
+
+-- the gates of n pages from `start` on are the group's
+abbrev pub Opens : (ℕ → Bool) → (ℕ → Bool) → ℕ → ℕ → Type 0
+Opens gate has start n = (i : ℕ) → i < n → gate (start + i) ≡ has i
+
+module _ (try : ℕ → Option Stop) (q : ℕ) where
+  pages-open : (gate : ℕ → Bool) (p : ℕ) → gate p ≡ true → searchPages gate try q (suc p) ≡ opening (scan try (p * q) q) (searchPages gate try q p)
   unfolding searchPages
-  pages-open p t = rw t
+  pages-open gate p t = rw t
 
-  pages-shut : (p : ℕ) → gate p ≡ false → searchPages gate try q (suc p) ≡ searchPages gate try q p
+  pages-shut : (gate : ℕ → Bool) (p : ℕ) → gate p ≡ false → searchPages gate try q (suc p) ≡ searchPages gate try q p
   unfolding searchPages
-  pages-shut p t = rw t
+  pages-shut gate p t = rw t
 
-  -- page start + c - 1 is the next to be opened, of n pages from `start` on, after `opened` of those above it
-  pub record Pages (start n opened c : ℕ) : Type 0 where
-    pub opens : 0 < c → gate (start + (c - 1)) ≡ true
-    pub few : opened + c ≤ n
-    pub rest : searchPages gate try q (start + n) ≡ after opened (searchPages gate try q (start + c))
+  module _ (has : ℕ → Bool) (start n : ℕ) where
+    -- page start + c - 1 is the next to be opened, after `opened` of those above it; what is left of the search, whatever opens older pages
+    pub record Pages (opened c : ℕ) : Type 0 where
+      pub opens : 0 < c → has (c - 1) ≡ true
+      pub few : opened + c ≤ n
+      pub rest : (gate : ℕ → Bool) → Opens gate has start n → searchPages gate try q (start + n) ≡ after opened (searchPages gate try q (start + c))
 
-  module _ (start n opened c : ℕ) (P : Pages start n opened c) where
-    pub pages-none : c ≤ 0 → searchPages gate try q (start + n) ≡ after opened (searchPages gate try q start)
-    pages-none h =
-        let z : start + c ≡ start = omega arith in
-        rw z at (P .rest)
-
-    module _ (some-left : 0 < c) where
-      here : (s : Option Stop) → scan try ((start + (c - 1)) * q) q ≡ s
-          → searchPages gate try q (start + n) ≡ after opened (opening s (searchPages gate try q (start + (c - 1))))
-      here s e =
-          let t : start + c ≡ suc (start + (c - 1)) = omega arith in
-          P .rest
-          ∙ ap (after opened) (ap (searchPages gate try q) t ∙ pages-open (start + (c - 1)) (P .opens some-left) ∙ ap (λ (o : Option Stop). opening o (searchPages gate try q (start + (c - 1)))) e)
-
-      pub pages-some : (r : Stop) → scan try ((start + (c - 1)) * q) q ≡ some r → searchPages gate try q (start + n) ≡ reply (some r) (opened + 1)
-      pages-some r e = here (some r) e
-
-  -- the group's rows open the gates of its pages
-  module _ (has : ℕ → Bool) (start n : ℕ) (same : (i : ℕ) → i < n → gate (start + i) ≡ has i) where
     -- a search may begin at the newest page whose gate is open
-    pages-from : (m : ℕ) → m ≤ n → searchPages gate try q (start + m) ≡ searchPages gate try q (start + candidate has m)
+    pages-from : (gate : ℕ → Bool) → Opens gate has start n → (m : ℕ) → m ≤ n → searchPages gate try q (start + m) ≡ searchPages gate try q (start + candidate has m)
     unfolding candidate
-    pages-from zero h = refl
-    pages-from (suc m) h =
+    pages-from gate same zero h = refl
+    pages-from gate same (suc m) h =
         let s : start + suc m ≡ suc (start + m) = omega arith in
         either (bool? (has m))
         (λ t. rw t)
-        (λ t. rw t (ap (searchPages gate try q) s ∙ pages-shut (start + m) (same m (omega arith) ∙ t) ∙ pages-from m (omega arith)))
+        (λ t. rw t (ap (searchPages gate try q) s ∙ pages-shut gate (start + m) (same m (omega arith) ∙ t) ∙ pages-from gate same m (omega arith)))
 
-    opens-at : (m : ℕ) → m ≤ n → 0 < candidate has m → gate (start + (candidate has m - 1)) ≡ true
-    opens-at m h p = same (candidate has m - 1) (omega (arith, candidate-le has m)) ∙ candidate-opens has m p
-
-    pub pages-first : (c : ℕ) → c ≡ candidate has n → Pages start n 0 c
+    pub pages-first : (c : ℕ) → c ≡ candidate has n → Pages 0 c
     pages-first c is =
-        let f : Found = searchPages gate try q (start + candidate has n) in
-        let z : 0 + f .opened ≡ f .opened = omega arith in
         record {
-          opens = rw is (opens-at n (omega arith));
+          opens = rw is (candidate-opens has n);
           few = omega (arith, candidate-le has n);
-          rest = rw is (pages-from n (omega arith) ∙ sym (ap (reply (f .stop)) z));
+          rest = λ gate same.
+              let f : Found = searchPages gate try q (start + candidate has n) in
+              let z : 0 + f .opened ≡ f .opened = omega arith in
+              rw is (pages-from gate same n (omega arith) ∙ sym (ap (reply (f .stop)) z));
         }
 
-    module _ (opened c : ℕ) (P : Pages start n opened c) (some-left : 0 < c) (b : ℕ) (is : b ≡ candidate has (c - 1)) where
-      pub pages-next : scan try ((start + (c - 1)) * q) q ≡ none → Pages start n (opened + 1) b
-      pages-next e =
-          let f : Found = searchPages gate try q (start + (c - 1)) in
-          let l : c - 1 ≤ n = omega (arith, P .few) in
-          let s : opened + suc (f .opened) ≡ opened + 1 + f .opened = omega arith in
-          let w : searchPages gate try q (start + n) ≡ after (opened + 1) f = here start n opened c P some-left none e ∙ ap (reply (f .stop)) s in
-          record {
-            opens = rw is (opens-at (c - 1) l);
-            few = omega (arith, candidate-le has (c - 1), P .few);
-            rest = rw is (w ∙ ap (after (opened + 1)) (pages-from (c - 1) l));
-          }
+    module _ (opened c : ℕ) (P : Pages opened c) where
+      pub pages-none : c ≤ 0 → (gate : ℕ → Bool) → Opens gate has start n → searchPages gate try q (start + n) ≡ after opened (searchPages gate try q start)
+      pages-none h gate same =
+          let z : start + c ≡ start = omega arith in
+          rw z at (P .rest gate same)
 
-      pub pages-less : b < c
-      pages-less = omega (arith, candidate-le has (c - 1))
+      module _ (some-left : 0 < c) where
+        here : (s : Option Stop) → scan try ((start + (c - 1)) * q) q ≡ s → (gate : ℕ → Bool) → Opens gate has start n
+            → searchPages gate try q (start + n) ≡ after opened (opening s (searchPages gate try q (start + (c - 1))))
+        here s e gate same =
+            let t : start + c ≡ suc (start + (c - 1)) = omega arith in
+            let is-open : gate (start + (c - 1)) ≡ true = same (c - 1) (omega (arith, P .few)) ∙ P .opens some-left in
+            P .rest gate same
+            ∙ ap (after opened) (ap (searchPages gate try q) t ∙ pages-open gate (start + (c - 1)) is-open ∙ ap (λ (o : Option Stop). opening o (searchPages gate try q (start + (c - 1)))) e)
 
-  -- ---- groups one after another
+        pub pages-some : (r : Stop) → scan try ((start + (c - 1)) * q) q ≡ some r → (gate : ℕ → Bool) → Opens gate has start n
+            → searchPages gate try q (start + n) ≡ reply (some r) (opened + 1)
+        pages-some r e gate same = here (some r) e gate same
 
-  -- no more pages are opened than there are
-  opened-le : (N : ℕ) → searchPages gate try q N .opened ≤ N
-  unfolding searchPages
-  opened-le zero = omega arith
-  opened-le (suc p) =
-      let ih = opened-le p in
-      either (bool? (gate p)) (λ t. rw t (opening-le (scan try (p * q) q) (searchPages gate try q p) p ih)) (λ t. rw t (omega arith))
-    where
-      opening-le : (s : Option Stop) (f : Found) (n : ℕ) → f .opened ≤ n → opening s f .opened ≤ suc n
-      opening-le none f n h = omega arith
-      opening-le (some r) f n h = omega arith
+        module _ (b : ℕ) (is : b ≡ candidate has (c - 1)) where
+          pub pages-next : scan try ((start + (c - 1)) * q) q ≡ none → Pages (opened + 1) b
+          pages-next e =
+              let l : c - 1 ≤ n = omega (arith, P .few) in
+              record {
+                opens = rw is (candidate-opens has (c - 1));
+                few = omega (arith, candidate-le has (c - 1), P .few);
+                rest = λ gate same.
+                    let f : Found = searchPages gate try q (start + (c - 1)) in
+                    let s : opened + suc (f .opened) ≡ opened + 1 + f .opened = omega arith in
+                    let w : searchPages gate try q (start + n) ≡ after (opened + 1) f = here none e gate same ∙ ap (reply (f .stop)) s in
+                    rw is (w ∙ ap (after (opened + 1)) (pages-from gate same (c - 1) l));
+              }
 
+          pub pages-less : b < c
+          pages-less = omega (arith, candidate-le has (c - 1))
+
+-- ---- groups one after another
+
+module _ (gate : ℕ → Bool) (try : ℕ → Option Stop) (q : ℕ) where
   -- the search has ended nowhere above page `below`, after `opened` pages
   pub record Groups (N opened below : ℕ) : Type 0 where
     pub low : below ≤ N
@@ -133,5 +129,5 @@ module _ (gate : ℕ → Bool) (try : ℕ → Option Stop) (q : ℕ) where
           }
 
       pub groups-few : (s : Option Stop) → searchPages gate try q below ≡ onward s k (searchPages gate try q start) → opened + k ≤ N
-      groups-few none e = omega (arith, opened-le N, ap (λ (f : Found). f .opened) (G .rest ∙ ap (after opened) e))
-      groups-few (some r) e = omega (arith, opened-le N, ap (λ (f : Found). f .opened) (G .rest ∙ ap (after opened) e))
+      groups-few none e = omega (arith, opened-le gate try q N, ap (λ (f : Found). f .opened) (G .rest ∙ ap (after opened) e))
+      groups-few (some r) e = omega (arith, opened-le gate try q N, ap (λ (f : Found). f .opened) (G .rest ∙ ap (after opened) e))

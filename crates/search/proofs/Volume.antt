@@ -1,109 +1,162 @@
--- Entries of a volume on flash and in RAM, its gates by groups of filters, and parts of a ready volume.
-use mathlib.Core.Path.{_≡_, refl, ap, _∙_}
-use mathlib.Core.Bool.{Bool}
+-- Entries and deletions of a view on flash and in RAM, its gates by groups of filters, and parts of a ready volume.
+use mathlib.Core.Path.{_≡_, refl, sym, ap, _∙_}
+use mathlib.Core.Bool.{Bool, _||_}
 use mathlib.Core.Option.{Option}
 use mathlib.Core.List.{List}
 use Prim.Native.Nat.{ℕ, _+_, _-_, _*_, _/_, _%_, _^_, _≤_, _<_}
 use native.Mathlib.Nat.{mul-le-mul-right}
 use native.Mathlib.Omega.{arith}
+use lib.Dec.{eqb}
 use lib.ListN.{length}
 use lib.Pow.{pow-mono}
 use Rattle.memory.specs.Cases.{lt?, either}
 use Rattle.memory.specs.Numbers.{euclid, div-lt}
+use Rattle.memory.specs.Ranges.{any, any-ext}
 use Rattle.memory.specs.Words.{word}
+use Rattle.layout.specs.Keys.{Key, keyAt, numberIn}
 use Rattle.layout.specs.Geometry as layout
 use Rattle.layout.specs.Hash.{fnvFamily}
-use Rattle.layout.specs.Items.{KA, itemWord}
+use Rattle.layout.specs.Items.{Area, KA, itemWord}
 use Rattle.layout.specs.Index.{inFull}
-use Rattle.layout.specs.Search.{Stop, ramFirst, scan, searchPages, tryEntry}
-use Rattle.layout.specs.Calls.{keyIndex, keyPositions, isDeleted, tryAt, maybeIn, search as searchOf}
+use Rattle.layout.specs.Search.{Stop, ramFirst, scan, tryEntry}
+use Rattle.layout.specs.Calls.{keyIndex, keyPositions, isDeleted, entryWord, tryAt, maybeIn, searchAt}
 use Rattle.geometry.specs.declared.Geometry.{Geometry}
 use Rattle.geometry.specs.Shape.{shape}
 use Rattle.geometry.specs.Bounds.{index-le}
-use Rattle.items.specs.Reading.{page-word, ram-word}
+use Rattle.geometry.specs.declared.Area as items
+use Rattle.items.specs.Fits as fits
+use Rattle.items.specs.Scans.{isWord, hasWord, any-sum}
+use Rattle.items.specs.Reading.{word-on-flash, page-word, ram-word}
 use Rattle.kernels.specs.Rows.{Within}
 use Rattle.kernels.specs.declared.Rows.{Rows}
 use Rattle.filter.specs.Filter.{Fits, fits-of}
 use Rattle.filter.specs.Groups.{groupHas, GroupAt}
 use Rattle.filter.specs.declared.Group.{Group}
-use Rattle.search.specs.Find.{at as volumeAt, Ready}
-use Rattle.search.proofs.Entries.{Same}
+use Rattle.search.specs.declared.View.{View}
+use Rattle.search.specs.Find.{viewed, Ready, tryOf, tryIn, pagesBelow}
+use Rattle.search.proofs.Entries.{Same, scan-same}
 
--- ---- the volume's entries
+-- ---- a view's entries
 
-abbrev pub perPage : Geometry → ℕ
-perPage g = layout.entriesPerPage (g .unit)
+abbrev pub perPage : View → ℕ
+perPage v = layout.entriesPerPage (v .g .unit)
 
-abbrev pub deletedOf : Geometry → ℕ → ℕ → List ℕ → List ℕ → ℕ → Bool
-deletedOf g n d main ram = isDeleted (shape g) (volumeAt n d main ram)
+-- full pages
+abbrev pub pages : View → ℕ
+pages v = v .n / perPage v
 
-module _ (g : Geometry) (n d : ℕ) (main ram : List ℕ) (key : ℕ) where
-  abbrev pub gateOf : ℕ → Bool
-  gateOf = maybeIn (shape g) (volumeAt n d main ram) (keyPositions fnvFamily (shape g) key)
+abbrev pub pagesThen : View → ℕ
+pagesThen v = v .n0 / perPage v
 
-  abbrev pub tryOf : ℕ → Option Stop
-  tryOf = tryAt (shape g) (volumeAt n d main ram) key
+abbrev pub deletedOf : View → List ℕ → List ℕ → ℕ → Bool
+deletedOf v main ram = isDeleted (shape (v .g)) (viewed v main ram) (v .d0)
 
-  try-is : (j : ℕ) → tryOf j ≡ tryEntry n (deletedOf g n d main ram) key (itemWord (g .unit) (KA (shape g)) n main ram j 0) (itemWord (g .unit) (KA (shape g)) n main ram j 1)
+module _ (v : View) (main ram : List ℕ) (key : Key) where
+  abbrev word-of : ℕ → ℕ → ℕ
+  word-of j i = itemWord (v .g .unit) (KA (shape (v .g))) (v .n) main ram j i
+
+  -- entry j, by its two words
+  two-words : (j a b : ℕ) → word-of j 0 ≡ a → word-of j 1 ≡ b → tryOf v main ram key j ≡ tryEntry (v .n0) (deletedOf v main ram) key a b
   unfolding tryAt
-  try-is j = refl
+  two-words j a b e f = rw (e, f)
 
-  two-words : (j a b : ℕ) → itemWord (g .unit) (KA (shape g)) n main ram j 0 ≡ a → itemWord (g .unit) (KA (shape g)) n main ram j 1 ≡ b
-      → tryOf j ≡ tryEntry n (deletedOf g n d main ram) key a b
-  two-words j a b e f = try-is j ∙ rw (e, f)
-
-  -- entries of a full page
-  pub same-flash : (p from : ℕ) → p < n / (perPage g) → from ≡ layout.kaBlock (shape g) * layout.block (g .unit) + p * layout.page (g .unit)
-      → Same main from (perPage g) n key (deletedOf g n d main ram) tryOf (p * (perPage g))
-  same-flash p from h is =
+  -- entries of a page that is full by now
+  pub same-flash : (p from count : ℕ) → p < pages v → count ≤ perPage v → from ≡ layout.kaBlock (shape (v .g)) * layout.block (v .g .unit) + p * layout.page (v .g .unit)
+      → Same main from count (v .n0) key (deletedOf v main ram) (tryOf v main ram key) (p * perPage v)
+  same-flash p from count h few is =
       record {
         entry = λ k l.
-            two-words (p * (perPage g) + k) (word main (from + k * 8)) (word main (from + k * 8 + 4))
-            (page-word (g .unit) (KA (shape g)) n main ram p k 0 (omega arith) h l ∙ ap (λ (x : ℕ). word main x) (omega arith))
-            (page-word (g .unit) (KA (shape g)) n main ram p k 1 (omega arith) h l ∙ ap (λ (x : ℕ). word main x) (omega arith));
+            two-words (p * perPage v + k) (word main (from + k * 8)) (word main (from + k * 8 + 4))
+            (page-word (v .g .unit) (KA (shape (v .g))) (v .n) main ram p k 0 (omega arith) h (omega arith) ∙ ap (λ (x : ℕ). word main x) (omega arith))
+            (page-word (v .g .unit) (KA (shape (v .g))) (v .n) main ram p k 1 (omega arith) h (omega arith) ∙ ap (λ (x : ℕ). word main x) (omega arith));
       }
 
   -- entries of the page that is not full
-  pub same-ram : (from : ℕ) → 0 < g .unit → from ≡ layout.kaRam (g .unit) → Same ram from (n % (perPage g)) n key (deletedOf g n d main ram) tryOf (n / (perPage g) * (perPage g))
-  same-ram from unit-pos is =
-      let E = euclid n (perPage g) (omega arith) in
-      record {
+  pub same-ram : (from count : ℕ) → pagesThen v ≡ pages v → count ≤ perPage v → from ≡ layout.kaRam (v .g .unit)
+      → Same ram from count (v .n0) key (deletedOf v main ram) (tryOf v main ram key) (pagesThen v * perPage v)
+  same-ram from count e few is =
+      rw e record {
         entry = λ k l.
-            two-words (n / (perPage g) * (perPage g) + k) (word ram (from + k * 8)) (word ram (from + k * 8 + 4))
-            (ram-word (g .unit) (KA (shape g)) n main ram k 0 (omega arith) ∙ ap (λ (x : ℕ). word ram x) (omega arith))
-            (ram-word (g .unit) (KA (shape g)) n main ram k 1 (omega arith) ∙ ap (λ (x : ℕ). word ram x) (omega arith));
+            two-words (pages v * perPage v + k) (word ram (from + k * 8)) (word ram (from + k * 8 + 4))
+            (ram-word (v .g .unit) (KA (shape (v .g))) (v .n) main ram k 0 (omega arith) ∙ ap (λ (x : ℕ). word ram x) (omega arith))
+            (ram-word (v .g .unit) (KA (shape (v .g))) (v .n) main ram k 1 (omega arith) ∙ ap (λ (x : ℕ). word ram x) (omega arith));
       }
 
+  -- entries by the bytes that they lie in
+  pub same-bytes : (bytes : List ℕ) (from count : ℕ) → Same bytes from count (v .n0) key (deletedOf v main ram) (tryIn v main ram key bytes from) 0
+  same-bytes bytes from count =
+      record {
+        entry = λ k l. let z : 0 + k ≡ k = omega arith in rw z;
+      }
+
+  pub scan-bytes : (bytes : List ℕ) (from count lo : ℕ) → Same bytes from count (v .n0) key (deletedOf v main ram) (tryOf v main ram key) lo
+      → scan (tryIn v main ram key bytes from) 0 count ≡ scan (tryOf v main ram key) lo count
+  scan-bytes bytes from count lo S =
+      scan-same (tryIn v main ram key bytes from) (tryOf v main ram key) 0 lo count (λ k l. same-bytes bytes from count .entry k l ∙ sym (S .entry k l))
+
   -- the rows of a group open the gates of its pages
-  pub group-same : (below : ℕ) (grp : Group) → GroupAt (g .unit) (keyIndex (shape g)) main ram (n / (perPage g)) below (keyPositions fnvFamily (shape g) key) grp
-      → (i : ℕ) → i < below - grp .start → gateOf (grp .start + i) ≡ groupHas grp main ram i
+  pub group-same : (below : ℕ) (ps : List ℕ) (grp : Group) → GroupAt (v .g .unit) (keyIndex (shape (v .g))) main ram (pages v) below ps grp
+      → (i : ℕ) → i < below - grp .start → maybeIn (shape (v .g)) (viewed v main ram) ps (grp .start + i) ≡ groupHas grp main ram i
   unfolding maybeIn
-  group-same below grp G i h =
+  group-same below ps grp G i h =
       let e : grp .start + i - grp .start ≡ i = omega arith in
       rw e at (G .all-is (grp .start + i) (omega arith) (omega arith))
 
-  -- deletions do not depend on the count of records
-  pub deleted-is : (j : ℕ) → isDeleted (shape g) (volumeAt 0 d main ram) j ≡ deletedOf g n d main ram j
-  unfolding isDeleted
-  deleted-is j = refl
+  -- the entries past the last full page first
+  pub search-is : (s : Option Stop) → s ≡ scan (tryOf v main ram key) (pagesThen v * perPage v) (v .n0 % perPage v)
+      → ramFirst s (pagesBelow v main ram key (keyPositions fnvFamily (shape (v .g)) key) (pagesThen v))
+      ≡ searchAt fnvFamily (shape (v .g)) (viewed v main ram) (v .n0) (v .d0) key
+  unfolding searchAt
+  search-is s e = ap (λ (o : Option Stop). ramFirst o (pagesBelow v main ram key (keyPositions fnvFamily (shape (v .g)) key) (pagesThen v))) e
 
-  -- RAM first
-  pub search-is : (s : Option Stop) → s ≡ scan tryOf (n / (perPage g) * (perPage g)) (n % (perPage g))
-      → ramFirst s (searchPages gateOf tryOf (perPage g) (n / (perPage g))) ≡ searchOf fnvFamily (shape g) (volumeAt n d main ram) key
-  unfolding searchOf
-  search-is s e = ap (λ (o : Option Stop). ramFirst o (searchPages gateOf tryOf (perPage g) (n / (perPage g)))) e
+-- ---- the first d₀ of d items of one word: in a row on flash, then in RAM
+
+module _ (u : ℕ) (a : Area) (d : ℕ) (main ram : List ℕ) (one : a .size ≡ 4) (j : ℕ) where
+  abbrev isItem : ℕ → Bool
+  isItem i = eqb (itemWord u a d main ram i 0) j
+
+  abbrev full : ℕ
+  full = d / a .perPage * a .perPage
+
+  pub among-flash : (d₀ : ℕ) → d₀ ≤ d / a .perPage * a .perPage → any isItem d₀ ≡ hasWord main (a .first * layout.block u) d₀ j
+  unfolding isWord
+  among-flash d₀ h =
+      any-ext isItem (isWord main (a .first * layout.block u) j) d₀
+      (λ i l.
+      let e : a .first * layout.block u + i * a .size + 0 * 4 ≡ a .first * layout.block u + i * 4 = rw one (omega arith) in
+      ap (λ (x : ℕ). eqb x j) (word-on-flash u a d main ram i 0 (omega arith) ∙ ap (λ (x : ℕ). word main x) e))
+
+  pub among-both : (d₀ : ℕ) → d / a .perPage * a .perPage ≤ d₀ → d₀ - d / a .perPage * a .perPage ≤ a .perPage
+      → any isItem d₀ ≡ (hasWord ram (a .ram) (d₀ - d / a .perPage * a .perPage) j || hasWord main (a .first * layout.block u) (d / a .perPage * a .perPage) j)
+  unfolding isWord
+  among-both d₀ h few =
+      let s : d₀ ≡ full + (d₀ - full) = omega arith in
+      ap (any isItem) s ∙ any-sum isItem full (d₀ - full)
+      ∙ (λ t. in-ram t || among-flash full (omega arith) t)
+    where
+      in-ram : any (λ i. isItem (full + i)) (d₀ - full) ≡ hasWord ram (a .ram) (d₀ - full) j
+      in-ram =
+          any-ext (λ i. isItem (full + i)) (isWord ram (a .ram) j) (d₀ - full)
+          (λ i l.
+          let e : a .ram + i * a .size + 0 * 4 ≡ a .ram + i * 4 = rw one (omega arith) in
+          ap (λ (x : ℕ). eqb x j) (ram-word u a d main ram i 0 (omega arith) ∙ ap (λ (x : ℕ). word ram x) e))
+
+-- both runs lie within the lent bytes
+module _ (u : ℕ) (a : items.Area) (d d₀ main ram : ℕ) (F : fits.Fits u a d main ram) (one : a .size ≡ 4) where
+  pub flash-run-in : d₀ ≤ d / a .«per_page» * a .«per_page» → a .first * layout.block u + d₀ * 4 ≤ main
+  flash-run-in h = omega (arith, h, rw one at (fits.run-fits u a d main ram F))
+
+  pub ram-run-in : d₀ ≤ d → a .ram + (d₀ - d / a .«per_page» * a .«per_page») * 4 ≤ ram
+  ram-run-in h =
+      let E = euclid d (a .«per_page») (F .sound .some) in
+      omega (arith, h, E .whole, rw one at (fits.ram-run-fits u a d main ram F))
+
+  pub rest-few : d₀ ≤ d → d₀ - d / a .«per_page» * a .«per_page» ≤ a .«per_page»
+  rest-few h =
+      let E = euclid d (a .«per_page») (F .sound .some) in
+      omega (arith, h, E .whole, E .small)
 
 -- ---- a ready volume
-
-pub fewer-records : (g : Geometry) (n d : ℕ) (main ram : List ℕ) → Ready g n d main ram → Ready g 0 d main ram
-fewer-records g n d main ram R =
-    record {
-      sound = R .sound;
-      main-long = R .main-long;
-      ram-long = R .ram-long;
-      n-cap = omega arith;
-      d-cap = R .d-cap;
-    }
 
 -- fewer filters lie within reach too
 pub within-fewer : (k : Rows) (n m len : ℕ) → Within k n len → m ≤ n → Within k m len
@@ -118,46 +171,87 @@ within-fewer k n m len W h =
       small = omega (arith, W .small, p);
     }
 
-module _ (g : Geometry) (n d : ℕ) (main ram : List ℕ) (R : Ready g n d main ram) where
+module _ (v : View) (main ram : List ℕ) (R : Ready v main ram) where
   -- eight full pages to a block of records
-  pages-le : n / layout.entriesPerPage (g .unit) ≤ 8 * g .ra
+  pages-le : pages v ≤ 8 * v .g .ra
   pages-le =
-      let h : n < (8 * g .ra + 1) * (8 * g .unit) = omega (arith, R .n-cap, R .sound .some) in
-      omega (arith, div-lt n (8 * g .unit) (8 * g .ra + 1) (omega (arith, R .sound .some)) h)
+      let h : v .n < (8 * v .g .ra + 1) * (8 * v .g .unit) = omega (arith, R .n-cap, R .sound .some) in
+      omega (arith, div-lt (v .n) (8 * v .g .unit) (8 * v .g .ra + 1) (omega (arith, R .sound .some)) h)
 
-  pub pages-few : n / layout.entriesPerPage (g .unit) ≤ 32768
+  pub pages-few : pages v ≤ 32768
   pages-few = omega (arith, pages-le, R .sound .ra-most)
 
-  -- a full page lies within the flash
-  pub page-in : (p : ℕ) → p < n / layout.entriesPerPage (g .unit)
-      → layout.kaBlock (shape g) * layout.block (g .unit) + p * layout.page (g .unit) + layout.page (g .unit) ≤ length main
-  page-in p h =
-      let b : p + 1 ≤ 16 * layout.kaBlocks (shape g) = omega (arith, pages-le) in
-      let k : layout.kaBlock (shape g) + layout.kaBlocks (shape g) ≤ layout.blocks (shape g) = omega arith in
-      omega (arith, mul-le-mul-right (layout.page (g .unit)) b, mul-le-mul-right (layout.block (g .unit)) k, R .main-long)
+  -- those of the view are among them
+  pub pages-then : pagesThen v ≤ pages v
+  pages-then =
+      let E = euclid (v .n) (8 * v .g .unit) (omega (arith, R .sound .some)) in
+      let h : v .n0 < (pages v + 1) * (8 * v .g .unit) = omega (arith, R .n0-le, E .whole, E .small) in
+      omega (arith, div-lt (v .n0) (8 * v .g .unit) (pages v + 1) (omega (arith, R .sound .some)) h)
 
-  -- the page that is not full within the RAM
-  pub slots-lt : n % layout.entriesPerPage (g .unit) < layout.entriesPerPage (g .unit)
+  -- a full page lies within the flash
+  pub page-in : (p : ℕ) → p < pages v
+      → layout.kaBlock (shape (v .g)) * layout.block (v .g .unit) + p * layout.page (v .g .unit) + layout.page (v .g .unit) ≤ length main
+  page-in p h =
+      let b : p + 1 ≤ 16 * layout.kaBlocks (shape (v .g)) = omega (arith, pages-le) in
+      let k : layout.kaBlock (shape (v .g)) + layout.kaBlocks (shape (v .g)) ≤ layout.blocks (shape (v .g)) = omega arith in
+      omega (arith, mul-le-mul-right (layout.page (v .g .unit)) b, mul-le-mul-right (layout.block (v .g .unit)) k, R .main-long)
+
+  -- entries past the last full page are fewer than a page's
+  pub slots-lt : v .n0 % perPage v < perPage v
   slots-lt =
-      let E = euclid n (layout.entriesPerPage (g .unit)) (omega (arith, R .sound .some)) in
+      let E = euclid (v .n0) (perPage v) (omega (arith, R .sound .some)) in
       omega arith
 
-  exponent-lt : (e : ℕ) → g .unit ≡ 2 ^ e → e < 6
+  exponent-lt : (e : ℕ) → v .g .unit ≡ 2 ^ e → e < 6
   exponent-lt e is = either (lt? e 6) (λ h. h .1) (λ h. absurd (omega (arith, pow-mono (h .1), R .sound .most, is)))
 
   -- full sets
-  pub sets-le : inFull (g .unit) (n / layout.entriesPerPage (g .unit)) ≤ layout.fullSets (shape g)
+  pub sets-le : inFull (v .g .unit) (pages v) ≤ layout.fullSets (shape (v .g))
   sets-le =
       let s = R .sound .some in
-      let a : n / layout.entriesPerPage (g .unit) / 8 / 16 * 16 ≤ g .ra = omega (arith, pages-le) in
-      let E = euclid (n / layout.entriesPerPage (g .unit) / 8 / 16) (4 * g .unit) (omega arith) in
-      let F = euclid (g .ra) (64 * g .unit) (omega arith) in
-      either (lt? (layout.fullSets (shape g)) (inFull (g .unit) (n / layout.entriesPerPage (g .unit))))
-      (λ h. absurd (omega (arith, mul-le-mul-right (g .unit) (h .1), a, E .whole, F .whole, F .small)))
+      let a : pages v / 8 / 16 * 16 ≤ v .g .ra = omega (arith, pages-le) in
+      let E = euclid (pages v / 8 / 16) (4 * v .g .unit) (omega arith) in
+      let F = euclid (v .g .ra) (64 * v .g .unit) (omega arith) in
+      either (lt? (layout.fullSets (shape (v .g))) (inFull (v .g .unit) (pages v)))
+      (λ h. absurd (omega (arith, mul-le-mul-right (v .g .unit) (h .1), a, E .whole, F .whole, F .small)))
       (λ h. h .1)
 
-  pub index-fits : Fits (g .unit) (keyIndex (shape g)) (layout.fullSets (shape g)) main ram
+  pub index-fits : Fits (v .g .unit) (keyIndex (shape (v .g))) (layout.fullSets (shape (v .g))) main ram
   index-fits =
       let p = R .sound .power in
-      fits-of (g .unit) (keyIndex (shape g)) (layout.fullSets (shape g)) main ram (p .0) (exponent-lt (p .0) (p .1)) (p .1)
-      (omega (arith, index-le g (R .sound))) (omega (arith, R .main-long)) (omega (arith, R .ram-long))
+      fits-of (v .g .unit) (keyIndex (shape (v .g))) (layout.fullSets (shape (v .g))) main ram (p .0) (exponent-lt (p .0) (p .1)) (p .1)
+      (omega (arith, index-le (v .g) (R .sound))) (omega (arith, R .main-long)) (omega (arith, R .ram-long))
+
+  -- ---- the page that n₀ records do not fill, with q entries to a page
+
+  module _ (q : ℕ) (q-is : q ≡ perPage v) where
+    -- by now it may be full
+    module _ (filled : v .n0 / q < v .n / q) (start : ℕ) (at : start ≡ layout.kaBlock (shape (v .g)) * layout.block (v .g .unit) + v .n0 / q * layout.page (v .g .unit)) where
+      filled-is : pagesThen v < pages v
+      filled-is = rw q-is at filled
+
+      at-is : start ≡ layout.kaBlock (shape (v .g)) * layout.block (v .g .unit) + pagesThen v * layout.page (v .g .unit)
+      at-is = rw q-is at at
+
+      pub open-in-flash : start + v .n0 % q * 8 ≤ length main
+      open-in-flash = rw q-is (omega (arith, slots-lt, at-is, page-in (pagesThen v) filled-is))
+
+      pub open-on-flash : (key : Key) (s : Option Stop) → s ≡ scan (tryIn v main ram key main start) 0 (v .n0 % q)
+          → s ≡ scan (tryOf v main ram key) (pagesThen v * perPage v) (v .n0 % perPage v)
+      open-on-flash key s e =
+          (rw q-is at e)
+          ∙ scan-bytes v main ram key main start (v .n0 % perPage v) (pagesThen v * perPage v)
+          (same-flash v main ram key (pagesThen v) start (v .n0 % perPage v) filled-is (omega (arith, slots-lt)) at-is)
+
+    module _ (start : ℕ) (at : start ≡ layout.kaRam (v .g .unit)) where
+      pub open-in-ram : start + v .n0 % q * 8 ≤ length ram
+      open-in-ram = rw q-is (omega (arith, slots-lt, at, R .ram-long))
+
+      pub open-on-ram : v .n / q ≤ v .n0 / q → (key : Key) (s : Option Stop) → s ≡ scan (tryIn v main ram key ram start) 0 (v .n0 % q)
+          → s ≡ scan (tryOf v main ram key) (pagesThen v * perPage v) (v .n0 % perPage v)
+      open-on-ram h key s e =
+          let l : pages v ≤ pagesThen v = rw q-is at h in
+          let same : pagesThen v ≡ pages v = omega (arith, pages-then) in
+          (rw q-is at e)
+          ∙ scan-bytes v main ram key ram start (v .n0 % perPage v) (pagesThen v * perPage v)
+          (same-ram v main ram key start (v .n0 % perPage v) same (omega (arith, slots-lt)) at)

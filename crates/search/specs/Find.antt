@@ -2,56 +2,86 @@
 use mathlib.Core.Path.{_≡_, refl, sym, _∙_}
 use mathlib.Core.Option.{Option, none, some}
 use mathlib.Core.List.{List, []}
-use Prim.Native.Nat.{ℕ, _+_, _≤_}
-use lib.ListN.{length}
+use Prim.Native.Nat.{ℕ, _+_, _*_, _≤_, _<_}
+use lib.ListN.{length, getD}
+use Rattle.memory.specs.Words.{word}
+use Rattle.layout.specs.Keys.{Key, keyAt, numberIn}
 use Rattle.layout.specs.Geometry as layout
 use Rattle.layout.specs.Flash.{flashOf}
-use Rattle.layout.specs.Hash.{Family, fnvFamily}
+use Rattle.layout.specs.Hash.{Family, positionCount}
 use Rattle.layout.specs.Search as find
-use Rattle.layout.specs.Calls.{Volume, keyPositions, isDeleted, tryAt, maybeIn, search}
+use Rattle.layout.specs.Calls.{Volume, isDeleted, tryAt, maybeIn, searchAt, search}
 use Rattle.geometry.specs.declared.Geometry.{Geometry}
 use Rattle.geometry.specs.Shape.{shape, Sound}
-use Rattle.search.specs.declared.Stop.{Stop}
-use Rattle.search.specs.declared.Stop.the-variants.{Nothing, Found as FoundAt, Corrupt}
+use Rattle.search.specs.declared.View.{View}
+use Rattle.search.specs.declared.End.{End}
+use Rattle.search.specs.declared.End.the-variants.{Nothing, Live, Corrupt}
 use Rattle.search.specs.declared.Found.{Found}
 
+-- ---- answers
+
 -- where a search ended
-abbrev pub stopOf : Stop → Option find.Stop
+abbrev pub stopOf : End → Option find.Stop
 stopOf Nothing = none
-stopOf (FoundAt j) = some (find.found j)
+stopOf (Live j) = some (find.found j)
 stopOf Corrupt = some find.corrupt
 
 abbrev pub foundOf : Found → find.Found
-foundOf r = find.reply (stopOf (r .stop)) (r .opened)
+foundOf r = find.reply (stopOf (r .end)) (r .opened)
 
--- a volume of n records and d deletions with these bytes; a search reads nothing else of it
-abbrev pub at : ℕ → ℕ → List ℕ → List ℕ → Volume
-at n d main ram = record { state = layout.stateOf (layout.sizesOf 0 0 0) n d; flash = flashOf main []; ram = ram }
+-- ---- what is searched
 
-pub search-at : (h : Family) (g : layout.Geometry) (v : Volume) (key : ℕ)
-    → search h g v key ≡ search h g (at (v .state .records) (v .state .deletions) (v .flash .main) (v .ram)) key
-unfolding search maybeIn tryAt isDeleted
+-- all records and deletions
+abbrev pub whole : Geometry → ℕ → ℕ → View
+whole g n d = record { g = g; n = n; d = d; n0 = n; d0 = d }
+
+-- a volume with these bytes; a search reads nothing else of it
+abbrev pub viewed : View → List ℕ → List ℕ → Volume
+viewed v main ram = record { state = layout.stateOf (layout.sizesOf 0 0 0) (v .n) (v .d); flash = flashOf main []; ram = ram }
+
+-- the lent bytes hold a volume of a sound geometry, of which no more is searched than there is
+pub record Ready (v : View) (main ram : List ℕ) : Type 0 where
+  pub sound : Sound (v .g)
+  pub main-long : layout.dataSize (shape (v .g)) ≤ length main
+  pub ram-long : layout.ramSize (shape (v .g)) ≤ length ram
+  pub n-cap : v .n ≤ layout.recordCapacity (shape (v .g))
+  pub d-cap : v .d ≤ layout.deletionCapacity (shape (v .g))
+  pub n0-le : v .n0 ≤ v .n
+  pub d0-le : v .d0 ≤ v .d
+
+pub search-at : (h : Family) (g : Geometry) (v : Volume) (key : Key)
+    → search h (shape g) v key
+    ≡ searchAt h (shape g) (viewed (whole g (v .state .records) (v .state .deletions)) (v .flash .main) (v .ram)) (v .state .records) (v .state .deletions) key
+unfolding searchAt maybeIn tryAt isDeleted
 search-at h g v key = refl
 
--- what a search found is the volume's
-pub search-is : (h : Family) (g : layout.Geometry) (v : Volume) (key : ℕ) (r : Found)
-    → foundOf r ≡ search h g (at (v .state .records) (v .state .deletions) (v .flash .main) (v .ram)) key → search h g v key ≡ foundOf r
+-- what a search of all found is the volume's
+pub search-is : (h : Family) (g : Geometry) (v : Volume) (key : Key) (r : Found)
+    → foundOf r ≡ searchAt h (shape g) (viewed (whole g (v .state .records) (v .state .deletions)) (v .flash .main) (v .ram)) (v .state .records) (v .state .deletions) key
+    → search h (shape g) v key ≡ foundOf r
 search-is h g v key r e = search-at h g v key ∙ sym e
 
--- the search of the full pages below a number
-abbrev pub pagesBelow : Geometry → ℕ → ℕ → List ℕ → List ℕ → ℕ → ℕ → find.Found
-pagesBelow g n d main ram key below =
-    find.searchPages (maybeIn (shape g) (at n d main ram) (keyPositions fnvFamily (shape g) key)) (tryAt (shape g) (at n d main ram) key) (layout.entriesPerPage (g .unit)) below
+-- ---- its parts
+
+-- entry j of the view
+abbrev pub tryOf : View → List ℕ → List ℕ → Key → ℕ → Option find.Stop
+tryOf v main ram key = tryAt (shape (v .g)) (viewed v main ram) (v .n0) (v .d0) key
+
+-- entry k of those that lie from byte `start` of a page's bytes on
+abbrev pub tryIn : View → List ℕ → List ℕ → Key → List ℕ → ℕ → ℕ → Option find.Stop
+tryIn v main ram key bytes start k =
+    find.tryEntry (v .n0) (isDeleted (shape (v .g)) (viewed v main ram) (v .d0)) key (keyAt bytes (start + k * 8)) (numberIn (word bytes (start + k * 8 + 4)))
+
+-- the full pages below a number, opened by the bits of some positions
+abbrev pub pagesBelow : View → List ℕ → List ℕ → Key → List ℕ → ℕ → find.Found
+pagesBelow v main ram key ps below =
+    find.searchPages (maybeIn (shape (v .g)) (viewed v main ram) ps) (tryOf v main ram key) (layout.entriesPerPage (v .g .unit)) below
 
 -- what is found in all by a search that ended so after k pages, if it ended nowhere with what the search of older pages finds
 abbrev pub onward : Option find.Stop → ℕ → find.Found → find.Found
 onward none k older = find.reply (older .stop) (k + older .opened)
 onward (some r) k older = find.reply (some r) k
 
--- the lent bytes hold a volume of a sound geometry with n records and d deletions
-pub record Ready (g : Geometry) (n d : ℕ) (main ram : List ℕ) : Type 0 where
-  pub sound : Sound g
-  pub main-long : layout.dataSize (shape g) ≤ length main
-  pub ram-long : layout.ramSize (shape g) ≤ length ram
-  pub n-cap : n ≤ layout.recordCapacity (shape g)
-  pub d-cap : d ≤ layout.deletionCapacity (shape g)
+-- positions lie within a filter
+abbrev pub Low : Geometry → List ℕ → Type 0
+Low g ps = (i : ℕ) → i < positionCount → getD ps i 0 < layout.filterBits (g .unit)

@@ -1,31 +1,53 @@
-// The search for a key: RAM's entries newest first, then full pages newest first, a page being opened
-// only if its filter has all three bits. Document 01, "Calls".
+// The search for a key: the entries past the last full page, newest first, then full pages, newest first, a page
+// being opened only if its filter has all bits of the key's positions. Document 01, "Calls".
 ghost use mathlib.Core.Path.{_≡_};
 ghost use Prim.Native.Nat.{ℕ, _+_, _*_, _/_, _%_, _≤_, _<_};
-ghost use lib.ListN.{length, getD, take};
-ghost use Rattle.memory.specs.Words.{word, bytes4};
+ghost use lib.ListN.{length, take};
+ghost use Rattle.memory.specs.Words.{word};
 ghost use Rattle.memory.specs.Lent.{before};
-ghost use Rattle.layout.specs.Geometry.{page, block, entriesPerPage, recordCapacity, deletionCapacity, dataSize, ramSize, kaBlock};
+ghost use Rattle.layout.specs.Keys.{keyBytes, numberIn};
+ghost use Rattle.layout.specs.Geometry.{page, block, entriesPerPage, kaBlock};
 ghost use Rattle.layout.specs.Hash.{fnvFamily, positions, positionCount};
-ghost use Rattle.layout.specs.Calls.{keyIndex, keyPositions, isDeleted, tryAt, search};
+ghost use Rattle.layout.specs.Calls.{isDeleted, searchAt};
 ghost use Rattle.layout.specs.Search.{scan};
 ghost use Rattle.geometry.specs.Shape.{shape, Sound};
-ghost use Rattle.filter.specs.Groups.{GroupAt};
-ghost use Rattle.search.specs.Find.{stopOf, foundOf, at, Ready, pagesBelow, onward};
-use filter::Group;
+ghost use Rattle.search.specs.Find.{stopOf, foundOf, whole, viewed, Ready, tryOf, tryIn, pagesBelow, onward, Low};
 use geometry::Geometry;
 use sets::Index;
 
-// Where a search ends: nowhere, at a live entry, with its record number, or at a number of n or more.
-pub enum Stop {
+// What is searched: of the n records and d deletions of a volume the first n0 and the first d0. Where they lie goes
+// by n and d.
+pub struct View {
+    pub g: Geometry,
+    pub n: usize,
+    pub d: usize,
+    pub n0: usize,
+    pub d0: usize,
+}
+
+// All of them.
+pub fn all(g: Geometry, n: usize, d: usize) -> View
+    ensures { λ r. ⌜ r ≡ whole g n d ⌝ }
+{
+    View {
+        g,
+        n,
+        d,
+        n0: n,
+        d0: d,
+    }
+}
+
+// Where a search ends: nowhere, at a live entry, with its record number, or at a number that is no record's.
+pub enum End {
     Nothing,
-    Found(u32),
+    Live(u32),
     Corrupt,
 }
 
-// How it ended, and the pages opened.
+// Where it ended, and the pages opened.
 pub struct Found {
-    pub stop: Stop,
+    pub end: End,
     pub opened: u32,
 }
 
@@ -37,48 +59,61 @@ fn wide(x: u32) -> usize
     x as usize
 }
 
-// The record number of entry k of those from byte `at` on: its second word.
+// The record number of entry k of those from byte `at` on.
 fn number_at(s: &[u8], at: usize, k: usize) -> u32
     requires { ⌜ at + k * 8 + 8 ≤ length (now s) ⌝ }
-    ensures { λ r. ⌜ r ≡ word (before s) (at + k * 8 + 4) ⌝ }
+    ensures { λ r. ⌜ r ≡ numberIn (word (before s) (at + k * 8 + 4)) ⌝ }
 {
     words::get32(s, at + k * 8 + 4)
 }
 
-// Is record j among the d deletions?
-fn deleted(g: Geometry, main: &[u8], ram: &[u8], d: usize, j: u32) -> bool
-    requires { ⌜ Ready g 0 d (now main) (now ram) ⌝ }
-    ensures { λ r. ⌜ r ≡ isDeleted (shape g) (at 0 d (before main) (before ram)) j ⌝ }
+// Is record j among the deletions: first those of full pages, in a row on flash, then those in RAM.
+fn deleted(v: View, j: u32, main: &[u8], ram: &[u8]) -> bool
+    requires { ⌜ Ready v (now main) (now ram) ⌝ }
+    ensures { λ r. ⌜ r ≡ isDeleted (shape (v .g)) (viewed v (before main) (before ram)) (v .d0) j ⌝ }
 {
-    items::is_deleted(main, ram, g.unit, geometry::deletion_area(g), d, j)
+    let a = geometry::deletion_area(v.g);
+    let start = geometry::block_address(v.g, a.first);
+    let per_page = a.per_page;
+    let full = v.d / per_page * per_page;
+    if v.d0 <= full {
+        return items::has_word(main, start, v.d0, j);
+    }
+    if items::has_word(main, start, full, j) {
+        return true;
+    }
+    items::has_word(ram, a.ram, v.d0 - full, j)
 }
 
-// ---- RAM's entries
+// ---- entries past the last full page
 
-// Those of the page that is not full, newest first.
-fn in_ram(g: Geometry, main: &[u8], ram: &[u8], n: usize, d: usize, key: u32) -> Stop
-    requires { ⌜ Ready g n d (now main) (now ram) ⌝ }
-    ensures { λ r. ⌜ stopOf r ≡ scan (tryAt (shape g) (at n d (before main) (before ram)) key)
-        (n / entriesPerPage (g .unit) * entriesPerPage (g .unit)) (n % entriesPerPage (g .unit)) ⌝ }
+// The newest live one of `count` entries, which lie in `page` from byte `start` on.
+fn in_page(
+    v: View,
+    key: u32,
+    start: usize,
+    count: usize,
+    page: &[u8],
+    main: &[u8],
+    ram: &[u8],
+) -> End
+    requires { ⌜ Ready v (now main) (now ram) × (start + count * 8 ≤ length (now page)) ⌝ }
+    ensures { λ r. ⌜ stopOf r ≡ scan (tryIn v (before main) (before ram) key (before page) start) 0 count ⌝ }
 {
-    let page = g.ka_ram();
-    let count = n % g.entries_per_page();
-    let mut e = items::find_entry(ram, page, count, key);
+    let mut e = items::find_entry(page, start, count, key);
     while e > 0 {
         let k = e - 1;
-        let j = number_at(ram, page, k);
-        if wide(j) >= n {
-            return Stop::Corrupt;
+        let j = number_at(page, start, k);
+        if wide(j) >= v.n0 {
+            return End::Corrupt;
         }
-        if !deleted(g, main, ram, d, j) {
-            return Stop::Found(j);
+        if !deleted(v, j, main, ram) {
+            return End::Live(j);
         }
-        e = items::find_entry(ram, page, k, key);
+        e = items::find_entry(page, start, k, key);
     }
-    Stop::Nothing
+    End::Nothing
 }
-
-// ---- full pages
 
 // The first byte of page p of the entries on flash.
 fn page_start(g: Geometry, p: usize) -> usize
@@ -88,127 +123,142 @@ fn page_start(g: Geometry, p: usize) -> usize
     geometry::block_address(g, g.ka_block()) + geometry::page_address(g, p)
 }
 
-// Full pages of a group of filters, newest first, and the entries of each that is opened, newest
-// first.
-fn in_group(
-    g: Geometry,
-    main: &[u8],
-    ram: &[u8],
-    n: usize,
-    d: usize,
-    key: u32,
-    grp: Group,
-    below: usize,
-) -> Found
-    requires { ⌜ Ready g n d (now main) (now ram) ⌝ }
-    requires { ⌜ (below ≤ n / entriesPerPage (g .unit))
-        × GroupAt (g .unit) (keyIndex (shape g)) (now main) (now ram) (n / entriesPerPage (g .unit)) below
-        (keyPositions fnvFamily (shape g) key) grp ⌝ }
-    ensures { λ r. ⌜ pagesBelow g n d (before main) (before ram) key below
-        ≡ onward (stopOf (r .stop)) (r .opened) (pagesBelow g n d (before main) (before ram) key (grp .start)) ⌝ }
+// Those of the page that n0 records do not fill: in RAM, unless it has been filled since.
+fn in_open(v: View, key: u32, main: &[u8], ram: &[u8]) -> End
+    requires { ⌜ Ready v (now main) (now ram) ⌝ }
+    ensures { λ r. ⌜ stopOf r ≡ scan (tryOf v (before main) (before ram) key)
+        (v .n0 / entriesPerPage (v .g .unit) * entriesPerPage (v .g .unit)) (v .n0 % entriesPerPage (v .g .unit)) ⌝ }
 {
-    let per_page = g.entries_per_page();
+    let per_page = v.g.entries_per_page();
+    let count = v.n0 % per_page;
+    if v.n0 < v.n {
+        let p = v.n0 / per_page;
+        if p < v.n / per_page {
+            return in_page(v, key, page_start(v.g, p), count, main, main, ram);
+        }
+    }
+    in_page(v, key, v.g.ka_ram(), count, ram, main, ram)
+}
+
+// ---- full pages
+
+// What was found in a group of pages: where the search ended in it, the pages opened, and the group's first page.
+struct Walk {
+    end: End,
+    opened: u32,
+    start: usize,
+}
+
+// The full pages below page `below` whose filters are of one group, newest first, and the entries of each that is
+// opened, newest first.
+fn in_group(v: View, key: u32, ps: [u32; 8], below: usize, main: &[u8], ram: &[u8]) -> Walk
+    requires { ⌜ Ready v (now main) (now ram) × Low (v .g) ps ⌝ }
+    requires { ⌜ (0 < below) × (below ≤ v .n0 / entriesPerPage (v .g .unit)) ⌝ }
+    ensures { λ r. ⌜ r .start < below ⌝ }
+    ensures { λ r. ⌜ pagesBelow v (before main) (before ram) key (take positionCount ps) below
+        ≡ onward (stopOf (r .end)) (r .opened) (pagesBelow v (before main) (before ram) key (take positionCount ps) (r .start)) ⌝ }
+{
+    let per_page = v.g.entries_per_page();
+    let ix = Index {
+        first: v.g.index_block(),
+        ska: v.g.ska_ram(),
+    };
+    let filters = v.n / per_page;
+    let grp = filter::group_below(main, ram, v.g.unit, ix, filters, below, ps, 3);
     let first = grp.start;
-    let mut stop = Stop::Nothing;
+    let mut end = End::Nothing;
     let mut opened: u32 = 0;
     let mut c = filter::newest_in(main, ram, grp, below - first);
     'filters: while c > 0 {
         let f = c - 1;
         opened += 1;
-        let start = page_start(g, first + f);
+        let start = page_start(v.g, first + f);
         let mut e = items::find_entry(main, start, per_page, key);
         'entries: while e > 0 {
             let k = e - 1;
             let j = number_at(main, start, k);
-            if wide(j) >= n {
-                stop = Stop::Corrupt;
+            if wide(j) >= v.n0 {
+                end = End::Corrupt;
                 break 'filters;
             }
-            if !deleted(g, main, ram, d, j) {
-                stop = Stop::Found(j);
+            if !deleted(v, j, main, ram) {
+                end = End::Live(j);
                 break 'filters;
             }
             e = items::find_entry(main, start, k, key);
         }
         c = filter::newest_in(main, ram, grp, f);
     }
-    Found { stop, opened }
+    Walk {
+        end,
+        opened,
+        start: first,
+    }
 }
 
-// The positions of a key, as the filters take them.
-fn positions_of(unit: usize, key: u32) -> [u32; 8]
-    requires { ⌜ (0 < unit) × (unit ≤ 32) ⌝ }
-    ensures { λ r. ⌜ (take 3 r ≡ positions fnvFamily positionCount unit (bytes4 key)) × ((i : ℕ) → i < 3 → getD r i 0 < 64 * unit) ⌝ }
+// Full pages, a group of filters after another, the newest first, for any positions.
+fn in_pages(v: View, key: u32, ps: [u32; 8], main: &[u8], ram: &[u8]) -> Found
+    requires { ⌜ Ready v (now main) (now ram) × Low (v .g) ps ⌝ }
+    ensures { λ r. ⌜ foundOf r ≡ pagesBelow v (before main) (before ram) key (take positionCount ps) (v .n0 / entriesPerPage (v .g .unit)) ⌝ }
 {
-    let p = fnv::positions(unit as u32, key);
-    [p[0], p[1], p[2], 0, 0, 0, 0, 0]
-}
-
-// Full pages, a group of filters after another, the newest first.
-fn in_pages(g: Geometry, main: &[u8], ram: &[u8], n: usize, d: usize, key: u32) -> Found
-    requires { ⌜ Ready g n d (now main) (now ram) ⌝ }
-    ensures { λ r. ⌜ foundOf r ≡ pagesBelow g n d (before main) (before ram) key (n / entriesPerPage (g .unit)) ⌝ }
-{
-    let ps = positions_of(g.unit, key);
-    let ix = Index {
-        first: g.index_block(),
-        ska: g.ska_ram(),
-    };
-    let filters = n / g.entries_per_page();
     let mut opened: u32 = 0;
-    let mut below = filters;
+    let mut below = v.n0 / v.g.entries_per_page();
     while below > 0 {
-        let grp = filter::group_below(main, ram, g.unit, ix, filters, below, ps, 3);
-        let r = in_group(g, main, ram, n, d, key, grp, below);
-        opened += r.opened;
-        let s = r.stop;
-        match s {
-            Stop::Nothing => {}
-            Stop::Found(j) => {
+        let w = in_group(v, key, ps, below, main, ram);
+        opened += w.opened;
+        let end = w.end;
+        match end {
+            End::Nothing => {}
+            End::Live(j) => {
                 return Found {
-                    stop: Stop::Found(j),
+                    end: End::Live(j),
                     opened,
                 };
             }
-            Stop::Corrupt => {
+            End::Corrupt => {
                 return Found {
-                    stop: Stop::Corrupt,
+                    end: End::Corrupt,
                     opened,
                 };
             }
         }
-        below = grp.start;
+        below = w.start;
     }
     Found {
-        stop: Stop::Nothing,
+        end: End::Nothing,
         opened,
     }
 }
 
 // ---- all of it
 
-pub fn search(g: Geometry, main: &[u8], ram: &[u8], n: usize, d: usize, key: u32) -> Found
+// The positions of a key, as the filters take them.
+fn positions_of(g: Geometry, key: u32) -> [u32; 8]
     requires { ⌜ Sound g ⌝ }
-    requires { ⌜ dataSize (shape g) ≤ length (now main) ⌝ }
-    requires { ⌜ ramSize (shape g) ≤ length (now ram) ⌝ }
-    requires { ⌜ n ≤ recordCapacity (shape g) ⌝ }
-    requires { ⌜ d ≤ deletionCapacity (shape g) ⌝ }
-    ensures { λ r. ⌜ foundOf r ≡ search fnvFamily (shape g) (at n d (before main) (before ram)) key ⌝ }
+    ensures { λ r. ⌜ (take positionCount r ≡ positions fnvFamily positionCount (g .unit) (keyBytes key)) × Low g r ⌝ }
 {
-    let s = in_ram(g, main, ram, n, d, key);
-    match s {
-        Stop::Nothing => {
-            return in_pages(g, main, ram, n, d, key);
+    let p = fnv::positions(g.unit as u32, key);
+    [p[0], p[1], p[2], 0, 0, 0, 0, 0]
+}
+
+pub fn search(v: View, key: u32, main: &[u8], ram: &[u8]) -> Found
+    requires { ⌜ Ready v (now main) (now ram) ⌝ }
+    ensures { λ r. ⌜ foundOf r ≡ searchAt fnvFamily (shape (v .g)) (viewed v (before main) (before ram)) (v .n0) (v .d0) key ⌝ }
+{
+    let end = in_open(v, key, main, ram);
+    match end {
+        End::Nothing => {
+            return in_pages(v, key, positions_of(v.g, key), main, ram);
         }
-        Stop::Found(j) => {
+        End::Live(j) => {
             return Found {
-                stop: Stop::Found(j),
+                end: End::Live(j),
                 opened: 0,
             };
         }
-        Stop::Corrupt => {
+        End::Corrupt => {
             return Found {
-                stop: Stop::Corrupt,
+                end: End::Corrupt,
                 opened: 0,
             };
         }

@@ -1,4 +1,4 @@
--- RAM first, then full pages.
+-- The entries past the last full page first, then full pages.
 use mathlib.Core.Path.{_∙_}
 use mathlib.Core.Option.{none, some}
 use Rattle.layout.specs.Search.{found, corrupt}
@@ -7,48 +7,57 @@ use borrow.Author.Needs.{needs}
 use Rattle.search.proofs.search.Statement.{statement}
 use Rattle.search.proofs.search.Tie as tie
 
-in-ram-requires : tie.Need-in-ram-requires
-in-ram-requires c κs = search needs
+in-open-requires : tie.Need-in-open-requires
+in-open-requires c κs = search needs
 
 enum-told : tie.Need-enum-told
 enum-told c = search needs
 
+positions-of-requires : tie.Need-positions-of-requires
+positions-of-requires c κs = search needs
+
 in-pages-requires : tie.Need-in-pages-requires
-in-pages-requires c κs = search needs
+in-pages-requires c κs = (c .before .before .before .before .before .before .pre, c .positions-of .ensures .1)
 
 returns : tie.Need-returns
 returns c =
-    let x = c .before .before .before .before .before .before .args in
-    let e = rw (c .before .enum-told .given .1) at (c .before .before .before .in-ram .ensures) in
-    c .in-pages .ensures ∙ search-is (x .g) (x .n) (x .d) (x .main .now) (x .ram .now) (x .key) none e
+    let P = c .before in
+    let O = P .before .before .before in
+    let x = O .before .before .before .args in
+    let e = rw (P .before .enum-told .given .1) at (O .in-open .ensures) in
+    let f = rw (P .positions-of .ensures .0) at (c .in-pages .ensures) in
+    f ∙ search-is (x .v) (x .main .now) (x .ram .now) (x .key) none e
 
-enum-known-s : tie.Need-enum-known-s
-enum-known-s c = search needs
+enum-known-end : tie.Need-enum-known-end
+enum-known-end c = search needs
 
 returns-2 : tie.Need-returns-2
 returns-2 c =
-    let x = c .before .before .before .before .before .before .args in
-    let e = rw (c .before .s .given .1) at (c .before .before .before .in-ram .ensures) in
-    search-is (x .g) (x .n) (x .d) (x .main .now) (x .ram .now) (x .key) (some (found (c .before .s .given .0 .0))) e
+    let O = c .before .before .before in
+    let x = O .before .before .before .args in
+    let e = rw (c .before .end .given .1) at (O .in-open .ensures) in
+    search-is (x .v) (x .main .now) (x .ram .now) (x .key) (some (found (c .before .end .given .0 .0))) e
 
 enum-told-2 : tie.Need-enum-told-2
 enum-told-2 c = search needs
 
 returns-3 : tie.Need-returns-3
 returns-3 c =
-    let x = c .before .before .before .before .before .args in
-    let e = rw (c .enum-told2 .given .1) at (c .before .before .in-ram .ensures) in
-    search-is (x .g) (x .n) (x .d) (x .main .now) (x .ram .now) (x .key) (some corrupt) e
+    let O = c .before .before in
+    let x = O .before .before .before .args in
+    let e = rw (c .enum-told2 .given .1) at (O .in-open .ensures) in
+    search-is (x .v) (x .main .now) (x .ram .now) (x .key) (some corrupt) e
 
 pub search-spec : {M : Type 1} → statement M
 search-spec =
     tie.close
     (tie.spec
-    in-ram-requires
+    in-open-requires
     enum-told
+    positions-of-requires
     in-pages-requires
     returns
-    enum-known-s
+    enum-known-end
     returns-2
     enum-told-2
     returns-3)
