@@ -7,7 +7,7 @@ ghost use Rattle.state.specs.Contract.{volume, given};
 ghost use Rattle.state.specs.Judge.{Fits};
 ghost use Rattle.lookup.specs.Looked.{looked, partOf, whereOf};
 use geometry::Geometry;
-use search::Stop;
+use search::End;
 use state::Judged;
 use state::State;
 
@@ -39,14 +39,14 @@ fn find_in(g: Geometry, s: State, key: u32, main: &[u8], spare: &[u8], ram: &[u8
     ensures { λ r. ⌜ r ≡ looked (answer fnvFamily (shape g) (given s main spare ram) (lookup key)) ⌝ }
 {
     let n = s.records as usize;
-    let f = search::search(g, main, ram, n, s.deletions as usize, key);
-    let stop = f.stop;
+    let f = search::search(search::all(g, n, s.deletions as usize), key, main, ram);
+    let end = f.end;
     let opened = f.opened;
-    match stop {
-        Stop::Corrupt => {
+    match end {
+        End::Corrupt => {
             return refuse_lookup(state::CORRUPT_ENTRY);
         }
-        Stop::Nothing => {
+        End::Nothing => {
             return LookupResult {
                 refusal: 0,
                 found: 0,
@@ -55,7 +55,7 @@ fn find_in(g: Geometry, s: State, key: u32, main: &[u8], spare: &[u8], ram: &[u8
                 offset: 0,
             };
         }
-        Stop::Found(j) => {
+        End::Live(j) => {
             let p = geometry::item_place(g, geometry::record_area(g), n, j as usize);
             let at = p.at;
             let in_ram = p.in_ram;

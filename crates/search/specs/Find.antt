@@ -1,8 +1,9 @@
 -- What the search's contract compares: the code's answers as the layout's, and the volume as far as a search reads it.
-use mathlib.Core.Path.{_≡_, refl, sym, _∙_}
+use mathlib.Core.Path.{_≡_, sym}
 use mathlib.Core.Option.{Option, none, some}
 use mathlib.Core.List.{List, []}
 use Prim.Native.Nat.{ℕ, _+_, _*_, _≤_, _<_}
+use native.Mathlib.Omega.{arith}
 use lib.ListN.{length, getD}
 use Rattle.memory.specs.Words.{word}
 use Rattle.layout.specs.Keys.{Key, keyAt, numberIn}
@@ -49,17 +50,27 @@ pub record Ready (v : View) (main ram : List ℕ) : Type 0 where
   pub n0-le : v .n0 ≤ v .n
   pub d0-le : v .d0 ≤ v .d
 
-pub search-at : (h : Family) (g : Geometry) (v : Volume) (key : Key)
-    → search h (shape g) v key
-    ≡ searchAt h (shape g) (viewed (whole g (v .state .records) (v .state .deletions)) (v .flash .main) (v .ram)) (v .state .records) (v .state .deletions) key
-unfolding searchAt maybeIn tryAt isDeleted
-search-at h g v key = refl
+-- ---- all of a volume
 
--- what a search of all found is the volume's
-pub search-is : (h : Family) (g : Geometry) (v : Volume) (key : Key) (r : Found)
-    → foundOf r ≡ searchAt h (shape g) (viewed (whole g (v .state .records) (v .state .deletions)) (v .flash .main) (v .ram)) (v .state .records) (v .state .deletions) key
-    → search h (shape g) v key ≡ foundOf r
-search-is h g v key r e = search-at h g v key ∙ sym e
+module _ (w : Volume) (g : Geometry) (v : View) (is : v ≡ whole g (w .state .records) (w .state .deletions)) where
+  pub ready-whole : Sound g → layout.dataSize (shape g) ≤ length (w .flash .main) → layout.ramSize (shape g) ≤ length (w .ram)
+      → w .state .records ≤ layout.recordCapacity (shape g) → w .state .deletions ≤ layout.deletionCapacity (shape g) → Ready v (w .flash .main) (w .ram)
+  ready-whole sound main-long ram-long n-cap d-cap =
+      rw is record {
+        sound = sound;
+        main-long = main-long;
+        ram-long = ram-long;
+        n-cap = n-cap;
+        d-cap = d-cap;
+        n0-le = omega arith;
+        d0-le = omega arith;
+      }
+
+  -- what a search of all found is the volume's
+  pub search-is : (h : Family) (key : Key) (r : Found)
+      → foundOf r ≡ searchAt h (shape (v .g)) (viewed v (w .flash .main) (w .ram)) (v .n0) (v .d0) key → search h (shape g) w key ≡ foundOf r
+  unfolding searchAt maybeIn tryAt isDeleted
+  search-is h key r e = sym (rw is at e)
 
 -- ---- its parts
 

@@ -325,11 +325,12 @@ returns-2 c =
     let l = P .before .before in
     let G = known P in
     let b = start-of G in
-    let x = b .args in
-    (group-at G .start-lt,
-    ends G ∙ pages-some (try-at b) (perPage (x .v)) (has-at G) (group G .start) (count G) (l .filters .opened) (l .filters .c) (l .filters .inv .0) (omega arith) corrupt
-    (left-corrupt (x .main .now) (P .page-start .result) (perPage (x .v)) (x .v .n0) (x .key) (deleted-at b) (try-at b) ((group G .start + filter-of P) * perPage (x .v)) (same-at P) (E .entries .e) (N .number-at .result) (E .entries .inv .0) (omega arith) (N .number-at .ensures) (omega (arith, W .wide .ensures)))
-    (gate-at b) (same-gates G))
+    let x = b .args in (
+      group-at G .start-lt,
+      ends G ∙ pages-some (try-at b) (perPage (x .v)) (has-at G) (group G .start) (count G) (l .filters .opened) (l .filters .c) (l .filters .inv .0) (omega arith) corrupt
+          (left-corrupt (x .main .now) (P .page-start .result) (perPage (x .v)) (x .v .n0) (x .key) (deleted-at b) (try-at b) ((group G .start + filter-of P) * perPage (x .v)) (same-at P) (E .entries .e) (N .number-at .result) (E .entries .inv .0) (omega arith) (N .number-at .ensures) (omega (arith, W .wide .ensures)))
+          (gate-at b) (same-gates G),
+    )
 
 returns-3 : tie.Need-returns-3 Inv-entries μ-entries Inv-filters μ-filters
 returns-3 c =
@@ -341,11 +342,12 @@ returns-3 c =
     let l = P .before .before in
     let G = known P in
     let b = start-of G in
-    let x = b .args in
-    (group-at G .start-lt,
-    ends G ∙ pages-some (try-at b) (perPage (x .v)) (has-at G) (group G .start) (count G) (l .filters .opened) (l .filters .c) (l .filters .inv .0) (omega arith) (found (N .number-at .result))
-    (left-found (x .main .now) (P .page-start .result) (perPage (x .v)) (x .v .n0) (x .key) (deleted-at b) (try-at b) ((group G .start + filter-of P) * perPage (x .v)) (same-at P) (E .entries .e) (N .number-at .result) (E .entries .inv .0) (omega arith) (N .number-at .ensures) (omega (arith, W .wide .ensures)) (D .deleted .result) (D .deleted .ensures) (not-true (D .deleted .result) (c .if2 .taken)))
-    (gate-at b) (same-gates G))
+    let x = b .args in (
+      group-at G .start-lt,
+      ends G ∙ pages-some (try-at b) (perPage (x .v)) (has-at G) (group G .start) (count G) (l .filters .opened) (l .filters .c) (l .filters .inv .0) (omega arith) (found (N .number-at .result))
+          (left-found (x .main .now) (P .page-start .result) (perPage (x .v)) (x .v .n0) (x .key) (deleted-at b) (try-at b) ((group G .start + filter-of P) * perPage (x .v)) (same-at P) (E .entries .e) (N .number-at .result) (E .entries .inv .0) (omega arith) (N .number-at .ensures) (omega (arith, W .wide .ensures)) (D .deleted .result) (D .deleted .ensures) (not-true (D .deleted .result) (c .if2 .taken)))
+          (gate-at b) (same-gates G),
+    )
 
 pub in-group-spec : {M : Type 1} → statement M
 in-group-spec =

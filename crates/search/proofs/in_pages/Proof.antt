@@ -64,8 +64,12 @@ add-opened c =
     let l = r .before .before in
     let b = start-of l in
     let x = b .args in
-    omega (arith, groups-few (gate-at b) (try-at b) (perPage (x .v)) (pagesThen (x .v)) (l .loop .opened) (l .loop .below) (l .loop .inv) (r .in-group .result .start) (r .in-group .result .opened) (stopOf (r .in-group .result .end)) (r .in-group .ensures .1),
-    pages-then (x .v) (x .main .now) (x .ram .now) (b .pre .0), pages-few (x .v) (x .main .now) (x .ram .now) (b .pre .0))
+    omega (
+      arith,
+      groups-few (gate-at b) (try-at b) (perPage (x .v)) (pagesThen (x .v)) (l .loop .opened) (l .loop .below) (l .loop .inv) (r .in-group .result .start) (r .in-group .result .opened) (stopOf (r .in-group .result .end)) (r .in-group .ensures .1),
+      pages-then (x .v) (x .main .now) (x .ram .now) (b .pre .0),
+      pages-few (x .v) (x .main .now) (x .ram .now) (b .pre .0),
+    )
 
 enum-told : tie.Need-enum-told Inv-loop μ-loop
 enum-told c = search needs
