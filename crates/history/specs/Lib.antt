@@ -4,6 +4,7 @@ pub mod IndexFlush
 pub mod IndexBuild
 pub mod IndexLaws
 pub mod AreaLaws
+pub mod Before
 pub mod Live
 pub mod MapLaws
 pub mod Parts

@@ -1,10 +1,10 @@
--- A volume that holds the image of a history: its search finds the history's live records.
+-- A volume that holds the image of a history: its search finds the history's live records, by bounds those of an earlier one.
 use mathlib.Core.Path.{_≡_, sym, ap, _∙_}
 use mathlib.Core.Bool.{true, false, cond}
 use mathlib.Core.Option.{none, some, Option·map}
 use mathlib.Core.List.{List}
 use Prim.Native.Nat.{ℕ, _+_, _*_, _/_, _%_, _^_, _≤_, _<_}
-use native.Mathlib.Nat.{mul-le-mul-right, mod-lt}
+use native.Mathlib.Nat.{mul-le-mul-right, mod-lt, le-div-iff-mul-le}
 use native.Mathlib.Omega.{arith}
 use lib.ListN.{length, getD}
 use lib.Arith.{digits-lt}
@@ -17,11 +17,12 @@ use Rattle.layout.specs.Keys.{Key, KeyOk, sameKey, keyBytes, keyIn, numberIn}
 use Rattle.layout.specs.Geometry.{Geometry, geometry, allowed, page, block, filterBits, entriesPerPage, kaBlocks, fullSets, recordCapacity, deletionCapacity, workRam, Sizes, unitOf, stateOf}
 use Rattle.layout.specs.Flash.{Flash}
 use Rattle.layout.specs.Hash.{Family, positions}
-use Rattle.layout.specs.Items.{RA, KA, DA, itemWord, itemPlace, bytesAt, recordBytes}
+use Rattle.layout.specs.Items.{Record, RA, KA, DA, itemWord, itemPlace, bytesAt, recordBytes}
 use Rattle.layout.specs.Index.{filterBit}
 use Rattle.layout.specs.Search.{found}
 use Rattle.layout.specs.Calls.{Volume, keyIndex, keyFilters, keyPositions, badState, tooShort, isDeleted, entryWord, tryAt, maybeIn, searchAt, search}
 use Rattle.history.specs.Image.{History, recordAt, raItem, kaItem, daItem, keyFilter}
+use Rattle.history.specs.Before.{Before, before-same, record-kept, deletion-kept, records-le, deleted-le}
 use Rattle.history.specs.Live.{liveAt, findLive, live-key}
 use Rattle.laws.specs.SearchLaws.{search-all, search-opened, scan-live, any-memb, allOf-true, memb-tab-all}
 use Rattle.history.specs.AreaLaws.{read-word, read-bytes}
@@ -99,20 +100,6 @@ module _ (h : Family) (sizes : Sizes) (ok : Sound sizes) where
         read-word (unitOf sizes) pu (DA g) (sizes .daBlocks) (omega arith) (omega (arith, pu)) (omega arith) (daItem H) d (C .main) (C .spare) ram (I .parts .da) (omega (arith, I .d-cap))
         i 0 (getD (H .deleted) i 0) l (omega arith) (omega (arith, I .gone i l, n-word)) (λ b m. deletion-number (getD (H .deleted) i 0) b m)
 
-    pub deleted-is : (j : ℕ) → isDeleted g v d j ≡ memb j (H .deleted)
-    unfolding isDeleted
-    deleted-is j =
-        any-ext _ (λ i. eqb (getD (H .deleted) i 0) j) (length (H .deleted)) (λ i l. ap (λ (x : ℕ). eqb x j) (deletion-at i l))
-        ∙ any-memb j (H .deleted)
-
-    pub try-is : (k : Key) (j : ℕ) → j < length (H .records) → tryAt g v n d k j ≡ cond (liveAt H k j) (some (found j)) none
-    unfolding tryAt liveAt
-    try-is k j l =
-        rw (key-at j l, number-at j l, lt-leb (length (H .records)) j l, deleted-is j)
-        (either (bool? (sameKey (recordAt H j .key) k))
-        (λ a. either (bool? (memb j (H .deleted))) (λ b. rw (a, b)) (λ b. rw (a, b)))
-        (λ a. rw a))
-
     -- every filter on the volume reads as the history says
     pub filter-is : (f x : ℕ) → f < length (H .records) / (8 * (unitOf sizes)) → x < filterBits (unitOf sizes)
         → filterBit (unitOf sizes) (keyIndex g) (C .main) ram (keyFilters g n) f x ≡ keyFilter h g H f x
@@ -139,26 +126,62 @@ module _ (h : Family) (sizes : Sizes) (ok : Sound sizes) where
         filter-is f x l (position-lt k x a)
         ∙ any-at (λ i. memb x (keyPositions h g (recordAt H (f * (8 * (unitOf sizes)) + i) .key))) (8 * (unitOf sizes)) i m (rw q a))
 
-    pub skipped : (k : Key) (f i : ℕ) → f < length (H .records) / (8 * (unitOf sizes)) → i < 8 * (unitOf sizes) → maybeIn g v (keyPositions h g k) f ≡ false
-        → tryAt g v n d k (f * (8 * (unitOf sizes)) + i) ≡ none
-    skipped k f i l m c =
-        let E = euclid (length (H .records)) (8 * (unitOf sizes)) (omega (arith, pu)) in
-        let j : f * (8 * (unitOf sizes)) + i < length (H .records) = omega (arith, mul-le-mul-right (8 * (unitOf sizes)) l) in
-        try-is k (f * (8 * (unitOf sizes)) + i) j
-        ∙ either (bool? (liveAt H k (f * (8 * (unitOf sizes)) + i)))
-        (λ t. let z : false ≡ true = sym c ∙ passes k f i l m (live-key H k (f * (8 * (unitOf sizes)) + i) t) in cc)
-        (λ t. rw t)
+    -- ---- the search among the records and deletions of an earlier history, whose counts are its bounds
+
+    module _ (H₀ : History) (B : Before H₀ H) where
+      abbrev n₀ : ℕ
+      n₀ = length (H₀ .records)
+
+      abbrev d₀ : ℕ
+      d₀ = length (H₀ .deleted)
+
+      deleted-then : (j : ℕ) → isDeleted g v d₀ j ≡ memb j (H₀ .deleted)
+      unfolding isDeleted
+      deleted-then j =
+          any-ext _ (λ i. eqb (getD (H₀ .deleted) i 0) j) (length (H₀ .deleted))
+          (λ i l. ap (λ (x : ℕ). eqb x j) (deletion-at i (omega (arith, deleted-le H₀ H B)) ∙ deletion-kept H₀ H B i l))
+          ∙ any-memb j (H₀ .deleted)
+
+      pub try-then : (k : Key) (j : ℕ) → j < length (H₀ .records) → tryAt g v n₀ d₀ k j ≡ cond (liveAt H₀ k j) (some (found j)) none
+      unfolding tryAt liveAt
+      try-then k j l =
+          let b : j < length (H .records) = omega (arith, records-le H₀ H B) in
+          rw (key-at j b, number-at j b, record-kept H₀ H B j l, lt-leb (length (H₀ .records)) j l, deleted-then j)
+          (either (bool? (sameKey (recordAt H₀ j .key) k))
+          (λ a. either (bool? (memb j (H₀ .deleted))) (λ b. rw (a, b)) (λ b. rw (a, b)))
+          (λ a. rw a))
+
+      -- a page that was full then has its filter now, wherever it lies
+      skipped : (k : Key) (f i : ℕ) → f < length (H₀ .records) / (8 * unitOf sizes) → i < 8 * unitOf sizes → maybeIn g v (keyPositions h g k) f ≡ false
+          → tryAt g v n₀ d₀ k (f * (8 * unitOf sizes) + i) ≡ none
+      skipped k f i l m c =
+          let q : 0 < 8 * unitOf sizes = omega (arith, pu) in
+          let E = euclid (length (H₀ .records)) (8 * unitOf sizes) q in
+          let j : f * (8 * unitOf sizes) + i < length (H₀ .records) = omega (arith, mul-le-mul-right (8 * unitOf sizes) l, E .whole) in
+          let now : f < length (H .records) / (8 * unitOf sizes) = le-div-iff-mul-le q .1 (omega (arith, mul-le-mul-right (8 * unitOf sizes) l, E .whole, records-le H₀ H B)) in
+          try-then k (f * (8 * unitOf sizes) + i) j
+          ∙ either (bool? (liveAt H₀ k (f * (8 * unitOf sizes) + i)))
+          (λ t.
+          let key : recordAt H (f * (8 * unitOf sizes) + i) .key ≡ k
+          = ap (λ (r : Record). r .key) (record-kept H₀ H B _ j) ∙ live-key H₀ k (f * (8 * unitOf sizes) + i) t in
+          let z : false ≡ true = sym c ∙ passes k f i now m key in
+          cc)
+          (λ t. rw t)
+
+      -- it ends at the newest record of the key that was live then, or finds none
+      pub search-then : (k : Key) → searchAt h g v n₀ d₀ k .stop ≡ Option·map found (findLive H₀ k)
+      unfolding searchAt
+      search-then k =
+          search-all (maybeIn g v (keyPositions h g k)) (tryAt g v n₀ d₀ k) (8 * unitOf sizes) (length (H₀ .records)) (omega (arith, pu)) (skipped k)
+          ∙ scan-live (tryAt g v n₀ d₀ k) (liveAt H₀ k) (length (H₀ .records)) (try-then k)
 
     -- the search ends at the newest live record of the key, or finds none
     pub search-is : (k : Key) → search h g v k .stop ≡ Option·map found (findLive H k)
-    unfolding searchAt
-    search-is k =
-        search-all (maybeIn g v (keyPositions h g k)) (tryAt g v n d k) (8 * (unitOf sizes)) (length (H .records)) (omega (arith, pu)) (λ f i a b c. skipped k f i a b c)
-        ∙ scan-live (tryAt g v n d k) (liveAt H k) (length (H .records)) (λ j l. try-is k j l)
+    search-is k = search-then H (before-same H) k
 
     pub count-is : (k : Key) → search h g v k .opened ≤ length (H .records) / entriesPerPage (unitOf sizes)
     unfolding searchAt
-    count-is k = search-opened (maybeIn g v (keyPositions h g k)) (tryAt g v n d k) (8 * (unitOf sizes)) (length (H .records))
+    count-is k = search-opened (maybeIn g v (keyPositions h g k)) (tryAt g v n d k) (8 * unitOf sizes) (length (H .records))
 
     -- the bytes of a record where it lies
     pub record-is : (j : ℕ) → j < length (H .records) → bytesAt (C .main) ram (itemPlace (unitOf sizes) (RA g) n j) 16 ≡ recordBytes (recordAt H j)
