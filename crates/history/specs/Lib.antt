@@ -4,7 +4,6 @@ pub mod IndexFlush
 pub mod IndexBuild
 pub mod IndexLaws
 pub mod AreaLaws
-pub mod Before
 pub mod Live
 pub mod MapLaws
 pub mod Parts
@@ -12,6 +11,7 @@ pub mod ByAddress
 pub mod Changes
 pub mod Runs
 pub mod ProgramOrder
+pub mod Before
 pub mod Volumes
 pub mod Steps
 pub mod RunLaws
