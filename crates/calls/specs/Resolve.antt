@@ -1,8 +1,8 @@
 -- A key in a volume: refusals 1, 2 and 8, else whether it is live.
 use mathlib.Core.Bool.{cond}
 use mathlib.Core.Option.{Option, none, some}
-use Prim.Native.Nat.{ℕ}
 use Prim.{Unit}
+use Rattle.layout.specs.Keys.{Key}
 use Rattle.layout.specs.Geometry as layout
 use Rattle.layout.specs.Hash.{fnvFamily}
 use Rattle.layout.specs.Refusals as refusal
@@ -20,7 +20,7 @@ stopped g (some corrupt) = Refused refusal.corruptEntry
 stopped g none = Absent g
 stopped g (some (found j)) = Live g j
 
-abbrev pub resolvedOf : Volume → ℕ → Resolved
+abbrev pub resolvedOf : Volume → Key → Resolved
 resolvedOf v key =
     cond (badState (v .state)) (Refused refusal.badState)
     (cond (tooShort (layout.geometry (v .state .sizes)) (v .flash) (v .ram)) (Refused refusal.tooShort)

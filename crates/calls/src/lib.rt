@@ -3,7 +3,7 @@ ghost use mathlib.Core.Path.{_≡_};
 ghost use Rattle.state.specs.Contract.{given};
 ghost use Rattle.calls.specs.Resolve.{resolvedOf, ResolvedFits};
 use geometry::Geometry;
-use search::Stop;
+use search::End;
 use state::Judged;
 use state::State;
 
@@ -24,16 +24,17 @@ pub fn resolve(s: State, key: u32, main: &[u8], spare: &[u8], ram: &[u8]) -> Res
             return Resolved::Refused(i);
         }
         Judged::Good(g) => {
-            let f = search::search(g, main, ram, s.records as usize, s.deletions as usize, key);
-            let stop = f.stop;
-            match stop {
-                Stop::Corrupt => {
+            let v = search::all(g, s.records as usize, s.deletions as usize);
+            let f = search::search(v, key, main, ram);
+            let end = f.end;
+            match end {
+                End::Corrupt => {
                     return Resolved::Refused(state::CORRUPT_ENTRY);
                 }
-                Stop::Nothing => {
+                End::Nothing => {
                     return Resolved::Absent(g);
                 }
-                Stop::Found(j) => {
+                End::Live(j) => {
                     return Resolved::Live(g, j);
                 }
             }

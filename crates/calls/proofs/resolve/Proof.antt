@@ -1,12 +1,11 @@
 use borrow.Author.Needs.{needs}
 use mathlib.Core.Path.{_≡_, sym, ap, _∙_}
-use mathlib.Core.Option.{Option}
 use Rattle.layout.specs.Hash.{fnvFamily}
 use Rattle.layout.specs.Search as find
 use Rattle.layout.specs.Calls.{Volume}
-use Rattle.geometry.specs.Shape.{shape}
-use Rattle.search.specs.Find.{stopOf, search-is}
-use Rattle.search.specs.declared.Stop.{Stop}
+use Rattle.geometry.specs.declared.Geometry.{Geometry}
+use Rattle.search.specs.Find.{stopOf, ready-whole, search-is}
+use Rattle.search.specs.declared.End.{End}
 use Rattle.state.specs.Contract.{volume}
 use Rattle.state.specs.Judge.{Fits}
 use Rattle.calls.specs.Resolve.{stopped, resolvedOf}
@@ -34,33 +33,45 @@ returns c =
 enum-known-g : tie.Need-enum-known-g
 enum-known-g c = search needs
 
-cast-search : tie.Need-cast-search
-cast-search c = search needs
+cast-all : tie.Need-cast-all
+cast-all c = search needs
 
-cast-search-2 : tie.Need-cast-search-2
-cast-search-2 c = search needs
+cast-all-2 : tie.Need-cast-all-2
+cast-all-2 c = search needs
+
+all-requires : tie.Need-all-requires
+all-requires c κs = search needs
 
 -- what the judge says of the geometry
-fits : (c : tie.After-g) → Fits (handed (c .before .before .before .before .before .before)) (c .g .given .0 .0)
+abbrev start-of : tie.After-g → tie.Start
+start-of c = c .before .before .before .before .before .before
+
+abbrev geometry : tie.After-g → Geometry
+geometry c = c .g .given .0 .0
+
+fits : (c : tie.After-g) → Fits (handed (start-of c)) (geometry c)
 fits c = rw (c .g .given .1) at (c .before .before .judge .ensures .1)
+
+abbrev known : tie.After-all → tie.After-g
+known c = c .before .before .before .before
 
 search-requires : tie.Need-search-requires
 search-requires c κs =
-    let f = fits (c .before .before .before) in
-    (f .sound, (f .long .main-fits, (f .long .ram-fits, (f .n-cap, f .d-cap))))
+    let k = known c in
+    let f = fits k in
+    ready-whole (handed (start-of k)) (geometry k) (c .all .result) (c .all .ensures) (f .sound) (f .long .main-fits) (f .long .ram-fits) (f .n-cap) (f .d-cap)
 
 -- by where the search ended
-resolved : (c : tie.After-search) (stop : Stop) → c .search .result .stop ≡ stop
-    → resolvedOf (handed (c .before .before .before .before .before .before .before .before .before .before)) (c .before .before .before .before .before .before .before .before .before .before .args .key)
-    ≡ stopped (c .before .before .before .before .g .given .0 .0) (stopOf stop)
-resolved c stop e =
-    let k = c .before .before .before .before in
-    let g = k .g .given .0 .0 in
-    let s = k .before .before .before .before .before .before in
-    let r = c .search in
-    resolved-fits (handed s) (s .args .key) g (fits k)
-    ∙ ap (λ (f : find.Found). stopped g (f .stop)) (search-is fnvFamily (shape g) (handed s) (s .args .key) (r .result) (r .ensures))
-    ∙ ap (λ (t : Stop). stopped g (stopOf t)) e
+resolved : (c : tie.After-search) (end : End) → c .search .result .end ≡ end → let k = known (c .before) in
+    resolvedOf (handed (start-of k)) (start-of k .args .key) ≡ stopped (geometry k) (stopOf end)
+resolved c end e =
+    let A = c .before in
+    let k = known A in
+    let s = start-of k in
+    resolved-fits (handed s) (s .args .key) (geometry k) (fits k)
+    ∙ ap (λ (f : find.Found). stopped (geometry k) (f .stop))
+    (search-is (handed s) (geometry k) (A .all .result) (A .all .ensures) fnvFamily (s .args .key) (c .search .result) (c .search .ensures))
+    ∙ ap (λ (t : End). stopped (geometry k) (stopOf t)) e
 
 enum-told : tie.Need-enum-told
 enum-told c = search needs
@@ -72,15 +83,18 @@ enum-told-2 : tie.Need-enum-told-2
 enum-told-2 c = search needs
 
 returns-3 : tie.Need-returns-3
-returns-3 c = (sym (resolved (c .before .before) _ (c .enum-told2 .given .1)), fits (c .before .before .before .before .before .before))
+returns-3 c =
+    let S = c .before .before in
+    (sym (resolved S _ (c .enum-told2 .given .1)), fits (known (S .before)))
 
-enum-known-stop : tie.Need-enum-known-stop
-enum-known-stop c = search needs
+enum-known-end : tie.Need-enum-known-end
+enum-known-end c = search needs
 
 returns-4 : tie.Need-returns-4
 returns-4 c =
     let t = c .before in
-    (sym (resolved (t .before .before) _ (t .stop .given .1)), fits (t .before .before .before .before .before .before))
+    let S = t .before .before in
+    (sym (resolved S _ (t .end .given .1)), fits (known (S .before)))
 
 pub resolve-spec : {M : Type 1} → statement M
 resolve-spec =
@@ -90,12 +104,13 @@ resolve-spec =
     enum-known-i
     returns
     enum-known-g
-    cast-search
-    cast-search-2
+    cast-all
+    cast-all-2
+    all-requires
     search-requires
     enum-told
     returns-2
     enum-told-2
     returns-3
-    enum-known-stop
+    enum-known-end
     returns-4)
