@@ -97,55 +97,16 @@ fn halved_byte(bytes: &[u8], s: Source, w: usize, y: usize) -> u8
     hi * 16 + lo
 }
 
-// Fields of one bit. The width is a constant in each of these loops, so that no turn tests it.
-fn halve_bits(bytes: &[u8], s: Source, y: usize, out: &mut [u8])
-    requires { ⌜ Aligned s 1 × (s .step ≡ 2) × Run (length (now bytes)) s 1 y (length (now out)) ⌝ }
-    ensures { λ _. ⌜ after out ≡ tab (length (before out)) (λ (i : ℕ). fieldByte (before bytes) s 1 (y + i)) ⌝ }
-{
-    let mut i = 0;
-    while i < out.len() {
-        out[i] = halved_byte(bytes, s, 1, y + i);
-        i += 1;
-    }
-}
-
-// Fields of two bits.
-fn halve_pairs(bytes: &[u8], s: Source, y: usize, out: &mut [u8])
-    requires { ⌜ Aligned s 2 × (s .step ≡ 4) × Run (length (now bytes)) s 2 y (length (now out)) ⌝ }
-    ensures { λ _. ⌜ after out ≡ tab (length (before out)) (λ (i : ℕ). fieldByte (before bytes) s 2 (y + i)) ⌝ }
-{
-    let mut i = 0;
-    while i < out.len() {
-        out[i] = halved_byte(bytes, s, 2, y + i);
-        i += 1;
-    }
-}
-
-// Fields of four bits.
-fn halve_nibbles(bytes: &[u8], s: Source, y: usize, out: &mut [u8])
-    requires { ⌜ Aligned s 4 × (s .step ≡ 8) × Run (length (now bytes)) s 4 y (length (now out)) ⌝ }
-    ensures { λ _. ⌜ after out ≡ tab (length (before out)) (λ (i : ℕ). fieldByte (before bytes) s 4 (y + i)) ⌝ }
-{
-    let mut i = 0;
-    while i < out.len() {
-        out[i] = halved_byte(bytes, s, 4, y + i);
-        i += 1;
-    }
-}
-
+// The compiler makes of it a loop for each width, so that no turn tests it.
 fn halve_run(bytes: &[u8], s: Source, w: usize, y: usize, out: &mut [u8])
     requires { ⌜ Aligned s w × (w < 8) × (s .step ≡ 2 * w) × Run (length (now bytes)) s w y (length (now out)) ⌝ }
     ensures { λ _. ⌜ after out ≡ tab (length (before out)) (λ (i : ℕ). fieldByte (before bytes) s w (y + i)) ⌝ }
 {
-    if w == 1 {
-        halve_bits(bytes, s, y, out);
-        return;
+    let mut i = 0;
+    while i < out.len() {
+        out[i] = halved_byte(bytes, s, w, y + i);
+        i += 1;
     }
-    if w == 2 {
-        halve_pairs(bytes, s, y, out);
-        return;
-    }
-    halve_nibbles(bytes, s, y, out);
 }
 
 // ---- any fields, several to a byte: put together one by one

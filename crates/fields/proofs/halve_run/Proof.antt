@@ -1,64 +1,69 @@
+-- Each byte is put together out of two.
 use native.Mathlib.Omega.{arith}
-use mathlib.Core.Path.{_≡_}
-use Rattle.memory.specs.Cases.{either}
-use Rattle.fields.proofs.Halving.{narrow}
-use borrow.Author.Needs.{needs}
+use Prim.Native.Nat.{ℕ, _+_, _-_, _≤_}
+use mathlib.Core.Path.{_≡_, refl}
+use lib.ListN.{length, length-set}
+use Rattle.fields.specs.Sources.{fieldByte}
+use Rattle.memory.specs.Lists.{Done, done-more}
+use Rattle.fields.specs.Lists.{done-all}
 use Rattle.fields.proofs.halve_run.Statement.{statement}
 use Rattle.fields.proofs.halve_run.Tie as tie
 
-w-four : (c : tie.Else2) → c .before .before .before .before .args .w ≡ 4
-w-four c =
+abbrev Inv-loop : tie.InvT-loop
+Inv-loop bytes s w y out₀ i₀ out i = (i ≤ length out₀) × (length out ≡ length out₀) × Done (λ (k : ℕ). fieldByte bytes s w (y + k)) out i
+
+abbrev μ-loop : tie.MeasureT-loop
+μ-loop bytes s w y out₀ i₀ out i = length out₀ - i
+
+loop-holds : tie.Need-loop-holds Inv-loop μ-loop
+loop-holds c = (omega arith, refl, λ k h. absurd (omega arith))
+
+add-halved-byte : tie.Need-add-halved-byte Inv-loop μ-loop
+add-halved-byte c = let R = c .before .before .before .before .pre .3 (c .before .loop .i) (omega arith) in omega (arith, R .short)
+
+halved-byte-requires : tie.Need-halved-byte-requires Inv-loop μ-loop
+halved-byte-requires c κs =
     let x = c .before .before .before .before in
-    either (narrow (x .args .bytes .now) (x .args .s) (x .args .w) (x .args .y) (x .pre .0) (x .pre .1) (x .pre .2))
-    (λ a. absurd (omega arith))
-    (λ a. either a (λ b. absurd (omega arith)) (λ b. b))
+    (x .pre .0, x .pre .3 (c .before .loop .i) (omega arith), x .pre .1, x .pre .2)
 
-halve-bits-requires : tie.Need-halve-bits-requires
-halve-bits-requires c κs =
-    let x = c .before .before .before .before in
-    let e : x .args .w ≡ 1 = c .before .if1 .taken in
-    (rw e at (x .pre .0), rw e at (x .pre .2), rw e at (x .pre .3))
+slice-write-out : tie.Need-slice-write-out Inv-loop μ-loop
+slice-write-out c = omega arith
 
-same-length : tie.Need-same-length
-same-length c = search needs
+add-i : tie.Need-add-i Inv-loop μ-loop
+add-i c = omega arith
 
-returns : tie.Need-returns
-returns c = rw (c .before .before .before .before .if1 .taken) (c .before .before .halve-bits .ensures)
+loop-less : tie.Need-loop-less Inv-loop μ-loop
+loop-less c = omega arith
 
-halve-pairs-requires : tie.Need-halve-pairs-requires
-halve-pairs-requires c κs =
-    let x = c .before .before .before .before .before in
-    let e : x .args .w ≡ 2 = c .before .if2 .taken in
-    (rw e at (x .pre .0), rw e at (x .pre .2), rw e at (x .pre .3))
+loop-again : tie.Need-loop-again Inv-loop μ-loop
+loop-again c =
+    let x = c .before .before .before .before .before .args in
+    let l = c .before .before .loop in
+    let f : ℕ → ℕ = λ k. fieldByte (x .bytes .now) (x .s) (x .w) (x .y + k) in
+    (omega arith, simp length-set (l .inv .1), done-more f (l .out) (l .i) (c .halved-byte .result) (omega arith) (l .inv .2) (c .halved-byte .ensures))
 
-same-length-2 : tie.Need-same-length-2
-same-length-2 c = search needs
+same-length : tie.Need-same-length Inv-loop μ-loop
+same-length c = omega arith
 
-returns-2 : tie.Need-returns-2
-returns-2 c = rw (c .before .before .before .before .if2 .taken) (c .before .before .halve-pairs .ensures)
-
-halve-nibbles-requires : tie.Need-halve-nibbles-requires
-halve-nibbles-requires c κs =
-    let x = c .before .before .before .before .before in
-    let e = w-four (c .before) in
-    (rw e at (x .pre .0), rw e at (x .pre .2), rw e at (x .pre .3))
-
-same-length-3 : tie.Need-same-length-3
-same-length-3 c = search needs
-
-returns-3 : tie.Need-returns-3
-returns-3 c = rw (w-four (c .before .before .before .before)) (c .before .before .halve-nibbles .ensures)
+returns : tie.Need-returns Inv-loop μ-loop
+returns c =
+    let x = c .before .before .before .before .args in
+    let l = c .before .loop in
+    let f : ℕ → ℕ = λ k. fieldByte (x .bytes .now) (x .s) (x .w) (x .y + k) in
+    done-all f (l .out) (length (x .out .now)) (l .i) (l .inv .1) (omega arith) (l .inv .2)
 
 pub halve-run-spec : {M : Type 1} → statement M
 halve-run-spec =
     tie.close
     (tie.spec
-    halve-bits-requires
+    Inv-loop
+    μ-loop
+    loop-holds
+    add-halved-byte
+    halved-byte-requires
+    slice-write-out
+    add-i
+    loop-less
+    loop-again
     same-length
-    returns
-    halve-pairs-requires
-    same-length-2
-    returns-2
-    halve-nibbles-requires
-    same-length-3
-    returns-3)
+    returns)
