@@ -14,7 +14,7 @@ use Rattle.memory.specs.Lists.{write, length-write}
 use Rattle.layout.specs.Calls.{Volume}
 use Rattle.script.specs.Lines.{request}
 use Rattle.script.specs.Answers.{text}
-use Rattle.script.specs.Written.{text-length}
+use Rattle.script.specs.AnswerLaws.{text-length}
 use Rattle.script.specs.Script.{Progress, perform, endLine, advance, feed, close, prints}
 use Rattle.script.specs.Cut.{cut}
 use Rattle.console.specs.BufferLaws.{take-before, take-written}

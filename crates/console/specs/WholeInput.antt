@@ -18,9 +18,9 @@ use Rattle.console.specs.Stream.{Chunk, Roomy, input, start, into, outpu
 use Rattle.console.specs.Chunks.{unformatted, initial, feedAll, closeIf, Short, Leaves}
 
 -- all chunks in one
-unfoldable pub joined : List (List ℕ) → List ℕ
-joined [] = []
-joined (chunk ∷ chunks) = chunk ++ joined chunks
+unfoldable pub concat : List (List ℕ) → List ℕ
+concat [] = []
+concat (chunk ∷ chunks) = chunk ++ concat chunks
 
 -- ---- the output's buffer does not matter to the rest
 
@@ -54,22 +54,22 @@ unfolding feed
 feed-append k [] ds = refl
 feed-append k (c ∷ cs) ds = feed-append (nextByte k c) cs ds
 
-chunks-joined : (chunks : List (List ℕ)) (k : Buffers) → into (feedAll k chunks) [] ≡ into (feed k (joined chunks)) []
-unfolding feedAll joined feed
-chunks-joined [] k = refl
-chunks-joined (chunk ∷ chunks) k =
+chunks-concat : (chunks : List (List ℕ)) (k : Buffers) → into (feedAll k chunks) [] ≡ into (feed k (concat chunks)) []
+unfolding feedAll concat feed
+chunks-concat [] k = refl
+chunks-concat (chunk ∷ chunks) k =
     let n : Buffers = feed k chunk in
-    chunks-joined chunks (into n (n .out)) ∙ sym (feed-into (joined chunks) (into n (n .out))) ∙ feed-into (joined chunks) n
-    ∙ ap (λ (m : Buffers). into m []) (sym (feed-append k chunk (joined chunks)))
+    chunks-concat chunks (into n (n .out)) ∙ sym (feed-into (concat chunks) (into n (n .out))) ∙ feed-into (concat chunks) n
+    ∙ ap (λ (m : Buffers). into m []) (sym (feed-append k chunk (concat chunks)))
 
 -- for all lent bytes, a line's buffer of 64 bytes among them, and all chunks
 pub chunks-leave : (line main spare ram out : List ℕ) (chunks : List (List ℕ)) (ended : Bool) → length line ≡ 64
-    → closeIf ended (feedAll (initial line main spare ram out) chunks) .volume ≡ leaves ended (unformatted main spare ram) (joined chunks)
+    → closeIf ended (feedAll (initial line main spare ram out) chunks) .volume ≡ leaves ended (unformatted main spare ram) (concat chunks)
 chunks-leave line main spare ram out chunks ended h =
     let k : Buffers = initial line main spare ram out in
     sym (close-into ended (feedAll k chunks))
-    ∙ ap (λ (m : Buffers). closeIf ended m .volume) (chunks-joined chunks k ∙ sym (feed-into (joined chunks) k))
-    ∙ close-into ended (feed (into k []) (joined chunks)) ∙ stream-leaves (unformatted main spare ram) line (joined chunks) ended h
+    ∙ ap (λ (m : Buffers). closeIf ended m .volume) (chunks-concat chunks k ∙ sym (feed-into (concat chunks) k))
+    ∙ close-into ended (feed (into k []) (concat chunks)) ∙ stream-leaves (unformatted main spare ram) line (concat chunks) ended h
 
 -- so of a run that left what some chunks make, the flash and the RAM are those of some input
 pub run-leaves : (line main spare ram out line′ main′ spare′ ram′ out′ : List ℕ) (most : ℕ) (ended : Bool) → length line ≡ 64
@@ -79,7 +79,7 @@ pub run-leaves : (line main spare ram out line′ main′ spare′ ram′ out′
     × (ram′ ≡ leaves ended (unformatted main spare ram) input .ram)
 run-leaves line main spare ram out line′ main′ spare′ ram′ out′ most ended h l =
     let e = chunks-leave line main spare ram out (l .0) ended h in
-    (joined (l .0), l .2 .0 ∙ ap (λ (v : Volume). v .flash) e, l .2 .1 ∙ ap (λ (v : Volume). v .ram) e)
+    (concat (l .0), l .2 .0 ∙ ap (λ (v : Volume). v .flash) e, l .2 .1 ∙ ap (λ (v : Volume). v .ram) e)
 
 -- ---- what is written
 
@@ -93,8 +93,8 @@ unfoldable cuts : Buffers → List (List ℕ) → List Chunk
 cuts k [] = []
 cuts k (chunk ∷ chunks) = let n : Buffers = feed k chunk in record { bytes = chunk; room = k .out } ∷ cuts (into n (n .out)) chunks
 
-cuts-input : (chunks : List (List ℕ)) (k : Buffers) → input (cuts k chunks) ≡ joined chunks
-unfolding input cuts joined
+cuts-input : (chunks : List (List ℕ)) (k : Buffers) → input (cuts k chunks) ≡ concat chunks
+unfolding input cuts concat
 cuts-input [] k = refl
 cuts-input (chunk ∷ chunks) k = ap (λ (l : List ℕ). chunk ++ l) (cuts-input chunks (into (feed k chunk) (feed k chunk .out)))
 
@@ -133,7 +133,7 @@ writes-outputs (chunk ∷ chunks) k out =
 -- with room for an answer to each byte of a chunk
 pub chunks-print : (line main spare ram out : List ℕ) (chunks : List (List ℕ)) (most : ℕ) → length line ≡ 64 → Short most chunks
     → most * 32 ≤ length out → 32 ≤ length out
-    → writes (initial line main spare ram out) chunks ≡ prints (unformatted main spare ram) (joined chunks)
+    → writes (initial line main spare ram out) chunks ≡ prints (unformatted main spare ram) (concat chunks)
 chunks-print line main spare ram out chunks most h s r l =
     let k : Buffers = initial line main spare ram out in
     writes-outputs chunks (start (unformatted main spare ram) line) out

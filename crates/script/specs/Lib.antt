@@ -6,4 +6,4 @@ pub mod Values
 pub mod FirstWord
 pub mod ReadNumber
 pub mod Cut
-pub mod Written
+pub mod AnswerLaws

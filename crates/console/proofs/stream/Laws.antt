@@ -15,7 +15,7 @@ use Rattle.memory.specs.Lists.{write}
 use Rattle.layout.specs.Calls.{Volume}
 use Rattle.script.specs.Lines.{request}
 use Rattle.script.specs.Answers.{text}
-use Rattle.script.specs.Written.{text-length}
+use Rattle.script.specs.AnswerLaws.{text-length}
 use Rattle.script.specs.Script.{Reply, perform}
 use Rattle.lines.specs.Contract.{AfterLine, answerLine}
 use Rattle.console.specs.Buffers.{Buffers, endLine, addByte, nextByte, feed}

@@ -5,7 +5,7 @@ use native.Mathlib.Omega.{arith}
 use mathlib.Core.Path.{sym}
 use mathlib.Core.List.{[], _∷_}
 use lib.ListN.{length}
-use Rattle.script.specs.Written.{write-byte}
+use Rattle.script.specs.AnswerLaws.{write-byte}
 use Rattle.console.specs.BufferLaws.{write-past}
 use Rattle.console.proofs.stream.add_byte.Statement.{statement}
 use Rattle.console.proofs.stream.add_byte.Tie as tie

@@ -4,7 +4,7 @@ use Prim.Native.Nat.{_+_, _/_, _^_, _≤_, _<_}
 use mathlib.Core.Path.{_≡_, ap}
 use lib.ListN.{length, length-append}
 use Rattle.script.specs.Answers.{decimal}
-use Rattle.script.specs.Written.{decimal-one, decimal-more, decimal-length, decimal-there}
+use Rattle.script.specs.AnswerLaws.{decimal-one, decimal-more, decimal-length, decimal-there}
 use Rattle.script.proofs.answers.digits_of.Statement.{statement}
 use Rattle.script.proofs.answers.digits_of.Tie as tie
 

@@ -7,7 +7,7 @@ use mathlib.Core.List.{List}
 use lib.ListN.{length, length-set, length-append}
 use Rattle.memory.specs.Lists.{write}
 use Rattle.script.specs.Answers.{decimal}
-use Rattle.script.specs.Written.{write-byte, write-last, decimal-one, decimal-more, decimal-length, decimal-there}
+use Rattle.script.specs.AnswerLaws.{write-byte, write-last, decimal-one, decimal-more, decimal-length, decimal-there}
 use Rattle.script.proofs.answers.put_decimal.Statement.{statement}
 use Rattle.script.proofs.answers.put_decimal.Tie as tie
 

@@ -4,7 +4,7 @@ use native.Mathlib.Omega.{arith}
 use mathlib.Core.List.{[], _∷_}
 use lib.ListN.{length-append}
 use Rattle.script.specs.Answers.{decimal}
-use Rattle.script.specs.Written.{write-byte, write-then, decimal-length}
+use Rattle.script.specs.AnswerLaws.{write-byte, write-then, decimal-length}
 use Rattle.script.proofs.answers.put_number.Statement.{statement}
 use Rattle.script.proofs.answers.put_number.Tie as tie
 

@@ -6,7 +6,7 @@ use mathlib.Core.Path.{sym, _∙_}
 use mathlib.Core.List.{[], _∷_, _++_}
 use lib.ListN.{length, length-append}
 use Rattle.script.specs.Answers.{decimal}
-use Rattle.script.specs.Written.{write-then}
+use Rattle.script.specs.AnswerLaws.{write-then}
 use Rattle.script.proofs.answers.put_one.Statement.{statement}
 use Rattle.script.proofs.answers.put_one.Tie as tie
 

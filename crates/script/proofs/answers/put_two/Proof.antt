@@ -3,7 +3,7 @@ use borrow.Author.Needs.{needs}
 use native.Mathlib.Omega.{arith}
 use mathlib.Core.List.{[], _∷_, _++_}
 use Rattle.script.specs.Answers.{decimal}
-use Rattle.script.specs.Written.{write-three}
+use Rattle.script.specs.AnswerLaws.{write-three}
 use Rattle.script.proofs.answers.put_two.Statement.{statement}
 use Rattle.script.proofs.answers.put_two.Tie as tie
 
