@@ -11,10 +11,11 @@ use lib.ListN.{length, drop, getD, drop-of-length-le}
 use lib.Pow.{pow-pos}
 use lib.Seq.{drop-cons}
 use Rattle.memory.specs.Cases.{bool?, either}
-use Rattle.memory.specs.Power.{log2up}
+use Rattle.memory.specs.Power.{log2up, log2up-least}
 use Rattle.memory.specs.Ranges.{memb}
 use Rattle.layout.specs.Geometry as layout
-use Rattle.geometry.specs.declared.Row.{Row}
+use Rattle.laws.specs.Units.{unit-sound}
+use Rattle.geometry.specs.declared.table.Row.{Row}
 use Rattle.geometry.specs.declared.Shaped.the-variants.{Bad}
 use Rattle.geometry.specs.Rows.{row, rows, rowOf, rule}
 use Rattle.geometry.specs.Shape.{Sound, geometryFor, answer, shapedOf, GoodSound}
@@ -93,10 +94,12 @@ module _ (sizes : layout.Sizes) (e : layout.allowed sizes ≡ true) where
       let q : S / 16 ≡ 2 ^ log2up (S / 16) = omega arith in
       let ra = and-eq-true-iff (leb 1 R) (leb R 4096) .0 (parts .1) in
       let da = and-eq-true-iff (leb 1 D) (leb D 4096) .0 (parts .2) in
+      let l : log2up (S / 16) ≤ 5 = log2up-least (S / 16) 5 (omega arith) in
       record {
-        some = omega arith;
-        most = omega arith;
-        power = (log2up (S / 16), q);
+        unit = unit-sound (S / 16) (log2up (S / 16)) (omega arith) q;
+        records = omega arith;
+        entries = omega arith;
+        bits = omega arith;
         ra-some = leb-true _ _ (ra .0);
         ra-most = leb-true _ _ (ra .1);
         da-some = leb-true _ _ (da .0);

@@ -15,8 +15,8 @@ module _ (g : Geometry) (s : Sound g) where
   index-le = omega arith
 
   -- the full sets' blocks: a sixteenth of those of records
-  pub full-le : layout.fullSets (shape g) * layout.sideBlocks (g .unit) ≤ 256
-  full-le = omega (arith, div-mul-le-self (g .ra) (64 * g .unit))
+  pub full-le : layout.fullSets (shape g) * layout.sideBlocks (g .chip .unit) ≤ 256
+  full-le = omega (arith, div-mul-le-self (g .ra) (64 * g .chip .unit))
 
   pub blocks-le : layout.blocks (shape g) ≤ 10753
   blocks-le =
@@ -25,7 +25,7 @@ module _ (g : Geometry) (s : Sound g) where
       omega arith
 
   pub record-capacity-le : layout.recordCapacity (shape g) ≤ 8388608
-  record-capacity-le = omega (arith, product-le (g .ra) (g .unit) 4096 32 (s .ra-most) (s .most))
+  record-capacity-le = omega (arith, product-le (g .ra) (g .chip .unit) 4096 32 (s .ra-most) (s .unit .most))
 
   pub deletion-capacity-le : layout.deletionCapacity (shape g) ≤ 33554432
-  deletion-capacity-le = omega (arith, product-le (g .da) (g .unit) 4096 32 (s .da-most) (s .most))
+  deletion-capacity-le = omega (arith, product-le (g .da) (g .chip .unit) 4096 32 (s .da-most) (s .unit .most))

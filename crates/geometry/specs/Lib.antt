@@ -2,3 +2,4 @@ pub mod Rows
 pub mod Shape
 pub mod Bounds
 pub mod Allowed
+pub mod Indexes

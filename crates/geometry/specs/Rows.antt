@@ -8,7 +8,7 @@ use borrow.Author.Tests.{leb-true, eqb-true}
 use lib.Dec.{leb, eqb}
 use lib.ListN.{length, getD}
 use Rattle.memory.specs.Power.{log2up}
-use Rattle.geometry.specs.declared.Row.{Row}
+use Rattle.geometry.specs.declared.table.Row.{Row}
 
 abbrev pub row : ℕ → ℕ → ℕ → ℕ → Row
 row s n e m = record { sector = s; records = n; entries = e; bits = m }
@@ -41,6 +41,10 @@ bitsOf S = 4 * S
 -- a sector is 16 times a power of two, and 512 bytes at most
 abbrev pub powerOf : ℕ → ℕ
 powerOf S = 16 * 2 ^ log2up (S / 16)
+
+-- the row of a sector size, by the rules
+abbrev pub rowFor : ℕ → Row
+rowFor S = row S (recordsOf S) (entriesOf S) (bitsOf S)
 
 pub record Ruled (r : Row) : Type 0 where
   pub records : r .records ≡ recordsOf (r .sector)
@@ -84,7 +88,10 @@ pub rule : (i : ℕ) → i < 6 → Ruled (rowOf i)
 rule i h =
     let r : Row = rowOf i in
     let t : test r ≡ true = at test (row 0 0 0 0) rows all-pass i h in
-    let f = five (eqb (r .records) (recordsOf (r .sector))) (eqb (r .entries) (entriesOf (r .sector))) (eqb (r .bits) (bitsOf (r .sector))) (eqb (r .sector) (powerOf (r .sector))) (leb (r .sector) 512) t in
+    let S : ℕ = r .sector in
+    let f =
+    five (eqb (r .records) (recordsOf S)) (eqb (r .entries) (entriesOf S)) (eqb (r .bits) (bitsOf S))
+    (eqb S (powerOf S)) (leb S 512) t in
     record {
       records = eqb-true _ _ (f .0);
       entries = eqb-true _ _ (f .1);
@@ -92,3 +99,7 @@ rule i h =
       power = eqb-true _ _ (f .3);
       most = leb-true _ _ (f .4);
     }
+
+-- a row of the table is the one that its sector size makes
+pub row-is : (r : Row) (S : ℕ) → Ruled r → r .sector ≡ S → r ≡ rowFor S
+row-is r S k e = rw (← e, k .records, k .entries, k .bits)

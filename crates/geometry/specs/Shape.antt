@@ -1,33 +1,36 @@
 -- The code's sizes, geometry, areas and places as the layout's, and what makes a geometry sound.
-use Prim.Native.Nat.{ℕ, _^_, _<_, _≤_}
+use Prim.Native.Nat.{_<_, _≤_}
 use Prim.{Unit}
 use mathlib.Core.Path.{_≡_}
 use mathlib.Core.Bool.{Bool, cond}
 use Rattle.layout.specs.Geometry as layout
 use Rattle.layout.specs.Items as items
+use Rattle.laws.specs.Units.{UnitSound}
 use Rattle.geometry.specs.declared.Sizes.{Sizes}
 use Rattle.geometry.specs.declared.chip.Chip.{Chip}
 use Rattle.geometry.specs.declared.Geometry.{Geometry}
 use Rattle.geometry.specs.declared.Shaped.{Shaped}
 use Rattle.geometry.specs.declared.Shaped.the-variants.{Good, Bad}
-use Rattle.geometry.specs.declared.Area.{Area}
-use Rattle.geometry.specs.declared.Place.{Place}
+use Rattle.geometry.specs.declared.areas.Area.{Area}
+use Rattle.geometry.specs.declared.areas.Place.{Place}
+use Rattle.geometry.specs.Rows.{rowFor}
 
 abbrev pub sizesIs : Sizes → layout.Sizes
 sizesIs s = layout.sizesOf (s .«sector_size») (s .«ra_blocks») (s .«da_blocks»)
 
 abbrev pub shape : Geometry → layout.Geometry
-shape g = record { u = g .unit; R = g .ra; D = g .da }
+shape g = record { u = g .chip .unit; R = g .ra; D = g .da }
 
 -- the chip of a volume
 abbrev pub chipOf : layout.Geometry → Chip
 chipOf g = record { unit = g .u }
 
--- the unit is a power of two up to 32, and areas of records and deletions have 1 to 4096 blocks
+-- the unit is a power of two up to 32, the row is the table's, and areas of records and deletions have 1 to 4096 blocks
 pub record Sound (g : Geometry) : Type 0 where
-  pub some : 0 < g .unit
-  pub most : g .unit ≤ 32
-  pub power : (e : ℕ) × (g .unit ≡ 2 ^ e)
+  pub unit : UnitSound (g .chip .unit)
+  pub records : g .row .records ≡ layout.recordsPerPage (g .chip .unit)
+  pub entries : g .row .entries ≡ layout.entriesPerPage (g .chip .unit)
+  pub bits : g .row .bits ≡ layout.filterBits (g .chip .unit)
   pub ra-some : 1 ≤ g .ra
   pub ra-most : g .ra ≤ 4096
   pub da-some : 1 ≤ g .da
@@ -36,7 +39,8 @@ pub record Sound (g : Geometry) : Type 0 where
 -- ---- from S, R and D
 
 abbrev pub geometryFor : layout.Sizes → Geometry
-geometryFor sizes = record { unit = layout.unitOf sizes; ra = sizes .raBlocks; da = sizes .daBlocks }
+geometryFor sizes =
+    record { chip = chipOf (layout.geometry sizes); row = rowFor (sizes .sectorSize); ra = sizes .raBlocks; da = sizes .daBlocks }
 
 -- what is answered to sizes, of which a test says whether they are allowed
 abbrev pub answer : Bool → layout.Sizes → Shaped

@@ -1,7 +1,7 @@
 // A flash chip: sectors, pages and blocks, their sizes and their addresses. Document 01, "The chip and the desk".
 ghost use mathlib.Core.Path.{_≡_};
-ghost use Prim.Native.Nat.{_*_, _^_, _<_, _≤_};
-ghost use Rattle.layout.specs.Geometry.{sectorsPerBlock, sector, page, block};
+ghost use Prim.Native.Nat.{_*_, _/_, _^_, _<_, _≤_};
+ghost use Rattle.layout.specs.Geometry.{sectorsPerBlock, sector, page, block, filterBits, sideBlocks};
 
 // A chip by its unit, a sixteenth of the sector size.
 pub struct Chip {
@@ -14,6 +14,13 @@ impl Chip {
     pub const PAGES_PER_BLOCK: usize = 16;
 
     pub const SECTORS_PER_BLOCK: usize = Chip::PAGES_PER_BLOCK * Chip::SECTORS_PER_PAGE;
+
+    // The chip with sectors of so many bytes.
+    pub fn with_sectors(size: usize) -> Chip
+        ensures { λ r. ⌜ r .unit ≡ size / 16 ⌝ }
+    {
+        Chip { unit: size / 16 }
+    }
 
     // ---- sizes in bytes
 
@@ -36,6 +43,24 @@ impl Chip {
         ensures { λ r. ⌜ r ≡ block (self .unit) ⌝ }
     {
         Chip::PAGES_PER_BLOCK * self.page_size()
+    }
+
+    // ---- what a sector's size decides besides
+
+    // Bits of a filter: 4S.
+    pub fn filter_bits(self) -> usize
+        requires { ⌜ self .unit ≤ 32 ⌝ }
+        ensures { λ r. ⌜ r ≡ filterBits (self .unit) ⌝ }
+    {
+        4 * self.sector_size()
+    }
+
+    // Blocks of a side, and of a full partition set: S/4.
+    pub fn side_blocks(self) -> usize
+        requires { ⌜ self .unit ≤ 32 ⌝ }
+        ensures { λ r. ⌜ r ≡ sideBlocks (self .unit) ⌝ }
+    {
+        self.sector_size() / 4
     }
 
     // ---- addresses: the first byte of a sector, of a page and of a block

@@ -1,72 +1,22 @@
-// Sizes, areas, addresses and the places of items of a volume.
+// Volumes: their sizes, areas, addresses and the places of items.
+pub mod areas;
 pub mod chip;
+pub mod sets;
+pub mod table;
 
+pub use areas::Area;
+pub use areas::Place;
+pub use areas::deletion_area;
+pub use areas::entry_area;
+pub use areas::item_place;
+pub use areas::record_area;
 pub use chip::Chip;
+pub use table::Row;
 ghost use mathlib.Core.Path.{_≡_};
 ghost use mathlib.Core.Bool.{_&&_};
-ghost use Prim.Native.Nat.{_*_, _<_, _≤_};
-ghost use Rattle.memory.specs.Power.{log2up};
 ghost use Rattle.layout.specs.Geometry as layout;
-ghost use Rattle.layout.specs.Items.{RA, KA, DA, itemPlace};
-ghost use Rattle.geometry.specs.Rows.{rowOf, Ruled};
-ghost use Rattle.geometry.specs.Shape.{sizesIs, shape, chipOf, Sound, answer, shapedOf, GoodSound, area, place, AreaSound};
-
-// ---- the table of sector sizes
-
-// A sector size in bytes, with the records and entries of a page and the bits of a filter.
-pub struct Row {
-    pub sector: usize,
-    pub records: usize,
-    pub entries: usize,
-    pub bits: usize,
-}
-
-const ROWS: [Row; 6] = [
-    Row {
-        sector: 16,
-        records: 4,
-        entries: 8,
-        bits: 64,
-    },
-    Row {
-        sector: 32,
-        records: 8,
-        entries: 16,
-        bits: 128,
-    },
-    Row {
-        sector: 64,
-        records: 16,
-        entries: 32,
-        bits: 256,
-    },
-    Row {
-        sector: 128,
-        records: 32,
-        entries: 64,
-        bits: 512,
-    },
-    Row {
-        sector: 256,
-        records: 64,
-        entries: 128,
-        bits: 1024,
-    },
-    Row {
-        sector: 512,
-        records: 128,
-        entries: 256,
-        bits: 2048,
-    },
-];
-
-pub fn row_at(i: usize) -> Row
-    requires { ⌜ i < 6 ⌝ }
-    ensures { λ r. ⌜ r ≡ rowOf i ⌝ }
-    ensures { λ r. ⌜ Ruled r ⌝ }
-{
-    ROWS[i]
-}
+ghost use Rattle.geometry.specs.Rows.{rowFor};
+ghost use Rattle.geometry.specs.Shape.{sizesIs, shape, Sound, answer, shapedOf, GoodSound};
 
 // ---- the shape of a volume
 
@@ -78,86 +28,46 @@ pub struct Sizes {
     pub da_blocks: u32,
 }
 
-// A sixteenth of the sector size, and the blocks of records and of deletions.
+// A volume's chip, its row of the table, and the blocks of records and of deletions.
 pub struct Geometry {
-    pub unit: usize,
+    pub chip: Chip,
+    pub row: Row,
     pub ra: usize,
     pub da: usize,
 }
 
 impl Geometry {
-    pub const SECTORS_PER_PAGE: usize = Chip::SECTORS_PER_PAGE;
-
-    pub const PAGES_PER_BLOCK: usize = Chip::PAGES_PER_BLOCK;
-
-    pub fn chip(self) -> Chip
-        ensures { λ r. ⌜ r ≡ chipOf (shape self) ⌝ }
-    {
-        Chip { unit: self.unit }
-    }
-
-    // ---- sizes in bytes
-
-    pub fn sector(self) -> usize
-        requires { ⌜ Sound self ⌝ }
-        ensures { λ r. ⌜ r ≡ layout.sector (shape self .u) ⌝ }
-    {
-        16 * self.unit
-    }
-
-    pub fn page(self) -> usize
-        requires { ⌜ Sound self ⌝ }
-        ensures { λ r. ⌜ r ≡ layout.page (shape self .u) ⌝ }
-    {
-        Geometry::SECTORS_PER_PAGE * self.sector()
-    }
-
-    pub fn block(self) -> usize
-        requires { ⌜ Sound self ⌝ }
-        ensures { λ r. ⌜ r ≡ layout.block (shape self .u) ⌝ }
-    {
-        Geometry::PAGES_PER_BLOCK * self.page()
-    }
-
     // ---- the table's columns
 
     pub fn records_per_page(self) -> usize
         requires { ⌜ Sound self ⌝ }
         ensures { λ r. ⌜ r ≡ layout.recordsPerPage (shape self .u) ⌝ }
     {
-        self.sector() / 4
+        self.row.records
     }
 
     pub fn entries_per_page(self) -> usize
         requires { ⌜ Sound self ⌝ }
         ensures { λ r. ⌜ r ≡ layout.entriesPerPage (shape self .u) ⌝ }
     {
-        self.sector() / 2
+        self.row.entries
     }
 
     pub fn deletions_per_page(self) -> usize
         requires { ⌜ Sound self ⌝ }
         ensures { λ r. ⌜ r ≡ layout.deletionsPerPage (shape self .u) ⌝ }
     {
-        self.sector()
+        self.chip.sector_size()
     }
 
     pub fn filter_bits(self) -> usize
         requires { ⌜ Sound self ⌝ }
         ensures { λ r. ⌜ r ≡ layout.filterBits (shape self .u) ⌝ }
     {
-        4 * self.sector()
+        self.row.bits
     }
 
     // ---- areas, in blocks
-
-    // Blocks of a side, and of a full partition set.
-    pub fn side_blocks(self) -> usize
-        requires { ⌜ Sound self ⌝ }
-        ensures { λ r. ⌜ r ≡ layout.sideBlocks (shape self .u) ⌝ }
-    {
-        self.sector() / 4
-    }
 
     pub fn ka_block(self) -> usize
         requires { ⌜ Sound self ⌝ }
@@ -199,7 +109,7 @@ impl Geometry {
         requires { ⌜ Sound self ⌝ }
         ensures { λ r. ⌜ r ≡ layout.blocks (shape self) ⌝ }
     {
-        let side = self.side_blocks();
+        let side = self.chip.side_blocks();
         let sets = self.full_sets();
         self.index_block() + (1 + 2 * side + sets * side)
     }
@@ -211,7 +121,7 @@ impl Geometry {
         ensures { λ r. ⌜ r ≡ layout.recordCapacity (shape self) ⌝ }
     {
         let ra = self.ra;
-        let size = self.sector();
+        let size = self.chip.sector_size();
         4 * ra * size
     }
 
@@ -220,7 +130,7 @@ impl Geometry {
         ensures { λ r. ⌜ r ≡ layout.deletionCapacity (shape self) ⌝ }
     {
         let da = self.da;
-        let size = self.sector();
+        let size = self.chip.sector_size();
         16 * da * size
     }
 
@@ -228,21 +138,21 @@ impl Geometry {
         requires { ⌜ Sound self ⌝ }
         ensures { λ r. ⌜ r ≡ layout.dataSize (shape self) ⌝ }
     {
-        self.blocks() * self.block()
+        self.chip.block_address(self.blocks())
     }
 
     pub fn spare_size(self) -> usize
         requires { ⌜ Sound self ⌝ }
         ensures { λ r. ⌜ r ≡ layout.spareSize (shape self) ⌝ }
     {
-        first_sector(self.blocks())
+        Chip::first_sector(self.blocks())
     }
 
     pub fn ram_size(self) -> usize
         requires { ⌜ Sound self ⌝ }
         ensures { λ r. ⌜ r ≡ layout.ramSize (shape self) ⌝ }
     {
-        5 * self.page()
+        5 * self.chip.page_size()
     }
 
     // ---- pages of the RAM: records, entries, deletions, filters and work
@@ -251,28 +161,28 @@ impl Geometry {
         requires { ⌜ Sound self ⌝ }
         ensures { λ r. ⌜ r ≡ layout.kaRam (shape self .u) ⌝ }
     {
-        self.page()
+        self.chip.page_size()
     }
 
     pub fn da_ram(self) -> usize
         requires { ⌜ Sound self ⌝ }
         ensures { λ r. ⌜ r ≡ layout.daRam (shape self .u) ⌝ }
     {
-        2 * self.page()
+        2 * self.chip.page_size()
     }
 
     pub fn ska_ram(self) -> usize
         requires { ⌜ Sound self ⌝ }
         ensures { λ r. ⌜ r ≡ layout.skaRam (shape self .u) ⌝ }
     {
-        3 * self.page()
+        3 * self.chip.page_size()
     }
 
     pub fn work_ram(self) -> usize
         requires { ⌜ Sound self ⌝ }
         ensures { λ r. ⌜ r ≡ layout.workRam (shape self .u) ⌝ }
     {
-        4 * self.page()
+        4 * self.chip.page_size()
     }
 }
 
@@ -289,9 +199,11 @@ fn blocks_allowed(b: u32) -> bool
     1 <= b && b <= 4096
 }
 
-// What is left to test once the sector size is known to be allowed.
-fn with_blocks(sizes: Sizes) -> Shaped
-    ensures { λ r. ⌜ r ≡ answer (layout.blocksAllowed (sizes .«ra_blocks») && layout.blocksAllowed (sizes .«da_blocks»)) (sizesIs sizes) ⌝ }
+// What is left to test once the row of the sector size is found.
+fn with_blocks(row: Row, sizes: Sizes) -> Shaped
+    requires { ⌜ row ≡ rowFor (sizes .«sector_size») ⌝ }
+    ensures { λ r. ⌜ r
+        ≡ answer (layout.blocksAllowed (sizes .«ra_blocks») && layout.blocksAllowed (sizes .«da_blocks»)) (sizesIs sizes) ⌝ }
 {
     if !blocks_allowed(sizes.ra_blocks) {
         return Shaped::Bad;
@@ -300,7 +212,8 @@ fn with_blocks(sizes: Sizes) -> Shaped
         return Shaped::Bad;
     }
     Shaped::Good(Geometry {
-        unit: sizes.sector_size as usize / 16,
+        chip: Chip::with_sectors(row.sector),
+        row,
         ra: sizes.ra_blocks as usize,
         da: sizes.da_blocks as usize,
     })
@@ -313,131 +226,11 @@ pub fn geometry_for(sizes: Sizes) -> Shaped
     let size = sizes.sector_size as usize;
     let mut i = 0;
     while i < 6 {
-        let row = row_at(i);
+        let row = table::row_at(i);
         if row.sector == size {
-            return with_blocks(sizes);
+            return with_blocks(row, sizes);
         }
         i += 1;
     }
     Shaped::Bad
-}
-
-// ---- addresses
-
-// The first byte of a sector, of a page and of a block.
-pub fn sector_address(g: Geometry, s: usize) -> usize
-    requires { ⌜ Sound g ⌝ }
-    requires { ⌜ s ≤ 1048576 ⌝ }
-    ensures { λ r. ⌜ r ≡ s * layout.sector (shape g .u) ⌝ }
-{
-    s * g.sector()
-}
-
-pub fn page_address(g: Geometry, p: usize) -> usize
-    requires { ⌜ Sound g ⌝ }
-    requires { ⌜ p ≤ 262144 ⌝ }
-    ensures { λ r. ⌜ r ≡ p * layout.page (shape g .u) ⌝ }
-{
-    p * g.page()
-}
-
-pub fn block_address(g: Geometry, b: usize) -> usize
-    requires { ⌜ Sound g ⌝ }
-    requires { ⌜ b ≤ 16384 ⌝ }
-    ensures { λ r. ⌜ r ≡ b * layout.block (shape g .u) ⌝ }
-{
-    b * g.block()
-}
-
-// The first sector of a block.
-pub fn first_sector(b: usize) -> usize
-    requires { ⌜ b ≤ 16384 ⌝ }
-    ensures { λ r. ⌜ r ≡ b * 64 ⌝ }
-{
-    b * (Geometry::SECTORS_PER_PAGE * Geometry::PAGES_PER_BLOCK)
-}
-
-// ---- areas that grow at their end
-
-// Items of `size` bytes, `per_page` to a page, from block `first` on; the page that is not full is in RAM from byte `ram` on.
-pub struct Area {
-    pub size: usize,
-    pub per_page: usize,
-    pub first: usize,
-    pub ram: usize,
-}
-
-pub fn record_area(g: Geometry) -> Area
-    requires { ⌜ Sound g ⌝ }
-    ensures { λ r. ⌜ area r ≡ RA (shape g) ⌝ }
-    ensures { λ r. ⌜ AreaSound r ⌝ }
-{
-    Area {
-        size: 16,
-        per_page: g.records_per_page(),
-        first: 0,
-        ram: 0,
-    }
-}
-
-pub fn entry_area(g: Geometry) -> Area
-    requires { ⌜ Sound g ⌝ }
-    ensures { λ r. ⌜ area r ≡ KA (shape g) ⌝ }
-    ensures { λ r. ⌜ AreaSound r ⌝ }
-{
-    Area {
-        size: 8,
-        per_page: g.entries_per_page(),
-        first: g.ka_block(),
-        ram: g.ka_ram(),
-    }
-}
-
-pub fn deletion_area(g: Geometry) -> Area
-    requires { ⌜ Sound g ⌝ }
-    ensures { λ r. ⌜ area r ≡ DA (shape g) ⌝ }
-    ensures { λ r. ⌜ AreaSound r ⌝ }
-{
-    Area {
-        size: 4,
-        per_page: g.deletions_per_page(),
-        first: g.da_block(),
-        ram: g.da_ram(),
-    }
-}
-
-// A byte of the RAM or of the flash.
-pub struct Place {
-    pub in_ram: bool,
-    pub at: usize,
-}
-
-// Where item j of n lies.
-pub fn item_place(g: Geometry, a: Area, n: usize, j: usize) -> Place
-    requires { ⌜ Sound g ⌝ }
-    requires { ⌜ AreaSound a ⌝ }
-    requires { ⌜ (n < 4294967296) × (j < 4294967296) ⌝ }
-    ensures { λ r. ⌜ place r ≡ itemPlace (shape g .u) (area a) n j ⌝ }
-{
-    let size = a.size;
-    let per_page = a.per_page;
-    let first = a.first;
-    let ram = a.ram;
-    let full = n / per_page * per_page;
-    if j < full {
-        let at = block_address(g, first) + j * size;
-        return Place { in_ram: false, at };
-    }
-    let at = ram + j % per_page * size;
-    Place { in_ram: true, at }
-}
-
-// ---- partition sets
-
-// The exponent of the least power of two not below c.
-pub fn partition_exponent(c: u32) -> u32
-    requires { ⌜ 0 < c ⌝ }
-    ensures { λ r. ⌜ r ≡ log2up c ⌝ }
-{
-    32 - u32::leading_zeros(c - 1)
 }

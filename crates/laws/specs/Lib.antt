@@ -8,6 +8,7 @@ pub mod ItemLaws
 pub mod AreaNumbers
 pub mod SearchLaws
 pub mod SkaLaws
+pub mod Units
 pub mod Sound
 pub mod Inside
 pub mod LentFlash

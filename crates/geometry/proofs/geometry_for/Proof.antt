@@ -3,8 +3,8 @@ use native.Mathlib.Omega.{arith}
 use Prim.Native.Nat.{_-_, _≤_}
 use mathlib.Core.Path.{_≡_, refl, sym, ap, _∙_}
 use mathlib.Core.Bool.{true}
-use Rattle.geometry.specs.declared.Row.{Row}
-use Rattle.geometry.specs.Rows.{rowOf}
+use Rattle.geometry.specs.declared.table.Row.{Row}
+use Rattle.geometry.specs.Rows.{rowOf, row-is}
 use Rattle.geometry.specs.Shape.{sizesIs, shapedOf}
 use Rattle.geometry.specs.Allowed.{fromRow, from-hit, from-next, from-end, answer-hit, answer-miss, shaped-sound}
 use Rattle.geometry.proofs.geometry_for.Statement.{statement}
@@ -30,7 +30,9 @@ row-sector : (c : tie.After-struct-known2 Inv-loop μ-loop) → rowOf (c .before
 row-sector c = ap (λ (r : Row). r .sector) (sym (c .before .row-at .ensures .0))
 
 with-blocks-requires : tie.Need-with-blocks-requires Inv-loop μ-loop
-with-blocks-requires c κs = tt
+with-blocks-requires c κs =
+    let r = c .before .before .row-at in
+    row-is (r .result) _ (r .ensures .1) (c .if1 .taken)
 
 returns : tie.Need-returns Inv-loop μ-loop
 returns c =

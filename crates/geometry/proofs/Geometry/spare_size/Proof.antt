@@ -1,4 +1,3 @@
-use native.Mathlib.Nat.{le-trans}
 use native.Mathlib.Omega.{arith}
 use Rattle.geometry.specs.Bounds.{blocks-le}
 use borrow.Author.Needs.{needs}
@@ -10,7 +9,7 @@ blocks-requires c κs = search needs
 
 first-sector-requires : tie.Need-first-sector-requires
 first-sector-requires c κs =
-    rw (c .blocks2 .ensures) (le-trans (blocks-le (c .before .args .self) (c .before .pre)) (omega arith))
+    rw (c .blocks2 .ensures) (omega (arith, blocks-le (c .before .args .self) (c .before .pre)))
 
 returns : tie.Need-returns
 returns c = search needs

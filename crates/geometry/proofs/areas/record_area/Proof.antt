@@ -1,0 +1,13 @@
+use native.Mathlib.Omega.{arith}
+use borrow.Author.Needs.{needs}
+use Rattle.geometry.proofs.areas.record_area.Statement.{statement}
+use Rattle.geometry.proofs.areas.record_area.Tie as tie
+
+records-per-page-requires : tie.Need-records-per-page-requires
+records-per-page-requires c κs = search needs
+
+returns : tie.Need-returns
+returns c = (rw (c .records-per-page .ensures), record { size-most = omega arith; some = omega arith; most = omega arith; first-most = omega arith; ram-most = omega arith })
+
+pub record-area-spec : {M : Type 1} → statement M
+record-area-spec = tie.close (tie.spec records-per-page-requires returns)

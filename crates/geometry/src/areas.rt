@@ -1,0 +1,79 @@
+// Areas that grow at their end, and the places of their items. Document 01, "Records, entries, deletions".
+ghost use mathlib.Core.Path.{_≡_};
+ghost use Prim.Native.Nat.{_<_};
+ghost use Rattle.layout.specs.Items.{RA, KA, DA, itemPlace};
+ghost use Rattle.geometry.specs.Shape.{shape, Sound, area, place, AreaSound};
+use crate::Geometry;
+
+// Items of `size` bytes, `per_page` to a page, from block `first` on; the page that is not full is in RAM from byte `ram` on.
+pub struct Area {
+    pub size: usize,
+    pub per_page: usize,
+    pub first: usize,
+    pub ram: usize,
+}
+
+pub fn record_area(g: Geometry) -> Area
+    requires { ⌜ Sound g ⌝ }
+    ensures { λ r. ⌜ area r ≡ RA (shape g) ⌝ }
+    ensures { λ r. ⌜ AreaSound r ⌝ }
+{
+    Area {
+        size: 16,
+        per_page: g.records_per_page(),
+        first: 0,
+        ram: 0,
+    }
+}
+
+pub fn entry_area(g: Geometry) -> Area
+    requires { ⌜ Sound g ⌝ }
+    ensures { λ r. ⌜ area r ≡ KA (shape g) ⌝ }
+    ensures { λ r. ⌜ AreaSound r ⌝ }
+{
+    Area {
+        size: 8,
+        per_page: g.entries_per_page(),
+        first: g.ka_block(),
+        ram: g.ka_ram(),
+    }
+}
+
+pub fn deletion_area(g: Geometry) -> Area
+    requires { ⌜ Sound g ⌝ }
+    ensures { λ r. ⌜ area r ≡ DA (shape g) ⌝ }
+    ensures { λ r. ⌜ AreaSound r ⌝ }
+{
+    Area {
+        size: 4,
+        per_page: g.deletions_per_page(),
+        first: g.da_block(),
+        ram: g.da_ram(),
+    }
+}
+
+// A byte of the RAM or of the flash.
+pub struct Place {
+    pub in_ram: bool,
+    pub at: usize,
+}
+
+// Where item j of n lies.
+pub fn item_place(g: Geometry, a: Area, n: usize, j: usize) -> Place
+    requires { ⌜ Sound g ⌝ }
+    requires { ⌜ AreaSound a ⌝ }
+    requires { ⌜ (n < 4294967296) × (j < 4294967296) ⌝ }
+    ensures { λ r. ⌜ place r ≡ itemPlace (shape g .u) (area a) n j ⌝ }
+{
+    let size = a.size;
+    let per_page = a.per_page;
+    let first = a.first;
+    let ram = a.ram;
+    let full = n / per_page * per_page;
+    if j < full {
+        let at = g.chip.block_address(first) + j * size;
+        return Place { in_ram: false, at };
+    }
+    let at = ram + j % per_page * size;
+    Place { in_ram: true, at }
+}

@@ -1,0 +1,59 @@
+// The table of sector sizes. Document 01, "S takes one row of this table".
+ghost use mathlib.Core.Path.{_≡_};
+ghost use Prim.Native.Nat.{_<_};
+ghost use Rattle.geometry.specs.Rows.{rowOf, Ruled};
+
+// A sector size in bytes, with the records and entries of a page and the bits of a filter.
+pub struct Row {
+    pub sector: usize,
+    pub records: usize,
+    pub entries: usize,
+    pub bits: usize,
+}
+
+const ROWS: [Row; 6] = [
+    Row {
+        sector: 16,
+        records: 4,
+        entries: 8,
+        bits: 64,
+    },
+    Row {
+        sector: 32,
+        records: 8,
+        entries: 16,
+        bits: 128,
+    },
+    Row {
+        sector: 64,
+        records: 16,
+        entries: 32,
+        bits: 256,
+    },
+    Row {
+        sector: 128,
+        records: 32,
+        entries: 64,
+        bits: 512,
+    },
+    Row {
+        sector: 256,
+        records: 64,
+        entries: 128,
+        bits: 1024,
+    },
+    Row {
+        sector: 512,
+        records: 128,
+        entries: 256,
+        bits: 2048,
+    },
+];
+
+pub fn row_at(i: usize) -> Row
+    requires { ⌜ i < 6 ⌝ }
+    ensures { λ r. ⌜ r ≡ rowOf i ⌝ }
+    ensures { λ r. ⌜ Ruled r ⌝ }
+{
+    ROWS[i]
+}
