@@ -1,92 +1,16 @@
--- What is left of a run of sectors or blocks at each turn of a loop, and the step from each to the next. Assumes nothing.
-use mathlib.Core.Path.{_≡_, sym, ap, _∙_}
+-- What is left of a run of blocks or marks at each turn of a loop, and the step from each to the next. Assumes nothing.
+use mathlib.Core.Path.{_≡_, sym}
 use mathlib.Core.Bool.{Bool, _&&_, and-true, and-assoc}
-use mathlib.Core.List.{List, _∷_}
-use Prim.Native.Nat.{ℕ, zero, suc, _+_, _-_, _*_, _≤_, _<_}
+use mathlib.Core.List.{List}
+use Prim.Native.Nat.{ℕ, suc, _+_, _-_, _*_, _≤_, _<_}
 use native.Mathlib.Nat.{mul-le-mul-right}
 use native.Mathlib.Omega.{arith}
 use borrow.Author.Tests.{ne-eqb}
 use lib.Bits.{bitAnd, and-le-l, and-le-r}
-use lib.ListN.{length, getD, take, drop}
+use lib.ListN.{getD}
 use Rattle.memory.specs.Cases.{eq?, either}
-use Rattle.memory.specs.Lists.{tab, tab-ext}
-use Rattle.layout.specs.Geometry.{sector, page}
-use Rattle.layout.specs.Flash.{Op, program, erase, Flash, apply, applyAll, erases, fresh}
-use Rattle.laws.specs.Operations.{programs}
+use Rattle.layout.specs.Flash.{erase, Flash, apply, applyAll, erases, fresh}
 use Rattle.flash.specs.Fresh.{freshRun}
-use Rattle.flash.specs.Parts.{tab-part}
-
--- ---- the sectors of a run
-
--- an earlier sector of a run is no later than the last
-pub run-le : (s d j k : ℕ) → j ≤ k → s + j * d ≤ s + k * d
-run-le s d j k h = omega (arith, mul-le-mul-right d h)
-
--- and its bytes end no later
-pub run-main-le : (w s d j k : ℕ) → j ≤ k → (s + j * d) * w + w ≤ (s + k * d) * w + w
-run-main-le w s d j k h = omega (arith, mul-le-mul-right w (run-le s d j k h))
-
--- the turns of a loop over sectors in reach stay in reach
-pub turn-lt : (s d i k n : ℕ) → i < k → s + k * d < n + d → s + i * d < n
-turn-lt s d i k n h fits = omega (arith, mul-le-mul-right d h)
-
--- ---- programming
-
--- each of the four sectors of a RAM page is in reach where the page is
-pub ram-fits : (u at j n : ℕ) → j < 4 → at + page u ≤ n → at + j * sector u + sector u ≤ n
-ram-fits u at j n h fits = omega (arith, mul-le-mul-right (sector u) h)
-
-module _ (u d s : ℕ) (ram : List ℕ) (at : ℕ) where
-  -- byte y of the i-th sector that is left when j are done
-  abbrev pub leftByte : ℕ → ℕ → ℕ → ℕ
-  leftByte j i y = getD ram (at + j * sector u + (i * sector u + y)) 0
-
-  -- when j sectors are done, k are left
-  abbrev pub leftOps : ℕ → ℕ → List Op
-  leftOps j k = programs u d (s + j * d) k (leftByte j)
-
-  -- the bytes of the sector that comes next are a part of the RAM
-  next-bytes : (j : ℕ) → at + j * sector u + sector u ≤ length ram → tab (sector u) (leftByte j zero) ≡ take (sector u) (drop (at + j * sector u) ram)
-  next-bytes j h =
-      tab-ext (sector u) (leftByte j zero) (λ y. getD ram (at + j * sector u + y) 0)
-      (λ y l.
-      let e : at + j * sector u + (zero * sector u + y) ≡ at + j * sector u + y = omega arith in
-      ap (λ (x : ℕ). getD ram x 0) e)
-      ∙ tab-part ram (at + j * sector u) (sector u) h
-
-  shift-byte : (j i y : ℕ) → at + j * sector u + (suc i * sector u + y) ≡ at + (j + 1) * sector u + (i * sector u + y)
-  shift-byte j i y = omega arith
-
-  left-suc : (j k : ℕ) → at + j * sector u + sector u ≤ length ram
-      → leftOps j (suc k) ≡ program (s + j * d) (take (sector u) (drop (at + j * sector u) ram)) ∷ leftOps (j + 1) k
-  left-suc j k h =
-      let t = next-bytes j h in
-      let e : s + j * d + d ≡ s + (j + 1) * d = omega arith in
-      λ p. program (s + j * d) (t p) ∷ programs u d (e p) k (λ i y. getD ram (shift-byte j i y p) 0)
-
-  -- one of n sectors more is programmed, with the part of the RAM that was lent
-  pub program-more : (n j : ℕ) (c after : Flash) → j < n → at + j * sector u + sector u ≤ length ram
-      → after ≡ apply u (program (s + j * d) (take (at + j * sector u + sector u - (at + j * sector u)) (drop (at + j * sector u) ram))) c
-      → applyAll u (leftOps j (n - j)) c ≡ applyAll u (leftOps (j + 1) (n - (j + 1))) after
-  program-more n j c after l h done =
-      let e : n - j ≡ suc (n - (j + 1)) = omega arith in
-      let z : at + j * sector u + sector u - (at + j * sector u) ≡ sector u = omega arith in
-      rw (e, done, z) (ap (λ (os : List Op). applyAll u os c) (left-suc j (n - (j + 1)) h))
-
-  start-byte : (i y : ℕ) → at + (i * sector u + y) ≡ at + 0 * sector u + (i * sector u + y)
-  start-byte i y = omega arith
-
-  -- before the first turn all are left
-  pub program-start : (k : ℕ) (c : Flash) → applyAll u (programs u d s k (λ i y. getD ram (at + (i * sector u + y)) 0)) c ≡ applyAll u (leftOps 0 k) c
-  program-start k c =
-      let e : s ≡ s + 0 * d = omega arith in
-      λ p. applyAll u (programs u d (e p) k (λ i y. getD ram (start-byte i y p) 0)) c
-
-  -- after the last none is
-  pub program-end : (n j : ℕ) (c : Flash) → n ≤ j → applyAll u (leftOps j (n - j)) c ≡ c
-  program-end n j c h =
-      let e : n - j ≡ 0 = omega arith in
-      rw e
 
 -- ---- erasing
 
@@ -111,6 +35,10 @@ module _ (u b : ℕ) where
       rw e
 
 -- ---- freshness
+
+-- the turns of a loop over sectors in reach stay in reach
+pub turn-lt : (s d i k n : ℕ) → i < k → s + k * d < n + d → s + i * d < n
+turn-lt s d i k n h fits = omega (arith, mul-le-mul-right d h)
 
 -- two bytes have a conjunction of ones just where both are ones
 pub fresh-and : (a b : ℕ) → a < 256 → b < 256 → fresh (bitAnd a b) ≡ (fresh a && fresh b)

@@ -5,18 +5,11 @@ use mathlib.Core.List.{List, [], _∷_, _++_}
 use Prim.Native.Nat.{ℕ, zero, suc, _+_}
 use lib.ListN.{getD}
 use Rattle.layout.specs.Flash.{Op, program, erase, fresh, allFresh}
-use Rattle.laws.specs.Operations.{programs}
 
 -- are k sectors fresh, from s on in steps of d
 unfoldable pub freshRun : List ℕ → ℕ → ℕ → ℕ → Bool
 freshRun spare d s zero = true
 freshRun spare d s (suc k) = fresh (getD spare s 0) && freshRun spare d (s + d) k
-
--- programming a run of sectors asks for that run
-pub fresh-programs : (u d s k : ℕ) (f : ℕ → ℕ → ℕ) (spare : List ℕ) → allFresh spare (programs u d s k f) ≡ freshRun spare d s k
-unfolding allFresh freshRun
-fresh-programs u d s zero f spare = refl
-fresh-programs u d s (suc k) f spare = ap (λ (t : Bool). fresh (getD spare s 0) && t) (fresh-programs u d (s + d) k (λ j. f (suc j)) spare)
 
 -- two lists, one after the other, ask for what each asks for, by the marks before both
 pub fresh-append : (xs ys : List Op) (spare : List ℕ) → allFresh spare (xs ++ ys) ≡ (allFresh spare xs && allFresh spare ys)

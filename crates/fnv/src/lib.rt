@@ -1,11 +1,12 @@
-// FNV-1a at 32 bits, the hash family of a key and a key's positions in a filter. Document 01,
-// "Filters".
+// FNV-1a at 32 bits, the hash family of a key and a key's positions in a filter. Document 01, "Filters".
 ghost use mathlib.Core.Path.{_≡_};
 ghost use Prim.Native.Nat.{_+_, _*_, _%_, _^_, _<_, _≤_};
 ghost use lib.Bits.{bitXor};
 ghost use lib.ListN.{getD};
 ghost use Rattle.memory.specs.Words.{bytes4};
+ghost use Rattle.layout.specs.Geometry.{filterBits};
 ghost use Rattle.layout.specs.Hash.{fnv1a, fnvFamily, positions, positionCount};
+use geometry::Chip;
 
 // What FNV-1a starts from.
 const START: u32 = 2166136261;
@@ -86,13 +87,14 @@ fn within(base: u32, size: u32, h: u32) -> u32
     base + h % size
 }
 
-// The three positions of a key in a filter of 4S bits, S = 16 unit: (h0 mod 4) S + (hj mod S).
-pub fn positions(unit: u32, key: u32) -> [u32; 3]
-    requires { ⌜ (0 < unit) × (unit ≤ 32) ⌝ }
-    ensures { λ r. ⌜ r ≡ positions fnvFamily positionCount unit (bytes4 key) ⌝ }
-    ensures { λ r. ⌜ (getD r 0 0 < 64 * unit) × (getD r 1 0 < 64 * unit) × (getD r 2 0 < 64 * unit) ⌝ }
+// The three positions of a key in a filter of 4S bits: (h0 mod 4) S + (hj mod S).
+pub fn positions(chip: Chip, key: u32) -> [u32; 3]
+    requires { ⌜ (0 < chip .unit) × (chip .unit ≤ 32) ⌝ }
+    ensures { λ r. ⌜ r ≡ positions fnvFamily positionCount (chip .unit) (bytes4 key) ⌝ }
+    ensures { λ r. ⌜ (getD r 0 0 < filterBits (chip .unit)) × (getD r 1 0 < filterBits (chip .unit))
+        × (getD r 2 0 < filterBits (chip .unit)) ⌝ }
 {
-    let size = 16 * unit;
+    let size = chip.sector_size() as u32;
     let base = fourth(size, hash(0, key));
     let a = within(base, size, hash(1, key));
     let b = within(base, size, hash(2, key));

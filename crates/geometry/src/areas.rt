@@ -5,6 +5,13 @@ ghost use Rattle.layout.specs.Items.{RA, KA, DA, itemPlace};
 ghost use Rattle.geometry.specs.Shape.{shape, Sound, area, place, AreaSound};
 use crate::Geometry;
 
+// Bytes of a record, of an entry and of a deletion.
+pub const RECORD_SIZE: usize = 16;
+
+pub const ENTRY_SIZE: usize = 8;
+
+pub const DELETION_SIZE: usize = 4;
+
 // Items of `size` bytes, `per_page` to a page, from block `first` on; the page that is not full is in RAM from byte `ram` on.
 pub struct Area {
     pub size: usize,
@@ -19,7 +26,7 @@ pub fn record_area(g: Geometry) -> Area
     ensures { λ r. ⌜ AreaSound r ⌝ }
 {
     Area {
-        size: 16,
+        size: RECORD_SIZE,
         per_page: g.records_per_page(),
         first: 0,
         ram: 0,
@@ -32,7 +39,7 @@ pub fn entry_area(g: Geometry) -> Area
     ensures { λ r. ⌜ AreaSound r ⌝ }
 {
     Area {
-        size: 8,
+        size: ENTRY_SIZE,
         per_page: g.entries_per_page(),
         first: g.ka_block(),
         ram: g.ka_ram(),
@@ -45,7 +52,7 @@ pub fn deletion_area(g: Geometry) -> Area
     ensures { λ r. ⌜ AreaSound r ⌝ }
 {
     Area {
-        size: 4,
+        size: DELETION_SIZE,
         per_page: g.deletions_per_page(),
         first: g.da_block(),
         ram: g.da_ram(),

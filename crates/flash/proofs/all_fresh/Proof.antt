@@ -10,11 +10,11 @@ use Rattle.flash.proofs.all_fresh.Statement.{statement}
 use Rattle.flash.proofs.all_fresh.Tie as tie
 
 abbrev Inv-loop : tie.InvT-loop
-Inv-loop spare s stride k ones₀ i₀ ones i =
+Inv-loop s stride k spare ones₀ i₀ ones i =
     (i ≤ k) × (ones < 256) × (freshRun spare stride s k ≡ leftFresh spare s stride k ones i)
 
 abbrev μ-loop : tie.MeasureT-loop
-μ-loop spare s stride k ones₀ i₀ ones i = k - i
+μ-loop s stride k spare ones₀ i₀ ones i = k - i
 
 loop-holds : tie.Need-loop-holds Inv-loop μ-loop
 loop-holds c =

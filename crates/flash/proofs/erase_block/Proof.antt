@@ -1,19 +1,23 @@
+use mathlib.Core.Path.{_≡_, _∙_}
+use mathlib.Core.List.{List}
+use lib.ListN.{replicate}
+use Rattle.memory.specs.Lists.{write}
 use Rattle.layout.specs.Flash.{flashOf}
 use borrow.Author.Needs.{needs}
 use Rattle.flash.proofs.erase_block.Statement.{statement}
 use Rattle.flash.proofs.erase_block.Tie as tie
 
-mul-size : tie.Need-mul-size
-mul-size c = search needs
+block-address-requires : tie.Need-block-address-requires
+block-address-requires c κs = search needs
 
-mul-at : tie.Need-mul-at
-mul-at c = search needs
+block-size-requires : tie.Need-block-size-requires
+block-size-requires c κs = search needs
 
 fill-at-requires : tie.Need-fill-at-requires
 fill-at-requires c κs = search needs
 
-mul-first : tie.Need-mul-first
-mul-first c = search needs
+first-sector-requires : tie.Need-first-sector-requires
+first-sector-requires c κs = search needs
 
 fill-at-requires-2 : tie.Need-fill-at-requires-2
 fill-at-requires-2 c κs = search needs
@@ -26,19 +30,17 @@ same-length-2 c = search needs
 
 returns : tie.Need-returns
 returns c =
-    let f = c .before .before .before .before .before .before .fill-at .ensures in
-    let g = c .before .before .fill-at2 .ensures in
-    λ i. flashOf (f i) (g i)
+    let s = c .before .before in
+    let m = s .before .before .before .before .before in
+    let size = m .before in
+    let at = size .before in
+    let x = at .before .before .before .before .args in
+    let e = at .block-address .ensures in
+    let f = size .block-size .ensures in
+    let g = s .before .first-sector .ensures in
+    let main = m .fill-at .ensures ∙ (λ i. write (x .main .now) (e i) (replicate (f i) 255)) in
+    let spare = s .fill-at2 .ensures ∙ (λ i. write (x .spare .now) (g i) (replicate 64 255)) in
+    λ i. flashOf (main i) (spare i)
 
 pub erase-block-spec : {M : Type 1} → statement M
-erase-block-spec =
-    tie.close
-    (tie.spec
-    mul-size
-    mul-at
-    fill-at-requires
-    mul-first
-    fill-at-requires-2
-    same-length
-    same-length-2
-    returns)
+erase-block-spec = tie.close (tie.spec block-address-requires block-size-requires fill-at-requires first-sector-requires fill-at-requires-2 same-length same-length-2 returns)

@@ -1,17 +1,15 @@
-use mathlib.Core.Path.{ap}
+use mathlib.Core.Path.{ap, _∙_}
 use mathlib.Core.List.{List}
 use Prim.Native.Nat.{ℕ}
 use lib.ListN.{set}
+use Rattle.memory.specs.Lists.{write}
 use Rattle.layout.specs.Flash.{flashOf}
 use borrow.Author.Needs.{needs}
 use Rattle.flash.proofs.program_sector.Statement.{statement}
 use Rattle.flash.proofs.program_sector.Tie as tie
 
-mul-size : tie.Need-mul-size
-mul-size c = search needs
-
-mul-at : tie.Need-mul-at
-mul-at c = search needs
+sector-address-requires : tie.Need-sector-address-requires
+sector-address-requires c κs = search needs
 
 copy-at-requires : tie.Need-copy-at-requires
 copy-at-requires c κs = search needs
@@ -27,10 +25,10 @@ same-length-2 c = search needs
 
 returns : tie.Need-returns
 returns c =
-    let x = c .before .before .before .before .before .before .before .args in
-    ap (λ (m : List ℕ). flashOf m (set (x .spare .now) (x .s) 0)) (c .before .before .copy-at .ensures)
+    let a = c .before .before .before in
+    let x = a .before .before .before .before .before .args in
+    ap (λ (m : List ℕ). flashOf m (set (x .spare .now) (x .s) 0))
+    (c .before .before .copy-at .ensures ∙ ap (λ (at : ℕ). write (x .main .now) at (x .src .now)) (a .sector-address .ensures))
 
 pub program-sector-spec : {M : Type 1} → statement M
-program-sector-spec =
-    tie.close
-    (tie.spec mul-size mul-at copy-at-requires slice-write-spare same-length same-length-2 returns)
+program-sector-spec = tie.close (tie.spec sector-address-requires copy-at-requires slice-write-spare same-length same-length-2 returns)

@@ -8,10 +8,10 @@ use Rattle.items.proofs.has_word.Statement.{statement}
 use Rattle.items.proofs.has_word.Tie as tie
 
 abbrev Inv-loop : tie.InvT-loop
-Inv-loop s at n j found₀ i₀ found i = (i ≤ n) × (found ≡ any (isWord s at j) i)
+Inv-loop at n j s found₀ i₀ found i = (i ≤ n) × (found ≡ any (isWord s at j) i)
 
 abbrev μ-loop : tie.MeasureT-loop
-μ-loop s at n j found₀ i₀ found i = n - i
+μ-loop at n j s found₀ i₀ found i = n - i
 
 loop-holds : tie.Need-loop-holds Inv-loop μ-loop
 loop-holds c = (omega arith, sym (any-end _))
