@@ -14,9 +14,10 @@ use Rattle.memory.specs.Power.{log2up, log2up-enough, log2up-least, width}
 use Rattle.layout.specs.Index.{Index, bitAt, filterBit, inFull, inSet}
 use Rattle.memory.specs.Bits.{bitIn}
 use Rattle.laws.specs.RowLaws.{width-is, side-range}
+use Rattle.laws.specs.Units.{UnitIs, UnitSound}
 use Rattle.filter.specs.Filter.{Fits}
-use Rattle.filter.specs.Groups.{UnitIs, stageOf, skaLevel, l1Level, setLevel, fullLevel, levelInSets, levelOnFlash, levelBelow}
-use Rattle.filter.specs.declared.Level.{Level}
+use Rattle.filter.specs.Groups.{stageOf, skaLevel, l1Level, setLevel, fullLevel, levelInSets, levelOnFlash, levelBelow}
+use Rattle.filter.specs.declared.groups.Level.{Level}
 
 -- ---- what a level must be
 
@@ -75,19 +76,14 @@ module _ (u e : ℕ) (S : UnitIs u e) where
       }
 
 -- the exponent of a power of two, found as that of the least power not below it
-pub unit-is : (u Z r : ℕ) (ix : Index) (main ram : List ℕ) → Fits u ix Z main ram → r ≡ log2up u → UnitIs u r
-unit-is u Z r ix main ram I is =
-    let p = I .power in
-    let e : ℕ = p .0 in
-    let l : log2up u ≤ e = log2up-least u e (omega (arith, p .2)) in
-    let g : e ≤ log2up u = either (lt? (log2up u) e) (λ h. absurd (omega (arith, pow-lt (h .1), log2up-enough u, p .2))) (λ h. h .1) in
+pub exponent-is : (u r : ℕ) → UnitSound u → r ≡ log2up u → UnitIs u r
+exponent-is u r U is =
+    let e : ℕ = U .0 in
+    let p = U .1 .power in
+    let l : log2up u ≤ e = log2up-least u e (omega (arith, p)) in
+    let g : e ≤ log2up u = either (lt? (log2up u) e) (λ h. absurd (omega (arith, pow-lt (h .1), log2up-enough u, p))) (λ h. h .1) in
     let q : e ≡ r = omega arith in
-    record {
-      some = I .some;
-      few = I .few;
-      exponent = omega (arith, p .1);
-      power = rw q at (p .2);
-    }
+    rw q at (U .1)
 
 -- ---- the four levels
 
@@ -100,8 +96,8 @@ module _ (u e : ℕ) (S : UnitIs u e) (ix : Index) (main ram : List ℕ) (F belo
       let m = mul-le-mul-right (16 * u) n in
       record {
         start-lt = h;
-        narrow = omega (arith, S .exponent);
-        small = rw p (omega (arith, S .few));
+        narrow = omega (arith, S .small);
+        small = rw p (omega (arith, S .most));
         reach = rw p (λ x l.
             let q : x / (16 * u) < 4 = div-lt x (16 * u) 4 (omega (arith, S .some)) (omega arith) in
             omega (arith, mul-le-mul-right (16 * u) q));
@@ -130,8 +126,8 @@ module _ (u e : ℕ) (S : UnitIs u e) (ix : Index) (main ram : List ℕ) (F belo
         let m = mul-le-mul-right (16 * u) n in
         record {
           start-lt = h;
-          narrow = omega (arith, S .exponent);
-          small = rw p (omega (arith, S .few));
+          narrow = omega (arith, S .small);
+          small = rw p (omega (arith, S .most));
           reach = rw p (λ x l.
               let q : x / (16 * u) < 4 = div-lt x (16 * u) 4 (omega (arith, S .some)) (omega arith) in
               omega (arith, mul-le-mul-right (4 * (64 * u)) q));
@@ -159,8 +155,8 @@ module _ (u e : ℕ) (S : UnitIs u e) (ix : Index) (main ram : List ℕ) (F belo
         let c = mul-le-mul-right w (Q .enough) in
         record {
           start-lt = h;
-          narrow = omega (arith, S .exponent);
-          small = omega (arith, S .few, Q .whole);
+          narrow = omega (arith, S .small);
+          small = omega (arith, S .most, Q .whole);
           reach = λ x b.
               let r : x / w < 16 * 2 ^ log2up (inSet u F) = div-lt x w (16 * 2 ^ log2up (inSet u F)) (Q .some) (omega (arith, Q .whole)) in
               omega (arith, Q .whole, mul-le-mul-right (64 * u) r, mul-le-mul-right (1024 * u) (side-range u ix (inSet u F) .1), mul-le-mul-right (1024 * u) (Q .side));
@@ -179,7 +175,7 @@ module _ (u e : ℕ) (S : UnitIs u e) (ix : Index) (main ram : List ℕ) (F belo
       record {
         start-lt = lo;
         narrow = omega arith;
-        small = omega (arith, S .few);
+        small = omega (arith, S .most);
         reach = λ x b.
             let d : x / 1 ≡ x = div-one x in
             rw d (omega (arith, mul-le-mul-right (4 * u * (1024 * u)) j, mul-le-mul-right (64 * u) b));
@@ -203,7 +199,7 @@ module _ (u e F below Z : ℕ) (ix : Index) (main ram : List ℕ) (S : UnitIs u 
   rounds : Euclid (F / 8 / 16) (4 * u)
   rounds = euclid (F / 8 / 16) (4 * u) (omega (arith, S .some))
 
-  in-sets : below ≤ stageOf u F .flash → below ≤ stageOf u F .parted → LevelAt u ix main ram F below (levelInSets u e ix (stageOf u F) below)
+  in-sets : below ≤ stageOf u F .flash → below ≤ stageOf u F .partitioned → LevelAt u ix main ram F below (levelInSets u e ix (stageOf u F) below)
   in-sets top l =
       by-lt
       (λ t. LevelAt u ix main ram F below (cond t (setLevel u e ix (inSet u F) (stageOf u F .full)) (fullLevel u ix ((below - 1) / 2 ^ (e + 9)))))
@@ -214,8 +210,8 @@ module _ (u e F below Z : ℕ) (ix : Index) (main ram : List ℕ) (S : UnitIs u 
   on-flash : below ≤ stageOf u F .flash → LevelAt u ix main ram F below (levelOnFlash u e ix (stageOf u F) below)
   on-flash top =
       by-lt
-      (λ t. LevelAt u ix main ram F below (cond t (l1Level u e ix (stageOf u F .parted)) (levelInSets u e ix (stageOf u F) below)))
-      (stageOf u F .parted) below
+      (λ t. LevelAt u ix main ram F below (cond t (l1Level u e ix (stageOf u F .partitioned)) (levelInSets u e ix (stageOf u F) below)))
+      (stageOf u F .partitioned) below
       (λ h. l1-at u e S ix main ram F below le (omega (arith, rounds .whole)) (omega (arith, long)) top h)
       (λ h. in-sets top h)
 

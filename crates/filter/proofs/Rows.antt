@@ -14,7 +14,7 @@ use Rattle.layout.specs.Index.{Index, filterBit}
 use Rattle.kernels.specs.declared.Rows.{Rows}
 use Rattle.kernels.specs.Rows.{allIn, Within}
 use Rattle.filter.specs.Groups.{RowsAt}
-use Rattle.filter.specs.declared.Level.{Level}
+use Rattle.filter.specs.declared.groups.Level.{Level}
 use Rattle.filter.proofs.Levels.{levelBytes, LevelAt}
 
 -- the first i elements of an array are those of f

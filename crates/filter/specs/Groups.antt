@@ -8,19 +8,12 @@ use lib.ListN.{length, getD}
 use Rattle.memory.specs.Power.{log2up}
 use Rattle.memory.specs.Ranges.{allOf}
 use Rattle.layout.specs.Geometry.{sector, page, block}
-use Rattle.layout.specs.Index.{Index, sideBlock, fullBlock, fullFilters, inSet, inFull, filterBit}
+use Rattle.layout.specs.Index.{Index, filtersPerFlush, filtersPerRound, pagesPerFourth, sideBlock, fullBlock, fullFilters, inSet, inFull, filterBit}
 use Rattle.kernels.specs.declared.Rows.{Rows}
 use Rattle.kernels.specs.Rows.{allIn, Within}
-use Rattle.filter.specs.declared.Group.{Group}
-use Rattle.filter.specs.declared.Level.{Level}
-use Rattle.filter.specs.declared.Stage.{Stage}
-
--- the unit is 2 ^ e, one of the six allowed
-pub record UnitIs (u e : ℕ) : Type 0 where
-  pub some : 0 < u
-  pub few : u ≤ 32
-  pub exponent : e < 6
-  pub power : u ≡ 2 ^ e
+use Rattle.filter.specs.declared.groups.Group.{Group}
+use Rattle.filter.specs.declared.groups.Level.{Level}
+use Rattle.filter.specs.declared.groups.Stage.{Stage}
 
 -- ---- where groups lie
 
@@ -31,7 +24,7 @@ module _ (u e : ℕ) (ix : Index) where
 
   -- L1: four pages for each fourth, flush after flush
   abbrev pub l1Level : ℕ → Level
-  l1Level start = record { start = start; «in_ram» = false; base = ix .first * block u; exponent = e + 4; stride = 4 * page u }
+  l1Level start = record { start = start; «in_ram» = false; base = ix .first * block u; exponent = e + 4; stride = pagesPerFourth * page u }
 
   -- the current set after c rounds
   abbrev pub setLevel : ℕ → ℕ → Level
@@ -47,8 +40,8 @@ stageOf u F =
     record {
       rounds = inSet u F;
       full = inFull u F * fullFilters u;
-      parted = inFull u F * fullFilters u + 128 * inSet u F;
-      flash = F / 8 * 8;
+      partitioned = inFull u F * fullFilters u + filtersPerRound * inSet u F;
+      flash = F / filtersPerFlush * filtersPerFlush;
     }
 
 -- the level that has filter `below` - 1, which is in a set, on flash, anywhere
@@ -57,7 +50,7 @@ module _ (u e : ℕ) (ix : Index) (st : Stage) (below : ℕ) where
   levelInSets = cond (ltb (st .full) below) (setLevel u e ix (st .rounds) (st .full)) (fullLevel u ix ((below - 1) / 2 ^ (e + 9)))
 
   abbrev pub levelOnFlash : Level
-  levelOnFlash = cond (ltb (st .parted) below) (l1Level u e ix (st .parted)) levelInSets
+  levelOnFlash = cond (ltb (st .partitioned) below) (l1Level u e ix (st .partitioned)) levelInSets
 
   abbrev pub levelBelow : Level
   levelBelow = cond (ltb (st .flash) below) (skaLevel u e ix (st .flash)) levelOnFlash

@@ -57,13 +57,3 @@ piece-of u i lo hi a bytes el eh fits =
         rw (getD-take, getD-drop)
         (sym (pack-bit 8 (getD a (lo + y) 0) (bytes (lo + y)))
         ∙ pack-ext 8 (bit (getD a (lo + y) 0)) (λ b. bit (getD a ((i * (16 * u) + (y * 8 + b)) / 8) 0) ((i * (16 * u) + (y * 8 + b)) % 8)) (λ b l. bits y b l))
-
--- the four fourths, one in each sector
-pub four-pieces : (u : ℕ) (ix : Index) (s : ℕ) (f : ℕ → Bool) (ram r₁ r₂ r₃ r₄ : List ℕ)
-    → r₁ ≡ write ram (ix .ska + s * (2 * u)) (fourthOf u f 0)
-    → r₂ ≡ write r₁ (ix .ska + s * (2 * u) + 16 * u) (fourthOf u f 1)
-    → r₃ ≡ write r₂ (ix .ska + s * (2 * u) + 16 * u + 16 * u) (fourthOf u f 2)
-    → r₄ ≡ write r₃ (ix .ska + s * (2 * u) + 16 * u + 16 * u + 16 * u) (fourthOf u f 3)
-    → r₄ ≡ withFilter u ix s f ram
-unfolding pieces
-four-pieces u ix s f ram r₁ r₂ r₃ r₄ e₁ e₂ e₃ e₄ = rw (e₄, e₃, e₂, e₁)

@@ -53,13 +53,10 @@ pub fn erase_block(chip: Chip, b: usize, main: &mut [u8], spare: &mut [u8])
     requires { ⌜ b * sectorsPerBlock + sectorsPerBlock ≤ length (now spare) ⌝ }
     ensures { λ _. ⌜ flashAfter main spare ≡ apply (chip .unit) (erase b) (flashBefore main spare) ⌝ }
 {
-    words::fill_at(main, chip.block_address(b), chip.block_size(), ERASED);
-    words::fill_at(
-        spare,
-        Chip::first_sector(b),
-        Chip::SECTORS_PER_BLOCK,
-        ERASED,
-    );
+    let at = chip.block_address(b);
+    words::fill_at(main, at, chip.block_size(), ERASED);
+    let first = Chip::first_sector(b);
+    words::fill_at(spare, first, Chip::SECTORS_PER_BLOCK, ERASED);
 }
 
 // k blocks in a row.

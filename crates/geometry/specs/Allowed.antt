@@ -14,7 +14,7 @@ use Rattle.memory.specs.Cases.{bool?, either}
 use Rattle.memory.specs.Power.{log2up, log2up-least}
 use Rattle.memory.specs.Ranges.{memb}
 use Rattle.layout.specs.Geometry as layout
-use Rattle.laws.specs.Units.{unit-sound}
+use Rattle.laws.specs.Units.{unit-is}
 use Rattle.geometry.specs.declared.table.Row.{Row}
 use Rattle.geometry.specs.declared.Shaped.the-variants.{Bad}
 use Rattle.geometry.specs.Rows.{row, rows, rowOf, rule}
@@ -96,7 +96,7 @@ module _ (sizes : layout.Sizes) (e : layout.allowed sizes ≡ true) where
       let da = and-eq-true-iff (leb 1 D) (leb D 4096) .0 (parts .2) in
       let l : log2up (S / 16) ≤ 5 = log2up-least (S / 16) 5 (omega arith) in
       record {
-        unit = unit-sound (S / 16) (log2up (S / 16)) (omega arith) q;
+        unit = (log2up (S / 16), unit-is (S / 16) (log2up (S / 16)) (omega arith) q);
         records = omega arith;
         entries = omega arith;
         bits = omega arith;

@@ -25,7 +25,7 @@ module _ (g : Geometry) (s : Sound g) where
       omega arith
 
   pub record-capacity-le : layout.recordCapacity (shape g) ≤ 8388608
-  record-capacity-le = omega (arith, product-le (g .ra) (g .chip .unit) 4096 32 (s .ra-most) (s .unit .most))
+  record-capacity-le = omega (arith, product-le (g .ra) (g .chip .unit) 4096 32 (s .ra-most) (s .unit .1 .most))
 
   pub deletion-capacity-le : layout.deletionCapacity (shape g) ≤ 33554432
-  deletion-capacity-le = omega (arith, product-le (g .da) (g .chip .unit) 4096 32 (s .da-most) (s .unit .most))
+  deletion-capacity-le = omega (arith, product-le (g .da) (g .chip .unit) 4096 32 (s .da-most) (s .unit .1 .most))

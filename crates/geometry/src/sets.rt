@@ -16,6 +16,9 @@ pub const FLUSHES_PER_ROUND: usize = 16;
 
 pub const FILTERS_PER_ROUND: usize = FLUSHES_PER_ROUND * FILTERS_PER_FLUSH;
 
+// Pages of L1 for each fourth of the filters' bits: a sector of each flush.
+pub const PAGES_PER_FOURTH: usize = FLUSHES_PER_ROUND / Chip::SECTORS_PER_PAGE;
+
 // An index: its first block and its SKA page in RAM.
 pub struct Index {
     pub first: usize,

@@ -5,12 +5,12 @@ use Prim.Native.Nat.{ℕ, zero, suc, _+_, _*_, _/_}
 use lib.ListN.{getD}
 use lib.Dec.{eqb}
 use Rattle.memory.specs.Lists.{tab}
-use Rattle.layout.specs.Geometry.{Geometry, sector}
+use Rattle.layout.specs.Geometry.{Geometry, sectorsPerPage, sectorsPerBlock, sector}
 use Rattle.layout.specs.Flash.{Flash, Op, program, erases, applyAll}
 use Rattle.layout.specs.Hash.{Family}
 use Rattle.layout.specs.Items.{Area, RA, KA, entryBytes, put, fills, itemRam}
-use Rattle.layout.specs.Index.{Index, inSka, inL1, inSet, inFull, setPages, setBlocks, sideBlock, setBlock, setByte}
 use Rattle.layout.specs.Keys.{Key}
+use Rattle.layout.specs.Index.{Index, filtersPerFlush, flushesPerRound, inSka, inL1, inSet, inFull, setPages, setBlocks, sideBlock, setBlock, setByte}
 use Rattle.layout.specs.Calls.{keyIndex, keyFilters, summarized}
 
 module _ (u : ℕ) where
@@ -21,7 +21,8 @@ module _ (u : ℕ) where
 
   -- the page that item n fills
   abbrev pub pageOps : Area → ℕ → List ℕ → List Op
-  pageOps a n ram = programs 1 (a .first * 64 + n / a .perPage * 4) 4 (λ j y. getD ram (a .ram + (j * sector u + y)) 0)
+  pageOps a n ram =
+      programs 1 (a .first * sectorsPerBlock + n / a .perPage * sectorsPerPage) sectorsPerPage (λ j y. getD ram (a .ram + (j * sector u + y)) 0)
 
   abbrev pub itemOps : Area → ℕ → List ℕ → List ℕ → List Op
   itemOps a n item ram = cond (fills a n) (pageOps a n (put a n item ram)) []
@@ -29,22 +30,23 @@ module _ (u : ℕ) where
   module _ (ix : Index) where
     -- flush t
     abbrev pub flushOps : ℕ → List ℕ → List Op
-    flushOps t ram = programs 16 (ix .first * 64 + t) 4 (λ i y. getD ram (ix .ska + (i * sector u + y)) 0)
+    flushOps t ram =
+        programs flushesPerRound (ix .first * sectorsPerBlock + t) sectorsPerPage (λ i y. getD ram (ix .ska + (i * sector u + y)) 0)
 
     -- the next set out of the main area as it is before the set's first sector, and the erases
     abbrev pub buildOps : List ℕ → ℕ → ℕ → List Op
     buildOps main z c =
-        programs 1 (setBlock u ix z c * 64) (setPages (c + 1) * 4) (setByte u ix main z c)
+        programs 1 (setBlock u ix z c * sectorsPerBlock) (setPages (c + 1) * sectorsPerPage) (setByte u ix main z c)
         ++ (erases (ix .first) 1 ++ erases (sideBlock u ix c) (setBlocks c))
 
     unfoldable pub flushAndBuildOps : Flash → ℕ → List ℕ → List Op
     flushAndBuildOps flash F ram =
         let flushed : List Op = flushOps (inL1 F) ram in
-        flushed ++ cond (eqb (inL1 F + 1) 16) (buildOps (applyAll u flushed flash .main) (inFull u F) (inSet u F)) []
+        flushed ++ cond (eqb (inL1 F + 1) flushesPerRound) (buildOps (applyAll u flushed flash .main) (inFull u F) (inSet u F)) []
 
     -- filter F, which the RAM holds already
     abbrev pub filterOps : Flash → ℕ → List ℕ → List Op
-    filterOps flash F ram = cond (eqb (inSka F + 1) 8) (flushAndBuildOps flash F ram) []
+    filterOps flash F ram = cond (eqb (inSka F + 1) filtersPerFlush) (flushAndBuildOps flash F ram) []
 
 -- ---- record n and its entry, each step on what the one before it leaves
 

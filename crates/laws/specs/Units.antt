@@ -4,16 +4,19 @@ use Prim.Native.Nat.{ℕ, _^_, _<_, _≤_}
 use native.Mathlib.Omega.{arith}
 use lib.Pow.{pow-pos, pow-mono}
 
-pub record UnitSound (u : ℕ) : Type 0 where
-  pub e : ℕ
+-- the unit is 2 ^ e; its bounds follow
+pub record UnitIs (u e : ℕ) : Type 0 where
   pub small : e < 6
-  pub is : u ≡ 2 ^ e
+  pub power : u ≡ 2 ^ e
   pub some : 0 < u
   pub most : u ≤ 32
 
--- the bounds follow from the exponent's
-pub unit-sound : (u e : ℕ) → e < 6 → u ≡ 2 ^ e → UnitSound u
-unit-sound u e small is =
+pub unit-is : (u e : ℕ) → e < 6 → u ≡ 2 ^ e → UnitIs u e
+unit-is u e small power =
     let l : e ≤ 5 = omega arith in
     let p : 2 ^ e ≤ 2 ^ 5 = pow-mono l in
-    record { e = e; small = small; is = is; some = omega (arith, pow-pos e); most = omega arith }
+    record { small = small; power = power; some = omega (arith, pow-pos e); most = omega arith }
+
+-- the unit is one of the six allowed
+abbrev pub UnitSound : ℕ → Type 0
+UnitSound u = (e : ℕ) × UnitIs u e

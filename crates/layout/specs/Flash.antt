@@ -28,7 +28,11 @@ module _ (u : ℕ) where
   -- "Programming a sector writes its S cells and sets its mark to 00; erasing a block sets its cells and marks to FF"
   abbrev pub apply : Op → Flash → Flash
   apply (program s bytes) c = record { main = write (c .main) (s * sector u) bytes; spare = set (c .spare) s 0 }
-  apply (erase b) c = record { main = write (c .main) (b * block u) (replicate (block u) 255); spare = write (c .spare) (b * sectorsPerBlock) (replicate sectorsPerBlock 255) }
+  apply (erase b) c =
+      record {
+        main = write (c .main) (b * block u) (replicate (block u) 255);
+        spare = write (c .spare) (b * sectorsPerBlock) (replicate sectorsPerBlock 255);
+      }
 
   -- a list of operations, in order
   abbrev pub applyAll : List Op → Flash → Flash

@@ -83,6 +83,10 @@ module _ (u : ℕ) where
   abbrev pub filterBits : ℕ
   filterBits = 64 * u
 
+  -- bytes of a fourth of a filter: S/8
+  abbrev pub fourthSize : ℕ
+  fourthSize = 2 * u
+
   -- blocks of a side, and of a full partition set: S/4
   abbrev pub sideBlocks : ℕ
   sideBlocks = 4 * u

@@ -8,7 +8,7 @@ use lib.Dec.{ltb, eqb}
 use Rattle.memory.specs.Lists.{pieces, tab}
 use Rattle.memory.specs.Bits.{bit, pack}
 use Rattle.memory.specs.Power.{log2up}
-use Rattle.layout.specs.Geometry.{sectorsPerPage, pagesPerBlock, sectorsPerBlock, sector, page, block, filterBits, sideBlocks}
+use Rattle.layout.specs.Geometry.{sectorsPerPage, pagesPerBlock, sectorsPerBlock, sector, page, block, filterBits, fourthSize, sideBlocks}
 use Rattle.layout.specs.Flash.{Planned, known, made, wipe, plannedFrom}
 use Rattle.layout.specs.Items.{zeroPage}
 
@@ -46,6 +46,10 @@ flushesPerRound = 16
 
 abbrev pub filtersPerRound : ℕ
 filtersPerRound = flushesPerRound * filtersPerFlush
+
+-- pages of L1 for each fourth of the filters' bits, a sector of each flush
+abbrev pub pagesPerFourth : ℕ
+pagesPerFourth = flushesPerRound / sectorsPerPage
 
 abbrev pub inSka : ℕ → ℕ
 inSka F = F % filtersPerFlush
@@ -102,7 +106,12 @@ module _ (u : ℕ) where
     -- filter f of the round in L1: "sector t mod 4 of page 4i + floor(t/4)" for flush t = f / 8, slot f mod 8
     abbrev pub l1Place : ℕ → ℕ → BitPlace
     l1Place f x =
-        record { inRam = false; row = ix .first * block u + ((4 * (x / sector u) + f / filtersPerFlush / 4) * page u + f / filtersPerFlush % 4 * sector u); at = f % filtersPerFlush * sector u + x % sector u }
+        let t : ℕ = f / filtersPerFlush in
+        record {
+          inRam = false;
+          row = ix .first * block u + ((pagesPerFourth * (x / sector u) + t / sectorsPerPage) * page u + t % sectorsPerPage * sector u);
+          at = f % filtersPerFlush * sector u + x % sector u;
+        }
 
     -- filter f on flash, with z full sets and c rounds in the current one
     abbrev pub flashPlace : ℕ → ℕ → ℕ → ℕ → BitPlace
@@ -113,7 +122,9 @@ module _ (u : ℕ) where
 
     -- filter f of F
     abbrev pub filterPlace : ℕ → ℕ → ℕ → BitPlace
-    filterPlace F f x = cond (ltb f (F / filtersPerFlush * filtersPerFlush)) (flashPlace (inFull F) (inSet F) f x) (skaPlace (f - F / filtersPerFlush * filtersPerFlush) x)
+    filterPlace F f x =
+        cond (ltb f (F / filtersPerFlush * filtersPerFlush)) (flashPlace (inFull F) (inSet F) f x)
+        (skaPlace (f - F / filtersPerFlush * filtersPerFlush) x)
 
     unfoldable pub filterBit : List ℕ → List ℕ → ℕ → ℕ → ℕ → Bool
     filterBit main ram F f x = bitAt main ram (filterPlace F f x)
@@ -122,16 +133,19 @@ module _ (u : ℕ) where
 
     -- "a filter whole, over what the SKA page held there": S/8 bytes in each of the four sectors
     abbrev pub withFilter : ℕ → (ℕ → Bool) → List ℕ → List ℕ
-    withFilter s new ram = pieces (2 * u) (sector u) (ix .ska + s * (2 * u)) 4 (λ i y. pack 8 (λ b. new (i * sector u + (y * 8 + b)))) ram
+    withFilter s new ram =
+        pieces (fourthSize u) (sector u) (ix .ska + s * fourthSize u) sectorsPerPage (λ i y. pack 8 (λ b. new (i * sector u + (y * 8 + b)))) ram
 
     -- sector i of flush t: sector t mod 4 of page 4i + floor(t/4), which is sector t + 16 i of L1
     abbrev pub flushSector : ℕ → List ℕ → ℕ → Planned
-    flushSector t ram i = known (ix .first * sectorsPerBlock + t + i * 16) (tab (sector u) (λ y. getD ram (ix .ska + (i * sector u + y)) 0))
+    flushSector t ram i =
+        known (ix .first * sectorsPerBlock + t + i * flushesPerRound) (tab (sector u) (λ y. getD ram (ix .ska + (i * sector u + y)) 0))
 
     -- byte y of the j-th sector of set number c + 2, "built out of L1 and set i-1" as their bits stand
     unfoldable pub setByte : List ℕ → ℕ → ℕ → ℕ → ℕ → ℕ
     setByte main z c j y =
-        rowByte (λ g x. bitAt main [] (flashPlace z c (z * fullFilters + g) x)) (filtersPerRound * (c + 1)) (setWidth (c + 1)) (j / 4 * setWidth (c + 1)) (j % 4 * sector u + y)
+        rowByte (λ g x. bitAt main [] (flashPlace z c (z * fullFilters + g) x)) (filtersPerRound * (c + 1)) (setWidth (c + 1))
+        (j / sectorsPerPage * setWidth (c + 1)) (j % sectorsPerPage * sector u + y)
 
     -- "Set S/4 + 1 is full at m pages and goes to the next sealed place instead"
     abbrev pub setBlock : ℕ → ℕ → ℕ
@@ -150,7 +164,7 @@ module _ (u : ℕ) where
     -- flush t of a round, and after flush 15 the next set
     unfoldable pub flushAndBuild : ℕ → List ℕ → List Planned
     flushAndBuild F ram =
-        plannedFrom (flushSector (inL1 F) ram) 0 4 ++ cond (eqb (inL1 F + 1) flushesPerRound) (buildPlan (inFull F) (inSet F)) []
+        plannedFrom (flushSector (inL1 F) ram) 0 sectorsPerPage ++ cond (eqb (inL1 F + 1) flushesPerRound) (buildPlan (inFull F) (inSet F)) []
 
     -- what filter F plans, which the RAM holds already: "Eight filters fill the SKA page"
     abbrev pub filterPlan : ℕ → List ℕ → List Planned

@@ -7,7 +7,8 @@ use lib.Dec.{ltb, eqb}
 use Rattle.memory.specs.Lists.{write, part, tab}
 use Rattle.memory.specs.Words.{word, wordsBytes}
 use Rattle.layout.specs.Keys.{Key}
-use Rattle.layout.specs.Geometry.{Geometry, sectorsPerPage, sectorsPerBlock, sector, page, block, recordsPerPage, entriesPerPage, deletionsPerPage, raBlock, kaBlock, daBlock, raRam, kaRam, daRam}
+use Rattle.layout.specs.Geometry.{Geometry, sectorsPerPage, sectorsPerBlock, sector, page, block}
+use Rattle.layout.specs.Geometry.{recordsPerPage, entriesPerPage, deletionsPerPage, raBlock, kaBlock, daBlock, raRam, kaRam, daRam}
 use Rattle.layout.specs.Flash.{Planned, known, plannedFrom}
 
 -- items of `size` bytes, `perPage` to a page, from block `first` on; the page that is not full yet is in RAM from byte `ram` on
@@ -90,13 +91,15 @@ fills a n = eqb (n % a .perPage + 1) (a .perPage)
 -- sector j of the page of item n, with the bytes of its RAM page
 abbrev pub pageSector : ℕ → Area → ℕ → List ℕ → ℕ → Planned
 pageSector u a n ram j =
-    known (a .first * sectorsPerBlock + n / a .perPage * sectorsPerPage + j) (tab (sector u) (λ y. getD ram (a .ram + (j * sector u + y)) 0))
+    known (a .first * sectorsPerBlock + n / a .perPage * sectorsPerPage + j)
+    (tab (sector u) (λ y. getD ram (a .ram + (j * sector u + y)) 0))
 
 -- a RAM page from byte `at` on zeroed
 abbrev pub zeroPage : ℕ → ℕ → List ℕ → List ℕ
 zeroPage u at ram = write ram at (replicate (page u) 0)
 
--- what item n plans: "A page is programmed by the call that fills it", its four sectors, out of the RAM handed in with the item in its place
+-- what item n plans: "A page is programmed by the call that fills it", its four sectors, out of the RAM handed in with the item in its
+-- place
 abbrev pub itemPlan : ℕ → Area → ℕ → List ℕ → List ℕ → List Planned
 itemPlan u a n item ram = cond (fills a n) (plannedFrom (pageSector u a n (put a n item ram)) 0 sectorsPerPage) []
 

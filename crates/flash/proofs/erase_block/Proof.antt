@@ -1,5 +1,4 @@
-use mathlib.Core.Path.{_≡_, _∙_}
-use mathlib.Core.List.{List}
+use mathlib.Core.Path.{_∙_}
 use lib.ListN.{replicate}
 use Rattle.memory.specs.Lists.{write}
 use Rattle.layout.specs.Flash.{flashOf}
@@ -31,13 +30,14 @@ same-length-2 c = search needs
 returns : tie.Need-returns
 returns c =
     let s = c .before .before in
-    let m = s .before .before .before .before .before in
+    let n = s .before .before in
+    let m = n .before .before .before in
     let size = m .before in
-    let at = size .before in
-    let x = at .before .before .before .before .args in
+    let at = size .before .before in
+    let x = at .before .before .before .args in
     let e = at .block-address .ensures in
     let f = size .block-size .ensures in
-    let g = s .before .first-sector .ensures in
+    let g = n .first-sector .ensures in
     let main = m .fill-at .ensures ∙ (λ i. write (x .main .now) (e i) (replicate (f i) 255)) in
     let spare = s .fill-at2 .ensures ∙ (λ i. write (x .spare .now) (g i) (replicate 64 255)) in
     λ i. flashOf (main i) (spare i)

@@ -1,0 +1,120 @@
+use borrow.Author.Needs.{needs}
+use native.Mathlib.Omega.{arith}
+use Prim.Native.Nat.{ℕ, _+_, _*_, _-_, _≤_, _<_}
+use mathlib.Core.Path.{_≡_, ap, sym, _∙_}
+use mathlib.Core.List.{List}
+use lib.ListN.{length}
+use Rattle.memory.specs.Ranges.{any}
+use Rattle.memory.specs.Words.{word}
+use Rattle.filter.specs.Filter.{arrayBit, keyBit}
+use Rattle.filter.proofs.Setting.{none-set, any-more}
+use Rattle.filter.proofs.page.new_filter.Statement.{statement}
+use Rattle.filter.proofs.page.new_filter.Tie as tie
+
+abbrev Inv-loop : tie.InvT-loop
+Inv-loop chip at key ram last bits₀ i₀ bits i =
+    (i ≤ last) × (length bits ≡ 256) × ((x : ℕ) → x < 2048 → arrayBit bits x ≡ any (λ j. keyBit (chip .unit) (word ram (at + j * 8)) x) i)
+
+abbrev μ-loop : tie.MeasureT-loop
+μ-loop chip at key ram last bits₀ i₀ bits i = last - i
+
+page-size-requires : tie.Need-page-size-requires Inv-loop μ-loop
+page-size-requires c κs = search needs
+
+sub-last : tie.Need-sub-last Inv-loop μ-loop
+sub-last c = omega (arith, c .page-size .ensures)
+
+no-bits-requires : tie.Need-no-bits-requires Inv-loop μ-loop
+no-bits-requires c κs = search needs
+
+loop-holds : tie.Need-loop-holds Inv-loop μ-loop
+unfolding any
+loop-holds c = (
+  omega arith,
+  ap length (c .no-bits .ensures),
+  λ x h. ap (λ (l : List ℕ). arrayBit l x) (c .no-bits .ensures) ∙ none-set 256 x (omega arith),
+)
+
+mul-get32 : tie.Need-mul-get32 Inv-loop μ-loop
+mul-get32 c = omega (arith, c .before .before .before .page-size .ensures)
+
+add-get32 : tie.Need-add-get32 Inv-loop μ-loop
+add-get32 c = omega (arith, c .before .before .before .page-size .ensures)
+
+get32-requires : tie.Need-get32-requires Inv-loop μ-loop
+get32-requires c κs = omega (arith, c .before .before .before .page-size .ensures)
+
+positions-requires : tie.Need-positions-requires Inv-loop μ-loop
+positions-requires c κs = search needs
+
+slice-aggregate-set-positions : tie.Need-slice-aggregate-set-positions Inv-loop μ-loop
+slice-aggregate-set-positions c = sym (c .before .before .before .before .loop .inv .1)
+
+set-positions-requires : tie.Need-set-positions-requires Inv-loop μ-loop
+set-positions-requires c κs =
+    let p = c .before .positions .ensures .1 in
+    let m = c .before .before .before .before .before .before .before .before .pre .1 in
+    (c .before .before .before .before .loop .inv .1, (omega (arith, p .0, m), omega (arith, p .1, m), omega (arith, p .2, m)))
+
+add-i : tie.Need-add-i Inv-loop μ-loop
+add-i c = omega arith
+
+loop-less : tie.Need-loop-less Inv-loop μ-loop
+loop-less c = omega arith
+
+loop-again : tie.Need-loop-again Inv-loop μ-loop
+loop-again c =
+    let x = c .before .before .before .before .before .before .before .before .before .before .args in
+    let l = c .before .before .before .before .before .before .loop in
+    let s = c .before .set-positions in (
+      omega arith,
+      s .kept .1 .0 ∙ l .inv .1,
+      λ y h.
+          s .ensures y h
+          ∙ rw (l .inv .2 y h, c .before .before .before .positions .ensures .0, c .before .before .before .before .get32 .ensures)
+          (any-more (λ j. keyBit (x .chip .unit) (word (x .ram .now) (x .at + j * 8)) y) (l .i)),
+    )
+
+positions-requires-2 : tie.Need-positions-requires-2 Inv-loop μ-loop
+positions-requires-2 c κs = search needs
+
+slice-aggregate-set-positions-2 : tie.Need-slice-aggregate-set-positions-2 Inv-loop μ-loop
+slice-aggregate-set-positions-2 c = sym (c .before .before .before .loop .inv .1)
+
+set-positions-requires-2 : tie.Need-set-positions-requires-2 Inv-loop μ-loop
+set-positions-requires-2 c κs =
+    let p = c .before .positions2 .ensures .1 in
+    let m = c .before .before .before .before .before .before .before .pre .1 in
+    (c .before .before .before .loop .inv .1, (omega (arith, p .0, m), omega (arith, p .1, m), omega (arith, p .2, m)))
+
+returns : tie.Need-returns Inv-loop μ-loop
+returns c =
+    let x = c .before .before .before .before .before .before .before .before .before .args in
+    let l = c .before .before .before .before .before .loop in
+    let s = c .before .set-positions2 in
+    let e : l .i ≡ 8 * x .chip .unit - 1 = omega (arith, c .before .before .before .before .before .before .before .page-size .ensures) in
+    λ y h. s .ensures y h ∙ rw (l .inv .2 y h, c .before .before .before .positions2 .ensures .0, e)
+
+pub new-filter-spec : {M : Type 1} → statement M
+new-filter-spec =
+    tie.close
+    (tie.spec
+    Inv-loop
+    μ-loop
+    page-size-requires
+    sub-last
+    no-bits-requires
+    loop-holds
+    mul-get32
+    add-get32
+    get32-requires
+    positions-requires
+    slice-aggregate-set-positions
+    set-positions-requires
+    add-i
+    loop-less
+    loop-again
+    positions-requires-2
+    slice-aggregate-set-positions-2
+    set-positions-requires-2
+    returns)
