@@ -6,20 +6,21 @@ use native.Mathlib.Omega.{arith}
 use lib.Pow.{pow-mono}
 use Rattle.memory.specs.Power.{log2up}
 use Rattle.memory.specs.Numbers.{euclid}
-use Rattle.layout.specs.Index.{Index, setPages, setWidth, sideBlock}
+use Rattle.layout.specs.Geometry.{sector, page, block}
+use Rattle.layout.specs.Index.{Index, pagesPerFourth, setPages, setWidth, sideBlock}
 use Rattle.laws.specs.RowLaws.{unit-pos, width-is, width-pos, blocks-fit}
-use Rattle.partition.specs.Indexes.{Unit?, unit-le}
+use Rattle.laws.specs.Units.{UnitSound}
 use Rattle.partition.specs.Sources.{sourceOf, rowOf}
 use Rattle.fields.specs.declared.Source.{Source}
 use Rattle.partition.specs.declared.Row.{Row}
 use Rattle.partition.specs.Widths.{old-whole, sector-whole}
 
 -- a set's width and its bounds
-pub width-of : (u c r : ℕ) → Unit? u → c ≤ 4 * u → r ≡ setWidth u c → (r ≡ setWidth u c) × (0 < r) × (r ≤ 128)
+pub width-of : (u c r : ℕ) → UnitSound u → c ≤ 4 * u → r ≡ setWidth u c → (r ≡ setWidth u c) × (0 < r) × (r ≤ 128)
 width-of u c r U h e =
-    let w = width-is u (U .e) (U .is) c h in
-    let l : U .e + 2 - log2up c ≤ 7 = omega (arith, U .small) in
-    rw e (refl, width-pos u (U .e) (U .is) c h, rw w (omega (arith, pow-mono l)))
+    let w = width-is u (U .0) (U .1 .power) c h in
+    let l : U .0 + 2 - log2up c ≤ 7 = omega (arith, U .1 .small) in
+    rw e (refl, width-pos u (U .0) (U .1 .power) c h, rw w (omega (arith, pow-mono l)))
 
 -- v / w shares of a field
 pub record Shares (v w p gap : ℕ) : Type 0 where
@@ -44,19 +45,20 @@ part-le zero w v e h = absurd (omega arith)
 part-le (suc m) w v e h = omega arith
 
 -- the next set's width is not above the width of the set before it, nor above a sector
-pub next-le : (u c : ℕ) → Unit? u → c < 4 * u → setWidth u (c + 1) ≤ setWidth u c
+pub next-le : (u c : ℕ) → UnitSound u → c < 4 * u → setWidth u (c + 1) ≤ setWidth u c
 next-le u c U h =
-    part-le (setWidth u c / setWidth u (c + 1)) (setWidth u (c + 1)) (setWidth u c) (old-whole u (U .e) (U .is) c h) (width-pos u (U .e) (U .is) c (omega arith))
+    part-le (setWidth u c / setWidth u (c + 1)) (setWidth u (c + 1)) (setWidth u c) (old-whole u (U .0) (U .1 .power) c h) (width-pos u (U .0) (U .1 .power) c (omega arith))
 
-pub sector-le : (u c : ℕ) → Unit? u → c ≤ 4 * u → setWidth u c ≤ 16 * u
+pub sector-le : (u c : ℕ) → UnitSound u → c ≤ 4 * u → setWidth u c ≤ 16 * u
 sector-le u c U h =
-    part-le (16 * u / setWidth u c) (setWidth u c) (16 * u) (sector-whole u (U .e) (U .is) c h) (omega (arith, unit-pos u (U .e) (U .is)))
+    part-le (16 * u / setWidth u c) (setWidth u c) (16 * u) (sector-whole u (U .0) (U .1 .power) c h) (omega (arith, unit-pos u (U .0) (U .1 .power)))
 
-pub pages-le : (u c : ℕ) → Unit? u → c ≤ 4 * u → setPages c ≤ 2048
-pages-le u c U h = omega (arith, unit-le u U, blocks-fit u (U .e) (U .is) c h)
+pub pages-le : (u c : ℕ) → UnitSound u → c ≤ 4 * u → setPages c ≤ 2048
+pages-le u c U h = omega (arith, U .1 .most, blocks-fit u (U .0) (U .1 .power) c h)
 
 -- the row that the code makes
-pub row-made : (u : ℕ) (ix : Index) (c p w v side : ℕ) (o l : Source) → w ≡ setWidth u (c + 1) → v ≡ setWidth u c → side ≡ sideBlock u ix c
-    → o ≡ sourceOf (side * (1024 * u)) (64 * u) v w p → l ≡ sourceOf (ix .first * (1024 * u)) (4 * (64 * u)) (16 * u) w p
-    → _≡_ {A = Row} (record { w = w; split = 16 * c * w; end = 16 * (c + 1) * w; old = o; l1 = l }) (rowOf u ix c p)
-row-made u ix c p w v side o l a b d e f = rw (e, f, a, b, d)
+module _ (u : ℕ) (ix : Index) (c p w v side first gap size : ℕ) (o l : Source) where
+  pub row-made : w ≡ setWidth u (c + 1) → v ≡ setWidth u c → side ≡ sideBlock u ix c * block u → first ≡ ix .first * block u
+      → gap ≡ page u → size ≡ sector u → o ≡ sourceOf side gap v w p → l ≡ sourceOf first (pagesPerFourth * gap) size w p
+      → _≡_ {A = Row} (record { w = w; split = 16 * c * w; end = 16 * (c + 1) * w; old = o; l1 = l }) (rowOf u ix c p)
+  row-made ew ev es ef eg ez eo el = rw (eo, el, ew, ev, es, ef, eg, ez)

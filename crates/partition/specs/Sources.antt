@@ -12,7 +12,7 @@ use Rattle.memory.specs.Cases.{lt?, either}
 use Rattle.memory.specs.Numbers.{euclid, div-of, mod-of, div-lt}
 use Rattle.memory.specs.Bits.{bit, bitIn, pack, pack-ext}
 use Rattle.layout.specs.Geometry.{sector, page, block}
-use Rattle.layout.specs.Index.{Index, rowBit, rowByte, bitAt, setWidth, fullFilters, sideBlock, flashPlace, setByte}
+use Rattle.layout.specs.Index.{Index, pagesPerFourth, rowBit, rowByte, bitAt, setWidth, fullFilters, sideBlock, flashPlace, setByte}
 use Rattle.laws.specs.RowLaws.{unit-pos, width-pos}
 use Rattle.laws.specs.Apart.{place-old, place-new}
 use Rattle.fields.specs.declared.Source.{Source}
@@ -36,7 +36,7 @@ module _ (u : ℕ) (ix : Index) where
   oldOf c p = sourceOf (sideBlock u ix c * block u) (page u) (setWidth u c) (setWidth u (c + 1)) p
 
   abbrev pub l1Of : ℕ → ℕ → Source
-  l1Of c p = sourceOf (ix .first * block u) (4 * page u) (sector u) (setWidth u (c + 1)) p
+  l1Of c p = sourceOf (ix .first * block u) (pagesPerFourth * page u) (sector u) (setWidth u (c + 1)) p
 
   abbrev pub rowOf : ℕ → ℕ → Row
   rowOf c p = record {

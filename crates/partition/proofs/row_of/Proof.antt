@@ -1,134 +1,126 @@
 use native.Mathlib.Omega.{arith}
-use native.Mathlib.Nat.{mul-le-mul-right}
-use Prim.Native.Nat.{_+_, _*_, _≤_}
-use Rattle.sets.specs.Indexes.{indexOf}
-use Rattle.partition.specs.Indexes.{unit-le}
+use native.Mathlib.Nat.{mul-le-mul, mul-le-mul-right}
+use Prim.Native.Nat.{_+_, _≤_, _<_}
+use mathlib.Core.Path.{_≡_}
+use Rattle.layout.specs.Index.{setWidth}
+use Rattle.geometry.specs.Indexes.{indexOf}
 use Rattle.partition.proofs.Numbers.{width-of, next-le, sector-le, row-made}
+use borrow.Author.Needs.{needs}
 use Rattle.partition.proofs.row_of.Statement.{statement}
 use Rattle.partition.proofs.row_of.Tie as tie
 
 add-set-width : tie.Need-add-set-width
-add-set-width c = omega (arith, unit-le (c .args .unit) (c .pre .0))
+add-set-width c = search needs
 
 set-width-requires : tie.Need-set-width-requires
-set-width-requires c κs = let l = unit-le (c .args .unit) (c .pre .0) in (l, omega (arith, l, c .pre .1))
+set-width-requires c κs = search needs
 
 set-width-requires-2 : tie.Need-set-width-requires-2
-set-width-requires-2 c κs =
-    let l = unit-le (c .before .args .unit) (c .before .pre .0) in
-    (l, omega (arith, l, c .before .pre .1))
+set-width-requires-2 c κs = search needs
 
 side-block-requires : tie.Need-side-block-requires
-side-block-requires c κs = (unit-le (c .before .before .args .unit) (c .before .before .pre .0), c .before .before .pre .3)
+side-block-requires c κs = search needs
 
-mul-side : tie.Need-mul-side
-mul-side c = omega (arith, unit-le (c .before .before .before .args .unit) (c .before .before .before .pre .0))
+block-address-requires : tie.Need-block-address-requires
+block-address-requires c κs =
+    let x = c .before .before .before in
+    (x .pre .0 .1 .most, omega (arith, mul-le-mul (c .side-block .ensures .1) (x .pre .0 .1 .most)))
 
-mul-side-2 : tie.Need-mul-side-2
-mul-side-2 c = omega (arith, unit-le (c .before .before .before .args .unit) (c .before .before .before .pre .0), mul-le-mul-right (1024 * c .before .before .before .args .unit) (c .side-block .ensures .1))
+block-address-requires-2 : tie.Need-block-address-requires-2
+block-address-requires-2 c κs =
+    let x = c .before .before .before .before in
+    (x .pre .0 .1 .most, omega (arith, mul-le-mul (x .pre .2) (x .pre .0 .1 .most)))
 
-mul-first : tie.Need-mul-first
-mul-first c = omega (arith, unit-le (c .before .before .before .args .unit) (c .before .before .before .pre .0))
-
-mul-first-2 : tie.Need-mul-first-2
-mul-first-2 c = omega (arith, unit-le (c .before .before .before .before .args .unit) (c .before .before .before .before .pre .0), mul-le-mul-right (1024 * c .before .before .before .before .args .unit) (c .before .before .before .before .pre .3))
+page-size-requires : tie.Need-page-size-requires
+page-size-requires c κs = search needs
 
 mul-split : tie.Need-mul-split
-mul-split c =
-    let x = c .before .before .before .before in
-    let h : x .args .c + 1 ≤ 128 = omega (arith, unit-le (x .args .unit) (x .pre .0), x .pre .1) in
-    omega arith
+mul-split c = search needs
+
+-- the width of the next set, and that of the set before it
+new-width : (b : tie.After-set-width)
+    → (b .set-width .result ≡ setWidth (b .before .args .chip .unit) (b .before .args .set .rounds + 1)) × (0 < b .set-width .result) × (b .set-width .result ≤ 128)
+new-width b =
+    let x = b .before in
+    width-of (x .args .chip .unit) (x .args .set .rounds + 1) (b .set-width .result) (x .pre .0) (omega (arith, x .pre .1)) (b .set-width .ensures)
+
+old-width : (b : tie.After-set-width2)
+    → (b .set-width2 .result ≡ setWidth (b .before .before .args .chip .unit) (b .before .before .args .set .rounds)) × (0 < b .set-width2 .result) × (b .set-width2 .result ≤ 128)
+old-width b =
+    let x = b .before .before in
+    width-of (x .args .chip .unit) (x .args .set .rounds) (b .set-width2 .result) (x .pre .0) (omega (arith, x .pre .1)) (b .set-width2 .ensures)
 
 mul-split-2 : tie.Need-mul-split-2
 mul-split-2 c =
-    let x = c .before .before .before .before in
-    let h : x .args .c + 1 ≤ 128 = omega (arith, unit-le (x .args .unit) (x .pre .0), x .pre .1) in
-    omega (arith, mul-le-mul-right (c .before .before .before .set-width .result) h, (width-of (x .args .unit) (x .args .c + 1) (c .before .before .before .set-width .result) (x .pre .0) (omega (arith, x .pre .1)) (c .before .before .before .set-width .ensures)) .2)
+    let b = c .before .before .before .before .before in
+    let h : b .before .args .set .rounds + 1 ≤ 128 = omega (arith, b .before .pre .0 .1 .most, b .before .pre .1) in
+    omega (arith, mul-le-mul-right (b .set-width .result) h, new-width b .2)
 
 add-end : tie.Need-add-end
-add-end c =
-    let x = c .before .before .before .before in
-    let h : x .args .c + 1 ≤ 128 = omega (arith, unit-le (x .args .unit) (x .pre .0), x .pre .1) in
-    omega arith
+add-end c = search needs
 
 mul-end : tie.Need-mul-end
-mul-end c =
-    let x = c .before .before .before .before in
-    let h : x .args .c + 1 ≤ 128 = omega (arith, unit-le (x .args .unit) (x .pre .0), x .pre .1) in
-    omega arith
+mul-end c = search needs
 
 mul-end-2 : tie.Need-mul-end-2
 mul-end-2 c =
-    let x = c .before .before .before .before in
-    let h : x .args .c + 1 ≤ 128 = omega (arith, unit-le (x .args .unit) (x .pre .0), x .pre .1) in
-    omega (arith, mul-le-mul-right (c .before .before .before .set-width .result) h, (width-of (x .args .unit) (x .args .c + 1) (c .before .before .before .set-width .result) (x .pre .0) (omega (arith, x .pre .1)) (c .before .before .before .set-width .ensures)) .2)
-
-mul-source-of : tie.Need-mul-source-of
-mul-source-of c = omega (arith, unit-le (c .before .before .before .before .args .unit) (c .before .before .before .before .pre .0))
+    let b = c .before .before .before .before .before in
+    let h : b .before .args .set .rounds + 1 ≤ 128 = omega (arith, b .before .pre .0 .1 .most, b .before .pre .1) in
+    omega (arith, mul-le-mul-right (b .set-width .result) h, new-width b .2)
 
 source-of-requires : tie.Need-source-of-requires
 source-of-requires c κs =
-    let x = c .before .before .before .before in
-    let w = width-of (x .args .unit) (x .args .c + 1) (c .before .before .before .set-width .result) (x .pre .0) (omega (arith, x .pre .1)) (c .before .before .before .set-width .ensures) in
-    let v = width-of (x .args .unit) (x .args .c) (c .before .before .set-width2 .result) (x .pre .0) (omega (arith, x .pre .1)) (c .before .before .set-width2 .ensures) in
-    let l = unit-le (x .args .unit) (x .pre .0) in (
-      omega (arith, l, mul-le-mul-right (1024 * x .args .unit) (c .before .side-block .ensures .1)),
-      omega (arith, l),
-      w .1,
-      rw (w .0, v .0) (next-le (x .args .unit) (x .args .c) (x .pre .0) (x .pre .1)),
-      omega (arith, v .2),
-      x .pre .2,
+    let a = c .before .before in
+    let s = a .before in
+    let v = s .before in
+    let b = v .before in
+    let x = b .before in
+    let l = x .pre .0 .1 .most in (
+      omega (arith, a .block-address .ensures, mul-le-mul (s .side-block .ensures .1) l),
+      omega (arith, c .page-size .ensures, l),
+      new-width b .1,
+      rw (new-width b .0, old-width v .0) (next-le (x .args .chip .unit) (x .args .set .rounds) (x .pre .0) (x .pre .1)),
+      omega (arith, old-width v .2),
+      x .pre .3,
     )
 
-mul-source-of-2 : tie.Need-mul-source-of-2
-mul-source-of-2 c = omega (arith, unit-le (c .before .before .before .before .before .args .unit) (c .before .before .before .before .before .pre .0))
+mul-source-of : tie.Need-mul-source-of
+mul-source-of c = search needs
 
-mul-source-of-3 : tie.Need-mul-source-of-3
-mul-source-of-3 c = omega (arith, unit-le (c .before .before .before .before .before .args .unit) (c .before .before .before .before .before .pre .0))
-
-mul-source-of-4 : tie.Need-mul-source-of-4
-mul-source-of-4 c = omega (arith, unit-le (c .before .before .before .before .before .args .unit) (c .before .before .before .before .before .pre .0))
+sector-size-requires : tie.Need-sector-size-requires
+sector-size-requires c κs = search needs
 
 source-of-requires-2 : tie.Need-source-of-requires-2
 source-of-requires-2 c κs =
-    let x = c .before .before .before .before .before in
-    let w = width-of (x .args .unit) (x .args .c + 1) (c .before .before .before .before .set-width .result) (x .pre .0) (omega (arith, x .pre .1)) (c .before .before .before .before .set-width .ensures) in
-    let l = unit-le (x .args .unit) (x .pre .0) in (
-      omega (arith, l, mul-le-mul-right (1024 * x .args .unit) (x .pre .3)),
-      omega (arith, l),
-      w .1,
-      rw (w .0) (sector-le (x .args .unit) (x .args .c + 1) (x .pre .0) (omega (arith, x .pre .1))),
-      omega (arith, l),
-      x .pre .2,
+    let g = c .before .before in
+    let a = g .before in
+    let b = a .before .before .before .before in
+    let x = b .before in
+    let l = x .pre .0 .1 .most in (
+      omega (arith, a .block-address2 .ensures, mul-le-mul (x .pre .2) l),
+      omega (arith, g .page-size .ensures, l),
+      new-width b .1,
+      rw (new-width b .0, c .sector-size .ensures) (sector-le (x .args .chip .unit) (x .args .set .rounds + 1) (x .pre .0) (omega (arith, x .pre .1))),
+      omega (arith, c .sector-size .ensures, l),
+      x .pre .3,
     )
 
 returns : tie.Need-returns
 returns c =
-    let x = c .before .before .before .before .before .before in
-    row-made (x .args .unit) (indexOf (x .args .ix)) (x .args .c) (x .args .p) (c .before .before .before .before .before .set-width .result) (c .before .before .before .before .set-width2 .result) (c .before .before .before .side-block .result) (c .before .source-of .result) (c .source-of2 .result)
-    (c .before .before .before .before .before .set-width .ensures) (c .before .before .before .before .set-width2 .ensures) (c .before .before .before .side-block .ensures .0) (c .before .source-of .ensures) (c .source-of2 .ensures)
+    let z = c .before in
+    let o = z .before in
+    let g = o .before in
+    let f = g .before in
+    let a = f .before in
+    let s = a .before in
+    let v = s .before in
+    let b = v .before in
+    let x = b .before .args in
+    let e = rw (s .side-block .ensures .0) at (a .block-address .ensures) in
+    row-made (x .chip .unit) (indexOf (x .set .index)) (x .set .rounds) (x .p) (b .set-width .result) (v .set-width2 .result) (a .block-address .result)
+    (f .block-address2 .result) (g .page-size .result) (z .sector-size .result) (o .source-of .result) (c .source-of2 .result)
+    (b .set-width .ensures) (v .set-width2 .ensures) e (f .block-address2 .ensures) (g .page-size .ensures) (z .sector-size .ensures)
+    (o .source-of .ensures) (c .source-of2 .ensures)
 
 pub row-of-spec : {M : Type 1} → statement M
-row-of-spec =
-    tie.close
-    (tie.spec
-    add-set-width
-    set-width-requires
-    set-width-requires-2
-    side-block-requires
-    mul-side
-    mul-side-2
-    mul-first
-    mul-first-2
-    mul-split
-    mul-split-2
-    add-end
-    mul-end
-    mul-end-2
-    mul-source-of
-    source-of-requires
-    mul-source-of-2
-    mul-source-of-3
-    mul-source-of-4
-    source-of-requires-2
-    returns)
+row-of-spec = tie.close (tie.spec add-set-width set-width-requires set-width-requires-2 side-block-requires block-address-requires block-address-requires-2 page-size-requires mul-split mul-split-2 add-end mul-end mul-end-2 source-of-requires mul-source-of sector-size-requires source-of-requires-2 returns)
