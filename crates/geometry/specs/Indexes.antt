@@ -1,7 +1,11 @@
--- The code's index as the layout's.
+-- The code's index as the layout's, and the index over the entries as the code has it.
+use Rattle.layout.specs.Geometry.{Geometry}
 use Rattle.layout.specs.Index as layout
+use Rattle.layout.specs.Calls.{keyIndex}
 use Rattle.geometry.specs.declared.sets.Index.{Index}
 
--- the index of the layout that the code's index stands for
 abbrev pub indexOf : Index → layout.Index
 indexOf ix = record { first = ix .first; ska = ix .ska }
+
+abbrev pub indexFor : Geometry → Index
+indexFor g = record { first = keyIndex g .first; ska = keyIndex g .ska }

@@ -37,6 +37,17 @@ pub struct Geometry {
 }
 
 impl Geometry {
+    // The pages of the RAM by number: that of records is 0; entries, deletions, filters and work follow.
+    pub const KA_PAGE: usize = 1;
+
+    pub const DA_PAGE: usize = 2;
+
+    pub const SKA_PAGE: usize = 3;
+
+    pub const WORK_PAGE: usize = 4;
+
+    pub const RAM_PAGES: usize = 5;
+
     // ---- the table's columns
 
     pub fn records_per_page(self) -> usize
@@ -152,37 +163,37 @@ impl Geometry {
         requires { ⌜ Sound self ⌝ }
         ensures { λ r. ⌜ r ≡ layout.ramSize (shape self) ⌝ }
     {
-        5 * self.chip.page_size()
+        Geometry::RAM_PAGES * self.chip.page_size()
     }
 
-    // ---- pages of the RAM: records, entries, deletions, filters and work
+    // ---- first bytes of the RAM's pages
 
     pub fn ka_ram(self) -> usize
         requires { ⌜ Sound self ⌝ }
         ensures { λ r. ⌜ r ≡ layout.kaRam (shape self .u) ⌝ }
     {
-        self.chip.page_size()
+        Geometry::KA_PAGE * self.chip.page_size()
     }
 
     pub fn da_ram(self) -> usize
         requires { ⌜ Sound self ⌝ }
         ensures { λ r. ⌜ r ≡ layout.daRam (shape self .u) ⌝ }
     {
-        2 * self.chip.page_size()
+        Geometry::DA_PAGE * self.chip.page_size()
     }
 
     pub fn ska_ram(self) -> usize
         requires { ⌜ Sound self ⌝ }
         ensures { λ r. ⌜ r ≡ layout.skaRam (shape self .u) ⌝ }
     {
-        3 * self.chip.page_size()
+        Geometry::SKA_PAGE * self.chip.page_size()
     }
 
     pub fn work_ram(self) -> usize
         requires { ⌜ Sound self ⌝ }
         ensures { λ r. ⌜ r ≡ layout.workRam (shape self .u) ⌝ }
     {
-        4 * self.chip.page_size()
+        Geometry::WORK_PAGE * self.chip.page_size()
     }
 }
 

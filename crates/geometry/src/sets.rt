@@ -5,8 +5,10 @@ ghost use Prim.Native.Nat.{_*_, _^_, _<_, _≤_};
 ghost use Rattle.memory.specs.Power.{log2up};
 ghost use Rattle.layout.specs.Geometry.{sideBlocks};
 ghost use Rattle.layout.specs.Index.{setPages, setWidth, setBlocks, sideBlock, fullBlock, setBlock};
-ghost use Rattle.geometry.specs.Indexes.{indexOf};
+ghost use Rattle.geometry.specs.Shape.{shape, Sound};
+ghost use Rattle.geometry.specs.Indexes.{indexOf, indexFor};
 use crate::Chip;
+use crate::Geometry;
 
 // "Eight filters fill the SKA page".
 pub const FILTERS_PER_FLUSH: usize = 8;
@@ -23,6 +25,17 @@ pub const PAGES_PER_FOURTH: usize = FLUSHES_PER_ROUND / Chip::SECTORS_PER_PAGE;
 pub struct Index {
     pub first: usize,
     pub ska: usize,
+}
+
+// The index over the entries.
+pub fn key_index(g: Geometry) -> Index
+    requires { ⌜ Sound g ⌝ }
+    ensures { λ r. ⌜ r ≡ indexFor (shape g) ⌝ }
+{
+    Index {
+        first: g.index_block(),
+        ska: g.ska_ram(),
+    }
 }
 
 // The set that comes next in an index with so many full sets and rounds.

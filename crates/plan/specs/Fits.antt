@@ -3,18 +3,18 @@ use mathlib.Core.Path.{_≡_, ap}
 use Prim.Native.Nat.{ℕ, _+_, _*_, _/_, _≤_, _<_}
 use native.Mathlib.Nat.{mul-le-mul-right}
 use native.Mathlib.Omega.{arith}
-use Rattle.layout.specs.Geometry.{sectorsPerBlock, sector, page, block, sideBlocks}
+use Rattle.layout.specs.Geometry.{sectorsPerPage, sectorsPerBlock, sector, page, block, sideBlocks}
 use Rattle.layout.specs.Index.{fullBlock, setPages}
-use Rattle.sets.specs.Indexes.{indexOf}
-use Rattle.partition.specs.Indexes.{Unit?}
+use Rattle.geometry.specs.Indexes.{indexOf}
+use Rattle.laws.specs.Units.{UnitSound}
 use Rattle.plan.specs.declared.Page.{Page}
 use Rattle.plan.specs.declared.Segment.{Segment}
-use Rattle.plan.specs.declared.Set.{Set}
+use Rattle.geometry.specs.declared.sets.Set.{Set}
 
 pub record PageFits (u : ℕ) (p : Page) (main spare ram : ℕ) : Type 0 where
   pub small : u ≤ 32
-  pub in-main : (p .sector + 4) * sector u ≤ main
-  pub in-spare : p .sector + 4 ≤ spare
+  pub in-main : (p .sector + sectorsPerPage) * sector u ≤ main
+  pub in-spare : p .sector + sectorsPerPage ≤ spare
   pub in-ram : p .at + page u ≤ ram
 
 -- the sectors of a flush lie 16 apart
@@ -27,13 +27,11 @@ pub record FlushFits (u : ℕ) (p : Page) (main spare ram : ℕ) : Type 0 where
 
 -- the first n sectors of the next set from sector s on, and what they are made of
 pub record NextFits (u : ℕ) (set : Set) (s n main spare : ℕ) : Type 0 where
-  pub unit : Unit? u
-  pub small : u ≤ 32
+  pub unit : UnitSound u
   pub rounds : set .rounds < sideBlocks u
-  pub sets : set .«full_sets» ≤ 1024
   pub near : set .index .first ≤ 20000
   pub sides : fullBlock u (indexOf (set .index)) 0 * block u ≤ main
-  pub sectors : n ≤ setPages (set .rounds + 1) * 4
+  pub sectors : n ≤ setPages (set .rounds + 1) * sectorsPerPage
   pub in-main : (s + n) * sector u ≤ main
   pub in-spare : s + n ≤ spare
 
@@ -87,9 +85,7 @@ fewer u set s n main spare F k h =
     let l : s + k ≤ s + n = omega arith in
     record {
       unit = F .unit;
-      small = F .small;
       rounds = F .rounds;
-      sets = F .sets;
       near = F .near;
       sides = F .sides;
       sectors = omega (arith, h, F .sectors);
@@ -99,7 +95,7 @@ fewer u set s n main spare F k h =
 
 -- k blocks of a segment from its f-th on
 pub blocks-inside : (u : ℕ) (b : Segment) (main spare : ℕ) → WipeFits u b main spare → (f k : ℕ) → f + k ≤ b .count
-    → (u ≤ 32) × ((b .first + f + k) * block u ≤ main) × ((b .first + f + k) * sectorsPerBlock ≤ spare)
+    → ((u ≤ 32) × ((b .first + f + k) * block u ≤ main)) × ((b .first + f + k) * sectorsPerBlock ≤ spare)
 blocks-inside u b main spare F f k h =
     let l : b .first + f + k ≤ b .first + b .count = omega arith in
-    (F .small, omega (arith, mul-le-mul-right (block u) l, F .in-main), omega (arith, l, F .in-spare))
+    ((F .small, omega (arith, mul-le-mul-right (block u) l, F .in-main)), omega (arith, l, F .in-spare))

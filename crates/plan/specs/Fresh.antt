@@ -10,7 +10,7 @@ use Rattle.layout.specs.Geometry.{sector}
 use Rattle.layout.specs.Flash.{Flash, apply, fresh, allFresh, Planned, known, made, wipe, plannedFrom, opOn, planOps}
 use Rattle.layout.specs.Index.{setByte}
 use Rattle.flash.specs.Fresh.{freshRun}
-use Rattle.sets.specs.Indexes.{indexOf}
+use Rattle.geometry.specs.Indexes.{indexOf}
 use Rattle.plan.specs.declared.Page.{Page}
 use Rattle.plan.specs.declared.Plan.{Plan}
 use Rattle.plan.specs.Segments.{withItem, withEighth, filledPage, flushed, nextSet, wiped}

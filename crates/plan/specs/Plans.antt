@@ -123,8 +123,8 @@ spare-fits p main spare ram F = record {
 pub count-fits : (p : Plan) (main spare ram : ℕ) → PlanFits p main spare ram → spare < 2 ^ 64 → plannedCount p < 2 ^ 64
 count-fits p main spare ram F h =
     let N = F .build .set in
-    let b = blocks-fit (p .chip .unit) (N .unit .e) (N .unit .is) (p .next .rounds + 1) (omega (arith, N .rounds)) in
-    let s : p .set .count ≤ 8192 = omega (arith, b, N .sectors, N .small) in
+    let b = blocks-fit (p .chip .unit) (N .unit .0) (N .unit .1 .power) (p .next .rounds + 1) (omega (arith, N .rounds)) in
+    let s : p .set .count ≤ 8192 = omega (arith, b, N .sectors, N .unit .1 .most) in
     let l : p .l1 .count * 64 ≤ spare = omega (arith, F .build .l1 .in-spare) in
     let o : p .old .count * 64 ≤ spare = omega (arith, F .build .old .in-spare) in
     omega (arith, s, l, o, h, F .pages .da-count, F .pages .ra-count, F .pages .ka-count, F .flush-count)

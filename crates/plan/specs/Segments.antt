@@ -15,11 +15,11 @@ use Rattle.layout.specs.Flash.{Planned, known, made, wipe}
 use Rattle.layout.specs.Items.{Area, pageSector}
 use Rattle.layout.specs.Index.{Index, withFilter, flushSector, setByte, setBlock, setSector}
 use Rattle.flash.specs.Parts.{tab-part}
-use Rattle.sets.specs.Indexes.{indexOf}
+use Rattle.geometry.specs.Indexes.{indexOf}
 use Rattle.filter.specs.Filter.{arrayBit}
 use Rattle.filter.specs.Pieces.{fourthOf, piece-of}
 use Rattle.plan.specs.declared.Page.{Page}
-use Rattle.plan.specs.declared.Set.{Set}
+use Rattle.geometry.specs.declared.sets.Set.{Set}
 
 module _ (u : ℕ) where
   -- sector j of a page from sector s on, and of a flush, with the bytes of the RAM page at `at`; sector j of a set

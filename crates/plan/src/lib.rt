@@ -3,7 +3,8 @@ ghost use mathlib.Core.Path.{_≡_};
 ghost use mathlib.Core.List.{List};
 ghost use Prim.Native.Nat.{ℕ, _+_, _-_, _*_, _^_, _<_, _≤_};
 ghost use lib.ListN.{length};
-ghost use Rattle.layout.specs.Geometry.{sector};
+ghost use Rattle.memory.specs.Lent.{before};
+ghost use Rattle.layout.specs.Geometry.{sectorsPerPage, sector};
 ghost use Rattle.layout.specs.Flash.{Flash, planOps, allFresh};
 ghost use Rattle.layout.specs.Index.{setPages};
 ghost use Rattle.laws.specs.LentFlash.{flashBefore, flashAfter};
@@ -14,13 +15,9 @@ ghost use Rattle.plan.specs.Fits.{PageFits, FlushFits, NextFits, WipeFit
 ghost use Rattle.plan.specs.Plans.{newLength, pagesOf, buildOf, planned, plannedCount, wholeOf};
 ghost use Rattle.plan.specs.Plans.{PagesFit, BuildFits, PlanFits, SpareFits};
 use geometry::Chip;
-use sets::Index;
-
-// Filters of a flush.
-pub const FILTERS_PER_FLUSH: usize = 8;
-
-// Flushes of a round; the sectors of a flush lie so far apart in L1.
-pub const FLUSHES_PER_ROUND: usize = 16;
+use geometry::Geometry;
+use geometry::sets;
+use geometry::sets::Set;
 
 // ---- a plan
 
@@ -28,13 +25,6 @@ pub const FLUSHES_PER_ROUND: usize = 16;
 pub struct Segment {
     pub first: usize,
     pub count: usize,
-}
-
-// The set that comes next in an index with so many full sets and rounds.
-pub struct Set {
-    pub index: Index,
-    pub full_sets: usize,
-    pub rounds: usize,
 }
 
 // The operations of a change, in order: the pages that its deletion, its record and its entry fill, the flush of the filters, the
@@ -111,16 +101,16 @@ fn page_step(
     ram: &[u8],
 )
     requires { ⌜ PageFits (chip .unit) page (length (now main)) (length (now spare)) (length (now ram)) ⌝ }
-    requires { ⌜ (j < 4) × (length (now item) ≤ sector (chip .unit)) ⌝ }
+    requires { ⌜ (j < sectorsPerPage) × (length (now item) ≤ sector (chip .unit)) ⌝ }
     ensures { λ _. ⌜ flashAfter main spare
-        ≡ doneOne (chip .unit) (filledPage (chip .unit) page (now (item .entry)) (now (ram .entry)) j) (flashBefore main spare) ⌝ }
+        ≡ doneOne (chip .unit) (filledPage (chip .unit) page (before item) (before ram) j) (flashBefore main spare) ⌝ }
 {
     let size = chip.sector_size();
     let s = page.sector + j;
     let from = page.at + j * size;
     if j + 1 < Chip::SECTORS_PER_PAGE {
         let to = from + size;
-        flash::program_sector(main, spare, chip.unit, s, &ram[from..to]);
+        flash::program_sector(chip, s, &ram[from..to], main, spare);
         return;
     }
     let to = from + (size - item.len());
@@ -138,9 +128,9 @@ fn page_run(
     ram: &[u8],
 )
     requires { ⌜ PageFits (chip .unit) page (length (now main)) (length (now spare)) (length (now ram)) ⌝ }
-    requires { ⌜ (part .to ≤ 4) × (length (now item) ≤ sector (chip .unit)) ⌝ }
+    requires { ⌜ (part .to ≤ sectorsPerPage) × (length (now item) ≤ sector (chip .unit)) ⌝ }
     ensures { λ _. ⌜ flashAfter main spare
-        ≡ runOf (chip .unit) (filledPage (chip .unit) page (now (item .entry)) (now (ram .entry))) part (flashBefore main spare) ⌝ }
+        ≡ runOf (chip .unit) (filledPage (chip .unit) page (before item) (before ram)) part (flashBefore main spare) ⌝ }
 {
     let mut j = part.from;
     while j < part.to {
@@ -160,19 +150,19 @@ fn flush_step(
     ram: &[u8],
 )
     requires { ⌜ FlushFits (chip .unit) page (length (now main)) (length (now spare)) (length (now ram)) ⌝ }
-    requires { ⌜ (j < 4) × (length (now bits) ≡ 256) ⌝ }
+    requires { ⌜ (j < sectorsPerPage) × (length (now bits) ≡ 256) ⌝ }
     ensures { λ _. ⌜ flashAfter main spare
-        ≡ doneOne (chip .unit) (flushed (chip .unit) page (now (bits .entry)) (now (ram .entry)) j) (flashBefore main spare) ⌝ }
+        ≡ doneOne (chip .unit) (flushed (chip .unit) page (before bits) (before ram) j) (flashBefore main spare) ⌝ }
 {
     let size = chip.sector_size();
-    let piece = size / FILTERS_PER_FLUSH;
+    let piece = size / sets::FILTERS_PER_FLUSH;
     let from = page.at + j * size;
     let to = from + (size - piece);
     let lo = j * piece;
     let hi = lo + piece;
     flash::program_joined(
         chip,
-        page.sector + j * FLUSHES_PER_ROUND,
+        page.sector + j * sets::FLUSHES_PER_ROUND,
         &ram[from..to],
         &bits[lo..hi],
         main,
@@ -191,9 +181,9 @@ fn flush_run(
     ram: &[u8],
 )
     requires { ⌜ FlushFits (chip .unit) page (length (now main)) (length (now spare)) (length (now ram)) ⌝ }
-    requires { ⌜ (part .to ≤ 4) × (length (now bits) ≡ 256) ⌝ }
+    requires { ⌜ (part .to ≤ sectorsPerPage) × (length (now bits) ≡ 256) ⌝ }
     ensures { λ _. ⌜ flashAfter main spare
-        ≡ runOf (chip .unit) (flushed (chip .unit) page (now (bits .entry)) (now (ram .entry))) part (flashBefore main spare) ⌝ }
+        ≡ runOf (chip .unit) (flushed (chip .unit) page (before bits) (before ram)) part (flashBefore main spare) ⌝ }
 {
     let mut j = part.from;
     while j < part.to {
@@ -216,11 +206,10 @@ fn set_run(
     requires { ⌜ length (now buf) ≡ sector (chip .unit) ⌝ }
     ensures { λ _. ⌜ flashAfter main spare ≡ runOf (chip .unit) (nextSet (chip .unit) set s) part (flashBefore main spare) ⌝ }
 {
-    let unit = chip.unit;
     let mut j = part.from;
     while j < part.to {
-        partition::set_sector(main, unit, set.index, set.full_sets, set.rounds, j, buf);
-        flash::program_sector(main, spare, unit, s + j, buf);
+        partition::set_sector(chip, set, j, main, buf);
+        flash::program_sector(chip, s + j, buf, main, spare);
         j += 1;
     }
 }
@@ -234,11 +223,11 @@ fn wipe_run(chip: Chip, blocks: Segment, part: Span, main: &mut [u8], spare: &mu
         return;
     }
     flash::erase_blocks(
-        main,
-        spare,
-        chip.unit,
+        chip,
         blocks.first + part.from,
         part.to - part.from,
+        main,
+        spare,
     );
 }
 
@@ -248,13 +237,13 @@ fn wipe_run(chip: Chip, blocks: Segment, part: Span, main: &mut [u8], spare: &mu
 fn pages(p: Plan, part: Span, new: &[u8], main: &mut [u8], spare: &mut [u8], ram: &[u8])
     requires { ⌜ PagesFit p (length (now main)) (length (now spare)) (length (now ram)) × (length (now new) ≡ newLength) ⌝ }
     ensures { λ _. ⌜ flashAfter main spare
-        ≡ done (p .chip .unit) (span (pagesOf p (now (new .entry)) (now (ram .entry))) part) (flashBefore main spare) ⌝ }
+        ≡ done (p .chip .unit) (span (pagesOf p (before new) (before ram)) part) (flashBefore main spare) ⌝ }
 {
     let chip = p.chip;
     let page = chip.page_size();
     let da = Page {
         sector: p.da.first,
-        at: 2 * page,
+        at: Geometry::DA_PAGE * page,
     };
     let ra = Page {
         sector: p.ra.first,
@@ -344,7 +333,7 @@ pub fn run(
     requires { ⌜ PlanFits p (length (now main)) (length (now spare)) (length (now ram)) ⌝ }
     requires { ⌜ (length (now new) ≡ newLength) × (length (now bits) ≡ 256) ⌝ }
     ensures { λ _. ⌜ flashAfter main spare
-        ≡ done (p .chip .unit) (span (planned p (now (new .entry)) (now (bits .entry)) (now (ram .entry))) part)
+        ≡ done (p .chip .unit) (span (planned p (before new) (before bits) (before ram)) part)
         (flashBefore main spare) ⌝ }
 {
     let filters = part.behind(p.da.count + p.ra.count + p.ka.count);
@@ -373,19 +362,19 @@ pub fn run(
 pub fn fresh(p: Plan, spare: &[u8]) -> bool
     requires { ⌜ SpareFits p (length (now spare)) ⌝ }
     ensures { λ r. ⌜ ((new bits ram : List ℕ) (flash : Flash)
-        → r ≡ allFresh (now (spare .entry)) (planOps (p .chip .unit) (planned p new bits ram) flash)) ⌝ }
+        → r ≡ allFresh (before spare) (planOps (p .chip .unit) (planned p new bits ram) flash)) ⌝ }
 {
-    if !flash::all_fresh(spare, p.da.first, 1, p.da.count) {
+    if !flash::all_fresh(p.da.first, 1, p.da.count, spare) {
         return false;
     }
-    if !flash::all_fresh(spare, p.ra.first, 1, p.ra.count) {
+    if !flash::all_fresh(p.ra.first, 1, p.ra.count, spare) {
         return false;
     }
-    if !flash::all_fresh(spare, p.ka.first, 1, p.ka.count) {
+    if !flash::all_fresh(p.ka.first, 1, p.ka.count, spare) {
         return false;
     }
-    if !flash::all_fresh(spare, p.flush.first, FLUSHES_PER_ROUND, p.flush.count) {
+    if !flash::all_fresh(p.flush.first, sets::FLUSHES_PER_ROUND, p.flush.count, spare) {
         return false;
     }
-    flash::all_fresh(spare, p.set.first, 1, p.set.count)
+    flash::all_fresh(p.set.first, 1, p.set.count, spare)
 }

@@ -36,7 +36,7 @@ set-run-requires c κs =
     let r = c .before .before .before .among in (
       fewer (x .p .chip .unit) (x .p .next) (x .p .set .first) (x .p .set .count) _ _ P (r .result .to)
           (among-le _ _ _ _ (r .ensures) (le-refl (x .p .set .count))),
-      omega (arith, c .before .before .before .before .before .before .sector-size .ensures, P .small),
+      omega (arith, c .before .before .before .before .before .before .sector-size .ensures, P .unit .1 .most),
     )
 
 among-requires-2 : tie.Need-among-requires-2

@@ -52,7 +52,7 @@ part-program-sector-start c = search needs
 
 part-program-sector-end : tie.Need-part-program-sector-end
 part-program-sector-end c =
-    let b1 = c .before .before .before .before .before in
+    let b1 = c .before .before .before in
     let b2 = b1 .before .before .before .before .before in
     let x = b2 .args in
     let P = b2 .pre .0 in
@@ -67,10 +67,8 @@ program-sector-requires c κs =
     let size = b1 .sector-size in
     let e : size .result ≡ 16 * x .chip .unit = size .ensures in
     let r = page-in-ram (x .chip .unit) (x .page) _ _ _ P (x .j) (b2 .pre .1 .0) (b1 .sector-size .result) (b1 .sector-size .ensures) in (
-      P .small,
-      length-part (x .ram .now) (x .page .at + x .j * size .result) (size .result) r ∙ e,
-      page-on-flash (x .chip .unit) (x .page) _ _ _ P (x .j) (b2 .pre .1 .0),
-      omega (arith, P .in-spare, b2 .pre .1 .0),
+      (P .small, length-part (x .ram .now) (x .page .at + x .j * size .result) (size .result) r ∙ e),
+      (page-on-flash (x .chip .unit) (x .page) _ _ _ P (x .j) (b2 .pre .1 .0), omega (arith, P .in-spare, b2 .pre .1 .0)),
     )
 
 same-length : tie.Need-same-length

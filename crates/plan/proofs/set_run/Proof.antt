@@ -7,7 +7,7 @@ use Rattle.memory.specs.Lists.{length-tab}
 use Rattle.layout.specs.Geometry.{sector}
 use Rattle.layout.specs.Flash.{flashOf, program, apply, plannedFrom}
 use Rattle.layout.specs.Index.{setByte}
-use Rattle.sets.specs.Indexes.{indexOf}
+use Rattle.geometry.specs.Indexes.{indexOf}
 use Rattle.plan.specs.Runs.{done, turn}
 use Rattle.plan.specs.Segments.{nextSet}
 use Rattle.plan.specs.Fits.{set-on-flash}
@@ -15,13 +15,13 @@ use Rattle.plan.proofs.set_run.Statement.{statement}
 use Rattle.plan.proofs.set_run.Tie as tie
 
 abbrev Inv-loop : tie.InvT-loop
-Inv-loop set s part buf₀ main₀ spare₀ unit j₀ buf main spare j =
+Inv-loop chip set s part buf₀ main₀ spare₀ j₀ buf main spare j =
     (part .from ≤ j) × (j - part .from ≤ part .to - part .from) × (length main ≡ length main₀) × (length spare ≡ length spare₀)
     × (length buf ≡ length buf₀)
-    × (flashOf main spare ≡ done unit (plannedFrom (nextSet unit set s) (part .from) (j - part .from)) (flashOf main₀ spare₀))
+    × (flashOf main spare ≡ done (chip .unit) (plannedFrom (nextSet (chip .unit) set s) (part .from) (j - part .from)) (flashOf main₀ spare₀))
 
 abbrev μ-loop : tie.MeasureT-loop
-μ-loop set s part buf₀ main₀ spare₀ unit j₀ buf main spare j = part .to - j
+μ-loop chip set s part buf₀ main₀ spare₀ j₀ buf main spare j = part .to - j
 
 loop-holds : tie.Need-loop-holds Inv-loop μ-loop
 loop-holds c =
@@ -33,13 +33,14 @@ set-sector-requires : tie.Need-set-sector-requires Inv-loop μ-loop
 set-sector-requires c κs =
     let l = c .before .before .before .before .loop in
     let P = c .before .before .before .before .before .before .before .before .pre .0 in (
-      P .unit,
-      P .rounds,
-      P .sets,
-      omega (arith, P .sectors, c .before .before .if1 .taken),
-      omega (arith, P .sides, l .inv .2),
-      P .near,
-      omega (arith, l .inv .4, c .before .before .before .before .before .before .before .before .pre .1),
+      (P .unit, P .rounds, P .near),
+      (
+        omega (arith, P .sectors, c .before .before .if1 .taken),
+        (
+          omega (arith, P .sides, l .inv .2),
+          omega (arith, l .inv .4, c .before .before .before .before .before .before .before .before .pre .1),
+        ),
+      ),
     )
 
 add-program-sector : tie.Need-add-program-sector Inv-loop μ-loop
@@ -55,10 +56,11 @@ program-sector-requires c κs =
     let l = b3 .loop in
     let P = b4 .pre .0 in
     let b = setByte (x .chip .unit) (indexOf (x .set .index)) (l .main) (x .set .«full_sets») (x .set .rounds) (l .j) in (
-      P .small,
-      ap length (b1 .set-sector .ensures) ∙ length-tab (sector (x .chip .unit)) b,
-      omega (arith, set-on-flash (x .chip .unit) (x .set) (x .s) (x .part .to) _ _ P (l .j) (b2 .if1 .taken), l .inv .2),
-      omega (arith, P .in-spare, b2 .if1 .taken, l .inv .3),
+      (P .unit .1 .most, ap length (b1 .set-sector .ensures) ∙ length-tab (sector (x .chip .unit)) b),
+      (
+        omega (arith, set-on-flash (x .chip .unit) (x .set) (x .s) (x .part .to) _ _ P (l .j) (b2 .if1 .taken), l .inv .2),
+        omega (arith, P .in-spare, b2 .if1 .taken, l .inv .3),
+      ),
     )
 
 add-j : tie.Need-add-j Inv-loop μ-loop
