@@ -14,7 +14,7 @@ use Rattle.state.specs.Contract.{seen, outcomeOf}
 use Rattle.state.specs.Judge.{New}
 
 pub format-left : (v : Volume) (sizes : layout.Sizes) (g : Geometry) (f : Flash) (ram : List ℕ) → New sizes (v .flash) (v .ram) g
-    → f ≡ applyAll (g .unit) (erases 0 (layout.blocks (shape g))) (v .flash) → ram ≡ write (v .ram) 0 (replicate (layout.ramSize (shape g)) 0)
+    → f ≡ applyAll (g .chip .unit) (erases 0 (layout.blocks (shape g))) (v .flash) → ram ≡ write (v .ram) 0 (replicate (layout.ramSize (shape g)) 0)
     → record { outcome = outcomeOf 0; count = 0; left = record { state = layout.stateOf sizes 0 0; flash = f; ram = ram } } ≡ seen (format v sizes)
 unfolding format formatted
 format-left v sizes g f ram n p q =

@@ -19,11 +19,10 @@ use state::State;
 // All blocks erased and the RAM zeroed.
 fn erase_volume(g: Geometry, main: &mut [u8], spare: &mut [u8], ram: &mut [u8])
     requires { ⌜ Sound g × Long g (now main) (now spare) (now ram) ⌝ }
-    ensures { λ _. ⌜ flashAfter main spare ≡ applyAll (g .unit) (erases 0 (blocks (shape g))) (flashBefore main spare) ⌝ }
+    ensures { λ _. ⌜ flashAfter main spare ≡ applyAll (g .chip .unit) (erases 0 (blocks (shape g))) (flashBefore main spare) ⌝ }
     ensures { λ _. ⌜ after ram ≡ write (before ram) 0 (replicate (ramSize (shape g)) 0) ⌝ }
 {
-    let unit = g.unit;
-    flash::erase_blocks(main, spare, unit, 0, g.blocks());
+    flash::erase_blocks(g.chip, 0, g.blocks(), main, spare);
     words::fill_at(ram, 0, g.ram_size(), 0);
 }
 

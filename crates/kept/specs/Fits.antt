@@ -8,29 +8,28 @@ use borrow.Author.Tests.{eq-eqb, ne-eqb}
 use Rattle.layout.specs.Geometry as layout
 use Rattle.layout.specs.Items as items
 use Rattle.layout.specs.Calls.{keyIndex, keyFilters}
-use Rattle.geometry.specs.declared.Area.{Area}
+use Rattle.geometry.specs.declared.areas.Area.{Area}
 use Rattle.geometry.specs.declared.chip.Chip.{Chip}
 use Rattle.geometry.specs.declared.Geometry.{Geometry}
 use Rattle.geometry.specs.Shape.{shape, chipOf, Sound, area, AreaSound}
-use Rattle.sets.specs.Indexes.{indexOf}
-use Rattle.sets.specs.declared.Index.{Index}
+use Rattle.geometry.specs.Indexes.{indexOf, indexFor}
+use Rattle.geometry.specs.declared.sets.Index.{Index}
 use Rattle.plan.specs.Plans.{recordIn, entryIn}
-use Rattle.planning.specs.Numbers.{indexFor}
 use Rattle.planning.specs.Computed.{then-is, else-is}
 use Rattle.kept.specs.Kept.{filterKept, entered, recordKept}
 
 module _ (g : Geometry) (S : Sound g) (a : Area) (b : items.Area) (a-is : area a ≡ b) (s : AreaSound a)
     (chip : Chip) (chip-is : chip ≡ chipOf (shape g)) (ram k : ℕ) where
-  pub item-fits : k ≡ b .size → b .perPage * b .size ≡ layout.page (g .unit) → b .ram + layout.page (g .unit) ≤ layout.ramSize (shape g)
+  pub item-fits : k ≡ b .size → b .perPage * b .size ≡ layout.page (g .chip .unit) → b .ram + layout.page (g .chip .unit) ≤ layout.ramSize (shape g)
       → layout.ramSize (shape g) ≤ ram
       → (AreaSound a × (chip .unit ≤ 32) × (a .«per_page» * a .size ≡ layout.page (chip .unit)))
       × ((k ≡ a .size) × (a .ram + layout.page (chip .unit) ≤ ram))
   item-fits size whole inside long =
-      let u : chip .unit ≡ g .unit = ap (λ (c : Chip). c .unit) chip-is in
+      let u : chip .unit ≡ g .chip .unit = ap (λ (c : Chip). c .unit) chip-is in
       let e : a .size ≡ b .size = ap (λ (x : items.Area). x .size) a-is in
       let p : a .«per_page» ≡ b .perPage = ap (λ (x : items.Area). x .perPage) a-is in
       let r : a .ram ≡ b .ram = ap (λ (x : items.Area). x .ram) a-is in
-      ((s, omega (arith, u, S .most), rw (u, e, p) whole), (size ∙ sym e, rw (u, r) (omega (arith, inside, long))))
+      ((s, omega (arith, u, S .unit .1 .most), rw (u, e, p) whole), (size ∙ sym e, rw (u, r) (omega (arith, inside, long))))
 
 pub item-kept : (g : layout.Geometry) (chip : Chip) (a : Area) (b : items.Area) (n : ℕ) (item ram : List ℕ) → chip ≡ chipOf g → area a ≡ b
     → items.itemRam (chip .unit) (area a) n item ram ≡ items.itemRam (g .u) b n item ram
@@ -41,9 +40,9 @@ pub filter-fits : (g : Geometry) → Sound g → (chip : Chip) → chip ≡ chip
     → (bits ram : ℕ) → bits ≡ 256 → layout.ramSize (shape g) ≤ ram
     → (0 < chip .unit) × (chip .unit ≤ 32) × (bits ≡ 256) × (ix .ska + layout.page (chip .unit) ≤ ram)
 filter-fits g S chip chip-is ix ix-is bits ram size long =
-    let u : chip .unit ≡ g .unit = ap (λ (c : Chip). c .unit) chip-is in
-    let s : ix .ska ≡ 3 * layout.page (g .unit) = ap (λ (i : Index). i .ska) ix-is in
-    (omega (arith, u, S .some), omega (arith, u, S .most), size, rw (u, s) (omega (arith, long)))
+    let u : chip .unit ≡ g .chip .unit = ap (λ (c : Chip). c .unit) chip-is in
+    let s : ix .ska ≡ 3 * layout.page (g .chip .unit) = ap (λ (i : Index). i .ska) ix-is in
+    (omega (arith, u, S .unit .1 .some), omega (arith, u, S .unit .1 .most), size, rw (u, s) (omega (arith, long)))
 
 -- ---- record n, its entry, its filter; `chip`, the areas, `q` and `ix` are what code computes
 

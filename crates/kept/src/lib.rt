@@ -2,24 +2,26 @@
 ghost use mathlib.Core.Path.{_≡_};
 ghost use Prim.Native.Nat.{_+_, _*_, _<_, _≤_};
 ghost use lib.ListN.{length};
-ghost use Rattle.layout.specs.Geometry.{sector, page, ramSize, workRam};
+ghost use Rattle.memory.specs.Lent.{before, after};
+ghost use Rattle.layout.specs.Geometry.{sector, page, fourthSize, ramSize, workRam};
 ghost use Rattle.layout.specs.Items.{itemRam, zeroPage};
 ghost use Rattle.geometry.specs.Shape.{shape, Sound, area, AreaSound};
-ghost use Rattle.sets.specs.Indexes.{indexOf};
+ghost use Rattle.geometry.specs.Indexes.{indexOf};
 ghost use Rattle.plan.specs.Plans.{newLength};
 ghost use Rattle.kept.specs.Pieces.{fourths};
 ghost use Rattle.kept.specs.Kept.{filterKept, deletionKept, recordKept, kept};
 use geometry::Area;
 use geometry::Chip;
 use geometry::Geometry;
+use geometry::sets;
+use geometry::sets::Index;
 use planning::Slots;
-use sets::Index;
 
 // Item n: to its place, or, where it fills its page, the page zeroed.
 pub fn keep_item(chip: Chip, a: Area, n: usize, item: &[u8], ram: &mut [u8])
     requires { ⌜ AreaSound a × (chip .unit ≤ 32) × (a .«per_page» * a .size ≡ page (chip .unit)) ⌝ }
     requires { ⌜ (length (now item) ≡ a .size) × (a .ram + page (chip .unit) ≤ length (now ram)) ⌝ }
-    ensures { λ _. ⌜ now (ram .exit) ≡ itemRam (chip .unit) (area a) n (now (item .entry)) (now (ram .entry)) ⌝ }
+    ensures { λ _. ⌜ after ram ≡ itemRam (chip .unit) (area a) n (before item) (before ram) ⌝ }
 {
     let q = a.per_page;
     let i = n % q;
@@ -33,13 +35,13 @@ pub fn keep_item(chip: Chip, a: Area, n: usize, item: &[u8], ram: &mut [u8])
 // A filter from byte `at` of the first sector of its page on: a fourth of it in each sector.
 fn put_fourths(chip: Chip, at: usize, bits: &[u8], ram: &mut [u8])
     requires { ⌜ (0 < chip .unit) × (chip .unit ≤ 32) × (length (now bits) ≡ 256) ⌝ }
-    requires { ⌜ at + 3 * sector (chip .unit) + 2 * chip .unit ≤ length (now ram) ⌝ }
-    ensures { λ _. ⌜ now (ram .exit) ≡ fourths (chip .unit) at (now (bits .entry)) (now (ram .entry)) ⌝ }
+    requires { ⌜ at + 3 * sector (chip .unit) + fourthSize (chip .unit) ≤ length (now ram) ⌝ }
+    ensures { λ _. ⌜ after ram ≡ fourths (chip .unit) at (before bits) (before ram) ⌝ }
 {
     let size = chip.sector_size();
-    let piece = size / plan::FILTERS_PER_FLUSH;
+    let piece = size / sets::FILTERS_PER_FLUSH;
     let mut i = 0;
-    while i < 4 {
+    while i < Chip::SECTORS_PER_PAGE {
         let lo = i * piece;
         let hi = lo + piece;
         words::copy_at(ram, at + i * size, &bits[lo..hi]);
@@ -49,13 +51,14 @@ fn put_fourths(chip: Chip, at: usize, bits: &[u8], ram: &mut [u8])
 
 // Filter number `filters`: to its place in the SKA page, or, where it fills that page, the page zeroed.
 pub fn keep_filter(chip: Chip, ix: Index, filters: usize, bits: &[u8], ram: &mut [u8])
-    requires { ⌜ (0 < chip .unit) × (chip .unit ≤ 32) × (length (now bits) ≡ 256) × (ix .ska + page (chip .unit) ≤ length (now ram)) ⌝ }
-    ensures { λ _. ⌜ now (ram .exit) ≡ filterKept (chip .unit) (indexOf ix) filters (now (bits .entry)) (now (ram .entry)) ⌝ }
+    requires { ⌜ (0 < chip .unit) × (chip .unit ≤ 32) × (length (now bits) ≡ 256)
+        × (ix .ska + page (chip .unit) ≤ length (now ram)) ⌝ }
+    ensures { λ _. ⌜ after ram ≡ filterKept (chip .unit) (indexOf ix) filters (before bits) (before ram) ⌝ }
 {
-    let slot = filters % plan::FILTERS_PER_FLUSH;
-    let piece = chip.sector_size() / plan::FILTERS_PER_FLUSH;
+    let slot = filters % sets::FILTERS_PER_FLUSH;
+    let piece = chip.sector_size() / sets::FILTERS_PER_FLUSH;
     put_fourths(chip, ix.ska + slot * piece, bits, ram);
-    if slot + 1 != plan::FILTERS_PER_FLUSH {
+    if slot + 1 != sets::FILTERS_PER_FLUSH {
         return;
     }
     words::fill_at(ram, ix.ska, chip.page_size(), 0);
@@ -65,39 +68,41 @@ pub fn keep_filter(chip: Chip, ix: Index, filters: usize, bits: &[u8], ram: &mut
 
 fn keep_deletion(g: Geometry, d: usize, new: &[u8], ram: &mut [u8])
     requires { ⌜ Sound g × (length (now new) ≡ newLength) × (ramSize (shape g) ≤ length (now ram)) ⌝ }
-    ensures { λ _. ⌜ now (ram .exit) ≡ deletionKept (shape g) d (now (new .entry)) (now (ram .entry)) ⌝ }
+    ensures { λ _. ⌜ after ram ≡ deletionKept (shape g) d (before new) (before ram) ⌝ }
 {
-    keep_item(g.chip(), geometry::deletion_area(g), d, &new[0..4], ram);
+    keep_item(g.chip, geometry::deletion_area(g), d, &new[0..4], ram);
 }
 
 // Record n and its entry, and the filter of the page that the entry fills.
 fn keep_record(g: Geometry, n: usize, new: &[u8], bits: &[u8], ram: &mut [u8])
-    requires { ⌜ Sound g × (length (now new) ≡ newLength) × (length (now bits) ≡ 256) × (ramSize (shape g) ≤ length (now ram)) ⌝ }
-    ensures { λ _. ⌜ now (ram .exit) ≡ recordKept (shape g) n (now (new .entry)) (now (bits .entry)) (now (ram .entry)) ⌝ }
+    requires { ⌜ Sound g × (length (now new) ≡ newLength) × (length (now bits) ≡ 256)
+        × (ramSize (shape g) ≤ length (now ram)) ⌝ }
+    ensures { λ _. ⌜ after ram ≡ recordKept (shape g) n (before new) (before bits) (before ram) ⌝ }
 {
-    let chip = g.chip();
+    let chip = g.chip;
     let q = g.entries_per_page();
     keep_item(chip, geometry::record_area(g), n, &new[4..20], ram);
     keep_item(chip, geometry::entry_area(g), n, &new[20..28], ram);
     if n % q + 1 != q {
         return;
     }
-    keep_filter(chip, planning::key_index(g), n / q, bits, ram);
+    keep_filter(chip, sets::key_index(g), n / q, bits, ram);
 }
 
 // The work page.
 fn clear_work(g: Geometry, ram: &mut [u8])
     requires { ⌜ Sound g × (ramSize (shape g) ≤ length (now ram)) ⌝ }
-    ensures { λ _. ⌜ now (ram .exit) ≡ zeroPage (g .unit) (workRam (g .unit)) (now (ram .entry)) ⌝ }
+    ensures { λ _. ⌜ after ram ≡ zeroPage (g .chip .unit) (workRam (g .chip .unit)) (before ram) ⌝ }
 {
-    words::fill_at(ram, g.work_ram(), g.page(), 0);
+    words::fill_at(ram, g.work_ram(), g.chip.page_size(), 0);
 }
 
 // The RAM after a change, once the chip has all of it.
 pub fn finish(g: Geometry, e: Slots, new: &[u8], bits: &[u8], ram: &mut [u8])
-    requires { ⌜ Sound g × (length (now new) ≡ newLength) × (length (now bits) ≡ 256) × (ramSize (shape g) ≤ length (now ram)) ⌝ }
-    ensures { λ _. ⌜ now (ram .exit)
-        ≡ zeroPage (g .unit) (workRam (g .unit)) (kept (shape g) (now (new .entry)) (now (bits .entry)) (now (ram .entry)) e) ⌝ }
+    requires { ⌜ Sound g × (length (now new) ≡ newLength) × (length (now bits) ≡ 256)
+        × (ramSize (shape g) ≤ length (now ram)) ⌝ }
+    ensures { λ _. ⌜ after ram
+        ≡ zeroPage (g .chip .unit) (workRam (g .chip .unit)) (kept (shape g) (before new) (before bits) (before ram) e) ⌝ }
 {
     match e {
         Slots::Delete(d) => {

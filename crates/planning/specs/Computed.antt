@@ -15,11 +15,11 @@ use Rattle.layout.specs.Index.{inFull, setBlock, sideBlock, setBlocks}
 use Rattle.layout.specs.Calls.{keyFilters}
 use Rattle.geometry.specs.Shape.{chipOf}
 use Rattle.geometry.specs.declared.chip.Chip.{Chip}
-use Rattle.sets.specs.Indexes.{indexOf}
-use Rattle.sets.specs.declared.Index.{Index}
+use Rattle.geometry.specs.Indexes.{indexOf, indexFor}
+use Rattle.geometry.specs.declared.sets.Index.{Index}
 use Rattle.plan.specs.declared.Plan.{Plan}
 use Rattle.plan.specs.declared.Segment.{Segment}
-use Rattle.planning.specs.Numbers.{none, pageOf, indexFor, startPlan, addPages, addFlush, addSet, addFilter, addRecord}
+use Rattle.planning.specs.Numbers.{none, pageOf, startPlan, addPages, addFlush, addSet, addFilter, addRecord}
 
 -- ---- numbers
 
@@ -43,10 +43,6 @@ module _ (a : Area) (n s : ℕ) (e : s ≡ a .first * sectorsPerBlock) where
   page-full h = rw (e, eq-eqb (n % a .perPage + 1) (a .perPage) h)
 
 -- ---- plans
-
-pub index-is : (g : Geometry) (f s : ℕ) → f ≡ indexFor g .first → s ≡ indexFor g .ska
-    → _≡_ {A = Index} (record { first = f; ska = s }) (indexFor g)
-index-is g f s e d = rw (e, d)
 
 pub start-is : (g : Geometry) (da z : Segment) (chip : Chip) (ix : Index) → z ≡ none → chip ≡ chipOf g → ix ≡ indexFor g
     → _≡_ {A = Plan} (record {

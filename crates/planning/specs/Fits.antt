@@ -7,7 +7,6 @@ use native.Mathlib.Nat.{mul-le-mul-right, mod-lt, le-trans, le-refl}
 use native.Mathlib.Omega.{arith}
 use lib.Dec.{eqb}
 use lib.ListN.{length}
-use lib.Pow.{pow-mono}
 use borrow.Author.Tests.{eqb-true}
 use Rattle.memory.specs.Cases.{either, eq?, lt?, bool?}
 use Rattle.memory.specs.Numbers.{div-lt, carry}
@@ -19,15 +18,14 @@ use Rattle.laws.specs.RowLaws.{blocks-fit, side-range, places-suffice}
 use Rattle.geometry.specs.declared.Geometry.{Geometry}
 use Rattle.geometry.specs.Shape.{shape, chipOf, Sound}
 use Rattle.geometry.specs.Bounds.{index-le}
-use Rattle.partition.specs.Indexes.{Unit?}
+use Rattle.geometry.specs.Indexes.{indexFor}
 use Rattle.state.specs.Judge.{Long}
 use Rattle.plan.specs.declared.Segment.{Segment}
-use Rattle.plan.specs.declared.Set.{Set}
+use Rattle.geometry.specs.declared.sets.Set.{Set}
 use Rattle.plan.specs.Fits.{PageFits, FlushFits, NextFits, WipeFits}
 use Rattle.plan.specs.Plans.{PlanFits}
-use Rattle.planning.specs.Numbers.{none, pageOf, indexFor, startPlan, addPages, addRecord, by-record}
+use Rattle.planning.specs.Numbers.{none, pageOf, startPlan, addPages, addRecord, by-record}
 use Rattle.planning.specs.Numbers.{deletionNumbers, insertionNumbers, updateNumbers}
-use Rattle.planning.specs.Computed.{full-le}
 
 -- ---- numbers of a volume of B blocks
 
@@ -71,22 +69,14 @@ module _ (u e : ℕ) (pow : u ≡ 2 ^ e) (ix : Index) (Z : ℕ) where
 next-div : (n q : ℕ) → 0 < q → n % q + 1 ≡ q → (n + 1) / q ≡ n / q + 1
 next-div n q pos e = either (carry n q pos) (λ d. d .1) (λ d. absurd (d .0 e))
 
--- a power of two up to 32
-exponent-lt : (e : ℕ) → 2 ^ e ≤ 32 → e < 6
-exponent-lt e h =
-    either (lt? e 6) (λ a. a .1) (λ a. absurd (let p : 2 ^ 6 ≤ 2 ^ e = pow-mono (a .1) in omega (arith, p, h)))
-
 -- ---- of a sound geometry
 
 module _ (g : Geometry) (S : Sound g) where
   abbrev u : ℕ
-  u = g .unit
+  u = g .chip .unit
 
   abbrev G : layout.Geometry
   G = shape g
-
-  unit-is : Unit? u
-  unit-is = record { e = S .power .0; small = exponent-lt (S .power .0) (rw (S .power .1) at (S .most)); is = S .power .1 }
 
   abbrev Z : ℕ
   Z = layout.fullSets G
@@ -97,25 +87,25 @@ module _ (g : Geometry) (S : Sound g) where
   da-in : (d : ℕ) → d < layout.deletionCapacity G → pageOf (DA G) d .first + 4 ≤ layout.blocks G * 64
   da-in d h =
       page-in (layout.blocks G) (DA G) (g .da) d (omega arith)
-      (div-lt d (16 * u) (g .da * 16) (omega (arith, S .some)) (omega (arith, h)))
+      (div-lt d (16 * u) (g .da * 16) (omega (arith, S .unit .1 .some)) (omega (arith, h)))
 
   module _ (n : ℕ) (h : n < layout.recordCapacity G) where
     ra-in : pageOf (RA G) n .first + 4 ≤ layout.blocks G * 64
     ra-in =
         page-in (layout.blocks G) (RA G) (g .ra) n (omega arith)
-        (div-lt n (4 * u) (g .ra * 16) (omega (arith, S .some)) (omega (arith, h)))
+        (div-lt n (4 * u) (g .ra * 16) (omega (arith, S .unit .1 .some)) (omega (arith, h)))
 
     ka-in : pageOf (KA G) n .first + 4 ≤ layout.blocks G * 64
     ka-in =
-        let f : n / (8 * u) < g .ra * 8 = div-lt n (8 * u) (g .ra * 8) (omega (arith, S .some)) (omega (arith, h)) in
+        let f : n / (8 * u) < g .ra * 8 = div-lt n (8 * u) (g .ra * 8) (omega (arith, S .unit .1 .some)) (omega (arith, h)) in
         page-in (layout.blocks G) (KA G) (layout.kaBlocks G) n (omega arith) (omega (arith, f))
 
     -- the filters of the pages before its entry's, and one more
     room : fills (KA G) n ≡ true → inFull u (keyFilters G n + 1) ≤ Z
     room full =
         let e : n % (8 * u) + 1 ≡ 8 * u = eqb-true (n % (8 * u) + 1) (8 * u) full in
-        let q : (n + 1) / (8 * u) ≡ n / (8 * u) + 1 = next-div n (8 * u) (omega (arith, S .some)) e in
-        rw (← q) (places-suffice u (g .ra) (n + 1) (S .some) (omega (arith, h)))
+        let q : (n + 1) / (8 * u) ≡ n / (8 * u) + 1 = next-div n (8 * u) (omega (arith, S .unit .1 .some)) e in
+        rw (← q) (places-suffice u (g .ra) (n + 1) (S .unit .1 .some) (omega (arith, h)))
 
   -- ---- in slices that hold the volume
 
@@ -135,7 +125,7 @@ module _ (g : Geometry) (S : Sound g) where
     page-fits : (first at : ℕ) → first + 4 ≤ layout.blocks G * 64 → at + layout.page u ≤ layout.ramSize G
         → PageFits u (record { sector = first; at = at }) m s r
     page-fits first at h k = record {
-      small = S .most;
+      small = S .unit .1 .most;
       in-main = sectors-in u (layout.blocks G) (first + 4) m (L .main-fits) h;
       in-spare = le-trans h (L .spare-fits);
       in-ram = le-trans k (L .ram-fits);
@@ -143,8 +133,8 @@ module _ (g : Geometry) (S : Sound g) where
 
     flush-fits : (first : ℕ) → first + 49 ≤ layout.blocks G * 64 → FlushFits u (record { sector = first; at = keyIndex G .ska }) m s r
     flush-fits first h = record {
-      some = S .some;
-      small = S .most;
+      some = S .unit .1 .some;
+      small = S .unit .1 .most;
       in-main = sectors-in u (layout.blocks G) (first + 49) m (L .main-fits) h;
       in-spare = le-trans h (L .spare-fits);
       in-ram = le-trans (omega arith) (L .ram-fits);
@@ -152,21 +142,19 @@ module _ (g : Geometry) (S : Sound g) where
 
     wipe-fits : (b : Segment) → b .first + b .count ≤ layout.blocks G → WipeFits u b m s
     wipe-fits b h = record {
-      small = S .most;
+      small = S .unit .1 .most;
       in-main = blocks-in (layout.blocks G) (b .first + b .count) (layout.block u) m (L .main-fits) h;
       in-spare = blocks-in (layout.blocks G) (b .first + b .count) 64 s (L .spare-fits) h;
     }
 
-    next-fits : (z c first k : ℕ) → c < 4 * u → z ≤ 1024 → k ≤ setPages (c + 1) * 4 → first + k ≤ layout.blocks G * 64
+    next-fits : (z c first k : ℕ) → c < 4 * u → k ≤ setPages (c + 1) * 4 → first + k ≤ layout.blocks G * 64
         → NextFits u (record { index = indexFor G; «full_sets» = z; rounds = c }) first k m s
-    next-fits z c first k hc hz hk h =
+    next-fits z c first k hc hk h =
         let i = index-le g S in
         let l : fullBlock u (keyIndex G) 0 ≤ layout.blocks G = omega arith in
         record {
-          unit = unit-is;
-          small = S .most;
+          unit = S .unit;
           rounds = hc;
-          sets = hz;
           near = omega (arith, i);
           sides = blocks-in (layout.blocks G) (fullBlock u (keyIndex G) 0) (layout.block u) m (L .main-fits) l;
           sectors = hk;
@@ -175,7 +163,7 @@ module _ (g : Geometry) (S : Sound g) where
         }
 
     no-set : NextFits u (startPlan G none .next) 0 0 m s
-    no-set = next-fits 0 0 0 0 (omega (arith, S .some)) (omega arith) (omega arith) (omega arith)
+    no-set = next-fits 0 0 0 0 (omega (arith, S .unit .1 .some)) (omega arith) (omega arith)
 
     no-wipe : WipeFits u none m s
     no-wipe = wipe-fits none (omega arith)
@@ -192,7 +180,7 @@ module _ (g : Geometry) (S : Sound g) where
       start-fits : PlanFits (startPlan G da) m s r
       start-fits = record {
         pages = record {
-          some = S .some;
+          some = S .unit .1 .some;
           da = da-fits;
           ra = no-page (RA G .ram) (omega arith);
           ka = no-page (KA G .ram) (omega arith);
@@ -223,18 +211,18 @@ module _ (g : Geometry) (S : Sound g) where
         -- the set, where filter F ends a round
         module _ (full : fills (KA G) n ≡ true) (eight : eqb (inSka F + 1) 8 ≡ true) (sixteen : eqb (inL1 F + 1) 16 ≡ true) where
           rounds-lt : inSet u F < 4 * u
-          rounds-lt = mod-lt (F / 8 / 16) (omega (arith, S .some))
+          rounds-lt = mod-lt (F / 8 / 16) (omega (arith, S .unit .1 .some))
 
           sectors-end : setBlock u (keyIndex G) (inFull u F) (inSet u F) * 64 + setPages (inSet u F + 1) * 4 ≤ layout.blocks G * 64
           sectors-end =
-              let e = S .power in
+              let e = S .unit in
               rw (← all-blocks)
-              (set-in u (e .0) (e .1) (keyIndex G) Z (inFull u F) (inSet u F) rounds-lt
-              (place-in u (e .0) (e .1) (keyIndex G) Z F (omega (arith, S .some)) (room n h full)
+              (set-in u (e .0) (e .1 .power) (keyIndex G) Z (inFull u F) (inSet u F) rounds-lt
+              (place-in u (e .0) (e .1 .power) (keyIndex G) Z F (omega (arith, S .unit .1 .some)) (room n h full)
               (eqb-true (inSka F + 1) 8 eight) (eqb-true (inL1 F + 1) 16 sixteen)))
 
           old-end : sideBlock u (keyIndex G) (inSet u F) + setBlocks (inSet u F) ≤ layout.blocks G
-          old-end = rw (← all-blocks) (old-in u (S .power .0) (S .power .1) (keyIndex G) Z (inSet u F) rounds-lt)
+          old-end = rw (← all-blocks) (old-in u (S .unit .0) (S .unit .1 .power) (keyIndex G) Z (inSet u F) rounds-lt)
 
         -- whatever comes behind the pages
         pages-and : (f c l o : Segment) (x : Set) → FlushFits u (record { sector = f .first; at = x .index .ska }) m s r → f .count ≤ 4
@@ -252,7 +240,7 @@ module _ (g : Geometry) (S : Sound g) where
             }) m s r
         pages-and f c l o x flush count set l1 old = record {
           pages = record {
-            some = S .some;
+            some = S .unit .1 .some;
             da = da-fits;
             ra = ra-fits;
             ka = ka-fits;
@@ -282,7 +270,7 @@ module _ (g : Geometry) (S : Sound g) where
             (record { first = sideBlock u (keyIndex G) (inSet u F); count = setBlocks (inSet u F) })
             (record { index = indexFor G; «full_sets» = inFull u F; rounds = inSet u F }) a-flush (omega arith)
             (next-fits (inFull u F) (inSet u F) (setBlock u (keyIndex G) (inFull u F) (inSet u F) * 64) (setPages (inSet u F + 1) * 4)
-            (rounds-lt full eight last) (full-le u (g .ra) n (8 * u) refl (S .some) (S .ra-most) h) (le-refl _)
+            (rounds-lt full eight last) (le-refl _)
             (sectors-end full eight last))
             (wipe-fits (record { first = layout.indexBlock G; count = 1 }) (omega arith))
             (wipe-fits (record { first = sideBlock u (keyIndex G) (inSet u F); count = setBlocks (inSet u F) }) (old-end full eight last)))

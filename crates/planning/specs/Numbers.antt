@@ -8,7 +8,7 @@ use Rattle.layout.specs.Items.{Area, RA, KA, DA, fills}
 use Rattle.layout.specs.Index.{inSka, inL1, inSet, inFull, filtersPerFlush, flushesPerRound, setBlock, setPages, sideBlock, setBlocks}
 use Rattle.layout.specs.Calls.{keyIndex, keyFilters}
 use Rattle.geometry.specs.Shape.{chipOf}
-use Rattle.sets.specs.declared.Index.{Index}
+use Rattle.geometry.specs.Indexes.{indexFor}
 use Rattle.plan.specs.declared.Plan.{Plan}
 use Rattle.plan.specs.declared.Segment.{Segment}
 
@@ -24,9 +24,6 @@ by-test Q true x y t f = t refl
 by-test Q false x y t f = f refl
 
 module _ (g : Geometry) where
-  abbrev pub indexFor : Index
-  indexFor = record { first = keyIndex g .first; ska = keyIndex g .ska }
-
   -- the page of a deletion, and no more
   abbrev pub startPlan : Segment → Plan
   startPlan da = record {
@@ -38,7 +35,7 @@ module _ (g : Geometry) where
     set = none;
     l1 = none;
     old = none;
-    next = record { index = indexFor; «full_sets» = 0; rounds = 0 };
+    next = record { index = indexFor g; «full_sets» = 0; rounds = 0 };
   }
 
   -- with the pages of record n and of its entry
@@ -83,7 +80,7 @@ module _ (g : Geometry) where
     };
     l1 = record { first = keyIndex g .first; count = 1 };
     old = record { first = sideBlock (g .u) (keyIndex g) (inSet (g .u) F); count = setBlocks (inSet (g .u) F) };
-    next = record { index = indexFor; «full_sets» = inFull (g .u) F; rounds = inSet (g .u) F };
+    next = record { index = indexFor g; «full_sets» = inFull (g .u) F; rounds = inSet (g .u) F };
   }
 
   -- what filter F adds: the flush where it is an eighth, and the set where that ends a round

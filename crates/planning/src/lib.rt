@@ -6,16 +6,16 @@ ghost use Rattle.layout.specs.Items as layout;
 ghost use Rattle.layout.specs.Items.{RA, DA};
 ghost use Rattle.layout.specs.Index.{inFull};
 ghost use Rattle.geometry.specs.Shape.{shape, Sound, area, AreaSound};
-ghost use Rattle.planning.specs.Numbers.{none, pageOf, indexFor, startPlan, addSet, addFilter};
+ghost use Rattle.planning.specs.Numbers.{none, pageOf, startPlan, addSet, addFilter};
 ghost use Rattle.planning.specs.Numbers.{addRecord, deletionNumbers, insertionNumbers, updateNumbers};
 ghost use Rattle.planning.specs.Edits.{Room, numbersOf, programsIn};
 use geometry::Area;
 use geometry::Chip;
 use geometry::Geometry;
+use geometry::sets;
+use geometry::sets::Set;
 use plan::Plan;
 use plan::Segment;
-use plan::Set;
-use sets::Index;
 
 // ---- segments
 
@@ -43,25 +43,15 @@ fn page(a: Area, n: usize) -> Segment
 
 // ---- parts of a plan
 
-// The index over the entries.
-pub fn key_index(g: Geometry) -> Index
-    requires { ⌜ Sound g ⌝ }
-    ensures { λ r. ⌜ r ≡ indexFor (shape g) ⌝ }
-{
-    Index {
-        first: g.index_block(),
-        ska: g.ska_ram(),
-    }
-}
-
 // The page of a deletion, and no more.
 fn start(g: Geometry, da: Segment) -> Plan
     requires { ⌜ Sound g ⌝ }
     ensures { λ r. ⌜ r ≡ startPlan (shape g) da ⌝ }
 {
+    let chip = g.chip;
     let none = nothing();
     Plan {
-        chip: g.chip(),
+        chip,
         da,
         ra: none,
         ka: none,
@@ -70,7 +60,7 @@ fn start(g: Geometry, da: Segment) -> Plan
         l1: none,
         old: none,
         next: Set {
-            index: key_index(g),
+            index: sets::key_index(g),
             full_sets: 0,
             rounds: 0,
         },
@@ -79,18 +69,22 @@ fn start(g: Geometry, da: Segment) -> Plan
 
 // The set that filter number `filters` completes, and the erases after it.
 fn add_set(p: Plan, g: Geometry, filters: usize) -> Plan
-    requires { ⌜ Sound g × (inFull (g .unit) filters ≤ 1024) ⌝ }
+    requires { ⌜ Sound g × (inFull (g .chip .unit) filters ≤ 1024) ⌝ }
     ensures { λ r. ⌜ r ≡ addSet (shape g) filters p ⌝ }
 {
     let mut o = p;
-    let unit = g.unit;
-    let index = key_index(g);
-    let rounds = filters / plan::FILTERS_PER_FLUSH / plan::FLUSHES_PER_ROUND;
-    let side = g.side_blocks();
+    let index = sets::key_index(g);
+    let rounds = filters / sets::FILTERS_PER_FLUSH / sets::FLUSHES_PER_ROUND;
+    let side = g.chip.side_blocks();
     let z = rounds / side;
     let c = rounds % side;
+    let next = Set {
+        index,
+        full_sets: z,
+        rounds: c,
+    };
     let set = Segment {
-        first: Chip::first_sector(sets::set_block(unit, index, z, c)),
+        first: Chip::first_sector(sets::set_block(g.chip, next)),
         count: sets::set_pages(c + 1) * Chip::SECTORS_PER_PAGE,
     };
     let l1 = Segment {
@@ -98,13 +92,8 @@ fn add_set(p: Plan, g: Geometry, filters: usize) -> Plan
         count: 1,
     };
     let old = Segment {
-        first: sets::side_block(unit, index, c),
-        count: sets::set_blocks(unit, c),
-    };
-    let next = Set {
-        index,
-        full_sets: z,
-        rounds: c,
+        first: sets::side_block(g.chip, index, c),
+        count: sets::set_blocks(c),
     };
     o.set = set;
     o.l1 = l1;
@@ -115,20 +104,20 @@ fn add_set(p: Plan, g: Geometry, filters: usize) -> Plan
 
 // What filter number `filters` adds: the flush where it is an eighth, and the set where that ends a round.
 fn add_filter(p: Plan, g: Geometry, filters: usize) -> Plan
-    requires { ⌜ Sound g × (inFull (g .unit) filters ≤ 1024) ⌝ }
+    requires { ⌜ Sound g × (inFull (g .chip .unit) filters ≤ 1024) ⌝ }
     ensures { λ r. ⌜ r ≡ addFilter (shape g) filters p ⌝ }
 {
-    if filters % plan::FILTERS_PER_FLUSH + 1 != plan::FILTERS_PER_FLUSH {
+    if filters % sets::FILTERS_PER_FLUSH + 1 != sets::FILTERS_PER_FLUSH {
         return p;
     }
     let mut o = p;
-    let number = filters / plan::FILTERS_PER_FLUSH % plan::FLUSHES_PER_ROUND;
+    let number = filters / sets::FILTERS_PER_FLUSH % sets::FLUSHES_PER_ROUND;
     let flush = Segment {
         first: Chip::first_sector(g.index_block()) + number,
-        count: 4,
+        count: Chip::SECTORS_PER_PAGE,
     };
     o.flush = flush;
-    if number + 1 != plan::FLUSHES_PER_ROUND {
+    if number + 1 != sets::FLUSHES_PER_ROUND {
         return o;
     }
     add_set(o, g, filters)

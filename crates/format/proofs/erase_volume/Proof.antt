@@ -10,7 +10,7 @@ blocks-requires c κs = search needs
 erase-blocks-requires : tie.Need-erase-blocks-requires
 erase-blocks-requires c κs =
     let s = c .before .before .before .before .before .before .pre in
-    rw (c .blocks2 .ensures) (s .0 .most, omega (arith, s .1 .main-fits), omega (arith, s .1 .spare-fits))
+    rw (c .before .before .blocks2 .ensures) ((s .0 .unit .1 .most, omega (arith, s .1 .main-fits)), omega (arith, s .1 .spare-fits))
 
 ram-size-requires : tie.Need-ram-size-requires
 ram-size-requires c κs = search needs
@@ -30,7 +30,7 @@ same-length-3 c = search needs
 returns : tie.Need-returns
 returns c =
     let e = c .before .before .before .before .before .before .before .before .before in
-    (e .erase-blocks .ensures ∙ rw (e .before .blocks2 .ensures), c .before .before .fill-at .ensures ∙ rw (c .before .before .before .ram-size .ensures))
+    (e .erase-blocks .ensures ∙ rw (e .before .before .before .blocks2 .ensures), c .before .before .fill-at .ensures ∙ rw (c .before .before .before .ram-size .ensures))
 
 pub erase-volume-spec : {M : Type 1} → statement M
 erase-volume-spec =

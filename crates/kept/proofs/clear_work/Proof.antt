@@ -24,7 +24,7 @@ returns c =
     let b3 = b2 .before in
     let b4 = b3 .before .before .before in
     let x = b4 .args in
-    b1 .fill-at .ensures ∙ zero-at (x .g .unit) (workRam (x .g .unit)) (b3 .work-ram .result) (b2 .page .result) (x .ram .now)
+    b1 .fill-at .ensures ∙ zero-at (x .g .chip .unit) (workRam (x .g .chip .unit)) (b3 .work-ram .result) (b2 .page .result) (x .ram .now)
     (b3 .work-ram .ensures) (b2 .page .ensures)
 
 pub clear-work-spec : {M : Type 1} → statement M

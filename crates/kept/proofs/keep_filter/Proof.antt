@@ -4,7 +4,7 @@ use mathlib.Core.List.{List}
 use Prim.Native.Nat.{ℕ}
 use borrow.Author.Tests.{eq-eqb, ne-eqb}
 use Rattle.layout.specs.Items.{zeroPage}
-use Rattle.sets.specs.Indexes.{indexOf}
+use Rattle.geometry.specs.Indexes.{indexOf}
 use Rattle.kept.specs.Pieces.{zero-at, slot-fits, filter-put}
 use borrow.Author.Needs.{needs}
 use Rattle.kept.proofs.keep_filter.Statement.{statement}

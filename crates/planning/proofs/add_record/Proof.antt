@@ -55,7 +55,7 @@ add-filter-requires c κs =
     let x = c .before .before .before .before .before .before .before .before .args in
     let P = c .before .before .before .before .before .before .before .before .pre in
     let q = c .entries-per-page in
-    (P .0, full-le (x .g .unit) (x .g .ra) (x .n) (q .result) (q .ensures) (P .0 .some) (P .0 .ra-most) (P .1))
+    (P .0, full-le (x .g .chip .unit) (x .g .ra) (x .n) (q .result) (q .ensures) (P .0 .unit .1 .some) (P .0 .ra-most) (P .1))
 
 returns-2 : tie.Need-returns-2
 returns-2 c =

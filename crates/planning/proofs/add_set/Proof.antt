@@ -1,6 +1,7 @@
 use native.Mathlib.Nat.{mod-lt}
 use native.Mathlib.Omega.{arith}
-use Prim.Native.Nat.{_*_, _/_, _%_, _<_, _≤_}
+use Prim.Native.Nat.{_/_, _%_, _<_, _≤_}
+use Rattle.layout.specs.Geometry.{sideBlocks}
 use Rattle.geometry.specs.Shape.{shape}
 use Rattle.geometry.specs.Bounds.{index-le}
 use Rattle.planning.specs.Computed.{set-is}
@@ -28,9 +29,9 @@ set-block-requires c κs =
     let rounds = x .filters / 8 / 16 in
     let ix = c .before .key-index in
     let near : ix .result .first ≤ 10240 = rw (ix .ensures) (index-le (x .g) (P .0)) in
-    let c-lt : rounds % side .result < 4 * x .g .unit = rw (side .ensures) (mod-lt rounds (omega (arith, P .0 .some))) in
+    let c-lt : rounds % side .result < sideBlocks (x .g .chip .unit) = rw (side .ensures) (mod-lt rounds (omega (arith, P .0 .unit .1 .some))) in
     let z-le : rounds / side .result ≤ 1024 = rw (side .ensures) (P .1) in
-    (P .0 .most, omega (arith, near), z-le, c-lt)
+    ((P .0 .unit .1 .most, omega (arith, near)), (z-le, c-lt))
 
 first-sector-requires : tie.Need-first-sector-requires
 first-sector-requires c κs = search needs
@@ -43,8 +44,8 @@ add-set-pages c =
     let rounds = x .filters / 8 / 16 in
     let ix = c .before .before .before .key-index in
     let near : ix .result .first ≤ 10240 = rw (ix .ensures) (index-le (x .g) (P .0)) in
-    let c-lt : rounds % side .result < 4 * x .g .unit = rw (side .ensures) (mod-lt rounds (omega (arith, P .0 .some))) in
-    omega (arith, c-lt, P .0 .most)
+    let c-lt : rounds % side .result < sideBlocks (x .g .chip .unit) = rw (side .ensures) (mod-lt rounds (omega (arith, P .0 .unit .1 .some))) in
+    omega (arith, c-lt, P .0 .unit .1 .most)
 
 set-pages-requires : tie.Need-set-pages-requires
 set-pages-requires c κs =
@@ -54,11 +55,11 @@ set-pages-requires c κs =
     let rounds = x .filters / 8 / 16 in
     let ix = c .before .before .before .key-index in
     let near : ix .result .first ≤ 10240 = rw (ix .ensures) (index-le (x .g) (P .0)) in
-    let c-lt : rounds % side .result < 4 * x .g .unit = rw (side .ensures) (mod-lt rounds (omega (arith, P .0 .some))) in
-    omega (arith, c-lt, P .0 .most)
+    let c-lt : rounds % side .result < sideBlocks (x .g .chip .unit) = rw (side .ensures) (mod-lt rounds (omega (arith, P .0 .unit .1 .some))) in
+    omega (arith, c-lt, P .0 .unit .1 .most)
 
-mul-t19 : tie.Need-mul-t19
-mul-t19 c = search needs
+mul-t18 : tie.Need-mul-t18
+mul-t18 c = search needs
 
 side-block-requires : tie.Need-side-block-requires
 side-block-requires c κs =
@@ -68,8 +69,8 @@ side-block-requires c κs =
     let rounds = x .filters / 8 / 16 in
     let ix = c .before .before .before .before .key-index in
     let near : ix .result .first ≤ 10240 = rw (ix .ensures) (index-le (x .g) (P .0)) in
-    let c-lt : rounds % side .result < 4 * x .g .unit = rw (side .ensures) (mod-lt rounds (omega (arith, P .0 .some))) in
-    (P .0 .most, omega (arith, near))
+    let c-lt : rounds % side .result < sideBlocks (x .g .chip .unit) = rw (side .ensures) (mod-lt rounds (omega (arith, P .0 .unit .1 .some))) in
+    (P .0 .unit .1 .most, omega (arith, near))
 
 set-blocks-requires : tie.Need-set-blocks-requires
 set-blocks-requires c κs =
@@ -79,8 +80,8 @@ set-blocks-requires c κs =
     let rounds = x .filters / 8 / 16 in
     let ix = c .before .before .before .before .before .key-index in
     let near : ix .result .first ≤ 10240 = rw (ix .ensures) (index-le (x .g) (P .0)) in
-    let c-lt : rounds % side .result < 4 * x .g .unit = rw (side .ensures) (mod-lt rounds (omega (arith, P .0 .some))) in
-    omega (arith, c-lt, P .0 .most)
+    let c-lt : rounds % side .result < sideBlocks (x .g .chip .unit) = rw (side .ensures) (mod-lt rounds (omega (arith, P .0 .unit .1 .some))) in
+    omega (arith, c-lt, P .0 .unit .1 .most)
 
 returns : tie.Need-returns
 returns c =
@@ -109,7 +110,7 @@ add-set-spec =
     first-sector-requires
     add-set-pages
     set-pages-requires
-    mul-t19
+    mul-t18
     side-block-requires
     set-blocks-requires
     returns)

@@ -1,3 +1,4 @@
+use mathlib.Core.Path.{refl}
 use Rattle.geometry.specs.Shape.{shape}
 use Rattle.planning.specs.Computed.{start-is}
 use borrow.Author.Needs.{needs}
@@ -7,17 +8,14 @@ use Rattle.planning.proofs.start.Tie as tie
 nothing-requires : tie.Need-nothing-requires
 nothing-requires c κs = search needs
 
-chip-requires : tie.Need-chip-requires
-chip-requires c κs = search needs
-
 key-index-requires : tie.Need-key-index-requires
 key-index-requires c κs = search needs
 
 returns : tie.Need-returns
 returns c =
-    let x = c .before .before .before .args in
-    start-is (shape (x .g)) (x .da) (c .before .before .nothing .result) (c .before .chip .result) (c .key-index .result)
-    (c .before .before .nothing .ensures) (c .before .chip .ensures) (c .key-index .ensures)
+    let n = c .before in
+    let x = n .before .before .args in
+    start-is (shape (x .g)) (x .da) (n .nothing .result) (x .g .chip) (c .key-index .result) (n .nothing .ensures) refl (c .key-index .ensures)
 
 pub start-spec : {M : Type 1} → statement M
-start-spec = tie.close (tie.spec nothing-requires chip-requires key-index-requires returns)
+start-spec = tie.close (tie.spec nothing-requires key-index-requires returns)
