@@ -1,4 +1,4 @@
--- What keeping an item of a sound geometry asks for, and what it comes to; `chip` and `a` are what code computes.
+-- What keeping an item of a sound geometry asks for, and what it comes to; `a` is what code computes.
 use mathlib.Core.Path.{_≡_, refl, sym, ap, _∙_}
 use mathlib.Core.List.{List}
 use mathlib.Core.Bool.{true, false}
@@ -9,51 +9,47 @@ use Rattle.layout.specs.Geometry as layout
 use Rattle.layout.specs.Items as items
 use Rattle.layout.specs.Calls.{keyIndex, keyFilters}
 use Rattle.geometry.specs.declared.areas.Area.{Area}
-use Rattle.geometry.specs.declared.chip.Chip.{Chip}
 use Rattle.geometry.specs.declared.Geometry.{Geometry}
-use Rattle.geometry.specs.Shape.{shape, chipOf, Sound, area, AreaSound}
+use Rattle.geometry.specs.Shape.{shape, Sound, area, AreaSound}
 use Rattle.geometry.specs.Indexes.{indexOf, indexFor}
 use Rattle.geometry.specs.declared.sets.Index.{Index}
 use Rattle.plan.specs.Plans.{recordIn, entryIn}
 use Rattle.planning.specs.Computed.{then-is, else-is}
 use Rattle.kept.specs.Kept.{filterKept, entered, recordKept}
 
-module _ (g : Geometry) (S : Sound g) (a : Area) (b : items.Area) (a-is : area a ≡ b) (s : AreaSound a)
-    (chip : Chip) (chip-is : chip ≡ chipOf (shape g)) (ram k : ℕ) where
-  pub item-fits : k ≡ b .size → b .perPage * b .size ≡ layout.page (g .chip .unit) → b .ram + layout.page (g .chip .unit) ≤ layout.ramSize (shape g)
+module _ (g : Geometry) (S : Sound g) (a : Area) (b : items.Area) (a-is : area a ≡ b) (s : AreaSound a) (ram k : ℕ) where
+  abbrev u : ℕ
+  u = g .chip .unit
+
+  pub item-fits : k ≡ b .size → b .perPage * b .size ≡ layout.page u → b .ram + layout.page u ≤ layout.ramSize (shape g)
       → layout.ramSize (shape g) ≤ ram
-      → (AreaSound a × (chip .unit ≤ 32) × (a .«per_page» * a .size ≡ layout.page (chip .unit)))
-      × ((k ≡ a .size) × (a .ram + layout.page (chip .unit) ≤ ram))
+      → (AreaSound a × (u ≤ 32) × (a .«per_page» * a .size ≡ layout.page u)) × ((k ≡ a .size) × (a .ram + layout.page u ≤ ram))
   item-fits size whole inside long =
-      let u : chip .unit ≡ g .chip .unit = ap (λ (c : Chip). c .unit) chip-is in
       let e : a .size ≡ b .size = ap (λ (x : items.Area). x .size) a-is in
       let p : a .«per_page» ≡ b .perPage = ap (λ (x : items.Area). x .perPage) a-is in
       let r : a .ram ≡ b .ram = ap (λ (x : items.Area). x .ram) a-is in
-      ((s, omega (arith, u, S .unit .1 .most), rw (u, e, p) whole), (size ∙ sym e, rw (u, r) (omega (arith, inside, long))))
+      ((s, S .unit .1 .most, rw (e, p) whole), (size ∙ sym e, rw r (omega (arith, inside, long))))
 
-pub item-kept : (g : layout.Geometry) (chip : Chip) (a : Area) (b : items.Area) (n : ℕ) (item ram : List ℕ) → chip ≡ chipOf g → area a ≡ b
-    → items.itemRam (chip .unit) (area a) n item ram ≡ items.itemRam (g .u) b n item ram
-item-kept g chip a b n item ram e d =
-    ap (λ (c : Chip). items.itemRam (c .unit) (area a) n item ram) e ∙ ap (λ (x : items.Area). items.itemRam (g .u) x n item ram) d
+pub item-kept : (g : layout.Geometry) (a : Area) (b : items.Area) (n : ℕ) (item ram : List ℕ) → area a ≡ b
+    → items.itemRam (g .u) (area a) n item ram ≡ items.itemRam (g .u) b n item ram
+item-kept g a b n item ram d = ap (λ (x : items.Area). items.itemRam (g .u) x n item ram) d
 
-pub filter-fits : (g : Geometry) → Sound g → (chip : Chip) → chip ≡ chipOf (shape g) → (ix : Index) → ix ≡ indexFor (shape g)
-    → (bits ram : ℕ) → bits ≡ 256 → layout.ramSize (shape g) ≤ ram
-    → (0 < chip .unit) × (chip .unit ≤ 32) × (bits ≡ 256) × (ix .ska + layout.page (chip .unit) ≤ ram)
-filter-fits g S chip chip-is ix ix-is bits ram size long =
-    let u : chip .unit ≡ g .chip .unit = ap (λ (c : Chip). c .unit) chip-is in
-    let s : ix .ska ≡ 3 * layout.page (g .chip .unit) = ap (λ (i : Index). i .ska) ix-is in
-    (omega (arith, u, S .unit .1 .some), omega (arith, u, S .unit .1 .most), size, rw (u, s) (omega (arith, long)))
+pub filter-fits : (g : Geometry) → Sound g → (ix : Index) → ix ≡ indexFor (shape g) → (bits ram : ℕ) → bits ≡ 256 → layout.ramSize (shape g) ≤ ram
+    → (0 < g .chip .unit) × (g .chip .unit ≤ 32) × (bits ≡ 256) × (ix .ska + layout.page (g .chip .unit) ≤ ram)
+filter-fits g S ix ix-is bits ram size long =
+    let s : ix .ska ≡ layout.skaRam (g .chip .unit) = ap (λ (i : Index). i .ska) ix-is in
+    (S .unit .1 .some, S .unit .1 .most, size, rw s (omega (arith, long)))
 
--- ---- record n, its entry, its filter; `chip`, the areas, `q` and `ix` are what code computes
+-- ---- record n, its entry, its filter; the areas, `q` and `ix` are what code computes
 
-module _ (g : layout.Geometry) (n : ℕ) (new bits ram : List ℕ) (chip : Chip) (chip-is : chip ≡ chipOf g) where
+module _ (g : layout.Geometry) (n : ℕ) (new bits ram : List ℕ) where
   pub record-entered : (a b : Area) (x y : List ℕ) → area a ≡ items.RA g → area b ≡ items.KA g
-      → x ≡ items.itemRam (chip .unit) (area a) n (recordIn new) ram → y ≡ items.itemRam (chip .unit) (area b) n (entryIn new) x
+      → x ≡ items.itemRam (g .u) (area a) n (recordIn new) ram → y ≡ items.itemRam (g .u) (area b) n (entryIn new) x
       → y ≡ entered g n new ram
   record-entered a b x y a-is b-is ex ey =
-      ey ∙ item-kept g chip b (items.KA g) n (entryIn new) x chip-is b-is
+      ey ∙ item-kept g b (items.KA g) n (entryIn new) x b-is
       ∙ ap (λ (l : List ℕ). items.itemRam (g .u) (items.KA g) n (entryIn new) l)
-      (ex ∙ item-kept g chip a (items.RA g) n (recordIn new) ram chip-is a-is)
+      (ex ∙ item-kept g a (items.RA g) n (recordIn new) ram a-is)
 
   module _ (y : List ℕ) (y-is : y ≡ entered g n new ram) (q : ℕ) (q-is : q ≡ layout.entriesPerPage (g .u)) where
     pub kept-open : (n % q + 1 ≡ q → ⊥) → y ≡ recordKept g n new bits ram
@@ -61,13 +57,12 @@ module _ (g : layout.Geometry) (n : ℕ) (new bits ram : List ℕ) (chip : Chip)
         let f : items.fills (items.KA g) n ≡ false = ne-eqb _ _ (rw q-is at h) in
         y-is ∙ sym (else-is (items.fills (items.KA g) n) _ (entered g n new ram) f)
 
-    pub kept-full : (ix : Index) (z : List ℕ) → n % q + 1 ≡ q → ix ≡ indexFor g → z ≡ filterKept (chip .unit) (indexOf ix) (n / q) bits y
+    pub kept-full : (ix : Index) (z : List ℕ) → n % q + 1 ≡ q → ix ≡ indexFor g → z ≡ filterKept (g .u) (indexOf ix) (n / q) bits y
         → z ≡ recordKept g n new bits ram
     kept-full ix z h ix-is ez =
         let f : items.fills (items.KA g) n ≡ true = eq-eqb _ _ (rw q-is at h) in
-        let e : filterKept (chip .unit) (indexOf ix) (n / q) bits y ≡ filterKept (g .u) (keyIndex g) (keyFilters g n) bits y
-        = ap (λ (c : Chip). filterKept (c .unit) (indexOf ix) (n / q) bits y) chip-is
-        ∙ ap (λ (i : Index). filterKept (g .u) (indexOf i) (n / q) bits y) ix-is
+        let e : filterKept (g .u) (indexOf ix) (n / q) bits y ≡ filterKept (g .u) (keyIndex g) (keyFilters g n) bits y
+        = ap (λ (i : Index). filterKept (g .u) (indexOf i) (n / q) bits y) ix-is
         ∙ ap (λ (x : ℕ). filterKept (g .u) (keyIndex g) (n / x) bits y) q-is in
         ez ∙ e ∙ ap (filterKept (g .u) (keyIndex g) (keyFilters g n) bits) y-is
         ∙ sym (then-is (items.fills (items.KA g) n) (filterKept (g .u) (keyIndex g) (keyFilters g n) bits (entered g n new ram)) _ f)

@@ -79,14 +79,13 @@ fn keep_record(g: Geometry, n: usize, new: &[u8], bits: &[u8], ram: &mut [u8])
         × (ramSize (shape g) ≤ length (now ram)) ⌝ }
     ensures { λ _. ⌜ after ram ≡ recordKept (shape g) n (before new) (before bits) (before ram) ⌝ }
 {
-    let chip = g.chip;
     let q = g.entries_per_page();
-    keep_item(chip, geometry::record_area(g), n, &new[4..20], ram);
-    keep_item(chip, geometry::entry_area(g), n, &new[20..28], ram);
+    keep_item(g.chip, geometry::record_area(g), n, &new[4..20], ram);
+    keep_item(g.chip, geometry::entry_area(g), n, &new[20..28], ram);
     if n % q + 1 != q {
         return;
     }
-    keep_filter(chip, sets::key_index(g), n / q, bits, ram);
+    keep_filter(g.chip, sets::key_index(g), n / q, bits, ram);
 }
 
 // The work page.

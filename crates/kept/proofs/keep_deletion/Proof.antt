@@ -8,9 +8,6 @@ use borrow.Author.Needs.{needs}
 use Rattle.kept.proofs.keep_deletion.Statement.{statement}
 use Rattle.kept.proofs.keep_deletion.Tie as tie
 
-chip-requires : tie.Need-chip-requires
-chip-requires c κs = search needs
-
 deletion-area-requires : tie.Need-deletion-area-requires
 deletion-area-requires c κs = search needs
 
@@ -25,37 +22,23 @@ part-keep-item-end c = search needs
 
 keep-item-requires : tie.Need-keep-item-requires
 keep-item-requires c κs =
-    let b1 = c .before .before in
-    let b2 = b1 .before in
-    let b3 = b2 .before .before .before in
-    let x = b3 .args in
-    let P = b3 .pre in
-    let a = b1 .deletion-area .ensures in
-    item-fits (x .g) (P .0) (b1 .deletion-area .result) (DA (shape (x .g))) (a .0) (a .1) (b2 .chip .result) (b2 .chip .ensures)
-    _ _ (length-part (x .new .now) 0 4 (omega (arith, P .1))) (omega arith) (omega arith) (P .2)
+    let a = c .before .before .deletion-area in
+    let b = c .before .before .before .before .before in
+    let x = b .args in
+    let P = b .pre in
+    item-fits (x .g) (P .0) (a .result) (DA (shape (x .g))) (a .ensures .0) (a .ensures .1) _ _
+    (length-part (x .new .now) 0 4 (omega (arith, P .1))) (omega arith) (omega arith) (P .2)
 
 same-length : tie.Need-same-length
 same-length c = search needs
 
 returns : tie.Need-returns
 returns c =
-    let b1 = c .before .before in
-    let b2 = b1 .before .before .before in
-    let b3 = b2 .before in
-    let b4 = b3 .before .before .before in
-    let x = b4 .args in
-    b1 .keep-item .ensures ∙ item-kept (shape (x .g)) (b3 .chip .result) (b2 .deletion-area .result) (DA (shape (x .g))) (x .d) _
-    (x .ram .now) (b3 .chip .ensures) (b2 .deletion-area .ensures .0)
+    let k = c .before .before in
+    let a = k .before .before .before in
+    let x = a .before .before .before .args in
+    k .keep-item .ensures
+    ∙ item-kept (shape (x .g)) (a .deletion-area .result) (DA (shape (x .g))) (x .d) _ (x .ram .now) (a .deletion-area .ensures .0)
 
 pub keep-deletion-spec : {M : Type 1} → statement M
-keep-deletion-spec =
-    tie.close
-    (tie.spec
-    chip-requires
-    deletion-area-requires
-    sub-keep-item
-    part-keep-item-start
-    part-keep-item-end
-    keep-item-requires
-    same-length
-    returns)
+keep-deletion-spec = tie.close (tie.spec deletion-area-requires sub-keep-item part-keep-item-start part-keep-item-end keep-item-requires same-length returns)
