@@ -149,7 +149,7 @@ fn entry_bits(g: Geometry, n: usize, key: u32, ram: &[u8]) -> [u8; 256]
     if n % q + 1 != q {
         return [0u8; 256];
     }
-    filter::new_filter(g.chip(), g.ka_ram(), key, ram)
+    filter::new_filter(g.chip, g.ka_ram(), key, ram)
 }
 
 // That of the entry that takes a place.

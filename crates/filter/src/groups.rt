@@ -20,6 +20,13 @@ use geometry::sets::Index;
 use kernels::Rows;
 use triples::Triple;
 
+// The filters of an index on a chip: so many.
+pub struct Filters {
+    pub chip: Chip,
+    pub index: Index,
+    pub count: usize,
+}
+
 // A group of filters whose bits lie in the same rows: its first filter, whether it lies in RAM, and its rows.
 pub struct Group {
     pub start: usize,
@@ -193,24 +200,23 @@ fn rows_of(l: Level, ps: [u32; 8], count: usize) -> Rows
     Rows { at, low, count, w }
 }
 
-// The group that has filter `below` - 1, of so many filters, for the first `count` positions.
+// The group that has filter `below` - 1, for the first `count` positions.
 pub fn group_below(
-    chip: Chip,
-    ix: Index,
-    filters: usize,
+    fs: Filters,
     below: usize,
     ps: [u32; 8],
     count: usize,
     main: &[u8],
     ram: &[u8],
 ) -> Group
-    requires { ⌜ ((Z : ℕ) × (inFull (chip .unit) filters ≤ Z) × Fits (chip .unit) (indexOf ix) Z (now main) (now ram)) × (filters ≤ 2 ^ 20)
-        × (0 < below) × (below ≤ filters) ⌝ }
-    requires { ⌜ (1 ≤ count) × (count ≤ 8) × ((i : ℕ) → i < count → getD ps i 0 < filterBits (chip .unit)) ⌝ }
-    ensures { λ r. ⌜ GroupAt (chip .unit) (indexOf ix) (before main) (before ram) filters below (take count ps) r ⌝ }
+    requires { ⌜ ((Z : ℕ) × (inFull (fs .chip .unit) (fs .count) ≤ Z) × Fits (fs .chip .unit) (indexOf (fs .index)) Z (now main) (now ram))
+        × (fs .count ≤ 2 ^ 20) × (0 < below) × (below ≤ fs .count) ⌝ }
+    requires { ⌜ (1 ≤ count) × (count ≤ 8) × ((i : ℕ) → i < count → getD ps i 0 < filterBits (fs .chip .unit)) ⌝ }
+    ensures { λ r. ⌜ GroupAt (fs .chip .unit) (indexOf (fs .index)) (before main) (before ram) (fs .count) below (take count ps) r ⌝ }
 {
+    let chip = fs.chip;
     let e = exponent(chip.unit);
-    let l = level_below(chip, e, ix, stage_of(chip, e, filters), below);
+    let l = level_below(chip, e, fs.index, stage_of(chip, e, fs.count), below);
     Group {
         start: l.start,
         in_ram: l.in_ram,

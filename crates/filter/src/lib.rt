@@ -2,6 +2,7 @@
 pub mod groups;
 pub mod page;
 
+pub use groups::Filters;
 pub use groups::Group;
 pub use groups::group_below;
 pub use groups::newest_in;

@@ -1,16 +1,9 @@
-// The deletion test, and the entries of a page with a key. Document 01, "Records, entries, deletions" and "Calls".
+// Words and entries in a row of bytes: is a number among the words, which entry has a key. Document 01, "Calls".
 ghost use mathlib.Core.Path.{_≡_};
 ghost use Prim.Native.Nat.{_+_, _*_, _≤_};
 ghost use lib.ListN.{length};
-ghost use lib.Dec.{eqb};
 ghost use Rattle.memory.specs.Lent.{before};
-ghost use Rattle.memory.specs.Ranges.{any};
-ghost use Rattle.layout.specs.Items.{itemWord};
-ghost use Rattle.geometry.specs.Shape.{area};
-ghost use Rattle.items.specs.Fits.{Fits};
 ghost use Rattle.items.specs.Scans.{hasWord, lastEntry};
-use geometry::Area;
-use geometry::Chip;
 use geometry::areas;
 
 // Bytes of a number.
@@ -19,7 +12,7 @@ const WORD: usize = 4;
 // Entries that are looked through at once.
 const RUN: usize = 64;
 
-// ---- deletions
+// ---- words
 
 // Is one of the n words from byte `at` on the number j. No exit before the end, so that many words are compared at once.
 pub fn has_word(at: usize, n: usize, j: u32, s: &[u8]) -> bool
@@ -35,20 +28,6 @@ pub fn has_word(at: usize, n: usize, j: u32, s: &[u8]) -> bool
         i += 1;
     }
     found
-}
-
-// Is record j among the d deletions: first those of full pages, in a row on flash, then those in RAM.
-pub fn is_deleted(chip: Chip, a: Area, d: usize, j: u32, main: &[u8], ram: &[u8]) -> bool
-    requires { ⌜ a .size ≡ 4 ⌝ }
-    requires { ⌜ Fits (chip .unit) a d (length (now main)) (length (now ram)) ⌝ }
-    ensures { λ r. ⌜ r ≡ any (λ i. eqb (itemWord (chip .unit) (area a) d (before main) (before ram) i 0) j) d ⌝ }
-{
-    let per_page = a.per_page;
-    let full = d / per_page * per_page;
-    if has_word(chip.block_address(a.first), full, j, main) {
-        return true;
-    }
-    has_word(a.ram, d % per_page, j, ram)
 }
 
 // ---- entries with a key

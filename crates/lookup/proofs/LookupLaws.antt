@@ -51,16 +51,16 @@ module _ (h : Family) (g : layout.Geometry) (v : Volume) (key : ℕ) where
 
 -- a record's place is a 32-bit number
 module _ (g : Geometry) (s : Sound g) (n j : ℕ) (m : n ≤ layout.recordCapacity (shape g)) where
-  place-at : (t : Bool) → ltb j (n / layout.recordsPerPage (g .unit) * layout.recordsPerPage (g .unit)) ≡ t
-      → cond {A = Place} t (record { inRam = false; at = layout.raBlock (shape g) * layout.block (g .unit) + j * 16 }) (record { inRam = true; at = layout.raRam (g .unit) + j % layout.recordsPerPage (g .unit) * 16 }) .at < 4294967296
+  place-at : (t : Bool) → ltb j (n / layout.recordsPerPage (g .chip .unit) * layout.recordsPerPage (g .chip .unit)) ≡ t
+      → cond {A = Place} t (record { inRam = false; at = layout.raBlock (shape g) * layout.block (g .chip .unit) + j * 16 }) (record { inRam = true; at = layout.raRam (g .chip .unit) + j % layout.recordsPerPage (g .chip .unit) * 16 }) .at < 4294967296
   place-at true q =
-      omega (arith, ltb-true j (n / layout.recordsPerPage (g .unit) * layout.recordsPerPage (g .unit)) q, div-mul-le-self n (layout.recordsPerPage (g .unit)), record-capacity-le g s, m)
+      omega (arith, ltb-true j (n / layout.recordsPerPage (g .chip .unit) * layout.recordsPerPage (g .chip .unit)) q, div-mul-le-self n (layout.recordsPerPage (g .chip .unit)), record-capacity-le g s, m)
   place-at false q =
-      let l : j % layout.recordsPerPage (g .unit) < layout.recordsPerPage (g .unit) = mod-lt j (omega (arith, s .some)) in
+      let l : j % layout.recordsPerPage (g .chip .unit) < layout.recordsPerPage (g .chip .unit) = mod-lt j (omega (arith, s .some)) in
       omega (arith, l, s .most)
 
-  pub place-fits : (p : Place) → p ≡ itemPlace (g .unit) (RA (shape g)) n j → p .at < 4294967296
-  place-fits p e = rw e (place-at (ltb j (n / layout.recordsPerPage (g .unit) * layout.recordsPerPage (g .unit))) refl)
+  pub place-fits : (p : Place) → p ≡ itemPlace (g .chip .unit) (RA (shape g)) n j → p .at < 4294967296
+  place-fits p e = rw e (place-at (ltb j (n / layout.recordsPerPage (g .chip .unit) * layout.recordsPerPage (g .chip .unit))) refl)
 
 -- ---- by what the judge of the state answers
 

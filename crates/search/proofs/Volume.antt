@@ -39,7 +39,7 @@ use Rattle.search.proofs.Entries.{Same, scan-same}
 -- ---- a view's entries
 
 abbrev pub perPage : View → ℕ
-perPage v = layout.entriesPerPage (v .g .unit)
+perPage v = layout.entriesPerPage (v .g .chip .unit)
 
 -- full pages
 abbrev pub pages : View → ℕ
@@ -53,7 +53,7 @@ deletedOf v main ram = isDeleted (shape (v .g)) (viewed v main ram) (v .d0)
 
 module _ (v : View) (main ram : List ℕ) (key : Key) where
   abbrev word-of : ℕ → ℕ → ℕ
-  word-of j i = itemWord (v .g .unit) (KA (shape (v .g))) (v .n) main ram j i
+  word-of j i = itemWord (v .g .chip .unit) (KA (shape (v .g))) (v .n) main ram j i
 
   -- entry j, by its two words
   two-words : (j a b : ℕ) → word-of j 0 ≡ a → word-of j 1 ≡ b → tryOf v main ram key j ≡ tryEntry (v .n0) (deletedOf v main ram) key a b
@@ -61,25 +61,25 @@ module _ (v : View) (main ram : List ℕ) (key : Key) where
   two-words j a b e f = rw (e, f)
 
   -- entries of a page that is full by now
-  pub same-flash : (p from count : ℕ) → p < pages v → count ≤ perPage v → from ≡ layout.kaBlock (shape (v .g)) * layout.block (v .g .unit) + p * layout.page (v .g .unit)
+  pub same-flash : (p from count : ℕ) → p < pages v → count ≤ perPage v → from ≡ layout.kaBlock (shape (v .g)) * layout.block (v .g .chip .unit) + p * layout.page (v .g .chip .unit)
       → Same main from count (v .n0) key (deletedOf v main ram) (tryOf v main ram key) (p * perPage v)
   same-flash p from count h few is =
       record {
         entry = λ k l.
             two-words (p * perPage v + k) (word main (from + k * 8)) (word main (from + k * 8 + 4))
-            (page-word (v .g .unit) (KA (shape (v .g))) (v .n) main ram p k 0 (omega arith) h (omega arith) ∙ ap (λ (x : ℕ). word main x) (omega arith))
-            (page-word (v .g .unit) (KA (shape (v .g))) (v .n) main ram p k 1 (omega arith) h (omega arith) ∙ ap (λ (x : ℕ). word main x) (omega arith));
+            (page-word (v .g .chip .unit) (KA (shape (v .g))) (v .n) main ram p k 0 (omega arith) h (omega arith) ∙ ap (λ (x : ℕ). word main x) (omega arith))
+            (page-word (v .g .chip .unit) (KA (shape (v .g))) (v .n) main ram p k 1 (omega arith) h (omega arith) ∙ ap (λ (x : ℕ). word main x) (omega arith));
       }
 
   -- entries of the page that is not full
-  pub same-ram : (from count : ℕ) → pagesThen v ≡ pages v → count ≤ perPage v → from ≡ layout.kaRam (v .g .unit)
+  pub same-ram : (from count : ℕ) → pagesThen v ≡ pages v → count ≤ perPage v → from ≡ layout.kaRam (v .g .chip .unit)
       → Same ram from count (v .n0) key (deletedOf v main ram) (tryOf v main ram key) (pagesThen v * perPage v)
   same-ram from count e few is =
       rw e record {
         entry = λ k l.
             two-words (pages v * perPage v + k) (word ram (from + k * 8)) (word ram (from + k * 8 + 4))
-            (ram-word (v .g .unit) (KA (shape (v .g))) (v .n) main ram k 0 (omega arith) ∙ ap (λ (x : ℕ). word ram x) (omega arith))
-            (ram-word (v .g .unit) (KA (shape (v .g))) (v .n) main ram k 1 (omega arith) ∙ ap (λ (x : ℕ). word ram x) (omega arith));
+            (ram-word (v .g .chip .unit) (KA (shape (v .g))) (v .n) main ram k 0 (omega arith) ∙ ap (λ (x : ℕ). word ram x) (omega arith))
+            (ram-word (v .g .chip .unit) (KA (shape (v .g))) (v .n) main ram k 1 (omega arith) ∙ ap (λ (x : ℕ). word ram x) (omega arith));
       }
 
   -- entries by the bytes that they lie in
@@ -95,7 +95,7 @@ module _ (v : View) (main ram : List ℕ) (key : Key) where
       scan-same (tryIn v main ram key bytes from) (tryOf v main ram key) 0 lo count (λ k l. same-bytes bytes from count .entry k l ∙ sym (S .entry k l))
 
   -- the rows of a group open the gates of its pages
-  pub group-same : (below : ℕ) (ps : List ℕ) (grp : Group) → GroupAt (v .g .unit) (keyIndex (shape (v .g))) main ram (pages v) below ps grp
+  pub group-same : (below : ℕ) (ps : List ℕ) (grp : Group) → GroupAt (v .g .chip .unit) (keyIndex (shape (v .g))) main ram (pages v) below ps grp
       → (i : ℕ) → i < below - grp .start → maybeIn (shape (v .g)) (viewed v main ram) ps (grp .start + i) ≡ groupHas grp main ram i
   unfolding maybeIn
   group-same below ps grp G i h =
@@ -175,8 +175,8 @@ module _ (v : View) (main ram : List ℕ) (R : Ready v main ram) where
   -- eight full pages to a block of records
   pages-le : pages v ≤ 8 * v .g .ra
   pages-le =
-      let h : v .n < (8 * v .g .ra + 1) * (8 * v .g .unit) = omega (arith, R .n-cap, R .sound .some) in
-      omega (arith, div-lt (v .n) (8 * v .g .unit) (8 * v .g .ra + 1) (omega (arith, R .sound .some)) h)
+      let h : v .n < (8 * v .g .ra + 1) * (8 * v .g .chip .unit) = omega (arith, R .n-cap, R .sound .unit .1 .some) in
+      omega (arith, div-lt (v .n) (8 * v .g .chip .unit) (8 * v .g .ra + 1) (omega (arith, R .sound .unit .1 .some)) h)
 
   pub pages-few : pages v ≤ 32768
   pages-few = omega (arith, pages-le, R .sound .ra-most)
@@ -184,53 +184,52 @@ module _ (v : View) (main ram : List ℕ) (R : Ready v main ram) where
   -- those of the view are among them
   pub pages-then : pagesThen v ≤ pages v
   pages-then =
-      let E = euclid (v .n) (8 * v .g .unit) (omega (arith, R .sound .some)) in
-      let h : v .n0 < (pages v + 1) * (8 * v .g .unit) = omega (arith, R .n0-le, E .whole, E .small) in
-      omega (arith, div-lt (v .n0) (8 * v .g .unit) (pages v + 1) (omega (arith, R .sound .some)) h)
+      let E = euclid (v .n) (8 * v .g .chip .unit) (omega (arith, R .sound .unit .1 .some)) in
+      let h : v .n0 < (pages v + 1) * (8 * v .g .chip .unit) = omega (arith, R .n0-le, E .whole, E .small) in
+      omega (arith, div-lt (v .n0) (8 * v .g .chip .unit) (pages v + 1) (omega (arith, R .sound .unit .1 .some)) h)
 
   -- a full page lies within the flash
   pub page-in : (p : ℕ) → p < pages v
-      → layout.kaBlock (shape (v .g)) * layout.block (v .g .unit) + p * layout.page (v .g .unit) + layout.page (v .g .unit) ≤ length main
+      → layout.kaBlock (shape (v .g)) * layout.block (v .g .chip .unit) + p * layout.page (v .g .chip .unit) + layout.page (v .g .chip .unit) ≤ length main
   page-in p h =
       let b : p + 1 ≤ 16 * layout.kaBlocks (shape (v .g)) = omega (arith, pages-le) in
       let k : layout.kaBlock (shape (v .g)) + layout.kaBlocks (shape (v .g)) ≤ layout.blocks (shape (v .g)) = omega arith in
-      omega (arith, mul-le-mul-right (layout.page (v .g .unit)) b, mul-le-mul-right (layout.block (v .g .unit)) k, R .main-long)
+      omega (arith, mul-le-mul-right (layout.page (v .g .chip .unit)) b, mul-le-mul-right (layout.block (v .g .chip .unit)) k, R .main-long)
 
   -- entries past the last full page are fewer than a page's
   pub slots-lt : v .n0 % perPage v < perPage v
   slots-lt =
-      let E = euclid (v .n0) (perPage v) (omega (arith, R .sound .some)) in
+      let E = euclid (v .n0) (perPage v) (omega (arith, R .sound .unit .1 .some)) in
       omega arith
 
-  exponent-lt : (e : ℕ) → v .g .unit ≡ 2 ^ e → e < 6
-  exponent-lt e is = either (lt? e 6) (λ h. h .1) (λ h. absurd (omega (arith, pow-mono (h .1), R .sound .most, is)))
-
   -- full sets
-  pub sets-le : inFull (v .g .unit) (pages v) ≤ layout.fullSets (shape (v .g))
+  pub sets-le : inFull (v .g .chip .unit) (pages v) ≤ layout.fullSets (shape (v .g))
   sets-le =
-      let s = R .sound .some in
+      let s = R .sound .unit .1 .some in
       let a : pages v / 8 / 16 * 16 ≤ v .g .ra = omega (arith, pages-le) in
-      let E = euclid (pages v / 8 / 16) (4 * v .g .unit) (omega arith) in
-      let F = euclid (v .g .ra) (64 * v .g .unit) (omega arith) in
-      either (lt? (layout.fullSets (shape (v .g))) (inFull (v .g .unit) (pages v)))
-      (λ h. absurd (omega (arith, mul-le-mul-right (v .g .unit) (h .1), a, E .whole, F .whole, F .small)))
+      let E = euclid (pages v / 8 / 16) (4 * v .g .chip .unit) (omega arith) in
+      let F = euclid (v .g .ra) (64 * v .g .chip .unit) (omega arith) in
+      either (lt? (layout.fullSets (shape (v .g))) (inFull (v .g .chip .unit) (pages v)))
+      (λ h. absurd (omega (arith, mul-le-mul-right (v .g .chip .unit) (h .1), a, E .whole, F .whole, F .small)))
       (λ h. h .1)
 
-  pub index-fits : Fits (v .g .unit) (keyIndex (shape (v .g))) (layout.fullSets (shape (v .g))) main ram
-  index-fits =
-      let p = R .sound .power in
-      fits-of (v .g .unit) (keyIndex (shape (v .g))) (layout.fullSets (shape (v .g))) main ram (p .0) (exponent-lt (p .0) (p .1)) (p .1)
-      (omega (arith, index-le (v .g) (R .sound))) (omega (arith, R .main-long)) (omega (arith, R .ram-long))
+  pub index-fits : Fits (v .g .chip .unit) (keyIndex (shape (v .g))) (layout.fullSets (shape (v .g))) main ram
+  index-fits = record {
+    unit = R .sound .unit;
+    near = omega (arith, index-le (v .g) (R .sound));
+    on-flash = omega (arith, R .main-long);
+    in-ram = omega (arith, R .ram-long);
+  }
 
   -- ---- the page that n₀ records do not fill, with q entries to a page
 
   module _ (q : ℕ) (q-is : q ≡ perPage v) where
     -- by now it may be full
-    module _ (filled : v .n0 / q < v .n / q) (start : ℕ) (at : start ≡ layout.kaBlock (shape (v .g)) * layout.block (v .g .unit) + v .n0 / q * layout.page (v .g .unit)) where
+    module _ (filled : v .n0 / q < v .n / q) (start : ℕ) (at : start ≡ layout.kaBlock (shape (v .g)) * layout.block (v .g .chip .unit) + v .n0 / q * layout.page (v .g .chip .unit)) where
       filled-is : pagesThen v < pages v
       filled-is = rw q-is at filled
 
-      at-is : start ≡ layout.kaBlock (shape (v .g)) * layout.block (v .g .unit) + pagesThen v * layout.page (v .g .unit)
+      at-is : start ≡ layout.kaBlock (shape (v .g)) * layout.block (v .g .chip .unit) + pagesThen v * layout.page (v .g .chip .unit)
       at-is = rw q-is at at
 
       pub open-in-flash : start + v .n0 % q * 8 ≤ length main
@@ -243,7 +242,7 @@ module _ (v : View) (main ram : List ℕ) (R : Ready v main ram) where
           ∙ scan-bytes v main ram key main start (v .n0 % perPage v) (pagesThen v * perPage v)
           (same-flash v main ram key (pagesThen v) start (v .n0 % perPage v) filled-is (omega (arith, slots-lt)) at-is)
 
-    module _ (start : ℕ) (at : start ≡ layout.kaRam (v .g .unit)) where
+    module _ (start : ℕ) (at : start ≡ layout.kaRam (v .g .chip .unit)) where
       pub open-in-ram : start + v .n0 % q * 8 ≤ length ram
       open-in-ram = rw q-is (omega (arith, slots-lt, at, R .ram-long))
 

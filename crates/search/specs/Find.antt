@@ -86,7 +86,7 @@ tryIn v main ram key bytes start k =
 -- the full pages below a number, opened by the bits of some positions
 abbrev pub pagesBelow : View → List ℕ → List ℕ → Key → List ℕ → ℕ → find.Found
 pagesBelow v main ram key ps below =
-    find.searchPages (maybeIn (shape (v .g)) (viewed v main ram) ps) (tryOf v main ram key) (layout.entriesPerPage (v .g .unit)) below
+    find.searchPages (maybeIn (shape (v .g)) (viewed v main ram) ps) (tryOf v main ram key) (layout.entriesPerPage (v .g .chip .unit)) below
 
 -- what is found in all by a search that ended so after k pages, if it ended nowhere with what the search of older pages finds
 abbrev pub onward : Option find.Stop → ℕ → find.Found → find.Found
@@ -95,4 +95,4 @@ onward (some r) k older = find.reply (some r) k
 
 -- positions lie within a filter
 abbrev pub Low : Geometry → List ℕ → Type 0
-Low g ps = (i : ℕ) → i < positionCount → getD ps i 0 < layout.filterBits (g .unit)
+Low g ps = (i : ℕ) → i < positionCount → getD ps i 0 < layout.filterBits (g .chip .unit)

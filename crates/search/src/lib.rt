@@ -12,8 +12,10 @@ ghost use Rattle.layout.specs.Calls.{isDeleted, searchAt};
 ghost use Rattle.layout.specs.Search.{scan};
 ghost use Rattle.geometry.specs.Shape.{shape, Sound};
 ghost use Rattle.search.specs.Find.{stopOf, foundOf, whole, viewed, Ready, tryOf, tryIn, pagesBelow, onward, Low};
+use filter::Filters;
 use geometry::Geometry;
-use sets::Index;
+use geometry::areas;
+use geometry::sets;
 
 // What is searched: of the n records and d deletions of a volume the first n0 and the first d0. Where they lie goes
 // by n and d.
@@ -60,7 +62,7 @@ fn wide(x: u32) -> usize
 }
 
 // The record number of entry k of those from byte `at` on.
-fn number_at(s: &[u8], at: usize, k: usize) -> u32
+fn number_at(at: usize, k: usize, s: &[u8]) -> u32
     requires { ⌜ at + k * 8 + 8 ≤ length (now s) ⌝ }
     ensures { λ r. ⌜ r ≡ numberIn (word (before s) (at + k * 8 + 4)) ⌝ }
 {
@@ -72,17 +74,17 @@ fn deleted(v: View, j: u32, main: &[u8], ram: &[u8]) -> bool
     requires { ⌜ Ready v (now main) (now ram) ⌝ }
     ensures { λ r. ⌜ r ≡ isDeleted (shape (v .g)) (viewed v (before main) (before ram)) (v .d0) j ⌝ }
 {
-    let a = geometry::deletion_area(v.g);
-    let start = geometry::block_address(v.g, a.first);
+    let a = areas::deletion_area(v.g);
+    let start = v.g.chip.block_address(a.first);
     let per_page = a.per_page;
     let full = v.d / per_page * per_page;
     if v.d0 <= full {
-        return items::has_word(main, start, v.d0, j);
+        return items::has_word(start, v.d0, j, main);
     }
-    if items::has_word(main, start, full, j) {
+    if items::has_word(start, full, j, main) {
         return true;
     }
-    items::has_word(ram, a.ram, v.d0 - full, j)
+    items::has_word(a.ram, v.d0 - full, j, ram)
 }
 
 // ---- entries past the last full page
@@ -100,17 +102,17 @@ fn in_page(
     requires { ⌜ Ready v (now main) (now ram) × (start + count * 8 ≤ length (now page)) ⌝ }
     ensures { λ r. ⌜ stopOf r ≡ scan (tryIn v (before main) (before ram) key (before page) start) 0 count ⌝ }
 {
-    let mut e = items::find_entry(page, start, count, key);
+    let mut e = items::find_entry(start, count, key, page);
     while e > 0 {
         let k = e - 1;
-        let j = number_at(page, start, k);
+        let j = number_at(start, k, page);
         if wide(j) >= v.n0 {
             return End::Corrupt;
         }
         if !deleted(v, j, main, ram) {
             return End::Live(j);
         }
-        e = items::find_entry(page, start, k, key);
+        e = items::find_entry(start, k, key, page);
     }
     End::Nothing
 }
@@ -118,16 +120,16 @@ fn in_page(
 // The first byte of page p of the entries on flash.
 fn page_start(g: Geometry, p: usize) -> usize
     requires { ⌜ Sound g × (p ≤ 262144) ⌝ }
-    ensures { λ r. ⌜ r ≡ kaBlock (shape g) * block (g .unit) + p * page (g .unit) ⌝ }
+    ensures { λ r. ⌜ r ≡ kaBlock (shape g) * block (g .chip .unit) + p * page (g .chip .unit) ⌝ }
 {
-    geometry::block_address(g, g.ka_block()) + geometry::page_address(g, p)
+    g.chip.block_address(g.ka_block()) + g.chip.page_address(p)
 }
 
 // Those of the page that n0 records do not fill: in RAM, unless it has been filled since.
 fn in_open(v: View, key: u32, main: &[u8], ram: &[u8]) -> End
     requires { ⌜ Ready v (now main) (now ram) ⌝ }
     ensures { λ r. ⌜ stopOf r ≡ scan (tryOf v (before main) (before ram) key)
-        (v .n0 / entriesPerPage (v .g .unit) * entriesPerPage (v .g .unit)) (v .n0 % entriesPerPage (v .g .unit)) ⌝ }
+        (v .n0 / entriesPerPage (v .g .chip .unit) * entriesPerPage (v .g .chip .unit)) (v .n0 % entriesPerPage (v .g .chip .unit)) ⌝ }
 {
     let per_page = v.g.entries_per_page();
     let count = v.n0 % per_page;
@@ -153,30 +155,30 @@ struct Walk {
 // opened, newest first.
 fn in_group(v: View, key: u32, ps: [u32; 8], below: usize, main: &[u8], ram: &[u8]) -> Walk
     requires { ⌜ Ready v (now main) (now ram) × Low (v .g) ps ⌝ }
-    requires { ⌜ (0 < below) × (below ≤ v .n0 / entriesPerPage (v .g .unit)) ⌝ }
+    requires { ⌜ (0 < below) × (below ≤ v .n0 / entriesPerPage (v .g .chip .unit)) ⌝ }
     ensures { λ r. ⌜ r .start < below ⌝ }
     ensures { λ r. ⌜ pagesBelow v (before main) (before ram) key (take positionCount ps) below
         ≡ onward (stopOf (r .end)) (r .opened) (pagesBelow v (before main) (before ram) key (take positionCount ps) (r .start)) ⌝ }
 {
     let per_page = v.g.entries_per_page();
-    let ix = Index {
-        first: v.g.index_block(),
-        ska: v.g.ska_ram(),
+    let fs = Filters {
+        chip: v.g.chip,
+        index: sets::key_index(v.g),
+        count: v.n / per_page,
     };
-    let filters = v.n / per_page;
-    let grp = filter::group_below(main, ram, v.g.unit, ix, filters, below, ps, 3);
+    let grp = filter::group_below(fs, below, ps, 3, main, ram);
     let first = grp.start;
     let mut end = End::Nothing;
     let mut opened: u32 = 0;
-    let mut c = filter::newest_in(main, ram, grp, below - first);
+    let mut c = filter::newest_in(grp, below - first, main, ram);
     'filters: while c > 0 {
         let f = c - 1;
         opened += 1;
         let start = page_start(v.g, first + f);
-        let mut e = items::find_entry(main, start, per_page, key);
+        let mut e = items::find_entry(start, per_page, key, main);
         'entries: while e > 0 {
             let k = e - 1;
-            let j = number_at(main, start, k);
+            let j = number_at(start, k, main);
             if wide(j) >= v.n0 {
                 end = End::Corrupt;
                 break 'filters;
@@ -185,9 +187,9 @@ fn in_group(v: View, key: u32, ps: [u32; 8], below: usize, main: &[u8], ram: &[u
                 end = End::Live(j);
                 break 'filters;
             }
-            e = items::find_entry(main, start, k, key);
+            e = items::find_entry(start, k, key, main);
         }
-        c = filter::newest_in(main, ram, grp, f);
+        c = filter::newest_in(grp, f, main, ram);
     }
     Walk {
         end,
@@ -199,7 +201,7 @@ fn in_group(v: View, key: u32, ps: [u32; 8], below: usize, main: &[u8], ram: &[u
 // Full pages, a group of filters after another, the newest first, for any positions.
 fn in_pages(v: View, key: u32, ps: [u32; 8], main: &[u8], ram: &[u8]) -> Found
     requires { ⌜ Ready v (now main) (now ram) × Low (v .g) ps ⌝ }
-    ensures { λ r. ⌜ foundOf r ≡ pagesBelow v (before main) (before ram) key (take positionCount ps) (v .n0 / entriesPerPage (v .g .unit)) ⌝ }
+    ensures { λ r. ⌜ foundOf r ≡ pagesBelow v (before main) (before ram) key (take positionCount ps) (v .n0 / entriesPerPage (v .g .chip .unit)) ⌝ }
 {
     let mut opened: u32 = 0;
     let mut below = v.n0 / v.g.entries_per_page();
@@ -235,9 +237,9 @@ fn in_pages(v: View, key: u32, ps: [u32; 8], main: &[u8], ram: &[u8]) -> Found
 // The positions of a key, as the filters take them.
 fn positions_of(g: Geometry, key: u32) -> [u32; 8]
     requires { ⌜ Sound g ⌝ }
-    ensures { λ r. ⌜ (take positionCount r ≡ positions fnvFamily positionCount (g .unit) (keyBytes key)) × Low g r ⌝ }
+    ensures { λ r. ⌜ (take positionCount r ≡ positions fnvFamily positionCount (g .chip .unit) (keyBytes key)) × Low g r ⌝ }
 {
-    let p = fnv::positions(g.unit as u32, key);
+    let p = fnv::positions(g.chip, key);
     [p[0], p[1], p[2], 0, 0, 0, 0, 0]
 }
 

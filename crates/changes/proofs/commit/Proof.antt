@@ -45,8 +45,8 @@ returns c =
     let is = not-true _ (t .if1 .taken) in
     nothing-done (shape (x .g)) (x .e) (x .old) (recordIs (x .«record»)) (flashOf (x .main .now) (x .spare .now)) (x .ram .now) _ (n .new-bytes .result)
     (n .new-bytes .ensures ∙ ap (newBytes (x .old) (recordIs (x .«record»))) (n .before .record-number .ensures))
-    (no-bits (shape (x .g)) (x .«record» .key) (x .ram .now) _ (x .e) (s .pre .0 .some) (sym (t .before .programs .ensures) ∙ is))
-    (s .pre .0 .some) (s .pre .2 .ram-fits) (sym (t .before .programs .ensures) ∙ is) _ (f .finish .ensures)
+    (no-bits (shape (x .g)) (x .«record» .key) (x .ram .now) _ (x .e) (s .pre .0 .unit .1 .some) (sym (t .before .programs .ensures) ∙ is))
+    (s .pre .0 .unit .1 .some) (s .pre .2 .ram-fits) (sym (t .before .programs .ensures) ∙ is) _ (f .finish .ensures)
 
 of-requires : tie.Need-of-requires
 of-requires c κs = search needs

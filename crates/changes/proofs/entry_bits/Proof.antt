@@ -23,32 +23,27 @@ add-if1 : tie.Need-add-if1
 add-if1 c =
     let s = c .before .before in
     let q = c .entries-per-page in
-    omega (arith, mod-lt (s .args .n) {m = q .result} (omega (arith, q .ensures, s .pre .0 .some)), q .ensures, s .pre .0 .most)
+    omega (arith, mod-lt (s .args .n) {m = q .result} (omega (arith, q .ensures, s .pre .0 .unit .1 .some)), q .ensures, s .pre .0 .unit .1 .most)
 
 returns : tie.Need-returns
 returns c =
     let s = c .before .before .before in
     λ full x l. absurd (false≢true (sym (ne-eqb _ _ (rw (c .before .entries-per-page .ensures) at (c .if1 .taken))) ∙ full))
 
-chip-requires : tie.Need-chip-requires
-chip-requires c κs = search needs
-
 ka-ram-requires : tie.Need-ka-ram-requires
 ka-ram-requires c κs = search needs
 
 new-filter-requires : tie.Need-new-filter-requires
 new-filter-requires c κs =
-    let s = c .before .before .before .before .before in
-    let u = ap (λ (k : Chip). k .unit) (c .before .chip .ensures) in
-    (omega (arith, u, s .pre .0 .some), omega (arith, u, s .pre .0 .most), rw (u, c .ka-ram .ensures) (omega (arith, s .pre .1)))
+    let s = c .before .before .before .before in
+    (s .pre .0 .unit .1 .some, s .pre .0 .unit .1 .most, rw (c .ka-ram .ensures) (omega (arith, s .pre .1)))
 
 returns-2 : tie.Need-returns-2
 returns-2 c =
-    let s = c .before .before .before .before .before .before in
-    let u = ap (λ (k : Chip). k .unit) (c .before .before .chip .ensures) in
+    let s = c .before .before .before .before .before in
     λ full x l.
-    rw (u, c .before .ka-ram .ensures) at (c .new-filter .ensures x (omega (arith, l, s .pre .0 .most)))
-    ∙ new-filter-is (shape (s .args .g)) (s .args .n) (s .args .key) (s .args .ram .now) (s .pre .0 .some) full (omega arith) (omega (arith, s .pre .1)) x
+    rw (c .before .ka-ram .ensures) at (c .new-filter .ensures x (omega (arith, l, s .pre .0 .unit .1 .most)))
+    ∙ new-filter-is (shape (s .args .g)) (s .args .n) (s .args .key) (s .args .ram .now) (s .pre .0 .unit .1 .some) full (omega arith) (omega (arith, s .pre .1)) x
 
 pub entry-bits-spec : {M : Type 1} → statement M
 entry-bits-spec =
@@ -58,7 +53,6 @@ entry-bits-spec =
     rem-if1
     add-if1
     returns
-    chip-requires
     ka-ram-requires
     new-filter-requires
     returns-2)

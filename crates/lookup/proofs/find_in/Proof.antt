@@ -94,10 +94,10 @@ searched P = ended P .before .before
 
 -- its place
 place-is : (P : tie.After-item-place) → let b = start-of (searched P .before) in
-    place (P .item-place .result) ≡ itemPlace (b .args .g .unit) (RA (shape (b .args .g))) (b .args .s .records) (number P)
+    place (P .item-place .result) ≡ itemPlace (b .args .g .chip .unit) (RA (shape (b .args .g))) (b .args .s .records) (number P)
 place-is P =
     let b = start-of (searched P .before) in
-    P .item-place .ensures ∙ ap (λ (a : Area). itemPlace (b .args .g .unit) a (b .args .s .records) (number P)) (P .before .record-area .ensures .0)
+    P .item-place .ensures ∙ ap (λ (a : Area). itemPlace (b .args .g .chip .unit) a (b .args .s .records) (number P)) (P .before .record-area .ensures .0)
 
 place-small : (P : tie.After-item-place) → P .item-place .result .at < 4294967296
 place-small P =

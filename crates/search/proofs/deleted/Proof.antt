@@ -35,7 +35,7 @@ size-is : (c : tie.After-deletion-area) → area-at c .size ≡ 4
 size-is c = ap (λ (z : layout.Area). z .size) (c .deletion-area .ensures .0)
 
 area-fits : (c : tie.After-deletion-area) → let x = c .before .before .before .args in
-    Fits (x .v .g .unit) (area-at c) (x .v .d) (length (x .main .now)) (length (x .ram .now))
+    Fits (x .v .g .chip .unit) (area-at c) (x .v .d) (length (x .main .now)) (length (x .ram .now))
 area-fits c =
     let b = c .before .before .before in
     let x = b .args in
@@ -45,12 +45,12 @@ area-fits c =
 
 -- what the test says of the view's deletions
 deleted-by : (c : tie.After-deletion-area) (t : Bool) → let x = c .before .before .before .args in
-    t ≡ any (λ i. eqb (layout.itemWord (x .v .g .unit) (area (area-at c)) (x .v .d) (x .main .now) (x .ram .now) i 0) (x .j)) (x .v .d0)
+    t ≡ any (λ i. eqb (layout.itemWord (x .v .g .chip .unit) (area (area-at c)) (x .v .d) (x .main .now) (x .ram .now) i 0) (x .j)) (x .v .d0)
     → t ≡ deletedOf (x .v) (x .main .now) (x .ram .now) (x .j)
 unfolding isDeleted
 deleted-by c t e =
     let x = c .before .before .before .args in
-    e ∙ ap (λ (z : layout.Area). any (λ i. eqb (layout.itemWord (x .v .g .unit) z (x .v .d) (x .main .now) (x .ram .now) i 0) (x .j)) (x .v .d0)) (c .deletion-area .ensures .0)
+    e ∙ ap (λ (z : layout.Area). any (λ i. eqb (layout.itemWord (x .v .g .chip .unit) z (x .v .d) (x .main .now) (x .ram .now) i 0) (x .j)) (x .v .d0)) (c .deletion-area .ensures .0)
 
 deletion-area-requires : tie.Need-deletion-area-requires
 deletion-area-requires c κs = search needs
@@ -71,7 +71,7 @@ has-word-requires c κs =
     let B = c .before .before .before in
     let A = B .before in
     let x = A .before .before .before .args in
-    omega (arith, B .block-address .ensures, flash-run-in (x .v .g .unit) (area-at A) (x .v .d) (x .v .d0) (length (x .main .now)) (length (x .ram .now)) (area-fits A) (size-is A) (c .if1 .taken))
+    omega (arith, B .block-address .ensures, flash-run-in (x .v .g .chip .unit) (area-at A) (x .v .d) (x .v .d0) (length (x .main .now)) (length (x .ram .now)) (area-fits A) (size-is A) (c .if1 .taken))
 
 returns : tie.Need-returns
 returns c =
@@ -80,14 +80,14 @@ returns c =
     let x = A .before .before .before .args in
     deleted-by A (c .has-word .result)
     ((rw (B .block-address .ensures) at (c .has-word .ensures))
-    ∙ sym (among-flash (x .v .g .unit) (area (area-at A)) (x .v .d) (x .main .now) (x .ram .now) (size-is A) (x .j) (x .v .d0) (c .before .if1 .taken)))
+    ∙ sym (among-flash (x .v .g .chip .unit) (area (area-at A)) (x .v .d) (x .main .now) (x .ram .now) (size-is A) (x .j) (x .v .d0) (c .before .if1 .taken)))
 
 has-word-requires-2 : tie.Need-has-word-requires-2
 has-word-requires-2 c κs =
     let B = c .before .before .before in
     let A = B .before in
     let x = A .before .before .before .args in
-    omega (arith, B .block-address .ensures, flash-run-in (x .v .g .unit) (area-at A) (x .v .d) (x .v .d / area-at A .«per_page» * area-at A .«per_page») (length (x .main .now)) (length (x .ram .now)) (area-fits A) (size-is A) (omega arith))
+    omega (arith, B .block-address .ensures, flash-run-in (x .v .g .chip .unit) (area-at A) (x .v .d) (x .v .d / area-at A .«per_page» * area-at A .«per_page») (length (x .main .now)) (length (x .ram .now)) (area-fits A) (size-is A) (omega arith))
 
 -- is it in the run in RAM
 abbrev ram-run : tie.After-deletion-area → Bool
@@ -97,14 +97,14 @@ ram-run A =
 
 -- both runs, the one on flash being tested first
 both-runs : (c : tie.After-has-word2) → let A = c .before .before .before .before .before in let x = A .before .before .before .args in
-    any (λ i. eqb (layout.itemWord (x .v .g .unit) (area (area-at A)) (x .v .d) (x .main .now) (x .ram .now) i 0) (x .j)) (x .v .d0) ≡ (ram-run A || c .has-word2 .result)
+    any (λ i. eqb (layout.itemWord (x .v .g .chip .unit) (area (area-at A)) (x .v .d) (x .main .now) (x .ram .now) i 0) (x .j)) (x .v .d0) ≡ (ram-run A || c .has-word2 .result)
 both-runs c =
     let B = c .before .before .before .before in
     let A = B .before in
     let b = A .before .before .before in
     let x = b .args in
-    among-both (x .v .g .unit) (area (area-at A)) (x .v .d) (x .main .now) (x .ram .now) (size-is A) (x .j) (x .v .d0) (omega (arith, c .before .if1 .left))
-    (rest-few (x .v .g .unit) (area-at A) (x .v .d) (x .v .d0) (length (x .main .now)) (length (x .ram .now)) (area-fits A) (size-is A) (b .pre .d0-le))
+    among-both (x .v .g .chip .unit) (area (area-at A)) (x .v .d) (x .main .now) (x .ram .now) (size-is A) (x .j) (x .v .d0) (omega (arith, c .before .if1 .left))
+    (rest-few (x .v .g .chip .unit) (area-at A) (x .v .d) (x .v .d0) (length (x .main .now)) (length (x .ram .now)) (area-fits A) (size-is A) (b .pre .d0-le))
     ∙ ap (λ (t : Bool). ram-run A || t) (sym (rw (B .block-address .ensures) at (c .has-word2 .ensures)))
 
 returns-2 : tie.Need-returns-2
@@ -120,7 +120,7 @@ has-word-requires-3 c κs =
     let A = c .before .before .before .before .before .before .before in
     let b = A .before .before .before in
     let x = b .args in
-    ram-run-in (x .v .g .unit) (area-at A) (x .v .d) (x .v .d0) (length (x .main .now)) (length (x .ram .now)) (area-fits A) (size-is A) (b .pre .d0-le)
+    ram-run-in (x .v .g .chip .unit) (area-at A) (x .v .d) (x .v .d0) (length (x .main .now)) (length (x .ram .now)) (area-fits A) (size-is A) (b .pre .d0-le)
 
 returns-3 : tie.Need-returns-3
 returns-3 c =

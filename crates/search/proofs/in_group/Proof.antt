@@ -72,7 +72,7 @@ count G = start-of G .args .below - group G .start
 
 -- the group, as the view has it
 group-at : (G : Known) → let x = start-of G .args in
-    GroupAt (x .v .g .unit) (keyIndex (shape (x .v .g))) (x .main .now) (x .ram .now) (pages (x .v)) (x .below) (take positionCount (x .ps)) (group G)
+    GroupAt (x .v .g .chip .unit) (keyIndex (shape (x .v .g))) (x .main .now) (x .ram .now) (pages (x .v)) (x .below) (take positionCount (x .ps)) (group G)
 group-at G =
     let S = G .before .before in
     rw (S .ska-ram .ensures, S .before .index-block .ensures, S .before .before .entries-per-page .ensures) at (G .group-below .ensures)
@@ -103,10 +103,10 @@ count-few G =
     omega (arith, b .pre .1 .1, pages-then (x .v) (x .main .now) (x .ram .now) (ready b), pages-few (x .v) (x .main .now) (x .ram .now) (ready b))
 
 abbrev page-at : Known → ℕ → ℕ
-page-at G f = let g = start-of G .args .v .g in kaBlock (shape g) * block (g .unit) + (group G .start + f) * page (g .unit)
+page-at G f = let g = start-of G .args .v .g in kaBlock (shape g) * block (g .chip .unit) + (group G .start + f) * page (g .chip .unit)
 
 -- its entries lie within the flash
-page-within : (G : Known) (f start : ℕ) → f < count G → start ≡ page-at G f → start + page (start-of G .args .v .g .unit) ≤ length (start-of G .args .main .now)
+page-within : (G : Known) (f start : ℕ) → f < count G → start ≡ page-at G f → start + page (start-of G .args .v .g .chip .unit) ≤ length (start-of G .args .main .now)
 page-within G f start h e =
     let b = start-of G in
     let x = b .args in
@@ -142,7 +142,7 @@ ska-ram-requires c κs = ready (c .before .before .before .before) .sound
 div-filters : tie.Need-div-filters Inv-entries μ-entries Inv-filters μ-filters
 div-filters c =
     let E = c .before .before .before in
-    omega (arith, E .entries-per-page .ensures, ready (E .before .before .before) .sound .some)
+    omega (arith, E .entries-per-page .ensures, ready (E .before .before .before) .sound .unit .1 .some)
 
 group-below-requires : tie.Need-group-below-requires Inv-entries μ-entries Inv-filters μ-filters
 group-below-requires c κs =
@@ -234,7 +234,7 @@ same-at : (P : Opened) → let G = known P in let b = start-of G in let x = b .a
     Same (x .main .now) (P .page-start .result) (perPage (x .v)) (x .v .n0) (x .key) (deleted-at b) (try-at b) ((group G .start + filter-of P) * perPage (x .v))
 same-at P = page-same (known P) (filter-of P) (P .page-start .result) (in-group P) (P .page-start .ensures)
 
-within-at : (P : Opened) → P .page-start .result + page (start-of (known P) .args .v .g .unit) ≤ length (start-of (known P) .args .main .now)
+within-at : (P : Opened) → P .page-start .result + page (start-of (known P) .args .v .g .chip .unit) ≤ length (start-of (known P) .args .main .now)
 within-at P = page-within (known P) (filter-of P) (P .page-start .result) (in-group P) (P .page-start .ensures)
 
 sub-k : tie.Need-sub-k Inv-entries μ-entries Inv-filters μ-filters

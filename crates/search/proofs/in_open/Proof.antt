@@ -19,13 +19,13 @@ entries-per-page-requires : tie.Need-entries-per-page-requires
 entries-per-page-requires c κs = search needs
 
 rem-count : tie.Need-rem-count
-rem-count c = let E = c .before in omega (arith, E .entries-per-page .ensures, start-of E .pre .sound .some)
+rem-count c = let E = c .before in omega (arith, E .entries-per-page .ensures, start-of E .pre .sound .unit .1 .some)
 
 div-p : tie.Need-div-p
-div-p c = let E = c .before .before .before .before in omega (arith, E .entries-per-page .ensures, start-of E .pre .sound .some)
+div-p c = let E = c .before .before .before .before in omega (arith, E .entries-per-page .ensures, start-of E .pre .sound .unit .1 .some)
 
 div-if2 : tie.Need-div-if2
-div-if2 c = let E = c .before .before .before .before .before in omega (arith, E .entries-per-page .ensures, start-of E .pre .sound .some)
+div-if2 c = let E = c .before .before .before .before .before in omega (arith, E .entries-per-page .ensures, start-of E .pre .sound .unit .1 .some)
 
 -- ---- on flash
 

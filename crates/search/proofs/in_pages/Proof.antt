@@ -43,7 +43,7 @@ entries-per-page-requires c κs = c .before .before .pre .0 .sound
 div-below : tie.Need-div-below Inv-loop μ-loop
 div-below c =
     let E = c .before in
-    omega (arith, E .entries-per-page .ensures, E .before .before .before .pre .0 .sound .some)
+    omega (arith, E .entries-per-page .ensures, E .before .before .before .pre .0 .sound .unit .1 .some)
 
 loop-holds : tie.Need-loop-holds Inv-loop μ-loop
 loop-holds c =

@@ -19,8 +19,8 @@ add-result c =
     let B = c .before .before .before in
     let x = B .args in
     let s = B .pre .0 in
-    let k = product-le (x .g .ra) (x .g .unit) 4096 32 (s .ra-most) (s .most) in
-    let l = product-le (x .p) (x .g .unit) 262144 32 (B .pre .1) (s .most) in
+    let k = product-le (x .g .ra) (x .g .chip .unit) 4096 32 (s .ra-most) (s .most) in
+    let l = product-le (x .p) (x .g .chip .unit) 262144 32 (B .pre .1) (s .most) in
     rw (c .page-address .ensures, c .before .block-address .ensures, c .before .before .ka-block .ensures) (omega (arith, k, l))
 
 returns : tie.Need-returns
