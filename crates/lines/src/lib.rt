@@ -193,9 +193,9 @@ pub fn answer_next(
         ≡ answerLine (given s main spare ram) (before line) (before out) ⌝ }
 {
     let mut v = Volume { state: s };
-    let length = answer_on(&mut v, line, main, spare, ram, out);
+    let n = answer_on(&mut v, line, main, spare, ram, out);
     LineReply {
         state: v.state,
-        length: length,
+        length: n,
     }
 }
