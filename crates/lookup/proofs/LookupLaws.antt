@@ -56,8 +56,8 @@ module _ (g : Geometry) (s : Sound g) (n j : ℕ) (m : n ≤ layout.recordCapaci
   place-at true q =
       omega (arith, ltb-true j (n / layout.recordsPerPage (g .chip .unit) * layout.recordsPerPage (g .chip .unit)) q, div-mul-le-self n (layout.recordsPerPage (g .chip .unit)), record-capacity-le g s, m)
   place-at false q =
-      let l : j % layout.recordsPerPage (g .chip .unit) < layout.recordsPerPage (g .chip .unit) = mod-lt j (omega (arith, s .some)) in
-      omega (arith, l, s .most)
+      let l : j % layout.recordsPerPage (g .chip .unit) < layout.recordsPerPage (g .chip .unit) = mod-lt j (omega (arith, s .unit .1 .some)) in
+      omega (arith, l, s .unit .1 .most)
 
   pub place-fits : (p : Place) → p ≡ itemPlace (g .chip .unit) (RA (shape g)) n j → p .at < 4294967296
   place-fits p e = rw e (place-at (ltb j (n / layout.recordsPerPage (g .chip .unit) * layout.recordsPerPage (g .chip .unit))) refl)

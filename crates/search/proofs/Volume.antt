@@ -8,7 +8,6 @@ use native.Mathlib.Nat.{mul-le-mul-right}
 use native.Mathlib.Omega.{arith}
 use lib.Dec.{eqb}
 use lib.ListN.{length}
-use lib.Pow.{pow-mono}
 use Rattle.memory.specs.Cases.{lt?, either}
 use Rattle.memory.specs.Numbers.{euclid, div-lt}
 use Rattle.memory.specs.Ranges.{any, any-ext}
@@ -23,15 +22,15 @@ use Rattle.layout.specs.Calls.{keyIndex, keyPositions, isDeleted, entryWord, tr
 use Rattle.geometry.specs.declared.Geometry.{Geometry}
 use Rattle.geometry.specs.Shape.{shape}
 use Rattle.geometry.specs.Bounds.{index-le}
-use Rattle.geometry.specs.declared.Area as items
+use Rattle.geometry.specs.declared.areas.Area as items
 use Rattle.items.specs.Fits as fits
 use Rattle.items.specs.Scans.{isWord, hasWord, any-sum}
 use Rattle.items.specs.Reading.{word-on-flash, page-word, ram-word}
 use Rattle.kernels.specs.Rows.{Within}
 use Rattle.kernels.specs.declared.Rows.{Rows}
-use Rattle.filter.specs.Filter.{Fits, fits-of}
+use Rattle.filter.specs.Filter.{Fits}
 use Rattle.filter.specs.Groups.{groupHas, GroupAt}
-use Rattle.filter.specs.declared.Group.{Group}
+use Rattle.filter.specs.declared.groups.Group.{Group}
 use Rattle.search.specs.declared.View.{View}
 use Rattle.search.specs.Find.{viewed, Ready, tryOf, tryIn, pagesBelow}
 use Rattle.search.proofs.Entries.{Same, scan-same}
@@ -214,12 +213,13 @@ module _ (v : View) (main ram : List ℕ) (R : Ready v main ram) where
       (λ h. h .1)
 
   pub index-fits : Fits (v .g .chip .unit) (keyIndex (shape (v .g))) (layout.fullSets (shape (v .g))) main ram
-  index-fits = record {
-    unit = R .sound .unit;
-    near = omega (arith, index-le (v .g) (R .sound));
-    on-flash = omega (arith, R .main-long);
-    in-ram = omega (arith, R .ram-long);
-  }
+  index-fits =
+      record {
+        unit = R .sound .unit;
+        near = omega (arith, index-le (v .g) (R .sound));
+        on-flash = omega (arith, R .main-long);
+        in-ram = omega (arith, R .ram-long);
+      }
 
   -- ---- the page that n₀ records do not fill, with q entries to a page
 

@@ -2,7 +2,7 @@
 use mathlib.Core.Path.{_≡_, sym}
 use mathlib.Core.Option.{Option, none, some}
 use mathlib.Core.List.{List, []}
-use Prim.Native.Nat.{ℕ, _+_, _*_, _≤_, _<_}
+use Prim.Native.Nat.{ℕ, _+_, _*_, _/_, _≤_, _<_}
 use native.Mathlib.Omega.{arith}
 use lib.ListN.{length, getD}
 use Rattle.memory.specs.Words.{word}
@@ -14,6 +14,8 @@ use Rattle.layout.specs.Search as find
 use Rattle.layout.specs.Calls.{Volume, isDeleted, tryAt, maybeIn, searchAt, search}
 use Rattle.geometry.specs.declared.Geometry.{Geometry}
 use Rattle.geometry.specs.Shape.{shape, Sound}
+use Rattle.geometry.specs.Indexes.{indexFor}
+use Rattle.filter.specs.declared.groups.Filters.{Filters}
 use Rattle.search.specs.declared.View.{View}
 use Rattle.search.specs.declared.End.{End}
 use Rattle.search.specs.declared.End.the-variants.{Nothing, Live, Corrupt}
@@ -96,3 +98,8 @@ onward (some r) k older = find.reply (some r) k
 -- positions lie within a filter
 abbrev pub Low : Geometry → List ℕ → Type 0
 Low g ps = (i : ℕ) → i < positionCount → getD ps i 0 < layout.filterBits (g .chip .unit)
+
+-- the filters of its entries, all of them
+abbrev pub filtersOf : View → Filters
+filtersOf v =
+    record { chip = v .g .chip; index = indexFor (shape (v .g)); count = v .n / layout.entriesPerPage (v .g .chip .unit) }

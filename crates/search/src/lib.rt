@@ -11,10 +11,9 @@ ghost use Rattle.layout.specs.Hash.{fnvFamily, positions, positionCount};
 ghost use Rattle.layout.specs.Calls.{isDeleted, searchAt};
 ghost use Rattle.layout.specs.Search.{scan};
 ghost use Rattle.geometry.specs.Shape.{shape, Sound};
-ghost use Rattle.search.specs.Find.{stopOf, foundOf, whole, viewed, Ready, tryOf, tryIn, pagesBelow, onward, Low};
+ghost use Rattle.search.specs.Find.{stopOf, foundOf, whole, viewed, Ready, tryOf, tryIn, pagesBelow, onward, Low, filtersOf};
 use filter::Filters;
 use geometry::Geometry;
-use geometry::areas;
 use geometry::sets;
 
 // What is searched: of the n records and d deletions of a volume the first n0 and the first d0. Where they lie goes
@@ -74,7 +73,7 @@ fn deleted(v: View, j: u32, main: &[u8], ram: &[u8]) -> bool
     requires { ⌜ Ready v (now main) (now ram) ⌝ }
     ensures { λ r. ⌜ r ≡ isDeleted (shape (v .g)) (viewed v (before main) (before ram)) (v .d0) j ⌝ }
 {
-    let a = areas::deletion_area(v.g);
+    let a = geometry::deletion_area(v.g);
     let start = v.g.chip.block_address(a.first);
     let per_page = a.per_page;
     let full = v.d / per_page * per_page;
@@ -144,6 +143,20 @@ fn in_open(v: View, key: u32, main: &[u8], ram: &[u8]) -> End
 
 // ---- full pages
 
+// The filters of the volume's entries.
+fn key_filters(v: View) -> Filters
+    requires { ⌜ Sound (v .g) ⌝ }
+    ensures { λ r. ⌜ r ≡ filtersOf v ⌝ }
+{
+    let chip = v.g.chip;
+    let index = sets::key_index(v.g);
+    Filters {
+        chip,
+        index,
+        count: v.n / v.g.entries_per_page(),
+    }
+}
+
 // What was found in a group of pages: where the search ended in it, the pages opened, and the group's first page.
 struct Walk {
     end: End,
@@ -161,12 +174,7 @@ fn in_group(v: View, key: u32, ps: [u32; 8], below: usize, main: &[u8], ram: &[u
         ≡ onward (stopOf (r .end)) (r .opened) (pagesBelow v (before main) (before ram) key (take positionCount ps) (r .start)) ⌝ }
 {
     let per_page = v.g.entries_per_page();
-    let fs = Filters {
-        chip: v.g.chip,
-        index: sets::key_index(v.g),
-        count: v.n / per_page,
-    };
-    let grp = filter::group_below(fs, below, ps, 3, main, ram);
+    let grp = filter::group_below(key_filters(v), below, ps, 3, main, ram);
     let first = grp.start;
     let mut end = End::Nothing;
     let mut opened: u32 = 0;

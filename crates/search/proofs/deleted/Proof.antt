@@ -1,6 +1,6 @@
 -- The first of the deletions lie in a row on flash as far as their pages are full, the others in RAM.
 use borrow.Author.Needs.{needs}
-use native.Mathlib.Nat.{div-mul-le-self}
+use native.Mathlib.Nat.{div-mul-le-self, mul-le-mul}
 use native.Mathlib.Omega.{arith}
 use mathlib.Core.Path.{_≡_, sym, ap, _∙_}
 use mathlib.Core.Bool.{Bool, true, false, _||_}
@@ -11,7 +11,7 @@ use Rattle.memory.specs.Ranges.{any}
 use Rattle.layout.specs.Items as layout
 use Rattle.layout.specs.Calls.{isDeleted}
 use Rattle.geometry.specs.Shape.{area}
-use Rattle.geometry.specs.declared.Area.{Area}
+use Rattle.geometry.specs.declared.areas.Area.{Area}
 use Rattle.items.specs.Fits.{Fits, fits-deletions}
 use Rattle.items.specs.Scans.{hasWord}
 use Rattle.search.proofs.Volume.{deletedOf, among-flash, among-both, flash-run-in, ram-run-in, rest-few}
@@ -56,7 +56,10 @@ deletion-area-requires : tie.Need-deletion-area-requires
 deletion-area-requires c κs = search needs
 
 block-address-requires : tie.Need-block-address-requires
-block-address-requires c κs = search needs
+block-address-requires c κs =
+    let b = c .before .before .before in
+    let U = b .pre .sound .unit .1 in
+    (U .most, omega (arith, mul-le-mul (c .deletion-area .ensures .1 .first-most) (U .most)))
 
 div-full : tie.Need-div-full
 div-full c = search needs

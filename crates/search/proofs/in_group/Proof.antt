@@ -11,7 +11,7 @@ use Rattle.layout.specs.Calls.{keyIndex, maybeIn}
 use Rattle.layout.specs.Search.{Stop, found, corrupt, searchPages}
 use Rattle.geometry.specs.Shape.{shape}
 use Rattle.filter.specs.Groups.{bytesOf, groupHas, GroupAt}
-use Rattle.filter.specs.declared.Group.{Group}
+use Rattle.filter.specs.declared.groups.Group.{Group}
 use Rattle.search.specs.declared.End.the-variants.{Nothing}
 use Rattle.search.specs.Find.{viewed, Ready, tryOf}
 use Rattle.search.proofs.Entries.{Same, Left, left-none, left-first, left-corrupt, left-found, left-next, left-less}
@@ -23,18 +23,18 @@ use Rattle.search.proofs.in_group.Statement.{statement}
 use Rattle.search.proofs.in_group.Tie as tie
 
 abbrev Inv-entries : tie.InvT-entries
-Inv-entries v key below main ram per-page filters grp first end₀ opened c f start e₀ end e =
+Inv-entries v key below main ram per-page grp first end₀ opened c f start e₀ end e =
     Left main start key (tryOf v main ram key) ((grp .start + (c - 1)) * perPage v) (perPage v) e × (end ≡ Nothing)
 
 abbrev μ-entries : tie.MeasureT-entries
-μ-entries v key below main ram per-page filters grp first end₀ opened c f start e₀ end e = e
+μ-entries v key below main ram per-page grp first end₀ opened c f start e₀ end e = e
 
 abbrev Inv-filters : tie.InvT-filters
-Inv-filters v key below main ram per-page filters grp first end₀ opened₀ c₀ end opened c =
+Inv-filters v key below main ram per-page grp first end₀ opened₀ c₀ end opened c =
     Pages (tryOf v main ram key) (perPage v) (groupHas grp main ram) (grp .start) (below - grp .start) opened c × (end ≡ Nothing)
 
 abbrev μ-filters : tie.MeasureT-filters
-μ-filters v key below main ram per-page filters grp first end₀ opened₀ c₀ end opened c = c
+μ-filters v key below main ram per-page grp first end₀ opened₀ c₀ end opened c = c
 
 -- ---- the search at hand
 
@@ -46,7 +46,7 @@ abbrev Known : Type 0
 Known = tie.After-group-below Inv-entries μ-entries Inv-filters μ-filters
 
 abbrev start-of : Known → Start
-start-of G = G .before .before .before .before .before .before .before
+start-of G = G .before .before .before .before .before
 
 abbrev ready : (b : Start) → Ready (b .args .v) (b .args .main .now) (b .args .ram .now)
 ready b = b .pre .0 .0
@@ -74,8 +74,7 @@ count G = start-of G .args .below - group G .start
 group-at : (G : Known) → let x = start-of G .args in
     GroupAt (x .v .g .chip .unit) (keyIndex (shape (x .v .g))) (x .main .now) (x .ram .now) (pages (x .v)) (x .below) (take positionCount (x .ps)) (group G)
 group-at G =
-    let S = G .before .before in
-    rw (S .ska-ram .ensures, S .before .index-block .ensures, S .before .before .entries-per-page .ensures) at (G .group-below .ensures)
+    rw (G .before .key-filters .ensures) at (G .group-below .ensures)
 
 -- its rows open the gates
 same-gates : (G : Known) → Opens (gate-at (start-of G)) (has-at G) (group G .start) (count G)
@@ -133,26 +132,15 @@ ends G =
 entries-per-page-requires : tie.Need-entries-per-page-requires Inv-entries μ-entries Inv-filters μ-filters
 entries-per-page-requires c κs = ready (c .before .before) .sound
 
-index-block-requires : tie.Need-index-block-requires Inv-entries μ-entries Inv-filters μ-filters
-index-block-requires c κs = ready (c .before .before .before) .sound
-
-ska-ram-requires : tie.Need-ska-ram-requires Inv-entries μ-entries Inv-filters μ-filters
-ska-ram-requires c κs = ready (c .before .before .before .before) .sound
-
-div-filters : tie.Need-div-filters Inv-entries μ-entries Inv-filters μ-filters
-div-filters c =
-    let E = c .before .before .before in
-    omega (arith, E .entries-per-page .ensures, ready (E .before .before .before) .sound .unit .1 .some)
+key-filters-requires : tie.Need-key-filters-requires Inv-entries μ-entries Inv-filters μ-filters
+key-filters-requires c κs = ready (c .before .before .before) .sound
 
 group-below-requires : tie.Need-group-below-requires Inv-entries μ-entries Inv-filters μ-filters
 group-below-requires c κs =
-    let S = c .before in
-    let I = S .before in
-    let E = I .before in
-    let b = E .before .before .before in
+    let b = c .before .before .before .before in
     let x = b .args in
     let R = ready b in
-    rw (S .ska-ram .ensures, I .index-block .ensures, E .entries-per-page .ensures) (
+    rw (c .key-filters .ensures) (
       (
         (fullSets (shape (x .v .g)), sets-le (x .v) (x .main .now) (x .ram .now) R, index-fits (x .v) (x .main .now) (x .ram .now) R),
         omega (arith, pages-few (x .v) (x .main .now) (x .ram .now) R),
@@ -201,7 +189,7 @@ find-entry-requires : tie.Need-find-entry-requires Inv-entries μ-entries Inv-fi
 find-entry-requires c κs =
     let l = c .before .before in
     let G = l .before .before in
-    let E = G .before .before .before .before in
+    let E = G .before .before in
     omega (arith, E .entries-per-page .ensures, page-within G (l .filters .c - 1) (c .page-start .result) (omega (arith, l .filters .inv .0 .few)) (c .page-start .ensures))
 
 entries-holds : tie.Need-entries-holds Inv-entries μ-entries Inv-filters μ-filters
@@ -209,7 +197,7 @@ entries-holds c =
     let P = c .before in
     let l = P .before .before in
     let G = l .before .before in
-    let E = G .before .before .before .before in
+    let E = G .before .before in
     let b = start-of G in
     let x = b .args in
     let S = page-same G (l .filters .c - 1) (P .page-start .result) (omega (arith, l .filters .inv .0 .few)) (P .page-start .ensures) in
@@ -358,9 +346,7 @@ in-group-spec =
     Inv-filters
     μ-filters
     entries-per-page-requires
-    index-block-requires
-    ska-ram-requires
-    div-filters
+    key-filters-requires
     group-below-requires
     sub-newest-in
     newest-in-requires

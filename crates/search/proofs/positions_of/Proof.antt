@@ -24,14 +24,11 @@ below-all u a b c p q r (suc (suc (suc i))) h = absurd (omega arith)
 three : (c : tie.After-positions) → length (c .positions .result) ≡ 3
 three c = search needs
 
-cast-positions : tie.Need-cast-positions
-cast-positions c = search needs
-
 positions-requires : tie.Need-positions-requires
 positions-requires c κs = search needs
 
-array-read-t5 : tie.Need-array-read-t5
-array-read-t5 c = search needs
+array-read-t7 : tie.Need-array-read-t7
+array-read-t7 c = search needs
 
 array-read-t10 : tie.Need-array-read-t10
 array-read-t10 c = search needs
@@ -43,15 +40,14 @@ returns : tie.Need-returns
 returns c =
     let p = c .positions in
     let low = p .ensures .1 in
-    (three-of (p .result) (three c) ∙ p .ensures .0, below-all (c .before .before .args .g .chip .unit) _ _ _ (low .0) (low .1) (low .2))
+    (three-of (p .result) (three c) ∙ p .ensures .0, below-all (c .before .args .g .chip .unit) _ _ _ (low .0) (low .1) (low .2))
 
 pub positions-of-spec : {M : Type 1} → statement M
 positions-of-spec =
     tie.close
     (tie.spec
-    cast-positions
     positions-requires
-    array-read-t5
+    array-read-t7
     array-read-t10
     array-read-t13
     returns)
