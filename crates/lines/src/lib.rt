@@ -47,19 +47,11 @@ fn after_change(c: Change) -> Reply
 fn lookup<'a>(s: State, key: u32, main: &'a [u8], spare: &[u8], ram: &'a [u8]) -> Answer
     ensures { λ r. ⌜ answerOf r ≡ perform (given s main spare ram) (call (lookup key)) .answer ⌝ }
 {
-    let mut refusal: u32 = 0;
-    let mut found: u32 = 0;
-    let mut count: u32 = 0;
-    let bytes = lookup::lookup(
-        s,
-        key,
-        main,
-        spare,
-        ram,
-        &mut refusal,
-        &mut found,
-        &mut count,
-    );
+    let mut numbers = [0u32; 3];
+    let bytes = lookup::lookup(s, key, main, spare, ram, &mut numbers);
+    let refusal = numbers[0];
+    let found = numbers[1];
+    let count = numbers[2];
     if refusal != 0 {
         return Answer::No(refusal);
     }

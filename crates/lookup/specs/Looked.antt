@@ -1,6 +1,6 @@
 -- What a lookup answers, field by field, and where the part that it hands out lies.
 use mathlib.Core.Bool.{Bool, true, false}
-use mathlib.Core.List.{List, []}
+use mathlib.Core.List.{List, [], _∷_}
 use Prim.Native.Nat.{ℕ, _+_}
 use Rattle.memory.specs.Bits.{num}
 use Rattle.layout.specs.Calls.{Outcome, accepted, hit, miss, refused, Result}
@@ -16,7 +16,11 @@ lookedOf accepted count = record { refusal = 0; found = 0; count = 0; «in_ram»
 abbrev pub looked : Result → LookupResult
 looked r = lookedOf (r .outcome) (r .count)
 
--- the bytes of the part that lookup hands out
+-- the three numbers beside the part that lookup hands out: the refusal, whether there is a record, the count
+abbrev pub numbersOf : LookupResult → List ℕ
+numbersOf r = r .refusal ∷ r .found ∷ r .count ∷ []
+
+-- the bytes of that part
 abbrev pub partOf : Outcome → List ℕ
 partOf (hit place bytes) = bytes
 partOf miss = []

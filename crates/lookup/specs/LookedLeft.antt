@@ -6,6 +6,7 @@ use mathlib.Core.Option.{Option, none, some}
 use mathlib.Core.List.{List}
 use Prim.Native.Nat.{ℕ}
 use lib.Dec.{eqb}
+use lib.ListN.{getD}
 use Rattle.memory.specs.Bits.{num}
 use Rattle.memory.specs.Cases.{either, bool?}
 use Rattle.layout.specs.Geometry.{Geometry, geometry}
@@ -15,7 +16,7 @@ use Rattle.layout.specs.Search.{Stop, found, corrupt}
 use Rattle.layout.specs.Calls.{Volume, lookup, Outcome, hit, miss, refused, badState, tooShort, judged, search, lookupAfter, call}
 use Rattle.state.specs.Contract.{Left, seen}
 use Rattle.lookup.specs.declared.LookupResult.{LookupResult}
-use Rattle.lookup.specs.Looked.{looked, partOf}
+use Rattle.lookup.specs.Looked.{looked, numbersOf, partOf}
 
 -- the layout's outcome, by a refusal's number, whether a record was found, its place and its 16 bytes
 abbrev pub outcomeBy : ℕ → ℕ → Place → List ℕ → Outcome
@@ -79,7 +80,7 @@ module _ (h : Family) (v : Volume) (key : ℕ) where
       (λ b. rw (a, b))
       (λ b. rw (a, b) (after-looked g v (search h g v key .opened) (search h g v key .stop))))
 
-  pub lookup-left : (refusal is-found count : ℕ) (part : List ℕ) → refusal ≡ looked (call h v (lookup key)) .refusal → is-found ≡ looked (call h v (lookup key)) .found
-      → count ≡ looked (call h v (lookup key)) .count → part ≡ partOf (call h v (lookup key) .outcome)
-      → (place : Place) × (lookedLeft v refusal is-found count place part ≡ seen (call h v (lookup key)))
-  lookup-left refusal is-found count part r f c p = (placeOf (looked (call h v (lookup key))), rw (r, f, c, p) looked-left)
+  pub lookup-left : (numbers part : List ℕ) → numbers ≡ numbersOf (looked (call h v (lookup key)))
+      → part ≡ partOf (call h v (lookup key) .outcome)
+      → (place : Place) × (lookedLeft v (getD numbers 0 0) (getD numbers 1 0) (getD numbers 2 0) place part ≡ seen (call h v (lookup key)))
+  lookup-left numbers part n p = (placeOf (looked (call h v (lookup key))), rw (n, p) looked-left)

@@ -1,11 +1,12 @@
 // Lookup: where a level's record lies. Document 01, "Calls".
 ghost use mathlib.Core.Path.{_≡_};
+ghost use Rattle.memory.specs.Lent.{after};
 ghost use Rattle.layout.specs.Hash.{fnvFamily};
 ghost use Rattle.layout.specs.Calls.{lookup, call, answer};
 ghost use Rattle.geometry.specs.Shape.{shape};
 ghost use Rattle.state.specs.Contract.{volume, given};
 ghost use Rattle.state.specs.Judge.{Fits};
-ghost use Rattle.lookup.specs.Looked.{looked, partOf, whereOf};
+ghost use Rattle.lookup.specs.Looked.{looked, numbersOf, partOf, whereOf};
 use geometry::Geometry;
 use search::End;
 use state::Judged;
@@ -93,27 +94,22 @@ pub fn find(s: State, key: u32, main: &[u8], spare: &[u8], ram: &[u8]) -> Lookup
     }
 }
 
-// A level's newest record where it lies: 16 bytes of the main area or of the RAM, or an empty part.
+// A level's newest record where it lies: 16 bytes of the main area or of the RAM, or an empty part. `numbers` gets the refusal's number,
+// whether there is a record, and the count.
 pub fn lookup<'a>(
     s: State,
     key: u32,
     main: &'a [u8],
     spare: &[u8],
     ram: &'a [u8],
-    refusal: &mut u32,
-    found: &mut u32,
-    count: &mut u32,
+    numbers: &mut [u32; 3],
 ) -> &'a [u8]
     ensures { λ r. ⌜ (now r ≡ partOf (call fnvFamily (given s main spare ram) (lookup key) .outcome))
         × (r .ptr ≡ whereOf ((main .entry) .ptr) ((ram .entry) .ptr) (call fnvFamily (given s main spare ram) (lookup key) .outcome)) ⌝ }
-    ensures { λ r. ⌜ (now (refusal .exit) ≡ looked (call fnvFamily (given s main spare ram) (lookup key)) .refusal)
-        × (now (found .exit) ≡ looked (call fnvFamily (given s main spare ram) (lookup key)) .found)
-        × (now (count .exit) ≡ looked (call fnvFamily (given s main spare ram) (lookup key)) .count) ⌝ }
+    ensures { λ r. ⌜ after numbers ≡ numbersOf (looked (call fnvFamily (given s main spare ram) (lookup key))) ⌝ }
 {
     let f = find(s, key, main, spare, ram);
-    *refusal = f.refusal;
-    *found = f.found;
-    *count = f.count;
+    *numbers = [f.refusal, f.found, f.count];
     let hit = f.found;
     let at = f.offset as usize;
     let in_ram = f.in_ram;

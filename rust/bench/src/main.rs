@@ -1,9 +1,10 @@
 //! `bench [--most N] [--csv FILE]`: times of the proved store beside those of the model and of the
-//! store for speed, in one run.
+//! store for speed, in one run. `bench --count STORE S CALL N`: one round of calls, to be counted.
 //!
 //! All stores make the same calls on copies of the same bytes, in turns; of each the
 //! fastest round counts. A difference of an answer or of a byte ends the run.
 
+mod count;
 mod curve;
 mod measure;
 mod tables;
@@ -12,14 +13,21 @@ mod volume;
 use std::env;
 use std::process::ExitCode;
 
-const USAGE: &str = "usage: bench [--most N] [--csv FILE]
+const USAGE: &str = "usage: bench [--most N] [--csv FILE] | --count STORE S CALL N
 With --most, only the sizes of up to N records. With --csv, lookups are measured at more sizes,
-and their times and pages opened are written to the file.";
+and their times and pages opened are written to the file. With --count, one round of the calls
+`lookup hit`, `lookup miss`, `insert`, `update` or `set` by one store, for docs/counts.py.";
 
 fn main() -> ExitCode {
     let mut most = usize::MAX;
     let mut csv = None;
-    let mut arguments = env::args().skip(1);
+    let words: Vec<String> = env::args().skip(1).collect();
+    if let [first, store, sector_size, call, n] = words.as_slice() {
+        if first == "--count" {
+            return counted(store, sector_size, call, n);
+        }
+    }
+    let mut arguments = words.into_iter();
     while let Some(argument) = arguments.next() {
         match (argument.as_str(), arguments.next()) {
             ("--most", Some(text)) => match text.parse() {
@@ -41,6 +49,19 @@ fn main() -> ExitCode {
         }
     }
     ExitCode::SUCCESS
+}
+
+fn counted(store: &str, sector_size: &str, call: &str, n: &str) -> ExitCode {
+    let (Ok(sector_size), Ok(n)) = (sector_size.parse(), n.parse()) else {
+        return usage();
+    };
+    match count::run(store, sector_size, call, n) {
+        Some(calls) => {
+            println!("{calls}");
+            ExitCode::SUCCESS
+        }
+        None => usage(),
+    }
 }
 
 fn usage() -> ExitCode {

@@ -146,7 +146,7 @@ pub fn changes(volume: &Volume, call: Call, count: usize, effort: Effort) -> [f6
 }
 
 /// A key for each call, other ones all the time, lest the processor learns them.
-fn keys(volume: &Volume, call: Call, count: usize) -> Vec<u32> {
+pub fn keys(volume: &Volume, call: Call, count: usize) -> Vec<u32> {
     let mut random = Random::new(0xBE9C);
     let live = volume.live();
     (0..count)
@@ -159,7 +159,7 @@ fn keys(volume: &Volume, call: Call, count: usize) -> Vec<u32> {
         .collect()
 }
 
-fn look_up(store: &dyn Store, volume: &Volume, keys: &[u32], answers: &mut Vec<LookupResult>) {
+pub fn look_up(store: &dyn Store, volume: &Volume, keys: &[u32], answers: &mut Vec<LookupResult>) {
     let Volume {
         state,
         data,
@@ -172,7 +172,7 @@ fn look_up(store: &dyn Store, volume: &Volume, keys: &[u32], answers: &mut Vec<L
     }
 }
 
-fn change(store: &dyn Store, volume: &mut Volume, keys: &[u32], call: Call) {
+pub fn change(store: &dyn Store, volume: &mut Volume, keys: &[u32], call: Call) {
     let Volume {
         state,
         data,
