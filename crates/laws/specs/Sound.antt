@@ -3,13 +3,13 @@ use mathlib.Core.Path.{_≡_, refl}
 use mathlib.Core.Bool.{true, _&&_, and-eq-true-iff}
 use Prim.Native.Nat.{ℕ, _*_, _/_, _^_, _≤_, _<_}
 use native.Mathlib.Omega.{arith}
-use lib.Pow.{pow-pos, pow-mono}
 use lib.Dec.{leb}
 use borrow.Author.Tests.{leb-true}
 use Rattle.memory.specs.Lists.{tab, tabFrom}
 use Rattle.memory.specs.Ranges.{memb}
 use Rattle.layout.specs.Geometry.{Sizes, unitOf, sectorSizes, allowed}
 use Rattle.laws.specs.SearchLaws.{memb-tab-all}
+use Rattle.laws.specs.Units.{UnitIs, unit-is}
 
 pub record Sound (sizes : Sizes) : Type 0 where
   pub e : ℕ
@@ -33,7 +33,8 @@ unfolding allowed
 sound sizes q =
     let p = and-eq-true-iff (memb (sizes .sectorSize) sectorSizes) _ .0 q in
     let m : memb (sizes .sectorSize) sectorSizes ≡ true = p .0 in
-    let s : SizeIs (sizes .sectorSize) = memb-tab-all SizeIs 6 (λ e. 16 * 2 ^ e) (λ e l. (e, l, refl)) (sizes .sectorSize) (rw table-is at m) in
+    let s : SizeIs (sizes .sectorSize)
+    = memb-tab-all SizeIs 6 (λ e. 16 * 2 ^ e) (λ e l. (e, l, refl)) (sizes .sectorSize) (rw table-is at m) in
     let r = and-eq-true-iff ((leb 1 (sizes .raBlocks)) && (leb (sizes .raBlocks) 4096)) _ .0 (p .1) in
     let rR = and-eq-true-iff (leb 1 (sizes .raBlocks)) _ .0 (r .0) in
     let rD = and-eq-true-iff (leb 1 (sizes .daBlocks)) _ .0 (r .1) in
@@ -48,14 +49,14 @@ sound sizes q =
     }
 
 module _ (sizes : Sizes) (ok : Sound sizes) where
+  pub unit : UnitIs (unitOf sizes) (ok .e)
+  unit = unit-is (unitOf sizes) (ok .e) (ok .e-lt) (omega (arith, ok .size))
+
   pub pow : unitOf sizes ≡ 2 ^ ok .e
-  pow = omega (arith, ok .size)
+  pow = unit .power
 
   pub pu : 0 < unitOf sizes
-  pu = rw pow (pow-pos (ok .e))
+  pu = unit .some
 
   pub u-le : unitOf sizes ≤ 32
-  u-le =
-      let l : ok .e ≤ 5 = omega (arith, ok .e-lt) in
-      let p : 2 ^ ok .e ≤ 2 ^ 5 = pow-mono l in
-      omega (arith, pow)
+  u-le = unit .most
