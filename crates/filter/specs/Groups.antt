@@ -8,7 +8,8 @@ use lib.ListN.{length, getD}
 use Rattle.memory.specs.Power.{log2up}
 use Rattle.memory.specs.Ranges.{allOf}
 use Rattle.layout.specs.Geometry.{sector, page, block}
-use Rattle.layout.specs.Index.{Index, filtersPerFlush, filtersPerRound, pagesPerFourth, sideBlock, fullBlock, fullFilters, inSet, inFull, filterBit}
+use Rattle.layout.specs.Index.{Index, filtersPerFlush, filtersPerRound, pagesPerFourth}
+use Rattle.layout.specs.Index.{sideBlock, fullBlock, fullFilters, inSet, inFull, filterBit}
 use Rattle.kernels.specs.declared.Rows.{Rows}
 use Rattle.kernels.specs.Rows.{allIn, Within}
 use Rattle.filter.specs.declared.groups.Group.{Group}
@@ -28,7 +29,8 @@ module _ (u e : ℕ) (ix : Index) where
 
   -- the current set after c rounds
   abbrev pub setLevel : ℕ → ℕ → Level
-  setLevel c start = record { start = start; «in_ram» = false; base = sideBlock u ix c * block u; exponent = e + 2 - log2up c; stride = page u }
+  setLevel c start =
+      record { start = start; «in_ram» = false; base = sideBlock u ix c * block u; exponent = e + 2 - log2up c; stride = page u }
 
 -- full set k
 abbrev pub fullLevel : ℕ → Index → ℕ → Level

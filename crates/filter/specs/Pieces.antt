@@ -21,7 +21,8 @@ pub pieces-ext : {A : Type 0} (L d at k : ℕ) (f g : ℕ → ℕ → A) (l : Li
 unfolding pieces
 pieces-ext L d at zero f g l h = refl
 pieces-ext {A = A} L d at (suc k) f g l h =
-    ap (λ (t : List A). pieces L d (at + d) k (λ j. f (suc j)) (write l at t)) (tab-ext L (f zero) (g zero) (λ y b. h zero y (omega arith) b))
+    ap (λ (t : List A). pieces L d (at + d) k (λ j. f (suc j)) (write l at t))
+    (tab-ext L (f zero) (g zero) (λ y b. h zero y (omega arith) b))
     ∙ pieces-ext L d (at + d) k (λ j. f (suc j)) (λ j. g (suc j)) (write l at (tab L (g zero))) (λ j y a b. h (suc j) y (omega arith) b)
 
 -- bits of a filter from 64 u on do not count
@@ -46,14 +47,18 @@ piece-of u i lo hi a bytes el eh fits =
     let b : y < 2 * u = rw len at h in
     byte y b ∙ sym (getD-tab (2 * u) (λ y. pack 8 (λ b. arrayBit a (i * (16 * u) + (y * 8 + b)))) y 0 b)))
   where
-    bits : (y b : ℕ) → b < 8 → bit (getD a (lo + y) 0) b ≡ bit (getD a ((i * (16 * u) + (y * 8 + b)) / 8) 0) ((i * (16 * u) + (y * 8 + b)) % 8)
+    -- bit b of byte y of the fourth
+    bitOf : ℕ → ℕ → Bool
+    bitOf y b = bit (getD a ((i * (16 * u) + (y * 8 + b)) / 8) 0) ((i * (16 * u) + (y * 8 + b)) % 8)
+
+    bits : (y b : ℕ) → b < 8 → bit (getD a (lo + y) 0) b ≡ bitOf y b
     bits y b h =
         let q : (i * (16 * u) + (y * 8 + b)) / 8 ≡ lo + y = omega arith in
         let r : (i * (16 * u) + (y * 8 + b)) % 8 ≡ b = omega arith in
         rw (q, r)
 
-    byte : (y : ℕ) → y < 2 * u → getD (take (2 * u) (drop lo a)) y 0 ≡ pack 8 (λ b. bit (getD a ((i * (16 * u) + (y * 8 + b)) / 8) 0) ((i * (16 * u) + (y * 8 + b)) % 8))
+    byte : (y : ℕ) → y < 2 * u → getD (take (2 * u) (drop lo a)) y 0 ≡ pack 8 (bitOf y)
     byte y h =
         rw (getD-take, getD-drop)
         (sym (pack-bit 8 (getD a (lo + y) 0) (bytes (lo + y)))
-        ∙ pack-ext 8 (bit (getD a (lo + y) 0)) (λ b. bit (getD a ((i * (16 * u) + (y * 8 + b)) / 8) 0) ((i * (16 * u) + (y * 8 + b)) % 8)) (λ b l. bits y b l))
+        ∙ pack-ext 8 (bit (getD a (lo + y) 0)) (bitOf y) (λ b l. bits y b l))

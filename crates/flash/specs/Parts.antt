@@ -10,7 +10,8 @@ use Rattle.memory.specs.Lists.{tab, is-tab, write}
 -- the n elements from a on are the part from a to a + n
 pub tab-part : (l : List ℕ) (a n : ℕ) → a + n ≤ length l → tab n (λ y. getD l (a + y) 0) ≡ take n (drop a l)
 tab-part l a n h =
-    sym (is-tab (take n (drop a l)) n (λ y. getD l (a + y) 0) (simp (length-take, length-drop) (omega arith)) (λ i k. getD-take n (drop a l) i 0 k ∙ getD-drop a l i 0))
+    sym (is-tab (take n (drop a l)) n (λ y. getD l (a + y) 0) (simp (length-take, length-drop) (omega arith))
+    (λ i k. getD-take n (drop a l) i 0 k ∙ getD-drop a l i 0))
 
 -- what is written behind a write is written with it
 pub write-append : (l : List ℕ) (at : ℕ) (a b : List ℕ) → write (write l at a) (at + length a) b ≡ write l at (a ++ b)

@@ -34,7 +34,8 @@ pub item-kept : (g : layout.Geometry) (a : Area) (b : items.Area) (n : ℕ) (ite
     → items.itemRam (g .u) (area a) n item ram ≡ items.itemRam (g .u) b n item ram
 item-kept g a b n item ram d = ap (λ (x : items.Area). items.itemRam (g .u) x n item ram) d
 
-pub filter-fits : (g : Geometry) → Sound g → (ix : Index) → ix ≡ indexFor (shape g) → (bits ram : ℕ) → bits ≡ 256 → layout.ramSize (shape g) ≤ ram
+pub filter-fits : (g : Geometry) → Sound g → (ix : Index) → ix ≡ indexFor (shape g)
+    → (bits ram : ℕ) → bits ≡ 256 → layout.ramSize (shape g) ≤ ram
     → (0 < g .chip .unit) × (g .chip .unit ≤ 32) × (bits ≡ 256) × (ix .ska + layout.page (g .chip .unit) ≤ ram)
 filter-fits g S ix ix-is bits ram size long =
     let s : ix .ska ≡ layout.skaRam (g .chip .unit) = ap (λ (i : Index). i .ska) ix-is in

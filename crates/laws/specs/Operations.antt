@@ -10,7 +10,8 @@ use Rattle.layout.specs.Flash.{Flash, Op, program, erases, applyAll}
 use Rattle.layout.specs.Hash.{Family}
 use Rattle.layout.specs.Items.{Area, RA, KA, entryBytes, put, fills, itemRam}
 use Rattle.layout.specs.Keys.{Key}
-use Rattle.layout.specs.Index.{Index, filtersPerFlush, flushesPerRound, inSka, inL1, inSet, inFull, setPages, setBlocks, sideBlock, setBlock, setByte}
+use Rattle.layout.specs.Index.{Index, filtersPerFlush, flushesPerRound, inSka, inL1, inSet, inFull}
+use Rattle.layout.specs.Index.{setPages, setBlocks, sideBlock, setBlock, setByte}
 use Rattle.layout.specs.Calls.{keyIndex, keyFilters, summarized}
 
 module _ (u : ℕ) where
@@ -22,7 +23,8 @@ module _ (u : ℕ) where
   -- the page that item n fills
   abbrev pub pageOps : Area → ℕ → List ℕ → List Op
   pageOps a n ram =
-      programs 1 (a .first * sectorsPerBlock + n / a .perPage * sectorsPerPage) sectorsPerPage (λ j y. getD ram (a .ram + (j * sector u + y)) 0)
+      programs 1 (a .first * sectorsPerBlock + n / a .perPage * sectorsPerPage) sectorsPerPage
+      (λ j y. getD ram (a .ram + (j * sector u + y)) 0)
 
   abbrev pub itemOps : Area → ℕ → List ℕ → List ℕ → List Op
   itemOps a n item ram = cond (fills a n) (pageOps a n (put a n item ram)) []
@@ -74,4 +76,5 @@ abbrev pub insertionOps : Family → Geometry → ℕ → Key → List ℕ → L
 insertionOps h g n key bytes ram flash =
     recordOps g n bytes ram
     ++ (entryOps g n key bytes ram
-    ++ cond (fills (KA g) n) (filterOps (g .u) (keyIndex g) (entered g n key bytes ram flash) (keyFilters g n) (filteredRam h g n key bytes ram)) [])
+    ++ cond (fills (KA g) n)
+    (filterOps (g .u) (keyIndex g) (entered g n key bytes ram flash) (keyFilters g n) (filteredRam h g n key bytes ram)) [])

@@ -8,7 +8,8 @@ use lib.Dec.{ltb, eqb}
 use Rattle.memory.specs.Lists.{pieces, tab}
 use Rattle.memory.specs.Bits.{bit, pack}
 use Rattle.memory.specs.Power.{log2up}
-use Rattle.layout.specs.Geometry.{sectorsPerPage, pagesPerBlock, sectorsPerBlock, sector, page, block, filterBits, fourthSize, sideBlocks}
+use Rattle.layout.specs.Geometry.{sectorsPerPage, pagesPerBlock, sectorsPerBlock}
+use Rattle.layout.specs.Geometry.{sector, page, block, filterBits, fourthSize, sideBlocks}
 use Rattle.layout.specs.Flash.{Planned, known, made, wipe, plannedFrom}
 use Rattle.layout.specs.Items.{zeroPage}
 
@@ -134,7 +135,8 @@ module _ (u : ℕ) where
     -- "a filter whole, over what the SKA page held there": S/8 bytes in each of the four sectors
     abbrev pub withFilter : ℕ → (ℕ → Bool) → List ℕ → List ℕ
     withFilter s new ram =
-        pieces (fourthSize u) (sector u) (ix .ska + s * fourthSize u) sectorsPerPage (λ i y. pack 8 (λ b. new (i * sector u + (y * 8 + b)))) ram
+        pieces (fourthSize u) (sector u) (ix .ska + s * fourthSize u) sectorsPerPage
+        (λ i y. pack 8 (λ b. new (i * sector u + (y * 8 + b)))) ram
 
     -- sector i of flush t: sector t mod 4 of page 4i + floor(t/4), which is sector t + 16 i of L1
     abbrev pub flushSector : ℕ → List ℕ → ℕ → Planned
@@ -164,7 +166,8 @@ module _ (u : ℕ) where
     -- flush t of a round, and after flush 15 the next set
     unfoldable pub flushAndBuild : ℕ → List ℕ → List Planned
     flushAndBuild F ram =
-        plannedFrom (flushSector (inL1 F) ram) 0 sectorsPerPage ++ cond (eqb (inL1 F + 1) flushesPerRound) (buildPlan (inFull F) (inSet F)) []
+        plannedFrom (flushSector (inL1 F) ram) 0 sectorsPerPage
+        ++ cond (eqb (inL1 F + 1) flushesPerRound) (buildPlan (inFull F) (inSet F)) []
 
     -- what filter F plans, which the RAM holds already: "Eight filters fill the SKA page"
     abbrev pub filterPlan : ℕ → List ℕ → List Planned

@@ -25,7 +25,8 @@ pub record RowFits (len : ℕ) (r : Row) : Type 0 where
 -- where P pages of w bits and Q of v = m * w bits hold the same, m pages go into one
 fewer : (w v m P Q T p : ℕ) → 0 < w → m * w ≡ v → P * w ≡ T → Q * v ≡ T → p < P → p < Q * m
 fewer w v m P Q T p pw wh e f h =
-    either (lt? p (Q * m)) (λ a. a .1) (λ a. absurd (omega (arith, mul-le-mul-right w (a .1), mul-le-mul-right w h, ap (λ (n : ℕ). Q * n) wh)))
+    either (lt? p (Q * m)) (λ a. a .1)
+    (λ a. absurd (omega (arith, mul-le-mul-right w (a .1), mul-le-mul-right w h, ap (λ (n : ℕ). Q * n) wh)))
 
 module _ (u e : ℕ) (U : UnitIs u e) (ix : Index) (c p len : ℕ) (hc : c < 4 * u) (hp : p < setPages (c + 1))
     (fits : fullBlock u ix 0 * block u ≤ len) where
@@ -50,12 +51,14 @@ module _ (u e : ℕ) (U : UnitIs u e) (ix : Index) (c p len : ℕ) (hc : c < 4 *
   old-page : p / m < setPages c
   old-page =
       div-lt p m (setPages c) (pages-pos w (setWidth u c) m (old-whole u e (U .power) c hc) wp vp)
-      (fewer w (setWidth u c) m (setPages (c + 1)) (setPages c) (64 * u) p wp (old-whole u e (U .power) c hc) (set-whole u e (U .power) (c + 1) (omega arith)) (set-whole u e (U .power) c (omega arith)) hp)
+      (fewer w (setWidth u c) m (setPages (c + 1)) (setPages c) (64 * u) p wp (old-whole u e (U .power) c hc)
+      (set-whole u e (U .power) (c + 1) (omega arith)) (set-whole u e (U .power) c (omega arith)) hp)
 
   l1-group : p / K < 4
   l1-group =
       div-lt p K 4 (pages-pos w (16 * u) K (sector-whole u e (U .power) (c + 1) (omega arith)) wp sp)
-      (fewer w (16 * u) K (setPages (c + 1)) 4 (64 * u) p wp (sector-whole u e (U .power) (c + 1) (omega arith)) (set-whole u e (U .power) (c + 1) (omega arith)) (omega arith) hp)
+      (fewer w (16 * u) K (setPages (c + 1)) 4 (64 * u) p wp (sector-whole u e (U .power) (c + 1) (omega arith))
+      (set-whole u e (U .power) (c + 1) (omega arith)) (omega arith) hp)
 
   old-reach : (y : ℕ) → y < 16 * c * w → Reaches len (oldOf u ix c p) w y
   old-reach y h =

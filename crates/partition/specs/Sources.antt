@@ -74,12 +74,15 @@ module _ (w v m : ℕ) (whole : m * w ≡ v) (pw : 0 < w) (pv : 0 < v) where
 
 -- a bit of L1, in one row for all its filters
 l1-bit : (main : List ℕ) (u base i f t : ℕ)
-    → bit (getD main (base + ((4 * i + f / 8 / 4) * (64 * u) + f / 8 % 4 * (16 * u)) + (f % 8 * (16 * u) + t) / 8) 0) ((f % 8 * (16 * u) + t) % 8)
+    → bit (getD main (base + ((4 * i + f / 8 / 4) * (64 * u) + f / 8 % 4 * (16 * u)) + (f % 8 * (16 * u) + t) / 8) 0)
+    ((f % 8 * (16 * u) + t) % 8)
     ≡ bitIn main (base + i * (4 * (64 * u))) (f * (16 * u) + t)
 l1-bit main u base i f t =
     let d8 : f * u ≡ (f / 8 * 8 + f % 8) * u = ap (λ (n : ℕ). n * u) (omega arith) in
     let d4 : f / 8 * u ≡ (f / 8 / 4 * 4 + f / 8 % 4) * u = ap (λ (n : ℕ). n * u) (omega arith) in
-    let a : base + ((4 * i + f / 8 / 4) * (64 * u) + f / 8 % 4 * (16 * u)) + (f % 8 * (16 * u) + t) / 8 ≡ base + i * (4 * (64 * u)) + (f * (16 * u) + t) / 8 = omega arith in
+    let a : base + ((4 * i + f / 8 / 4) * (64 * u) + f / 8 % 4 * (16 * u)) + (f % 8 * (16 * u) + t) / 8
+    ≡ base + i * (4 * (64 * u)) + (f * (16 * u) + t) / 8
+    = omega arith in
     let b : (f % 8 * (16 * u) + t) % 8 ≡ (f * (16 * u) + t) % 8 = omega arith in
     rw (a, b)
 
@@ -97,7 +100,8 @@ module _ (u e : ℕ) (pow : u ≡ 2 ^ e) (ix : Index) (main : List ℕ) (z c : �
   w-pos : 0 < w
   w-pos = width-pos u e pow (c + 1) (omega arith)
 
-  bit-old : (p q : ℕ) → q < 128 * (c * w) → rowBit G (128 * (c + 1)) w (p * w) q ≡ bitIn main (oldOf u ix c p .at) (q / w * setWidth u c + (oldOf u ix c p .low + q % w))
+  bit-old : (p q : ℕ) → q < 128 * (c * w)
+      → rowBit G (128 * (c + 1)) w (p * w) q ≡ bitIn main (oldOf u ix c p .at) (q / w * setWidth u c + (oldOf u ix c p .low + q % w))
   unfolding rowBit bitAt
   bit-old p q h =
       let v-pos = width-pos u e pow c (omega arith) in
@@ -111,7 +115,9 @@ module _ (u e : ℕ) (pow : u ≡ 2 ^ e) (ix : Index) (main : List ℕ) (z c : �
         field-mod w (setWidth u c) (setWidth u c / w) wh w-pos v-pos p (q % w) r,
       )
 
-  bit-new : (p q : ℕ) → q < 128 * w → rowBit G (128 * (c + 1)) w (p * w) (128 * (c * w) + q) ≡ bitIn main (l1Of u ix c p .at) (q / w * (16 * u) + (l1Of u ix c p .low + q % w))
+  bit-new : (p q : ℕ) → q < 128 * w
+      → rowBit G (128 * (c + 1)) w (p * w) (128 * (c * w) + q)
+      ≡ bitIn main (l1Of u ix c p .at) (q / w * (16 * u) + (l1Of u ix c p .low + q % w))
   unfolding rowBit bitAt
   bit-new p q h =
       let pu = unit-pos u e pow in
@@ -152,7 +158,8 @@ module _ (u e : ℕ) (pow : u ≡ 2 ^ e) (ix : Index) (main : List ℕ) (z c : �
     where
       one : (b : ℕ) → b < 8 → 16 * c * w ≤ y → y < 16 * (c + 1) * w
           → rowBit G (128 * (c + 1)) w (p * w) (y * 8 + b)
-          ≡ bitIn main (l1Of u ix c p .at) (((y - 16 * c * w) * 8 + b) / w * (16 * u) + (l1Of u ix c p .low + ((y - 16 * c * w) * 8 + b) % w))
+          ≡ bitIn main (l1Of u ix c p .at)
+          (((y - 16 * c * w) * 8 + b) / w * (16 * u) + (l1Of u ix c p .low + ((y - 16 * c * w) * 8 + b) % w))
       one b l h k =
           let q : y * 8 + b ≡ 128 * (c * w) + ((y - 16 * c * w) * 8 + b) = omega arith in
           rw q (bit-new p ((y - 16 * c * w) * 8 + b) (omega arith))

@@ -18,7 +18,8 @@ use Rattle.state.specs.declared.Judged.the-variants.{Good, Refused}
 abbrev pub judgedOf : Volume → Judged
 judgedOf v =
     cond (badState (v .state)) (Refused refusal.badState)
-    (cond (tooShort (layout.geometry (v .state .sizes)) (v .flash) (v .ram)) (Refused refusal.tooShort) (Good (geometryFor (v .state .sizes))))
+    (cond (tooShort (layout.geometry (v .state .sizes)) (v .flash) (v .ram)) (Refused refusal.tooShort)
+    (Good (geometryFor (v .state .sizes))))
 
 -- of a format's sizes
 abbrev pub judgedNew : layout.Sizes → Flash → List ℕ → Judged
