@@ -1,4 +1,4 @@
--- A filter in the SKA page: only its bits below 64 u count, and pieces of bytes are pieces of bits.
+-- A filter in the SKA page: only its own bits count, and pieces of bytes are pieces of bits.
 use mathlib.Core.Path.{_≡_, refl, sym, ap, _∙_}
 use mathlib.Core.Bool.{Bool}
 use mathlib.Core.List.{List}
@@ -9,12 +9,13 @@ use lib.ListN.{length, getD, take, drop, length-take, length-drop}
 use lib.Seq.{ext-getD, getD-take, getD-drop}
 use Rattle.memory.specs.Lists.{pieces, write, tab, tab-ext, length-tab, getD-tab}
 use Rattle.memory.specs.Bits.{bit, pack, pack-ext, pack-bit}
+use Rattle.layout.specs.Geometry.{sector, filterBits, fourthSize}
 use Rattle.layout.specs.Index.{Index, withFilter}
 use Rattle.filter.specs.Filter.{arrayBit}
 
 -- the i-th fourth of a filter as bytes
 abbrev pub fourthOf : ℕ → (ℕ → Bool) → ℕ → List ℕ
-fourthOf u f i = tab (2 * u) (λ y. pack 8 (λ b. f (i * (16 * u) + (y * 8 + b))))
+fourthOf u f i = tab (fourthSize u) (λ y. pack 8 (λ b. f (i * sector u + (y * 8 + b))))
 
 pub pieces-ext : {A : Type 0} (L d at k : ℕ) (f g : ℕ → ℕ → A) (l : List A) → ((j y : ℕ) → j < k → y < L → f j y ≡ g j y)
     → pieces L d at k f l ≡ pieces L d at k g l
@@ -25,8 +26,8 @@ pieces-ext {A = A} L d at (suc k) f g l h =
     (tab-ext L (f zero) (g zero) (λ y b. h zero y (omega arith) b))
     ∙ pieces-ext L d (at + d) k (λ j. f (suc j)) (λ j. g (suc j)) (write l at (tab L (g zero))) (λ j y a b. h (suc j) y (omega arith) b)
 
--- bits of a filter from 64 u on do not count
-pub with-filter-ext : (u : ℕ) (ix : Index) (s : ℕ) (f g : ℕ → Bool) (ram : List ℕ) → ((x : ℕ) → x < 64 * u → f x ≡ g x)
+-- bits behind a filter do not count
+pub with-filter-ext : (u : ℕ) (ix : Index) (s : ℕ) (f g : ℕ → Bool) (ram : List ℕ) → ((x : ℕ) → x < filterBits u → f x ≡ g x)
     → withFilter u ix s f ram ≡ withFilter u ix s g ram
 with-filter-ext u ix s f g ram h =
     pieces-ext (2 * u) (16 * u) (ix .ska + s * (2 * u)) 4

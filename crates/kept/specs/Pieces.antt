@@ -7,7 +7,7 @@ use native.Mathlib.Omega.{arith}
 use lib.ListN.{length, getD, take, drop, replicate}
 use Rattle.memory.specs.Bits.{pack}
 use Rattle.memory.specs.Lists.{pieces, tab, write, length-pieces}
-use Rattle.layout.specs.Geometry.{sector, page}
+use Rattle.layout.specs.Geometry.{sectorsPerPage, sector, page, fourthSize}
 use Rattle.layout.specs.Items.{zeroPage}
 use Rattle.layout.specs.Index.{Index, inSka, withFilter}
 use Rattle.filter.specs.Filter.{arrayBit}
@@ -19,7 +19,7 @@ piecesOf size piece at k bits ram = pieces piece size at k (λ i y. pack 8 (λ b
 
 -- the four fourths
 abbrev pub fourths : ℕ → ℕ → List ℕ → List ℕ → List ℕ
-fourths u at bits ram = piecesOf (sector u) (2 * u) at 4 bits ram
+fourths u at bits ram = piecesOf (sector u) (fourthSize u) at sectorsPerPage bits ram
 
 -- one more piece at the end
 pub pieces-more : {A : Type 0} (L d at k : ℕ) (f : ℕ → ℕ → A) (l : List A)

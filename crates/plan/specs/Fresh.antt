@@ -8,7 +8,7 @@ use lib.ListN.{getD}
 use Rattle.memory.specs.Lists.{tab}
 use Rattle.layout.specs.Geometry.{sector}
 use Rattle.layout.specs.Flash.{Flash, apply, fresh, allFresh, Planned, known, made, wipe, plannedFrom, opOn, planOps}
-use Rattle.layout.specs.Index.{setByte}
+use Rattle.layout.specs.Index.{flushesPerRound, setByte}
 use Rattle.flash.specs.Fresh.{freshRun}
 use Rattle.geometry.specs.Indexes.{indexOf}
 use Rattle.plan.specs.declared.Page.{Page}
@@ -21,7 +21,7 @@ planFresh spare p =
     freshRun spare 1 (p .da .first) (p .da .count)
     && (freshRun spare 1 (p .ra .first) (p .ra .count)
     && (freshRun spare 1 (p .ka .first) (p .ka .count)
-    && (freshRun spare 16 (p .flush .first) (p .flush .count) && freshRun spare 1 (p .set .first) (p .set .count))))
+    && (freshRun spare flushesPerRound (p .flush .first) (p .flush .count) && freshRun spare 1 (p .set .first) (p .set .count))))
 
 -- ---- tests in a row
 
@@ -37,7 +37,7 @@ pub plan-fresh-is : (spare : List ℕ) (p : Plan) (x : Bool)
     → x ≡ (freshRun spare 1 (p .da .first) (p .da .count)
     && (freshRun spare 1 (p .ra .first) (p .ra .count)
     && (freshRun spare 1 (p .ka .first) (p .ka .count)
-    && (freshRun spare 16 (p .flush .first) (p .flush .count) && freshRun spare 1 (p .set .first) (p .set .count)))))
+    && (freshRun spare flushesPerRound (p .flush .first) (p .flush .count) && freshRun spare 1 (p .set .first) (p .set .count)))))
     → x ≡ planFresh spare p
 unfolding planFresh
 plan-fresh-is spare p x h = h
@@ -141,7 +141,7 @@ plan-fresh spare p new bits ram c =
     (freshRun spare 1 (p .da .first) (p .da .count))
     (freshRun spare 1 (p .ra .first) (p .ra .count))
     (freshRun spare 1 (p .ka .first) (p .ka .count))
-    (freshRun spare 16 (p .flush .first) (p .flush .count))
+    (freshRun spare flushesPerRound (p .flush .first) (p .flush .count))
     (freshRun spare 1 (p .set .first) (p .set .count))
     (page (daPage p) (deletionIn new) (p .da .count))
     (page (raPage p) (recordIn new) (p .ra .count))

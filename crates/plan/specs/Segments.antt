@@ -13,7 +13,7 @@ use Rattle.memory.specs.Lists.{tab, is-tab, tab-ext, getD-tab, write, getD-writ
 use Rattle.layout.specs.Geometry.{sectorsPerPage, sectorsPerBlock, sector, page}
 use Rattle.layout.specs.Flash.{Planned, known, made, wipe}
 use Rattle.layout.specs.Items.{Area, pageSector}
-use Rattle.layout.specs.Index.{Index, withFilter, flushSector, setByte, setBlock, setSector}
+use Rattle.layout.specs.Index.{Index, flushesPerRound, withFilter, flushSector, setByte, setBlock, setSector}
 use Rattle.flash.specs.Parts.{tab-part}
 use Rattle.geometry.specs.Indexes.{indexOf}
 use Rattle.filter.specs.Filter.{arrayBit}
@@ -27,7 +27,7 @@ module _ (u : ℕ) where
   pageFrom s at ram j = known (s + j) (tab (sector u) (λ y. getD ram (at + (j * sector u + y)) 0))
 
   abbrev pub flushFrom : ℕ → ℕ → List ℕ → ℕ → Planned
-  flushFrom s at ram j = known (s + j * 16) (tab (sector u) (λ y. getD ram (at + (j * sector u + y)) 0))
+  flushFrom s at ram j = known (s + j * flushesPerRound) (tab (sector u) (λ y. getD ram (at + (j * sector u + y)) 0))
 
   abbrev pub setFrom : ℕ → Index → ℕ → ℕ → ℕ → Planned
   setFrom s ix z c j = made (s + j) (λ main. tab (sector u) (setByte u ix main z c j))
