@@ -209,7 +209,8 @@ fn in_group(v: View, key: u32, ps: [u32; 8], below: usize, main: &[u8], ram: &[u
 // Full pages, a group of filters after another, the newest first, for any positions.
 fn in_pages(v: View, key: u32, ps: [u32; 8], main: &[u8], ram: &[u8]) -> Found
     requires { ⌜ Ready v (now main) (now ram) × Low (v .g) ps ⌝ }
-    ensures { λ r. ⌜ foundOf r ≡ pagesBelow v (before main) (before ram) key (take positionCount ps) (v .n0 / entriesPerPage (v .g .chip .unit)) ⌝ }
+    ensures { λ r. ⌜ foundOf r
+        ≡ pagesBelow v (before main) (before ram) key (take positionCount ps) (v .n0 / entriesPerPage (v .g .chip .unit)) ⌝ }
 {
     let mut opened: u32 = 0;
     let mut below = v.n0 / v.g.entries_per_page();
