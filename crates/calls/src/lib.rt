@@ -16,8 +16,8 @@ pub enum Resolved {
 
 // Refusals 1, 2 and 8, then whether the key is live.
 pub fn resolve(s: State, key: u32, main: &[u8], spare: &[u8], ram: &[u8]) -> Resolved
-    ensures { λ r. ⌜ r ≡ resolvedOf (given s main spare ram) key ⌝ }
-    ensures { λ r. ⌜ ResolvedFits (given s main spare ram) r ⌝ }
+    ensures equal { λ r. ⌜ r ≡ resolvedOf (given s main spare ram) key ⌝ }
+    ensures fits { λ r. ⌜ ResolvedFits (given s main spare ram) r ⌝ }
 {
     match state::judge(s, main, spare, ram) {
         Judged::Refused(i) => {

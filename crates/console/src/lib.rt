@@ -29,8 +29,8 @@ struct ChunkResult {
 
 // "Before any format the state is all zero."
 fn begin() -> Progress
-    ensures { λ r. ⌜ r ≡ record { state = noState; fill = 0; printed = 0 } ⌝ }
-    ensures { λ r. ⌜ (r .fill ≡ 0) × (r .printed ≡ 0) ⌝ }
+    ensures equal { λ r. ⌜ r ≡ record { state = noState; fill = 0; printed = 0 } ⌝ }
+    ensures zeros { λ r. ⌜ (r .fill ≡ 0) × (r .printed ≡ 0) ⌝ }
 {
     let sizes = Sizes {
         sector_size: 0,
@@ -52,8 +52,8 @@ fn begin() -> Progress
 // How many chunks a run may still read: none where the input does not continue.
 fn chunks_left(left: u64, continues: bool) -> u64
     requires { ⌜ 0 < left ⌝ }
-    ensures { λ r. ⌜ r < left ⌝ }
-    ensures { λ r. ⌜ r ≡ cond continues (left - 1) 0 ⌝ }
+    ensures fewer { λ r. ⌜ r < left ⌝ }
+    ensures equal { λ r. ⌜ r ≡ cond continues (left - 1) 0 ⌝ }
 {
     if continues {
         return left - 1;
@@ -121,10 +121,10 @@ fn answer_chunk(
     out: &mut [u8],
 ) -> ChunkResult
     requires { ⌜ (p .fill ≤ length (now line)) × (p .printed ≡ 0) × (length (now chunk) * 32 ≤ length (now out)) ⌝ }
-    ensures { λ r. ⌜ (r .progress .fill ≤ length (before line)) × (r .progress .printed ≡ 0) ⌝ }
-    ensures { λ r. ⌜ buffersAfter (r .progress) line main spare ram out
+    ensures within { λ r. ⌜ (r .progress .fill ≤ length (before line)) × (r .progress .printed ≡ 0) ⌝ }
+    ensures buffers { λ r. ⌜ buffersAfter (r .progress) line main spare ram out
         ≡ afterChunk (r .continues) (feed (buffersBefore p line main spare ram out) (before chunk)) ⌝ }
-    ensures { λ r. ⌜ r .ok ≡ r .continues ⌝ }
+    ensures answered { λ r. ⌜ r .ok ≡ r .continues ⌝ }
 {
     let q = stream::feed(p, chunk, line, main, spare, ram, out);
     write_answers(q, out)
@@ -141,8 +141,8 @@ fn next_chunk(
     out: &mut [u8],
 ) -> ChunkResult
     requires { ⌜ (p .fill ≤ length (now line)) × (p .printed ≡ 0) × (length (now chunk) * 32 ≤ length (now out)) ⌝ }
-    ensures { λ r. ⌜ (r .progress .fill ≤ length (before line)) × (r .progress .printed ≡ 0) ⌝ }
-    ensures { λ r. ⌜ FeedsPrefix r (buffersBefore p line main spare ram out) (after chunk)
+    ensures within { λ r. ⌜ (r .progress .fill ≤ length (before line)) × (r .progress .printed ≡ 0) ⌝ }
+    ensures prefix { λ r. ⌜ FeedsPrefix r (buffersBefore p line main spare ram out) (after chunk)
         (buffersAfter (r .progress) line main spare ram out) ⌝ }
 {
     let got = libc::read(STDIN_FILENO, chunk);
@@ -186,10 +186,10 @@ pub fn run(
     out: &mut [u8],
 ) -> bool
     requires { ⌜ (length (now chunk) * 32 ≤ length (now out)) × (32 ≤ length (now out)) ⌝ }
-    ensures { λ r. ⌜ ((chunks : List (List ℕ)) × Short (length (before chunk)) chunks
+    ensures chunks { λ r. ⌜ ((chunks : List (List ℕ)) × Short (length (before chunk)) chunks
         × Leaves (closeIf r (feedAll (initial (before line) (before main) (before spare) (before ram) (before out)) chunks))
         (after line) (after main) (after spare) (after ram) (after out)) ⌝ }
-    ensures { λ r. ⌜ (length (before line) ≡ 64 → ((input : List ℕ)
+    ensures input { λ r. ⌜ (length (before line) ≡ 64 → ((input : List ℕ)
         × (flashAfter main spare ≡ leaves r (unformatted (before main) (before spare) (before ram)) input .flash)
         × (after ram ≡ leaves r (unformatted (before main) (before spare) (before ram)) input .ram))) ⌝ }
 {

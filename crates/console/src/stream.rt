@@ -22,8 +22,9 @@ pub struct Progress {
 // A byte of a line is kept as long as the buffer has room.
 fn add_byte(c: u8, fill: usize, line: &mut [u8]) -> usize
     requires { ⌜ fill ≤ length (now line) ⌝ }
-    ensures { λ r. ⌜ (r ≡ cond (ltb fill (length (before line))) (fill + 1) fill) × (after line ≡ write (before line) fill (c ∷ [])) ⌝ }
-    ensures { λ r. ⌜ r ≤ length (before line) ⌝ }
+    ensures equal { λ r. ⌜ (r ≡ cond (ltb fill (length (before line))) (fill + 1) fill)
+        × (after line ≡ write (before line) fill (c ∷ [])) ⌝ }
+    ensures within { λ r. ⌜ r ≤ length (before line) ⌝ }
 {
     if fill >= line.len() {
         return fill;
@@ -42,8 +43,8 @@ fn end_line(
     out: &mut [u8],
 ) -> Progress
     requires { ⌜ (p .fill ≤ length (now line)) × (p .printed + 32 ≤ length (now out)) ⌝ }
-    ensures { λ r. ⌜ buffersAfter r line main spare ram out ≡ endLine (buffersBefore p line main spare ram out) ⌝ }
-    ensures { λ r. ⌜ (r .fill ≡ 0) × (r .printed ≤ p .printed + 32) ⌝ }
+    ensures equal { λ r. ⌜ buffersAfter r line main spare ram out ≡ endLine (buffersBefore p line main spare ram out) ⌝ }
+    ensures within { λ r. ⌜ (r .fill ≡ 0) × (r .printed ≤ p .printed + 32) ⌝ }
 {
     let state = p.state;
     let fill = p.fill;
@@ -69,8 +70,8 @@ fn next_byte(
     out: &mut [u8],
 ) -> Progress
     requires { ⌜ (p .fill ≤ length (now line)) × (p .printed + 32 ≤ length (now out)) ⌝ }
-    ensures { λ r. ⌜ buffersAfter r line main spare ram out ≡ nextByte (buffersBefore p line main spare ram out) c ⌝ }
-    ensures { λ r. ⌜ (r .fill ≤ length (before line)) × (r .printed ≤ p .printed + 32) ⌝ }
+    ensures equal { λ r. ⌜ buffersAfter r line main spare ram out ≡ nextByte (buffersBefore p line main spare ram out) c ⌝ }
+    ensures within { λ r. ⌜ (r .fill ≤ length (before line)) × (r .printed ≤ p .printed + 32) ⌝ }
 {
     if c == b'\n' {
         return end_line(p, line, main, spare, ram, out);
@@ -95,8 +96,8 @@ pub fn feed(
     out: &mut [u8],
 ) -> Progress
     requires { ⌜ (p .fill ≤ length (now line)) × (p .printed + length (now chunk) * 32 ≤ length (now out)) ⌝ }
-    ensures { λ r. ⌜ buffersAfter r line main spare ram out ≡ feed (buffersBefore p line main spare ram out) (before chunk) ⌝ }
-    ensures { λ r. ⌜ (r .fill ≤ length (before line)) × (r .printed ≤ length (before out)) ⌝ }
+    ensures equal { λ r. ⌜ buffersAfter r line main spare ram out ≡ feed (buffersBefore p line main spare ram out) (before chunk) ⌝ }
+    ensures within { λ r. ⌜ (r .fill ≤ length (before line)) × (r .printed ≤ length (before out)) ⌝ }
 {
     let mut q = p;
     let mut i = 0;
@@ -117,8 +118,8 @@ pub fn close(
     out: &mut [u8],
 ) -> Progress
     requires { ⌜ (p .fill ≤ length (now line)) × (p .printed + 32 ≤ length (now out)) ⌝ }
-    ensures { λ r. ⌜ buffersAfter r line main spare ram out ≡ close (buffersBefore p line main spare ram out) ⌝ }
-    ensures { λ r. ⌜ r .printed ≤ length (before out) ⌝ }
+    ensures equal { λ r. ⌜ buffersAfter r line main spare ram out ≡ close (buffersBefore p line main spare ram out) ⌝ }
+    ensures within { λ r. ⌜ r .printed ≤ length (before out) ⌝ }
 {
     if p.fill == 0 {
         return p;

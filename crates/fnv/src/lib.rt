@@ -90,8 +90,8 @@ fn within(base: u32, size: u32, h: u32) -> u32
 // The three positions of a key in a filter of 4S bits: (h0 mod 4) S + (hj mod S).
 pub fn positions(chip: Chip, key: u32) -> [u32; 3]
     requires { ⌜ (0 < chip .unit) × (chip .unit ≤ 32) ⌝ }
-    ensures { λ r. ⌜ r ≡ positions fnvFamily positionCount (chip .unit) (bytes4 key) ⌝ }
-    ensures { λ r. ⌜ (getD r 0 0 < filterBits (chip .unit)) × (getD r 1 0 < filterBits (chip .unit))
+    ensures equal { λ r. ⌜ r ≡ positions fnvFamily positionCount (chip .unit) (bytes4 key) ⌝ }
+    ensures below { λ r. ⌜ (getD r 0 0 < filterBits (chip .unit)) × (getD r 1 0 < filterBits (chip .unit))
         × (getD r 2 0 < filterBits (chip .unit)) ⌝ }
 {
     let size = chip.sector_size() as u32;

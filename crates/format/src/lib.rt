@@ -19,8 +19,8 @@ use state::State;
 // All blocks erased and the RAM zeroed.
 fn erase_volume(g: Geometry, main: &mut [u8], spare: &mut [u8], ram: &mut [u8])
     requires { ⌜ Sound g × Long g (now main) (now spare) (now ram) ⌝ }
-    ensures { λ _. ⌜ flashAfter main spare ≡ applyAll (g .chip .unit) (erases 0 (blocks (shape g))) (flashBefore main spare) ⌝ }
-    ensures { λ _. ⌜ after ram ≡ write (before ram) 0 (replicate (ramSize (shape g)) 0) ⌝ }
+    ensures flash { λ _. ⌜ flashAfter main spare ≡ applyAll (g .chip .unit) (erases 0 (blocks (shape g))) (flashBefore main spare) ⌝ }
+    ensures ram { λ _. ⌜ after ram ≡ write (before ram) 0 (replicate (ramSize (shape g)) 0) ⌝ }
 {
     flash::erase_blocks(g.chip, 0, g.blocks(), main, spare);
     words::fill_at(ram, 0, g.ram_size(), 0);

@@ -22,8 +22,8 @@ pub struct Area {
 
 pub fn record_area(g: Geometry) -> Area
     requires { ⌜ Sound g ⌝ }
-    ensures { λ r. ⌜ area r ≡ RA (shape g) ⌝ }
-    ensures { λ r. ⌜ AreaSound r ⌝ }
+    ensures equal { λ r. ⌜ area r ≡ RA (shape g) ⌝ }
+    ensures sound { λ r. ⌜ AreaSound r ⌝ }
 {
     Area {
         size: RECORD_SIZE,
@@ -35,8 +35,8 @@ pub fn record_area(g: Geometry) -> Area
 
 pub fn entry_area(g: Geometry) -> Area
     requires { ⌜ Sound g ⌝ }
-    ensures { λ r. ⌜ area r ≡ KA (shape g) ⌝ }
-    ensures { λ r. ⌜ AreaSound r ⌝ }
+    ensures equal { λ r. ⌜ area r ≡ KA (shape g) ⌝ }
+    ensures sound { λ r. ⌜ AreaSound r ⌝ }
 {
     Area {
         size: ENTRY_SIZE,
@@ -48,8 +48,8 @@ pub fn entry_area(g: Geometry) -> Area
 
 pub fn deletion_area(g: Geometry) -> Area
     requires { ⌜ Sound g ⌝ }
-    ensures { λ r. ⌜ area r ≡ DA (shape g) ⌝ }
-    ensures { λ r. ⌜ AreaSound r ⌝ }
+    ensures equal { λ r. ⌜ area r ≡ DA (shape g) ⌝ }
+    ensures sound { λ r. ⌜ AreaSound r ⌝ }
 {
     Area {
         size: DELETION_SIZE,

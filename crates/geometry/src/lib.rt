@@ -231,8 +231,8 @@ fn with_blocks(row: Row, sizes: Sizes) -> Shaped
 }
 
 pub fn geometry_for(sizes: Sizes) -> Shaped
-    ensures { λ r. ⌜ r ≡ shapedOf (sizesIs sizes) ⌝ }
-    ensures { λ r. ⌜ GoodSound r ⌝ }
+    ensures equal { λ r. ⌜ r ≡ shapedOf (sizesIs sizes) ⌝ }
+    ensures sound { λ r. ⌜ GoodSound r ⌝ }
 {
     let size = sizes.sector_size as usize;
     let mut i = 0;

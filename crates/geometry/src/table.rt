@@ -52,8 +52,8 @@ const ROWS: [Row; 6] = [
 
 pub fn row_at(i: usize) -> Row
     requires { ⌜ i < 6 ⌝ }
-    ensures { λ r. ⌜ r ≡ rowOf i ⌝ }
-    ensures { λ r. ⌜ Ruled r ⌝ }
+    ensures equal { λ r. ⌜ r ≡ rowOf i ⌝ }
+    ensures ruled { λ r. ⌜ Ruled r ⌝ }
 {
     ROWS[i]
 }

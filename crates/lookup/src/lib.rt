@@ -104,9 +104,9 @@ pub fn lookup<'a>(
     ram: &'a [u8],
     numbers: &mut [u32; 3],
 ) -> &'a [u8]
-    ensures { λ r. ⌜ (now r ≡ partOf (call fnvFamily (given s main spare ram) (lookup key) .outcome))
+    ensures part { λ r. ⌜ (now r ≡ partOf (call fnvFamily (given s main spare ram) (lookup key) .outcome))
         × (r .ptr ≡ whereOf ((main .entry) .ptr) ((ram .entry) .ptr) (call fnvFamily (given s main spare ram) (lookup key) .outcome)) ⌝ }
-    ensures { λ r. ⌜ after numbers ≡ numbersOf (looked (call fnvFamily (given s main spare ram) (lookup key))) ⌝ }
+    ensures numbers { λ r. ⌜ after numbers ≡ numbersOf (looked (call fnvFamily (given s main spare ram) (lookup key))) ⌝ }
 {
     let f = find(s, key, main, spare, ram);
     *numbers = [f.refusal, f.found, f.count];

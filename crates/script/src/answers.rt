@@ -34,8 +34,8 @@ fn digits_of(n: u32) -> usize
 // Writes a number in decimal from `at` on; gives where it ends.
 fn put_decimal(n: u32, at: usize, out: &mut [u8]) -> usize
     requires { ⌜ at + 10 ≤ length (now out) ⌝ }
-    ensures { λ r. ⌜ r ≡ at + length (decimal n) ⌝ }
-    ensures { λ _. ⌜ after out ≡ write (before out) at (decimal n) ⌝ }
+    ensures end { λ r. ⌜ r ≡ at + length (decimal n) ⌝ }
+    ensures bytes { λ _. ⌜ after out ≡ write (before out) at (decimal n) ⌝ }
 {
     let end = at + digits_of(n);
     let mut left = n;
@@ -52,8 +52,8 @@ fn put_decimal(n: u32, at: usize, out: &mut [u8]) -> usize
 // Writes a number and the byte that ends it from `at` on; gives where they end.
 fn put_number(n: u32, terminator: u8, at: usize, out: &mut [u8]) -> usize
     requires { ⌜ at + 11 ≤ length (now out) ⌝ }
-    ensures { λ r. ⌜ (r ≡ at + length (decimal n ++ (terminator ∷ []))) × (r ≤ at + 11) ⌝ }
-    ensures { λ _. ⌜ after out ≡ write (before out) at (decimal n ++ (terminator ∷ [])) ⌝ }
+    ensures end { λ r. ⌜ (r ≡ at + length (decimal n ++ (terminator ∷ []))) × (r ≤ at + 11) ⌝ }
+    ensures bytes { λ _. ⌜ after out ≡ write (before out) at (decimal n ++ (terminator ∷ [])) ⌝ }
 {
     let end = put_decimal(n, at, out);
     out[end] = terminator;
@@ -63,8 +63,8 @@ fn put_number(n: u32, terminator: u8, at: usize, out: &mut [u8]) -> usize
 // Writes a word and a number as a line.
 fn put_one(word: &[u8], n: u32, out: &mut [u8]) -> usize
     requires { ⌜ length (now word) + 11 ≤ length (now out) ⌝ }
-    ensures { λ r. ⌜ (r ≡ length (before word ++ (decimal n ++ ascii "\n"))) × (r ≤ length (before word) + 11) ⌝ }
-    ensures { λ _. ⌜ after out ≡ write (before out) 0 (before word ++ (decimal n ++ ascii "\n")) ⌝ }
+    ensures end { λ r. ⌜ (r ≡ length (before word ++ (decimal n ++ ascii "\n"))) × (r ≤ length (before word) + 11) ⌝ }
+    ensures bytes { λ _. ⌜ after out ≡ write (before out) 0 (before word ++ (decimal n ++ ascii "\n")) ⌝ }
 {
     words::copy_at(out, 0, word);
     put_number(n, b'\n', word.len(), out)
@@ -73,9 +73,9 @@ fn put_one(word: &[u8], n: u32, out: &mut [u8]) -> usize
 // Writes a word and two numbers as a line.
 fn put_two(word: &[u8], n: u32, m: u32, out: &mut [u8]) -> usize
     requires { ⌜ length (now word) + 22 ≤ length (now out) ⌝ }
-    ensures { λ r. ⌜ (r ≡ length (before word ++ (decimal n ++ (ascii " " ++ (decimal m ++ ascii "\n")))))
+    ensures end { λ r. ⌜ (r ≡ length (before word ++ (decimal n ++ (ascii " " ++ (decimal m ++ ascii "\n")))))
         × (r ≤ length (before word) + 22) ⌝ }
-    ensures { λ _. ⌜ after out ≡ write (before out) 0 (before word ++ (decimal n ++ (ascii " " ++ (decimal m ++ ascii "\n")))) ⌝ }
+    ensures bytes { λ _. ⌜ after out ≡ write (before out) 0 (before word ++ (decimal n ++ (ascii " " ++ (decimal m ++ ascii "\n")))) ⌝ }
 {
     words::copy_at(out, 0, word);
     let at = put_number(n, b' ', word.len(), out);
@@ -85,9 +85,9 @@ fn put_two(word: &[u8], n: u32, m: u32, out: &mut [u8]) -> usize
 // Writes an answer's line at the start of `out`; gives its length.
 pub fn put_answer(a: Answer, out: &mut [u8]) -> usize
     requires { ⌜ 32 ≤ length (now out) ⌝ }
-    ensures { λ r. ⌜ r ≡ length (text (answerOf a)) ⌝ }
-    ensures { λ r. ⌜ r ≤ 32 ⌝ }
-    ensures { λ _. ⌜ after out ≡ write (before out) 0 (text (answerOf a)) ⌝ }
+    ensures size { λ r. ⌜ r ≡ length (text (answerOf a)) ⌝ }
+    ensures short { λ r. ⌜ r ≤ 32 ⌝ }
+    ensures bytes { λ _. ⌜ after out ≡ write (before out) 0 (text (answerOf a)) ⌝ }
 {
     match a {
         Answer::Ok(n, d) => put_two(b"ok ", n, d, out),

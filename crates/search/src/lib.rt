@@ -169,8 +169,8 @@ struct Walk {
 fn in_group(v: View, key: u32, ps: [u32; 8], below: usize, main: &[u8], ram: &[u8]) -> Walk
     requires { ⌜ Ready v (now main) (now ram) × Low (v .g) ps ⌝ }
     requires { ⌜ (0 < below) × (below ≤ v .n0 / entriesPerPage (v .g .chip .unit)) ⌝ }
-    ensures { λ r. ⌜ r .start < below ⌝ }
-    ensures { λ r. ⌜ pagesBelow v (before main) (before ram) key (take positionCount ps) below
+    ensures start { λ r. ⌜ r .start < below ⌝ }
+    ensures found { λ r. ⌜ pagesBelow v (before main) (before ram) key (take positionCount ps) below
         ≡ onward (stopOf (r .end)) (r .opened) (pagesBelow v (before main) (before ram) key (take positionCount ps) (r .start)) ⌝ }
 {
     let per_page = v.g.entries_per_page();

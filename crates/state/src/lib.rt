@@ -105,8 +105,8 @@ fn too_short(g: Geometry, main: &[u8], spare: &[u8], ram: &[u8]) -> bool
 
 // Of a state that is handed in.
 pub fn judge(s: State, main: &[u8], spare: &[u8], ram: &[u8]) -> Judged
-    ensures { λ r. ⌜ r ≡ judgedOf (given s main spare ram) ⌝ }
-    ensures { λ r. ⌜ GoodFits (given s main spare ram) r ⌝ }
+    ensures equal { λ r. ⌜ r ≡ judgedOf (given s main spare ram) ⌝ }
+    ensures fits { λ r. ⌜ GoodFits (given s main spare ram) r ⌝ }
 {
     match geometry::geometry_for(s.sizes) {
         Shaped::Bad => {
@@ -126,8 +126,8 @@ pub fn judge(s: State, main: &[u8], spare: &[u8], ram: &[u8]) -> Judged
 
 // Of a format.
 pub fn judge_new(sizes: Sizes, main: &[u8], spare: &[u8], ram: &[u8]) -> Judged
-    ensures { λ r. ⌜ r ≡ judgedNew (sizesIs sizes) (flashBefore main spare) (before ram) ⌝ }
-    ensures { λ r. ⌜ NewFits (sizesIs sizes) (flashBefore main spare) (before ram) r ⌝ }
+    ensures equal { λ r. ⌜ r ≡ judgedNew (sizesIs sizes) (flashBefore main spare) (before ram) ⌝ }
+    ensures fits { λ r. ⌜ NewFits (sizesIs sizes) (flashBefore main spare) (before ram) r ⌝ }
 {
     match geometry::geometry_for(sizes) {
         Shaped::Bad => {
