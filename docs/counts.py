@@ -1,9 +1,9 @@
 #!/usr/bin/env python3
-"""counts.py [--before FOLDER] [--rows TEXT]: instructions of a call, by valgrind's callgrind.
+"""counts.py [--before FOLDER] [--rows TEXT] [--most N]: instructions of a call, by valgrind's callgrind.
 
 Prints a table of the proved store beside the optimised Rust, as document PERFORMANCE.md has it. With --before, FOLDER
 holds another libcapi.a, whose instructions stand in a column of their own. With --rows, only rows that begin with TEXT,
-as `16 insert`. Counts do not depend on what else the machine does, so one run is enough.
+as `16 insert`; with --most, only those of up to N records. Counts do not depend on what else the machine does, so one run is enough.
 """
 
 import argparse
@@ -54,6 +54,7 @@ def main():
     arguments = argparse.ArgumentParser(description=__doc__)
     arguments.add_argument("--before", type=pathlib.Path)
     arguments.add_argument("--rows", default="")
+    arguments.add_argument("--most", type=int, default=1 << 32)
     options = arguments.parse_args()
     after = bench(ROOT / "target" / "staticlib")
     before = bench(options.before) if options.before else None
@@ -61,7 +62,7 @@ def main():
     print("| " + " | ".join(heads) + " |")
     print("|" + "---|" * len(heads))
     for size, call, n in rows():
-        if not f"{size} {call} {n}".startswith(options.rows):
+        if n > options.most or not f"{size} {call} {n}".startswith(options.rows):
             continue
         proved = instructions(after, "proved", size, call, n)
         fast = instructions(after, "fast", size, call, n)
