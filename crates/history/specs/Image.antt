@@ -6,9 +6,11 @@ use Prim.Native.Nat.{ℕ, _+_, _-_, _*_, _/_, _%_, _<_}
 use lib.ListN.{length, getD}
 use lib.Dec.{ltb, eqb}
 use Rattle.memory.specs.Ranges.{any, memb}
-use Rattle.layout.specs.Geometry.{Geometry, sector, page, block, sideBlocks, entriesPerPage, kaBlock, daBlock, indexBlock, kaRam, daRam, skaRam, workRam}
+use Rattle.layout.specs.Geometry.{Geometry, sectorsPerPage, sectorsPerBlock, sector, page, block, sideBlocks, entriesPerPage}
+use Rattle.layout.specs.Geometry.{kaBlock, daBlock, indexBlock, kaRam, daRam, skaRam, workRam}
 use Rattle.layout.specs.Hash.{Family}
 use Rattle.layout.specs.Items.{Area, RA, KA, DA, Record, noRecord, recordBytes, entryBytes, deletionBytes}
+use Rattle.layout.specs.Index.{filtersPerFlush, flushesPerRound, filtersPerRound}
 use Rattle.layout.specs.Index.{Index, rowByte, inSka, inL1, inSet, inFull, setWidth, setBlocks, fullFilters, sideBlock, fullBlock}
 use Rattle.layout.specs.Calls.{keyPositions, keyFilters}
 
@@ -45,20 +47,21 @@ areaRamByte a f n i =
 
 -- mark x of the area: the sectors of full pages are programmed
 abbrev pub areaSpareByte : Area → ℕ → ℕ → ℕ
-areaSpareByte a n x = cond (ltb x (n / a .perPage * 4)) 0 255
+areaSpareByte a n x = cond (ltb x (n / a .perPage * sectorsPerPage)) 0 255
 
 -- ---- an index: F f x is bit x of filter f
 
 module _ (u : ℕ) where
   -- byte i of the SKA page with s filters after `flushes` flushes: a row of S bits a filter in each sector
   abbrev pub skaByte : (ℕ → ℕ → Bool) → ℕ → ℕ → ℕ → ℕ
-  skaByte F flushes s i = rowByte (λ g. F (8 * flushes + g)) s (sector u) (i / sector u * sector u) (i % sector u)
+  skaByte F flushes s i = rowByte (λ g. F (filtersPerFlush * flushes + g)) s (sector u) (i / sector u * sector u) (i % sector u)
 
   -- byte i of L1 with t flushes, the round's first filter being `base`: sector x is piece x / 16 of flush x mod 16
   abbrev pub l1Byte : (ℕ → ℕ → Bool) → ℕ → ℕ → ℕ → ℕ
   l1Byte F base t i =
-      cond (ltb (i / sector u % 16) t)
-      (rowByte (λ g. F (base + 8 * (i / sector u % 16) + g)) 8 (sector u) (i / sector u / 16 * sector u) (i % sector u)) 255
+      cond (ltb (i / sector u % flushesPerRound) t)
+      (rowByte (λ g. F (base + filtersPerFlush * (i / sector u % flushesPerRound) + g)) filtersPerFlush (sector u)
+      (i / sector u / flushesPerRound * sector u) (i % sector u)) 255
 
   -- byte i of a set of N filters from `base` on, w bits of each to a page
   abbrev pub partitionByte : (ℕ → ℕ → Bool) → ℕ → ℕ → ℕ → ℕ → ℕ
@@ -66,7 +69,7 @@ module _ (u : ℕ) where
 
   -- byte i of the side that holds the set of c rounds; past its pages it is erased
   abbrev pub sideByte : (ℕ → ℕ → Bool) → ℕ → ℕ → ℕ → ℕ
-  sideByte F base c i = cond (ltb i (setBlocks c * block u)) (partitionByte F base (128 * c) (setWidth u c) i) 255
+  sideByte F base c i = cond (ltb i (setBlocks c * block u)) (partitionByte F base (filtersPerRound * c) (setWidth u c) i) 255
 
   -- byte i of place k for full sets, of which z are taken
   abbrev pub fullByte : (ℕ → ℕ → Bool) → ℕ → ℕ → ℕ → ℕ
@@ -75,28 +78,30 @@ module _ (u : ℕ) where
   module _ (ix : Index) (Z : ℕ) where
     -- z full sets of Z places, c rounds in the current set, t flushes in L1
     pub record IndexMain (F : ℕ → ℕ → Bool) (z c t : ℕ) (main : List ℕ) : Type 0 where
-      pub l1 : (i : ℕ) → i < block u → getD main (ix .first * block u + i) 0 ≡ l1Byte F (z * fullFilters u + 128 * c) t i
+      pub l1 : (i : ℕ) → i < block u → getD main (ix .first * block u + i) 0 ≡ l1Byte F (z * fullFilters u + filtersPerRound * c) t i
       pub here : (i : ℕ) → i < sideBlocks u * block u → getD main (sideBlock u ix c * block u + i) 0 ≡ sideByte F (z * fullFilters u) c i
       pub there : (i : ℕ) → i < sideBlocks u * block u → getD main (sideBlock u ix (c + 1) * block u + i) 0 ≡ 255
       pub full : (k i : ℕ) → k < Z → i < sideBlocks u * block u → getD main (fullBlock u ix k * block u + i) 0 ≡ fullByte F z k i
 
     pub record IndexSpare (z c t : ℕ) (spare : List ℕ) : Type 0 where
-      pub l1 : (x : ℕ) → x < 64 → getD spare (ix .first * 64 + x) 0 ≡ cond (ltb (x % 16) t) 0 255
-      pub here : (x : ℕ) → x < sideBlocks u * 64 → getD spare (sideBlock u ix c * 64 + x) 0 ≡ cond (ltb x (setBlocks c * 64)) 0 255
-      pub there : (x : ℕ) → x < sideBlocks u * 64 → getD spare (sideBlock u ix (c + 1) * 64 + x) 0 ≡ 255
-      pub full : (k x : ℕ) → k < Z → x < sideBlocks u * 64 → getD spare (fullBlock u ix k * 64 + x) 0 ≡ cond (ltb k z) 0 255
+      pub l1 : (x : ℕ) → x < sectorsPerBlock → getD spare (ix .first * sectorsPerBlock + x) 0 ≡ cond (ltb (x % flushesPerRound) t) 0 255
+      pub here : (x : ℕ) → x < sideBlocks u * sectorsPerBlock →
+          getD spare (sideBlock u ix c * sectorsPerBlock + x) 0 ≡ cond (ltb x (setBlocks c * sectorsPerBlock)) 0 255
+      pub there : (x : ℕ) → x < sideBlocks u * sectorsPerBlock → getD spare (sideBlock u ix (c + 1) * sectorsPerBlock + x) 0 ≡ 255
+      pub full : (k x : ℕ) → k < Z → x < sideBlocks u * sectorsPerBlock →
+          getD spare (fullBlock u ix k * sectorsPerBlock + x) 0 ≡ cond (ltb k z) 0 255
 
     -- an index of N filters in main area, spare area and RAM
     pub record IndexIs (F : ℕ → ℕ → Bool) (N : ℕ) (main spare ram : List ℕ) : Type 0 where
       pub on-main : IndexMain F (inFull u N) (inSet u N) (inL1 N) main
       pub on-spare : IndexSpare (inFull u N) (inSet u N) (inL1 N) spare
-      pub on-ram : (i : ℕ) → i < page u → getD ram (ix .ska + i) 0 ≡ skaByte F (N / 8) (inSka N) i
+      pub on-ram : (i : ℕ) → i < page u → getD ram (ix .ska + i) 0 ≡ skaByte F (N / filtersPerFlush) (inSka N) i
 
 -- ---- an area in main area, spare area and RAM; it has `blocks` blocks
 
 pub record AreaIs (u : ℕ) (a : Area) (blocks : ℕ) (f : ℕ → ℕ → ℕ) (n : ℕ) (main spare ram : List ℕ) : Type 0 where
   pub on-main : (i : ℕ) → i < blocks * block u → getD main (a .first * block u + i) 0 ≡ areaByte a f n i
-  pub on-spare : (x : ℕ) → x < blocks * 64 → getD spare (a .first * 64 + x) 0 ≡ areaSpareByte a n x
+  pub on-spare : (x : ℕ) → x < blocks * sectorsPerBlock → getD spare (a .first * sectorsPerBlock + x) 0 ≡ areaSpareByte a n x
   pub on-ram : (i : ℕ) → i < page u → getD ram (a .ram + i) 0 ≡ areaRamByte a f n i
 
 module _ (h : Family) (g : Geometry) where
@@ -129,7 +134,7 @@ module _ (h : Family) (g : Geometry) (H : History) where
   -- byte i of the index's blocks: L1, side A, side B, the places for full sets; set number c + 1 is on side A if that is even
   abbrev pub indexByte : ℕ → ℕ
   indexByte i =
-      cond (ltb i (block (g .u))) (l1Byte (g .u) F (z * fullFilters (g .u) + 128 * c) (inL1 N) i)
+      cond (ltb i (block (g .u))) (l1Byte (g .u) F (z * fullFilters (g .u) + filtersPerRound * c) (inL1 N) i)
       (cond (ltb i ((1 + sideBlocks (g .u)) * block (g .u)))
       (cond (eqb (c % 2) 1) (sideByte (g .u) F (z * fullFilters (g .u)) c (i - block (g .u))) 255)
       (cond (ltb i ((1 + 2 * sideBlocks (g .u)) * block (g .u)))
@@ -140,10 +145,12 @@ module _ (h : Family) (g : Geometry) (H : History) where
   -- mark x of the index's sectors
   abbrev pub indexSpareByte : ℕ → ℕ
   indexSpareByte x =
-      cond (ltb x 64) (cond (ltb (x % 16) (inL1 N)) 0 255)
-      (cond (ltb x ((1 + sideBlocks (g .u)) * 64)) (cond (eqb (c % 2) 1) (cond (ltb (x - 64) (setBlocks c * 64)) 0 255) 255)
-      (cond (ltb x ((1 + 2 * sideBlocks (g .u)) * 64)) (cond (eqb (c % 2) 1) 255 (cond (ltb (x - (1 + sideBlocks (g .u)) * 64) (setBlocks c * 64)) 0 255))
-      (cond (ltb ((x - (1 + 2 * sideBlocks (g .u)) * 64) / (sideBlocks (g .u) * 64)) z) 0 255)))
+      cond (ltb x sectorsPerBlock) (cond (ltb (x % flushesPerRound) (inL1 N)) 0 255)
+      (cond (ltb x ((1 + sideBlocks (g .u)) * sectorsPerBlock))
+      (cond (eqb (c % 2) 1) (cond (ltb (x - sectorsPerBlock) (setBlocks c * sectorsPerBlock)) 0 255) 255)
+      (cond (ltb x ((1 + 2 * sideBlocks (g .u)) * sectorsPerBlock))
+      (cond (eqb (c % 2) 1) 255 (cond (ltb (x - (1 + sideBlocks (g .u)) * sectorsPerBlock) (setBlocks c * sectorsPerBlock)) 0 255))
+      (cond (ltb ((x - (1 + 2 * sideBlocks (g .u)) * sectorsPerBlock) / (sideBlocks (g .u) * sectorsPerBlock)) z) 0 255)))
 
   -- byte a of the main area, below `dataSize g`
   unfoldable pub mainImage : ℕ → ℕ
@@ -156,10 +163,10 @@ module _ (h : Family) (g : Geometry) (H : History) where
   -- mark x of the spare area, below `spareSize g`
   unfoldable pub spareImage : ℕ → ℕ
   spareImage x =
-      cond (ltb x (kaBlock g * 64)) (areaSpareByte (RA g) n x)
-      (cond (ltb x (daBlock g * 64)) (areaSpareByte (KA g) n (x - kaBlock g * 64))
-      (cond (ltb x (indexBlock g * 64)) (areaSpareByte (DA g) d (x - daBlock g * 64))
-      (indexSpareByte (x - indexBlock g * 64))))
+      cond (ltb x (kaBlock g * sectorsPerBlock)) (areaSpareByte (RA g) n x)
+      (cond (ltb x (daBlock g * sectorsPerBlock)) (areaSpareByte (KA g) n (x - kaBlock g * sectorsPerBlock))
+      (cond (ltb x (indexBlock g * sectorsPerBlock)) (areaSpareByte (DA g) d (x - daBlock g * sectorsPerBlock))
+      (indexSpareByte (x - indexBlock g * sectorsPerBlock))))
 
   -- byte a of the RAM, below `ramSize g`: the pages RA, KA, DA, SKA and work
   unfoldable pub ramImage : ℕ → ℕ
@@ -167,4 +174,4 @@ module _ (h : Family) (g : Geometry) (H : History) where
       cond (ltb a (kaRam (g .u))) (areaRamByte (RA g) (raItem H) n a)
       (cond (ltb a (daRam (g .u))) (areaRamByte (KA g) (kaItem H) n (a - kaRam (g .u)))
       (cond (ltb a (skaRam (g .u))) (areaRamByte (DA g) (daItem H) d (a - daRam (g .u)))
-      (cond (ltb a (workRam (g .u))) (skaByte (g .u) F (N / 8) (inSka N) (a - skaRam (g .u))) 0)))
+      (cond (ltb a (workRam (g .u))) (skaByte (g .u) F (N / filtersPerFlush) (inSka N) (a - skaRam (g .u))) 0)))

@@ -8,6 +8,7 @@ use Prim.Native.Nat.{ℕ, _+_, _/_, _^_, _≤_, _<_}
 use lib.ListN.{length, getD}
 use lib.Dec.{eqb}
 use Rattle.layout.specs.Geometry.{State, Geometry, geometry, dataSize, spareSize, ramSize, entriesPerPage, Sizes, unitOf, stateOf}
+use Rattle.layout.specs.Geometry.{sectorsPerPage, sectorsPerBlock}
 use Rattle.layout.specs.Flash.{Op, program, erase}
 use Rattle.layout.specs.Hash.{Family}
 use Rattle.layout.specs.Refusals as refusal
@@ -47,13 +48,15 @@ module _ (h : Family) where
 -- which sectors were programmed since the last erase of their block, after an operation
 abbrev pub programmed : Op → (ℕ → Bool) → ℕ → Bool
 programmed (program s bytes) P x = cond (eqb x s) true (P x)
-programmed (erase b) P x = cond (eqb (x / 64) b) false (P x)
+programmed (erase b) P x = cond (eqb (x / sectorsPerBlock) b) false (P x)
 
--- "Whenever one of them programs a sector, that sector has not been programmed since the last erase of its block, and every earlier sector of its page has"
+-- "Whenever one of them programs a sector, that sector has not been programmed since the last erase of its block,
+-- and every earlier sector of its page has"
 abbrev pub ProgramOrder : List Op → (ℕ → Bool) → Type 0
 ProgramOrder [] P = Unit {0}
 ProgramOrder (program s bytes ∷ os) P =
-    (P s ≡ false) × ((x : ℕ) → x < s → x / 4 ≡ s / 4 → P x ≡ true) × ProgramOrder os (programmed (program s bytes) P)
+    (P s ≡ false) × ((x : ℕ) → x < s → x / sectorsPerPage ≡ s / sectorsPerPage → P x ≡ true)
+    × ProgramOrder os (programmed (program s bytes) P)
 ProgramOrder (erase b ∷ os) P = ProgramOrder os (programmed (erase b) P)
 
 -- ---- demand 3, of one call
@@ -96,7 +99,8 @@ pub record Agrees (sizes : Sizes) (v : Volume) (r : Result) (s : Step) : Type 0 
 abbrev pub EachAgrees : Family → Sizes → Volume → Map → List Call → Type 0
 EachAgrees h sizes v m [] = Unit {0}
 EachAgrees h sizes v m (c ∷ cs) =
-    Agrees sizes v (call h v c) (mapOf (geometry sizes) m c) × EachAgrees h sizes (call h v c .volume) (mapOf (geometry sizes) m c .next) cs
+    Agrees sizes v (call h v c) (mapOf (geometry sizes) m c)
+    × EachAgrees h sizes (call h v c .volume) (mapOf (geometry sizes) m c .next) cs
 
 -- ---- demand 2
 
