@@ -16,10 +16,10 @@ use Rattle.memory.specs.Words.{word, byteOf, bytes-word}
 use Rattle.layout.specs.Geometry.{sector, page, block}
 use Rattle.layout.specs.Flash.{Flash, Op, applyAll, allFresh}
 use Rattle.layout.specs.Items.{Area, itemPlace, source, bytesAt, itemWord, put, fills, itemRam}
-use Rattle.laws.specs.Operations.{pageOps, itemOps}
-use Rattle.laws.specs.FlashLaws.{fresh-programs, AllAllowed, programs-spare-out, programs-spare-in, programs-allowed, range-out, row-main}
+use Rattle.history.specs.Operations.{pageOps, itemOps}
+use Rattle.history.specs.FlashLaws.{fresh-programs, AllAllowed, programs-spare-out, programs-spare-in, programs-allowed, range-out, row-main}
 use Rattle.history.specs.Image.{AreaIs, areaByte, areaRamByte, areaSpareByte}
-use Rattle.laws.specs.AreaNumbers.{start, room-left, in-page, flat, flat-at, flat-ext, flat-new}
+use Rattle.history.specs.AreaNumbers.{start, room-left, in-page, flat, flat-at, flat-ext, flat-new}
 
 -- an area whose pages are full of items
 module _ (u : ℕ) (pu : 0 < u) (a : Area) (blocks : ℕ) (whole : a .perPage * a .size ≡ page u) (pq : 0 < a .perPage) (ps : 0 < a .size) where

@@ -20,9 +20,9 @@ use Rattle.layout.specs.Items.{RA, KA, DA, entryBytes, deletionBytes, put, fill
 use Rattle.layout.specs.Index.{inFull, fullBlock, filterRam}
 use Rattle.layout.specs.Keys.{Key, KeyOk, keyAt}
 use Rattle.layout.specs.Calls.{keyIndex, keyFilters, keyPositions, pageFilter, deletionPlan, deletionRam, insertionPlan, insertionRam}
-use Rattle.laws.specs.Operations.{filterOps, recordOps, recordRam, entryOps, entryRam, entered, filteredRam}
-use Rattle.laws.specs.ChangeLaws.{deletion-ops, insertion-ops, insertion-ram}
-use Rattle.laws.specs.FlashLaws.{fresh-append, AllAllowed, apply-append, allowed-append}
+use Rattle.history.specs.Operations.{filterOps, recordOps, recordRam, entryOps, entryRam, entered, filteredRam}
+use Rattle.history.specs.ChangeLaws.{deletion-ops, insertion-ops, insertion-ram}
+use Rattle.history.specs.FlashLaws.{fresh-append, AllAllowed, apply-append, allowed-append}
 use Rattle.history.specs.Image.{History, recordAt, raItem, kaItem, daItem, keyFilter}
 use Rattle.history.specs.Live.{withRecord, withDeletion}
 use Rattle.history.specs.AreaLaws.{area-ext, put-word}

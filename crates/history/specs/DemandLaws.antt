@@ -12,7 +12,7 @@ use Rattle.layout.specs.Hash.{Family}
 use Rattle.layout.specs.Keys.{Key, KeyOk}
 use Rattle.layout.specs.Calls.{Volume, Call, lookup, accepted, tooShort, format, formatted, call}
 use Rattle.layout.specs.FiniteMap.{emptyMap}
-use Rattle.laws.specs.FlashLaws.{apply-append}
+use Rattle.history.specs.FlashLaws.{apply-append}
 use Rattle.history.specs.Image.{History}
 use Rattle.history.specs.Live.{emptyHistory, live-start, findLive, lookupHistory}
 use Rattle.history.specs.Parts.{Beyond, beyond-then}

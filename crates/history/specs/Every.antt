@@ -19,14 +19,14 @@ use Rattle.layout.specs.Items.{RA, KA, DA, entryBytes, deletionBytes, fills, Re
 use Rattle.layout.specs.Search.{Stop, found, corrupt}
 use Rattle.layout.specs.Keys.{Key}
 use Rattle.layout.specs.Calls.{Volume, Call, insert, update, delete, lookup, Outcome, accepted, hit, miss, refused, Result, refuse, badState, tooShort, judged, format, formatted, keyIndex, keyFilters, keyPositions, tryAt, maybeIn, searchAt, search, deletionPlan, deletionRam, newFilter, insertionPlan, insertionRam, commit, noRoom, noDeletion, insertAfter, updateAfter, deleteAfter, lookupAfter, answer, call, Edit, one, change}
-use Rattle.laws.specs.Operations.{recordRam, entryOps, entryRam, entered}
-use Rattle.laws.specs.FlashLaws.{apply-main-length, apply-spare-length}
+use Rattle.history.specs.Operations.{recordRam, entryOps, entryRam, entered}
+use Rattle.history.specs.FlashLaws.{apply-main-length, apply-spare-length}
 use Rattle.laws.specs.ItemLaws.{length-record, length-entry, length-deletion}
 use Rattle.laws.specs.SearchLaws.{search-opened}
-use Rattle.laws.specs.PlanLaws.{ops-append}
-use Rattle.laws.specs.ChangeLaws.{deletion-ops, insertion-after, insertion-ops, insertion-ram}
+use Rattle.history.specs.PlanLaws.{ops-append}
+use Rattle.history.specs.ChangeLaws.{deletion-ops, insertion-after, insertion-ops, insertion-ram}
 use Rattle.history.specs.Parts.{Beyond, beyond-same}
-use Rattle.laws.specs.Inside.{Inside, inside-none, inside-append, inside-erases, main-past, spare-past, inside-item, inside-filter, Past, past-then, past-zero, past-item, past-filter}
+use Rattle.history.specs.Inside.{Inside, inside-none, inside-append, inside-erases, main-past, spare-past, inside-item, inside-filter, Past, past-then, past-zero, past-item, past-filter}
 use Rattle.laws.specs.RowLaws.{places-suffice}
 use Rattle.laws.specs.Sound.{Sound, sound}
 use Rattle.laws.specs.Sound as units

@@ -15,9 +15,9 @@ use Rattle.memory.specs.Power.{log2up}
 use Rattle.layout.specs.Geometry.{block, sideBlocks}
 use Rattle.layout.specs.Flash.{Flash, Op, applyAll, erases, allFresh}
 use Rattle.layout.specs.Index.{Index, rowByte, bitAt, setPages, setWidth, setBlocks, fullFilters, sideBlock, fullBlock, flashPlace, setByte}
-use Rattle.laws.specs.Operations.{programs, buildOps}
+use Rattle.history.specs.Operations.{programs, buildOps}
 use Rattle.history.specs.Image.{partitionByte, sideByte, fullByte, IndexMain, IndexSpare}
-use Rattle.laws.specs.FlashLaws.{fresh-append, fresh-programs, fresh-erases, AllAllowed, apply-append, allowed-append, apply-main-length, apply-spare-length, programs-main-in, programs-spare-in, programs-spare-out, programs-allowed, range-out, erases-allowed, erases-main-in, erases-main-out, erases-spare-in, erases-spare-out}
+use Rattle.history.specs.FlashLaws.{fresh-append, fresh-programs, fresh-erases, AllAllowed, apply-append, allowed-append, apply-main-length, apply-spare-length, programs-main-in, programs-spare-in, programs-spare-out, programs-allowed, range-out, erases-allowed, erases-main-in, erases-main-out, erases-spare-in, erases-spare-out}
 use Rattle.laws.specs.RowLaws.{row-ext, unit-pos, set-whole, width-pos, blocks-fit, full-blocks, full-width, blocks-some, blocks-le, side-range}
 use Rattle.history.specs.IndexRead.{read-flash}
 

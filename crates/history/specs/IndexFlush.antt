@@ -17,9 +17,9 @@ use Rattle.memory.specs.Numbers.{euclid, div-lt}
 use Rattle.layout.specs.Geometry.{sector, page, block}
 use Rattle.layout.specs.Flash.{Flash, applyAll, allFresh}
 use Rattle.layout.specs.Index.{Index, rowByte, fullFilters, sideBlock, fullBlock, withFilter}
-use Rattle.laws.specs.Operations.{programs}
+use Rattle.history.specs.Operations.{programs}
 use Rattle.history.specs.Image.{l1Byte, IndexMain, IndexSpare}
-use Rattle.laws.specs.FlashLaws.{fresh-programs, AllAllowed, programs-main-in, programs-main-out, programs-spare-in, programs-spare-out, programs-allowed, range-out}
+use Rattle.history.specs.FlashLaws.{fresh-programs, AllAllowed, programs-main-in, programs-main-out, programs-spare-in, programs-spare-out, programs-allowed, range-out}
 use Rattle.laws.specs.RowLaws.{row-new, row-old, row-none, side-range}
 use Rattle.history.specs.IndexRead.{SkaIs}
 

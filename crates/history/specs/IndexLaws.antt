@@ -15,14 +15,14 @@ use Rattle.layout.specs.Geometry.{sector, page, block, filterBits}
 use Rattle.layout.specs.Flash.{Flash, Op, applyAll, allFresh}
 use Rattle.layout.specs.Items.{zeroPage}
 use Rattle.layout.specs.Index.{Index, rowByte, inSka, inL1, inSet, inFull, fullFilters, fullBlock, filterBit, withFilter, filterRam}
-use Rattle.laws.specs.Operations.{flushOps, buildOps, flushAndBuildOps, filterOps}
+use Rattle.history.specs.Operations.{flushOps, buildOps, flushAndBuildOps, filterOps}
 use Rattle.history.specs.Image.{IndexMain, IndexSpare, IndexIs}
-use Rattle.laws.specs.FlashLaws.{fresh-append, AllAllowed, apply-append, allowed-append, apply-main-length, apply-spare-length}
+use Rattle.history.specs.FlashLaws.{fresh-append, AllAllowed, apply-append, allowed-append, apply-main-length, apply-spare-length}
 use Rattle.laws.specs.RowLaws.{unit-pos}
 use Rattle.history.specs.IndexRead.{SkaIs, onFlash, read-ska, read-flash, ska-ext, main-ext, main-kept, spare-kept, main-erased, spare-erased}
 use Rattle.history.specs.IndexFlush.{ska-add, ska-zero, ska-sector, flush-main, flush-main-out, flush-spare, flush-spare-out, flush-allowed, flush-fresh}
 use Rattle.history.specs.IndexBuild.{IndexAfter, build-side, build-full}
-use Rattle.laws.specs.SkaLaws.{filter-out, filter-length, zero-in, zero-out}
+use Rattle.history.specs.SkaLaws.{filter-out, filter-length, zero-in, zero-out}
 
 module _ (u e : ℕ) (pow : u ≡ 2 ^ e) (ix : Index) (Z : ℕ) where
   -- ---- reading

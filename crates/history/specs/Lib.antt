@@ -1,3 +1,11 @@
+pub mod Operations
+pub mod FlashLaws
+pub mod PlanLaws
+pub mod AreaNumbers
+pub mod SkaLaws
+pub mod Inside
+pub mod RamPages
+pub mod ChangeLaws
 pub mod Image
 pub mod IndexRead
 pub mod IndexFlush

@@ -16,8 +16,8 @@ use Rattle.layout.specs.Hash.{Family}
 use Rattle.layout.specs.Items.{Area, RA, KA, DA, itemRam}
 use Rattle.layout.specs.Index.{Index, inSka, inFull, fullBlock, withFilter, filterRam}
 use Rattle.layout.specs.Calls.{keyIndex}
-use Rattle.laws.specs.Operations.{itemOps, filterOps}
-use Rattle.laws.specs.FlashLaws.{AllAllowed, apply-main-length, apply-spare-length}
+use Rattle.history.specs.Operations.{itemOps, filterOps}
+use Rattle.history.specs.FlashLaws.{AllAllowed, apply-main-length, apply-spare-length}
 use Rattle.history.specs.Image.{History, raItem, kaItem, daItem, keyFilter, AreaIs, IndexIs}
 use Rattle.history.specs.AreaLaws as area
 use Rattle.history.specs.IndexLaws as index

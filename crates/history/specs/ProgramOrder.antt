@@ -11,7 +11,7 @@ use borrow.Author.Tests.{eqb-true, ne-eqb}
 use Rattle.memory.specs.Cases.{either, eq?, lt?}
 use Rattle.memory.specs.Lists.{length-write, getD-write-before, getD-write-in, getD-write-after}
 use Rattle.layout.specs.Flash.{Flash, Op, program, erase, apply, fresh, allFresh, erases}
-use Rattle.laws.specs.FlashLaws.{AllAllowed}
+use Rattle.history.specs.FlashLaws.{AllAllowed}
 use Rattle.history.specs.Runs.{programmed, ProgramOrder}
 
 -- every sector programmed is below N

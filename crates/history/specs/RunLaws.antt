@@ -20,7 +20,7 @@ use Rattle.layout.specs.Items.{RA, KA, DA}
 use Rattle.layout.specs.Keys.{Key}
 use Rattle.layout.specs.Calls.{Volume, Call, insert, update, delete, lookup, Outcome, accepted, hit, miss, refused, keyIndex, tooShort, format, formatted, call}
 use Rattle.layout.specs.FiniteMap.{Map, Reply, accepts, hits, misses, refuses, mapOf}
-use Rattle.laws.specs.FlashLaws.{AllAllowed, apply-append, allowed-append, erases-main-in, erases-main-out, erases-spare-in, erases-spare-out, apply-main-length, apply-spare-length}
+use Rattle.history.specs.FlashLaws.{AllAllowed, apply-append, allowed-append, erases-main-in, erases-main-out, erases-spare-in, erases-spare-out, apply-main-length, apply-spare-length}
 use Rattle.history.specs.Image.{History, raItem, kaItem, daItem, keyFilter}
 use Rattle.history.specs.Live.{findLive, withRecord, withDeletion, emptyHistory, Live, stepHistory}
 use Rattle.history.specs.MapLaws.{step-same, Live-deletion}

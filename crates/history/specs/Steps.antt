@@ -20,9 +20,9 @@ use Rattle.layout.specs.Search.{found}
 use Rattle.layout.specs.Keys.{Key, KeyOk}
 use Rattle.layout.specs.Calls.{Volume, Call, insert, update, delete, lookup, Result, refuse, judged, keyIndex, keyFilters, deletionPlan, deletionRam, insertionPlan, insertionRam, commit, insertAfter, updateAfter, deleteAfter, lookupAfter, answer, call, change}
 use Rattle.layout.specs.FiniteMap.{accepts, hits, refuses}
-use Rattle.laws.specs.FlashLaws.{fresh-append, AllAllowed, apply-append, allowed-append}
-use Rattle.laws.specs.PlanLaws.{ops-append}
-use Rattle.laws.specs.ChangeLaws.{insertion-after}
+use Rattle.history.specs.FlashLaws.{fresh-append, AllAllowed, apply-append, allowed-append}
+use Rattle.history.specs.PlanLaws.{ops-append}
+use Rattle.history.specs.ChangeLaws.{insertion-after}
 use Rattle.history.specs.Image.{History, recordAt, raItem, kaItem, daItem, keyFilter}
 use Rattle.history.specs.Live.{findLive, withRecord, withDeletion, HistoryStep, historyStep, insertHistory, updateHistory, deleteHistory, lookupHistory, stepHistory, found-below}
 use Rattle.history.specs.Parts.{Parts, Did, Frame, Beyond, beyond-same, beyond-then, frame-beyond, frame-area, frame-index}

@@ -1,16 +1,8 @@
 pub mod KeyLaws
-pub mod Operations
-pub mod FlashLaws
 pub mod RowLaws
 pub mod Apart
-pub mod PlanLaws
 pub mod ItemLaws
-pub mod AreaNumbers
 pub mod SearchLaws
-pub mod SkaLaws
 pub mod Units
 pub mod Sound
-pub mod Inside
 pub mod LentFlash
-pub mod RamPages
-pub mod ChangeLaws

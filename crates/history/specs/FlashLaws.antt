@@ -13,7 +13,7 @@ use Rattle.memory.specs.Lists.{write, length-write, getD-write-before, getD-wri
 use Rattle.memory.specs.Numbers.{euclid, div-lt}
 use Rattle.memory.specs.Cases.{lt?, eq?, either}
 use Rattle.layout.specs.Flash.{Op, program, erase, Flash, apply, applyAll, erases, fresh, allFresh}
-use Rattle.laws.specs.Operations.{programs}
+use Rattle.history.specs.Operations.{programs}
 
 -- ---- refusal 7: the sectors to be programmed are fresh, by the marks before the first operation
 

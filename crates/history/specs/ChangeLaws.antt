@@ -14,11 +14,11 @@ use Rattle.layout.specs.Items.{RA, KA, DA, entryBytes, deletionBytes, fills, it
 use Rattle.layout.specs.Index.{inSka, filterPlan, filterRam}
 use Rattle.layout.specs.Keys.{Key}
 use Rattle.layout.specs.Calls.{keyIndex, keyFilters, deletionPlan, deletionRam, newFilter, summarized, insertionPlan, insertionRam}
-use Rattle.laws.specs.Operations.{itemOps, recordRam, entryRam, entered, filteredRam, insertionOps}
-use Rattle.laws.specs.PlanLaws.{ops-both, ops-if, item-ops, filter-ops}
+use Rattle.history.specs.Operations.{itemOps, recordRam, entryRam, entered, filteredRam, insertionOps}
+use Rattle.history.specs.PlanLaws.{ops-both, ops-if, item-ops, filter-ops}
 use Rattle.laws.specs.ItemLaws.{length-entry, length-deletion}
 use Rattle.laws.specs.RowLaws.{unit-pos}
-use Rattle.laws.specs.RamPages.{SamePage, same-then, put-same, item-plan-same, item-apart, with-filter-same, filter-plan-same, page-filter-same}
+use Rattle.history.specs.RamPages.{SamePage, same-then, put-same, item-plan-same, item-apart, with-filter-same, filter-plan-same, page-filter-same}
 
 pub deletion-ops : (g : Geometry) (d j : ℕ) (ram : List ℕ) (C : Flash) → planOps (g .u) (deletionPlan g d j ram) C ≡ itemOps (g .u) (DA g) d (deletionBytes j) ram
 unfolding deletionPlan

@@ -15,9 +15,9 @@ use Rattle.layout.specs.Geometry.{sector, page, block}
 use Rattle.layout.specs.Flash.{Flash, Op, program, erase, apply, applyAll, erases}
 use Rattle.layout.specs.Items.{Area, put, fills, itemRam, zeroPage}
 use Rattle.layout.specs.Index.{Index, inSka, inL1, inSet, inFull, setPages, setBlocks, sideBlock, fullBlock, setBlock, withFilter, filterRam}
-use Rattle.laws.specs.Operations.{programs, itemOps, flushOps, buildOps, flushAndBuildOps, filterOps}
+use Rattle.history.specs.Operations.{programs, itemOps, flushOps, buildOps, flushAndBuildOps, filterOps}
 use Rattle.laws.specs.RowLaws.{unit-pos, blocks-fit, side-range}
-use Rattle.laws.specs.SkaLaws.{filter-out, filter-length}
+use Rattle.history.specs.SkaLaws.{filter-out, filter-length}
 
 -- ---- operations
 

@@ -15,10 +15,10 @@ use Rattle.layout.specs.Geometry.{sector}
 use Rattle.layout.specs.Flash.{Flash, Op, program, erase, apply, applyAll, erases, Planned, known, made, wipe, plannedFrom, opOn, planOps}
 use Rattle.layout.specs.Items.{Area, put, fills, itemPlan}
 use Rattle.layout.specs.Index.{Index, inSka, inL1, inSet, inFull, setPages, setBlocks, sideBlock, setBlock, setByte, flushSector, setSector, buildPlan, flushAndBuild, filterPlan}
-use Rattle.laws.specs.Operations.{programs, itemOps, flushOps, buildOps, flushAndBuildOps, filterOps}
-use Rattle.laws.specs.FlashLaws.{programs-ext}
+use Rattle.history.specs.Operations.{programs, itemOps, flushOps, buildOps, flushAndBuildOps, filterOps}
+use Rattle.history.specs.FlashLaws.{programs-ext}
 use Rattle.laws.specs.RowLaws.{unit-pos}
 use Rattle.laws.specs.Apart.{set-byte-same}
 
 -- the same planned operations, counted from one later
 pub planned-later : (f : ℕ → Planned) (i k : ℕ) → plannedFrom f (suc i) k ≡ plannedFrom (λ j. f (suc j)) i k
