@@ -10,13 +10,15 @@ use lib.Dec.{ltb, eqb}
 use borrow.Author.Tests.{eq-eqb, ne-eqb}
 use Rattle.memory.specs.Cases.{either, lt?, eq?}
 use Rattle.memory.specs.Numbers.{euclid, div-lt}
-use Rattle.layout.specs.Geometry.{Geometry, page, block, sideBlocks, kaBlocks, kaBlock, daBlock, indexBlock, fullSets, blocks, dataSize, spareSize, ramSize, kaRam, daRam, skaRam, workRam}
+use Rattle.layout.specs.Geometry.{Geometry, sectorsPerBlock, page, block, sideBlocks, kaBlocks, kaBlock, daBlock, indexBlock, fullSets}
+use Rattle.layout.specs.Geometry.{blocks, dataSize, spareSize, ramSize, kaRam, daRam, skaRam, workRam}
 use Rattle.layout.specs.Flash.{Flash}
 use Rattle.layout.specs.Hash.{Family}
 use Rattle.layout.specs.Items.{RA, KA, DA}
-use Rattle.layout.specs.Index.{Index, inL1, inSet, inFull, setBlocks, fullFilters, sideBlock, fullBlock}
-use Rattle.layout.specs.Calls.{keyIndex, keyFilters}
-use Rattle.history.specs.Image.{History, raItem, kaItem, daItem, keyFilter, areaByte, areaSpareByte, l1Byte, sideByte, fullByte, indexByte, indexSpareByte, mainImage, spareImage, ramImage}
+use Rattle.layout.specs.Index.{Index, flushesPerRound, filtersPerRound, inL1, inSet, inFull, setBlocks, fullFilters, sideBlock, fullBlock}
+use Rattle.layout.specs.Calls.{keyIndex}
+use Rattle.history.specs.Image.{History, recordsIn, deletionsIn, filtersIn, raItem, kaItem, daItem, keyFilter}
+use Rattle.history.specs.Image.{areaByte, areaSpareByte, l1Byte, sideByte, fullByte, indexByte, indexSpareByte, mainImage, spareImage, ramImage}
 use Rattle.history.specs.Parts.{Parts, pu}
 
 -- ---- one cascade of tests for main area and spare area: a block has w bytes in the one, w marks in the other
@@ -80,7 +82,8 @@ module _ (g : Geometry) (w : ℕ) (l : List ℕ) (ra ka da index : ℕ → ℕ)
     (on-ra : (i : ℕ) → i < g .R * w → getD l (RA g .first * w + i) 0 ≡ ra i)
     (on-ka : (i : ℕ) → i < kaBlocks g * w → getD l (KA g .first * w + i) 0 ≡ ka i)
     (on-da : (i : ℕ) → i < g .D * w → getD l (DA g .first * w + i) 0 ≡ da i)
-    (on-index : (i : ℕ) → i < (1 + 2 * sideBlocks (g .u) + fullSets g * sideBlocks (g .u)) * w → getD l (indexBlock g * w + i) 0 ≡ index i) where
+    (on-index : (i : ℕ) → i < (1 + 2 * sideBlocks (g .u) + fullSets g * sideBlocks (g .u)) * w
+    → getD l (indexBlock g * w + i) 0 ≡ index i) where
   -- every byte of the volume's blocks
   pub in-volume : (a : ℕ) → a < blocks g * w
       → getD l a 0
@@ -108,53 +111,43 @@ module _ (g : Geometry) (w : ℕ) (l : List ℕ) (ra ka da index : ℕ → ℕ)
 -- ---- the volume of a history
 
 module _ (h : Family) (g : Geometry) (e : ℕ) (pow : g .u ≡ 2 ^ e) (H : History) (C : Flash) (ram : List ℕ)
-    (P : Parts h g e pow H (length (H .records)) (length (H .records)) (length (H .deleted)) (keyFilters g (length (H .records))) C ram)
+    (P : Parts h g H (recordsIn H) (recordsIn H) (deletionsIn H) (filtersIn g H) C ram)
     (work : (i : ℕ) → i < page (g .u) → getD ram (workRam (g .u) + i) 0 ≡ 0) where
-  -- its records, deletions and filters, and the filters' full sets and rounds
-  abbrev n : ℕ
-  n = length (H .records)
-
-  abbrev d : ℕ
-  d = length (H .deleted)
-
   abbrev N : ℕ
-  N = keyFilters g n
-
-  abbrev z : ℕ
-  z = inFull (g .u) N
-
-  abbrev c : ℕ
-  c = inSet (g .u) N
+  N = filtersIn g H
 
   -- the index's blocks in the main area, and their sectors in the spare area
   index-main : (i : ℕ) → i < (1 + 2 * sideBlocks (g .u) + fullSets g * sideBlocks (g .u)) * block (g .u)
-      → getD (C .main) (indexBlock g * block (g .u) + i) 0 ≡ indexByte h g H i
+      → getD (C .main) (indexBlock g * block (g .u) + i) 0 ≡ indexByte (g .u) (keyFilter h g H) N i
   index-main =
-      in-index (g .u) (block (g .u)) (omega (arith, pu h g e pow, mul-le-mul-right (g .u) (pu h g e pow))) (keyIndex g) (fullSets g) c (C .main)
-      (l1Byte (g .u) (keyFilter h g H) (z * fullFilters (g .u) + 128 * c) (inL1 N))
-      (sideByte (g .u) (keyFilter h g H) (z * fullFilters (g .u)) c)
-      (fullByte (g .u) (keyFilter h g H) z)
+      in-index (g .u) (block (g .u)) (omega (arith, pu h g e pow, mul-le-mul-right (g .u) (pu h g e pow))) (keyIndex g) (fullSets g)
+      (inSet (g .u) N) (C .main)
+      (l1Byte (g .u) (keyFilter h g H) (inFull (g .u) N * fullFilters (g .u) + filtersPerRound * inSet (g .u) N) (inL1 N))
+      (sideByte (g .u) (keyFilter h g H) (inFull (g .u) N * fullFilters (g .u)) (inSet (g .u) N))
+      (fullByte (g .u) (keyFilter h g H) (inFull (g .u) N))
       (P .filters .on-main .l1) (P .filters .on-main .here) (P .filters .on-main .there) (P .filters .on-main .full)
 
-  index-spare : (x : ℕ) → x < (1 + 2 * sideBlocks (g .u) + fullSets g * sideBlocks (g .u)) * 64
-      → getD (C .spare) (indexBlock g * 64 + x) 0 ≡ indexSpareByte h g H x
+  index-spare : (x : ℕ) → x < (1 + 2 * sideBlocks (g .u) + fullSets g * sideBlocks (g .u)) * sectorsPerBlock
+      → getD (C .spare) (indexBlock g * sectorsPerBlock + x) 0 ≡ indexSpareByte (g .u) N x
   index-spare =
-      in-index (g .u) 64 (omega (arith, pu h g e pow)) (keyIndex g) (fullSets g) c (C .spare)
-      (λ x. cond (ltb (x % 16) (inL1 N)) 0 255)
-      (λ x. cond (ltb x (setBlocks c * 64)) 0 255)
-      (λ k x. cond (ltb k z) 0 255)
+      in-index (g .u) sectorsPerBlock (omega (arith, pu h g e pow)) (keyIndex g) (fullSets g) (inSet (g .u) N) (C .spare)
+      (λ x. cond (ltb (x % flushesPerRound) (inL1 N)) 0 255)
+      (λ x. cond (ltb x (setBlocks (inSet (g .u) N) * sectorsPerBlock)) 0 255)
+      (λ k x. cond (ltb k (inFull (g .u) N)) 0 255)
       (P .filters .on-spare .l1) (P .filters .on-spare .here) (P .filters .on-spare .there) (P .filters .on-spare .full)
 
   pub main-by-address : (a : ℕ) → a < dataSize g → getD (C .main) a 0 ≡ mainImage h g H a
   unfolding mainImage
   main-by-address =
-      in-volume g (block (g .u)) (C .main) (areaByte (RA g) (raItem H) n) (areaByte (KA g) (kaItem H) n) (areaByte (DA g) (daItem H) d) (indexByte h g H)
+      in-volume g (block (g .u)) (C .main) (areaByte (RA g) (raItem H) (recordsIn H)) (areaByte (KA g) (kaItem H) (recordsIn H))
+      (areaByte (DA g) (daItem H) (deletionsIn H)) (indexByte (g .u) (keyFilter h g H) N)
       (P .ra .on-main) (P .ka .on-main) (P .da .on-main) index-main
 
-  pub spare-by-address : (x : ℕ) → x < spareSize g → getD (C .spare) x 0 ≡ spareImage h g H x
+  pub spare-by-address : (x : ℕ) → x < spareSize g → getD (C .spare) x 0 ≡ spareImage g H x
   unfolding spareImage
   spare-by-address =
-      in-volume g 64 (C .spare) (areaSpareByte (RA g) n) (areaSpareByte (KA g) n) (areaSpareByte (DA g) d) (indexSpareByte h g H)
+      in-volume g sectorsPerBlock (C .spare) (areaSpareByte (RA g) (recordsIn H)) (areaSpareByte (KA g) (recordsIn H))
+      (areaSpareByte (DA g) (deletionsIn H)) (indexSpareByte (g .u) N)
       (P .ra .on-spare) (P .ka .on-spare) (P .da .on-spare) index-spare
 
   -- the RAM's pages: RA, KA, DA, SKA and work

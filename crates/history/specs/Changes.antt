@@ -32,6 +32,16 @@ use Rattle.history.specs.Parts as parts
 use Rattle.history.specs.Parts.{Parts, Did, Beyond, beyond-then, frame-beyond}
 use Rattle.laws.specs.RowLaws.{places-suffice}
 
+-- what an insertion leaves behind: n records, d deletions
+pub record Changed (h : Family) (g : Geometry) (H : History) (n d : ℕ) (C : Flash) (ram : List ℕ) (ops : List Op) (ram′ : List ℕ) : Type 0 where
+  pub grown : Parts h g H n n d (keyFilters g n) (applyAll (g .u) ops C) ram′
+  pub allowed : AllAllowed (g .u) ops C
+  pub beyond : Beyond g C (applyAll (g .u) ops C) ram ram′
+  -- by marks that agree with the chip's outside DA
+  pub fresh : (spare : List ℕ)
+      → ((x : ℕ) → x < spareSize g → (x < DA g .first * 64) ⊎ ((DA g .first + g .D) * 64 ≤ x) → getD spare x 0 ≡ getD (C .spare) x 0)
+      → allFresh spare ops ≡ true
+
 module _ (h : Family) (g : Geometry) (e : ℕ) (pow : g .u ≡ 2 ^ e) where
   abbrev u : ℕ
   u = g .u
@@ -46,10 +56,10 @@ module _ (h : Family) (g : Geometry) (e : ℕ) (pow : g .u ≡ 2 ^ e) where
   unfolding keyFilter
   filter-deletion H j = refl
 
-  module _ (H : History) (nr nk N j : ℕ) (C : Flash) (ram : List ℕ) (P : Parts h g e pow H nr nk (length (H .deleted)) N C ram)
+  module _ (H : History) (nr nk N j : ℕ) (C : Flash) (ram : List ℕ) (P : Parts h g H nr nk (length (H .deleted)) N C ram)
       (room : length (H .deleted) < deletionCapacity g) where
     -- the same parts as those of the longer history
-    longer : Parts h g e pow (withDeletion H j) nr nk (length (H .deleted)) N C ram
+    longer : Parts h g (withDeletion H j) nr nk (length (H .deleted)) N C ram
     longer = record {
       ra = P .ra;
       ka = P .ka;
@@ -70,7 +80,7 @@ module _ (h : Family) (g : Geometry) (e : ℕ) (pow : g .u ≡ 2 ^ e) where
         rw (deletion-ops g (length (H .deleted)) j ram C)
         (parts.da-did h g e pow (withDeletion H j) nr nk (length (H .deleted)) N C ram longer (deletionBytes j) (length-deletion j) new room)
 
-    pub deletion-parts : Parts h g e pow (withDeletion H j) nr nk (length (H .deleted) + 1) N
+    pub deletion-parts : Parts h g (withDeletion H j) nr nk (length (H .deleted) + 1) N
         (applyAll (g .u) (planOps (g .u) (deletionPlan g (length (H .deleted)) j ram) C) C) (deletionRam g (length (H .deleted)) j ram)
     unfolding deletionRam
     deletion-parts =
@@ -79,17 +89,8 @@ module _ (h : Family) (g : Geometry) (e : ℕ) (pow : g .u ≡ 2 ^ e) where
 
   -- ---- an insertion
 
-  -- what it leaves behind: n records, d deletions
-  pub record Changed (H : History) (n d : ℕ) (C : Flash) (ram : List ℕ) (ops : List Op) (ram′ : List ℕ) : Type 0 where
-    pub grown : Parts h g e pow H n n d (keyFilters g n) (applyAll (g .u) ops C) ram′
-    pub allowed : AllAllowed (g .u) ops C
-    pub beyond : Beyond g C (applyAll (g .u) ops C) ram ram′
-    -- by marks that agree with the chip's outside DA
-    pub fresh : (spare : List ℕ) → ((x : ℕ) → x < spareSize g → (x < DA g .first * 64) ⊎ ((DA g .first + g .D) * 64 ≤ x) → getD spare x 0 ≡ getD (C .spare) x 0)
-        → allFresh spare ops ≡ true
-
   module _ (H : History) (r : Record) (d : ℕ) (C : Flash) (ram : List ℕ)
-      (P : Parts h g e pow H (length (H .records)) (length (H .records)) d (keyFilters g (length (H .records))) C ram)
+      (P : Parts h g H (length (H .records)) (length (H .records)) d (keyFilters g (length (H .records))) C ram)
       (room : length (H .records) < recordCapacity g) (key-word : KeyOk (r .key)) (words : (j : ℕ) → j < length (H .records) → KeyOk (recordAt H j .key)) where
     abbrev n : ℕ
     n = length (H .records)
@@ -115,7 +116,7 @@ module _ (h : Family) (g : Geometry) (e : ℕ) (pow : g .u ≡ 2 ^ e) where
     sets-fit : inFull (g .u) (length (H .records) / (8 * g .u)) ≤ fullSets g
     sets-fit = places-suffice (g .u) (g .R) (length (H .records)) pu (omega arith)
 
-    longer-record : Parts h g e pow (withRecord H r) n n d N C ram
+    longer-record : Parts h g (withRecord H r) n n d N C ram
     longer-record = record {
       ra = area-ext (g .u) pu (RA g) (g .R) (omega arith) (omega (arith, pu)) (omega arith) (raItem H) (raItem (withRecord H r)) n (C .main) (C .spare) ram
           (λ j b l m. ap (λ (o : Record). getD (recordBytes o) b 0) (old j l)) (P .ra);
@@ -163,13 +164,13 @@ module _ (h : Family) (g : Geometry) (e : ℕ) (pow : g .u ≡ 2 ^ e) where
     did₁ : Did (g .u) (RA g .first) (RA g .first + g .R) (RA g .ram) C ram ram₁ raOps
     did₁ = parts.ra-did h g e pow H′ n n d N C ram longer-record (recordBytes r) bytes-size record-new room
 
-    parts₁ : Parts h g e pow H′ (n + 1) n d N C₁ ram₁
+    parts₁ : Parts h g H′ (n + 1) n d N C₁ ram₁
     parts₁ = parts.ra-parts h g e pow H′ n n d N C ram longer-record (recordBytes r) bytes-size record-new room
 
     did₂ : Did (g .u) (KA g .first) (KA g .first + kaBlocks g) (KA g .ram) C₁ ram₁ ram₂ kaOps
     did₂ = parts.ka-did h g e pow H′ (n + 1) n d N C₁ ram₁ parts₁ entry (length-entry (r .key) n) entry-new room
 
-    parts₂ : Parts h g e pow H′ (n + 1) (n + 1) d N C₂ ram₂
+    parts₂ : Parts h g H′ (n + 1) (n + 1) d N C₂ ram₂
     parts₂ = parts.ka-parts h g e pow H′ (n + 1) n d N C₁ ram₁ parts₁ entry (length-entry (r .key) n) entry-new room
 
     -- ---- the filter of a page that is full now
@@ -212,7 +213,7 @@ module _ (h : Family) (g : Geometry) (e : ℕ) (pow : g .u ≡ 2 ^ e) where
       did₃ : Did (g .u) (indexBlock g) (fullBlock (g .u) (keyIndex g) (fullSets g)) (keyIndex g .ska) C₂ ram₂ (filterRam (g .u) (keyIndex g) N filterIn) (filterOps (g .u) (keyIndex g) C₂ N filterIn)
       did₃ = parts.index-did h g e pow H′ (n + 1) (n + 1) d N C₂ ram₂ parts₂ (pageFilter h g keys) same sets-fit′
 
-      parts₃ : Parts h g e pow H′ (n + 1) (n + 1) d (N + 1) (applyAll (g .u) (filterOps (g .u) (keyIndex g) C₂ N filterIn) C₂) (filterRam (g .u) (keyIndex g) N filterIn)
+      parts₃ : Parts h g H′ (n + 1) (n + 1) d (N + 1) (applyAll (g .u) (filterOps (g .u) (keyIndex g) C₂ N filterIn) C₂) (filterRam (g .u) (keyIndex g) N filterIn)
       parts₃ = parts.index-parts h g e pow H′ (n + 1) (n + 1) d N C₂ ram₂ parts₂ (pageFilter h g keys) same sets-fit′
 
     -- ---- all of it
@@ -237,7 +238,7 @@ module _ (h : Family) (g : Geometry) (e : ℕ) (pow : g .u ≡ 2 ^ e) where
           (fresh-append spare kaOps ops (did₂ .fresh spare (λ x l m. agree x (omega arith) (inl (omega arith)) ∙ sym (did₁ .frame .spare x (inr (omega arith))))) a)
 
     -- no page of entries is full
-    changed-part : length (H .records) % (8 * g .u) + 1 ≢ 8 * g .u → Changed H′ (n + 1) d C ram (raOps ++ (kaOps ++ [])) ram₂
+    changed-part : length (H .records) % (8 * g .u) + 1 ≢ 8 * g .u → Changed h g H′ (n + 1) d C ram (raOps ++ (kaOps ++ [])) ram₂
     unfolding allFresh
     changed-part part =
         let same-filters : (length (H .records) + 1) / (8 * g .u) ≡ length (H .records) / (8 * g .u)
@@ -260,7 +261,7 @@ module _ (h : Family) (g : Geometry) (e : ℕ) (pow : g .u ≡ 2 ^ e) where
       abbrev C₃ : Flash
       C₃ = applyAll (g .u) ixOps C₂
 
-      changed-full : Changed H′ (n + 1) d C ram (raOps ++ (kaOps ++ ixOps)) ram₃
+      changed-full : Changed h g H′ (n + 1) d C ram (raOps ++ (kaOps ++ ixOps)) ram₃
       changed-full = record {
         grown = rw (done ixOps, next full) (parts₃ full);
         allowed = allowed-all ixOps (did₃ full .allowed);
@@ -271,12 +272,12 @@ module _ (h : Family) (g : Geometry) (e : ℕ) (pow : g .u ≡ 2 ^ e) where
             (did₃ full .fresh spare (λ x l m. agree x (omega arith) (inr (omega arith)) ∙ sym (did₂ .frame .spare x (inr (omega arith)) ∙ did₁ .frame .spare x (inr (omega arith)))));
       }
 
-    by-page : (b : Bool) (os : List Op) (r₃ : List ℕ) → (b ≡ true → Changed H′ (n + 1) d C ram (raOps ++ (kaOps ++ os)) r₃)
-        → (b ≡ false → Changed H′ (n + 1) d C ram (raOps ++ (kaOps ++ [])) ram₂) → Changed H′ (n + 1) d C ram (raOps ++ (kaOps ++ cond b os [])) (cond b r₃ ram₂)
+    by-page : (b : Bool) (os : List Op) (r₃ : List ℕ) → (b ≡ true → Changed h g H′ (n + 1) d C ram (raOps ++ (kaOps ++ os)) r₃)
+        → (b ≡ false → Changed h g H′ (n + 1) d C ram (raOps ++ (kaOps ++ [])) ram₂) → Changed h g H′ (n + 1) d C ram (raOps ++ (kaOps ++ cond b os [])) (cond b r₃ ram₂)
     by-page true os r₃ full part = full refl
     by-page false os r₃ full part = part refl
 
-    pub insertion-changes : Changed H′ (n + 1) d C ram (planOps (g .u) (insertionPlan h g n (r .key) (recordBytes r) ram) C) (insertionRam h g n (r .key) (recordBytes r) ram)
+    pub insertion-changes : Changed h g H′ (n + 1) d C ram (planOps (g .u) (insertionPlan h g n (r .key) (recordBytes r) ram) C) (insertionRam h g n (r .key) (recordBytes r) ram)
     insertion-changes =
         rw (insertion-ops h g n (r .key) (recordBytes r) e pow bytes-size ram C, insertion-ram h g n (r .key) (recordBytes r) pu bytes-size ram)
         (by-page (fills (KA g) n) _ _ (λ q. changed-full (eqb-true _ _ q)) (λ q. changed-part (eqb-false _ _ q)))

@@ -40,7 +40,7 @@ module _ (h : Family) (v : Volume) (sizes : Sizes) (calls : List Call) (can : al
   is-formatted : format v sizes ≡ formatted v sizes
   is-formatted = format-is h sizes ok can v long
 
-  ran : Ran h sizes ok can (formatted v sizes .volume) emptyHistory emptyMap calls
+  ran : Ran h sizes (formatted v sizes .volume) emptyHistory emptyMap calls
   unfolding formatted
   ran = run h sizes ok can emptyHistory _ _ emptyMap calls words (start-holds h sizes ok can v long) live-start
 
@@ -97,14 +97,14 @@ module _ (h : Family) (v : Volume) (sizes : Sizes) (calls : List Call) (can : al
   past : Beyond g (v .flash) (end .flash) (v .ram) (end .ram)
   past = beyond-then g (v .flash) (w .flash) (end .flash) (v .ram) (w .ram) (end .ram) first-beyond (ran .beyond)
 
-  reply-is : (o : Option ℕ) → lookupHistory (recordCapacity g) (deletionCapacity g) H o .says ≡ liveReply H o
+  reply-is : (o : Option ℕ) → lookupHistory H o .says ≡ liveReply H o
   reply-is none = refl
   reply-is (some j) = refl
 
-  found : (key : Key) → KeyOk key → replyOf (call h (volumeOf h sizes ok H (end .flash) (end .ram)) (lookup key) .outcome) ≡ liveReply H (findLive H key)
+  found : (key : Key) → KeyOk key → replyOf (call h (volumeOf sizes H (end .flash) (end .ram)) (lookup key) .outcome) ≡ liveReply H (findLive H key)
   found key l = call-done h sizes ok can H (end .flash) (end .ram) (ran .holds) (lookup key) l (ran .room) .says ∙ reply-is (findLive H key)
 
-  looked-up : (e : Volume) → e ≡ volumeOf h sizes ok H (end .flash) (end .ram) → (key : Key) → KeyOk key → replyOf (call h e (lookup key) .outcome) ≡ liveReply H (findLive H key)
+  looked-up : (e : Volume) → e ≡ volumeOf sizes H (end .flash) (end .ram) → (key : Key) → KeyOk key → replyOf (call h e (lookup key) .outcome) ≡ liveReply H (findLive H key)
   looked-up e q key l = rw q (found key l)
 
   image : ImageOf h g H v end

@@ -21,6 +21,16 @@ pub record History : Type 0 where
   pub records : List Record
   pub deleted : List ℕ
 
+abbrev pub recordsIn : History → ℕ
+recordsIn H = length (H .records)
+
+abbrev pub deletionsIn : History → ℕ
+deletionsIn H = length (H .deleted)
+
+-- its filters, one of each full KA page
+abbrev pub filtersIn : Geometry → History → ℕ
+filtersIn g H = keyFilters g (recordsIn H)
+
 abbrev pub recordAt : History → ℕ → Record
 recordAt H j = getD (H .records) j noRecord
 
@@ -75,6 +85,31 @@ module _ (u : ℕ) where
   abbrev pub fullByte : (ℕ → ℕ → Bool) → ℕ → ℕ → ℕ → ℕ
   fullByte F z k i = cond (ltb k z) (partitionByte F (k * fullFilters u) (fullFilters u) 1 i) 255
 
+  -- byte i of the blocks of an index of N filters: L1, side A, side B, the places for full sets;
+  -- set number c + 1 is on side A if that is even
+  abbrev pub indexByte : (ℕ → ℕ → Bool) → ℕ → ℕ → ℕ
+  indexByte F N i =
+      let z : ℕ = inFull u N in
+      let c : ℕ = inSet u N in
+      cond (ltb i (block u)) (l1Byte F (z * fullFilters u + filtersPerRound * c) (inL1 N) i)
+      (cond (ltb i ((1 + sideBlocks u) * block u))
+      (cond (eqb (c % 2) 1) (sideByte F (z * fullFilters u) c (i - block u)) 255)
+      (cond (ltb i ((1 + 2 * sideBlocks u) * block u))
+      (cond (eqb (c % 2) 1) 255 (sideByte F (z * fullFilters u) c (i - (1 + sideBlocks u) * block u)))
+      (fullByte F z ((i - (1 + 2 * sideBlocks u) * block u) / (sideBlocks u * block u))
+      ((i - (1 + 2 * sideBlocks u) * block u) % (sideBlocks u * block u)))))
+
+  -- mark x of its sectors
+  abbrev pub indexSpareByte : ℕ → ℕ → ℕ
+  indexSpareByte N x =
+      let c : ℕ = inSet u N in
+      cond (ltb x sectorsPerBlock) (cond (ltb (x % flushesPerRound) (inL1 N)) 0 255)
+      (cond (ltb x ((1 + sideBlocks u) * sectorsPerBlock))
+      (cond (eqb (c % 2) 1) (cond (ltb (x - sectorsPerBlock) (setBlocks c * sectorsPerBlock)) 0 255) 255)
+      (cond (ltb x ((1 + 2 * sideBlocks u) * sectorsPerBlock))
+      (cond (eqb (c % 2) 1) 255 (cond (ltb (x - (1 + sideBlocks u) * sectorsPerBlock) (setBlocks c * sectorsPerBlock)) 0 255))
+      (cond (ltb ((x - (1 + 2 * sideBlocks u) * sectorsPerBlock) / (sideBlocks u * sectorsPerBlock)) (inFull u N)) 0 255)))
+
   module _ (ix : Index) (Z : ℕ) where
     -- z full sets of Z places, c rounds in the current set, t flushes in L1
     pub record IndexMain (F : ℕ → ℕ → Bool) (z c t : ℕ) (main : List ℕ) : Type 0 where
@@ -112,66 +147,30 @@ module _ (h : Family) (g : Geometry) where
 -- ---- every byte by its address
 
 module _ (h : Family) (g : Geometry) (H : History) where
-  -- its records, deletions and filters, and the filters' full sets, rounds and flushes
-  abbrev n : ℕ
-  n = length (H .records)
-
-  abbrev d : ℕ
-  d = length (H .deleted)
-
-  abbrev N : ℕ
-  N = keyFilters g n
-
-  abbrev z : ℕ
-  z = inFull (g .u) N
-
-  abbrev c : ℕ
-  c = inSet (g .u) N
-
   abbrev F : ℕ → ℕ → Bool
   F = keyFilter h g H
-
-  -- byte i of the index's blocks: L1, side A, side B, the places for full sets; set number c + 1 is on side A if that is even
-  abbrev pub indexByte : ℕ → ℕ
-  indexByte i =
-      cond (ltb i (block (g .u))) (l1Byte (g .u) F (z * fullFilters (g .u) + filtersPerRound * c) (inL1 N) i)
-      (cond (ltb i ((1 + sideBlocks (g .u)) * block (g .u)))
-      (cond (eqb (c % 2) 1) (sideByte (g .u) F (z * fullFilters (g .u)) c (i - block (g .u))) 255)
-      (cond (ltb i ((1 + 2 * sideBlocks (g .u)) * block (g .u)))
-      (cond (eqb (c % 2) 1) 255 (sideByte (g .u) F (z * fullFilters (g .u)) c (i - (1 + sideBlocks (g .u)) * block (g .u))))
-      (fullByte (g .u) F z ((i - (1 + 2 * sideBlocks (g .u)) * block (g .u)) / (sideBlocks (g .u) * block (g .u)))
-      ((i - (1 + 2 * sideBlocks (g .u)) * block (g .u)) % (sideBlocks (g .u) * block (g .u))))))
-
-  -- mark x of the index's sectors
-  abbrev pub indexSpareByte : ℕ → ℕ
-  indexSpareByte x =
-      cond (ltb x sectorsPerBlock) (cond (ltb (x % flushesPerRound) (inL1 N)) 0 255)
-      (cond (ltb x ((1 + sideBlocks (g .u)) * sectorsPerBlock))
-      (cond (eqb (c % 2) 1) (cond (ltb (x - sectorsPerBlock) (setBlocks c * sectorsPerBlock)) 0 255) 255)
-      (cond (ltb x ((1 + 2 * sideBlocks (g .u)) * sectorsPerBlock))
-      (cond (eqb (c % 2) 1) 255 (cond (ltb (x - (1 + sideBlocks (g .u)) * sectorsPerBlock) (setBlocks c * sectorsPerBlock)) 0 255))
-      (cond (ltb ((x - (1 + 2 * sideBlocks (g .u)) * sectorsPerBlock) / (sideBlocks (g .u) * sectorsPerBlock)) z) 0 255)))
 
   -- byte a of the main area, below `dataSize g`
   unfoldable pub mainImage : ℕ → ℕ
   mainImage a =
-      cond (ltb a (kaBlock g * block (g .u))) (areaByte (RA g) (raItem H) n a)
-      (cond (ltb a (daBlock g * block (g .u))) (areaByte (KA g) (kaItem H) n (a - kaBlock g * block (g .u)))
-      (cond (ltb a (indexBlock g * block (g .u))) (areaByte (DA g) (daItem H) d (a - daBlock g * block (g .u)))
-      (indexByte (a - indexBlock g * block (g .u)))))
-
-  -- mark x of the spare area, below `spareSize g`
-  unfoldable pub spareImage : ℕ → ℕ
-  spareImage x =
-      cond (ltb x (kaBlock g * sectorsPerBlock)) (areaSpareByte (RA g) n x)
-      (cond (ltb x (daBlock g * sectorsPerBlock)) (areaSpareByte (KA g) n (x - kaBlock g * sectorsPerBlock))
-      (cond (ltb x (indexBlock g * sectorsPerBlock)) (areaSpareByte (DA g) d (x - daBlock g * sectorsPerBlock))
-      (indexSpareByte (x - indexBlock g * sectorsPerBlock))))
+      cond (ltb a (kaBlock g * block (g .u))) (areaByte (RA g) (raItem H) (recordsIn H) a)
+      (cond (ltb a (daBlock g * block (g .u))) (areaByte (KA g) (kaItem H) (recordsIn H) (a - kaBlock g * block (g .u)))
+      (cond (ltb a (indexBlock g * block (g .u))) (areaByte (DA g) (daItem H) (deletionsIn H) (a - daBlock g * block (g .u)))
+      (indexByte (g .u) F (filtersIn g H) (a - indexBlock g * block (g .u)))))
 
   -- byte a of the RAM, below `ramSize g`: the pages RA, KA, DA, SKA and work
   unfoldable pub ramImage : ℕ → ℕ
   ramImage a =
-      cond (ltb a (kaRam (g .u))) (areaRamByte (RA g) (raItem H) n a)
-      (cond (ltb a (daRam (g .u))) (areaRamByte (KA g) (kaItem H) n (a - kaRam (g .u)))
-      (cond (ltb a (skaRam (g .u))) (areaRamByte (DA g) (daItem H) d (a - daRam (g .u)))
-      (cond (ltb a (workRam (g .u))) (skaByte (g .u) F (N / filtersPerFlush) (inSka N) (a - skaRam (g .u))) 0)))
+      cond (ltb a (kaRam (g .u))) (areaRamByte (RA g) (raItem H) (recordsIn H) a)
+      (cond (ltb a (daRam (g .u))) (areaRamByte (KA g) (kaItem H) (recordsIn H) (a - kaRam (g .u)))
+      (cond (ltb a (skaRam (g .u))) (areaRamByte (DA g) (daItem H) (deletionsIn H) (a - daRam (g .u)))
+      (cond (ltb a (workRam (g .u)))
+      (skaByte (g .u) F (filtersIn g H / filtersPerFlush) (inSka (filtersIn g H)) (a - skaRam (g .u))) 0)))
+
+-- mark x of the spare area, below `spareSize g`
+unfoldable pub spareImage : Geometry → History → ℕ → ℕ
+spareImage g H x =
+    cond (ltb x (kaBlock g * sectorsPerBlock)) (areaSpareByte (RA g) (recordsIn H) x)
+    (cond (ltb x (daBlock g * sectorsPerBlock)) (areaSpareByte (KA g) (recordsIn H) (x - kaBlock g * sectorsPerBlock))
+    (cond (ltb x (indexBlock g * sectorsPerBlock)) (areaSpareByte (DA g) (deletionsIn H) (x - daBlock g * sectorsPerBlock))
+    (indexSpareByte (g .u) (filtersIn g H) (x - indexBlock g * sectorsPerBlock))))

@@ -11,6 +11,7 @@ use Rattle.memory.specs.Cases.{either}
 use Rattle.memory.specs.Ranges.{last, last-some, memb}
 use Rattle.layout.specs.Keys.{Key, sameKey}
 use Rattle.layout.specs.Calls.{Call, insert, update, delete, lookup}
+use Rattle.layout.specs.Refusals as refusal
 use Rattle.layout.specs.FiniteMap.{Level, levelOf, Map, emptyMap, find, Reply, accepts, hits, misses, refuses}
 use Rattle.layout.specs.Items.{Record, recordBytes}
 use Rattle.laws.specs.KeyLaws.{key?}
@@ -47,31 +48,33 @@ pub record HistoryStep : Type 0 where
 abbrev pub historyStep : Reply → History → HistoryStep
 historyStep r H = record { says = r; next = H }
 
-module _ (capacity deletionCapacity : ℕ) where
-  abbrev pub insertHistory : History → Record → Option ℕ → HistoryStep
-  insertHistory H r (some j) = historyStep (refuses 3) H
-  insertHistory H r none = cond (leb capacity (length (H .records))) (historyStep (refuses 5) H) (historyStep accepts (withRecord H r))
+abbrev pub insertHistory : ℕ → History → Record → Option ℕ → HistoryStep
+insertHistory capacity H r (some j) = historyStep (refuses refusal.present) H
+insertHistory capacity H r none =
+    cond (leb capacity (length (H .records))) (historyStep (refuses refusal.full) H) (historyStep accepts (withRecord H r))
 
-  abbrev pub updateHistory : History → Record → Option ℕ → HistoryStep
-  updateHistory H r none = historyStep (refuses 4) H
-  updateHistory H r (some j) =
-      cond (leb capacity (length (H .records))) (historyStep (refuses 5) H)
-      (cond (leb deletionCapacity (length (H .deleted))) (historyStep (refuses 6) H)
-      (historyStep accepts (withRecord (withDeletion H j) r)))
+abbrev pub updateHistory : ℕ → ℕ → History → Record → Option ℕ → HistoryStep
+updateHistory capacity deletionCapacity H r none = historyStep (refuses refusal.absent) H
+updateHistory capacity deletionCapacity H r (some j) =
+    cond (leb capacity (length (H .records))) (historyStep (refuses refusal.full) H)
+    (cond (leb deletionCapacity (length (H .deleted))) (historyStep (refuses refusal.deletionsFull) H)
+    (historyStep accepts (withRecord (withDeletion H j) r)))
 
-  abbrev pub deleteHistory : History → Option ℕ → HistoryStep
-  deleteHistory H none = historyStep (refuses 4) H
-  deleteHistory H (some j) = cond (leb deletionCapacity (length (H .deleted))) (historyStep (refuses 6) H) (historyStep accepts (withDeletion H j))
+abbrev pub deleteHistory : ℕ → History → Option ℕ → HistoryStep
+deleteHistory deletionCapacity H none = historyStep (refuses refusal.absent) H
+deleteHistory deletionCapacity H (some j) =
+    cond (leb deletionCapacity (length (H .deleted))) (historyStep (refuses refusal.deletionsFull) H)
+    (historyStep accepts (withDeletion H j))
 
-  abbrev pub lookupHistory : History → Option ℕ → HistoryStep
-  lookupHistory H none = historyStep misses H
-  lookupHistory H (some j) = historyStep (hits (recordBytes (recordAt H j))) H
+abbrev pub lookupHistory : History → Option ℕ → HistoryStep
+lookupHistory H none = historyStep misses H
+lookupHistory H (some j) = historyStep (hits (recordBytes (recordAt H j))) H
 
-  abbrev pub stepHistory : History → Call → HistoryStep
-  stepHistory H (insert r) = insertHistory H r (findLive H (r .key))
-  stepHistory H (update r) = updateHistory H r (findLive H (r .key))
-  stepHistory H (delete key) = deleteHistory H (findLive H key)
-  stepHistory H (lookup key) = lookupHistory H (findLive H key)
+abbrev pub stepHistory : ℕ → ℕ → History → Call → HistoryStep
+stepHistory capacity deletionCapacity H (insert r) = insertHistory capacity H r (findLive H (r .key))
+stepHistory capacity deletionCapacity H (update r) = updateHistory capacity deletionCapacity H r (findLive H (r .key))
+stepHistory capacity deletionCapacity H (delete key) = deleteHistory deletionCapacity H (findLive H key)
+stepHistory capacity deletionCapacity H (lookup key) = lookupHistory H (findLive H key)
 
 -- ---- the invariant between history and map
 

@@ -242,7 +242,7 @@ module _ (capacity deletionCapacity : ℕ) where
   room-deletion {H} {M} L = either (bool? (leb deletionCapacity (length (H .deleted)))) (λ t. inl (t, rw (L .d-is) t)) (λ t. inr (t, rw (L .d-is) t))
 
   insert-same : (H : History) (M : Map) (r : Record) (o : Option ℕ) → Live H M → findLive H (r .key) ≡ o
-      → Same (insertHistory capacity deletionCapacity H r o) (insertMap capacity deletionCapacity M (levelOf r) (Option·map (levelAt H) o))
+      → Same (insertHistory capacity H r o) (insertMap capacity M (levelOf r) (Option·map (levelAt H) o))
   insert-same H M r (some j) L e = (refl, L)
   insert-same H M r none L e =
       either (room L) (λ t. rw (t .0, t .1) (refl, L)) (λ t. rw (t .0, t .1) (refl, Live-record H M r L e))
@@ -264,12 +264,12 @@ module _ (capacity deletionCapacity : ℕ) where
       both = Live-record (withDeletion H j) _ r one-less (map-eq-none-iff _ _ .0 (sym (one-less .same (r .key)) ∙ find-without (r .key) (M .levels)))
 
   delete-same : (H : History) (M : Map) (k : Key) (o : Option ℕ) → Live H M → findLive H k ≡ o
-      → Same (deleteHistory capacity deletionCapacity H o) (deleteMap capacity deletionCapacity M k (Option·map (levelAt H) o))
+      → Same (deleteHistory deletionCapacity H o) (deleteMap deletionCapacity M k (Option·map (levelAt H) o))
   delete-same H M k none L e = (refl, L)
   delete-same H M k (some j) L e = either (room-deletion L) (λ s. rw (s .0, s .1) (refl, L)) (λ s. rw (s .0, s .1) (refl, Live-deletion H M k j L e))
 
   lookup-same : (H : History) (M : Map) (o : Option ℕ) → Live H M
-      → Same (lookupHistory capacity deletionCapacity H o) (lookupMap capacity deletionCapacity M (Option·map (levelAt H) o))
+      → Same (lookupHistory H o) (lookupMap M (Option·map (levelAt H) o))
   lookup-same H M none L = (refl, L)
   lookup-same H M (some j) L = (refl, L)
 

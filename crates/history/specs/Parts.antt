@@ -121,7 +121,7 @@ module _ (u : ℕ) (pu : 0 < u) (a : Area) (blocks : ℕ) (whole : a .perPage * 
   pub area-more : AreaIs u a blocks f (n + 1) (applyAll u (itemOps u a n item ram) C .main) (applyAll u (itemOps u a n item ram) C .spare) (itemRam u a n item ram)
   area-more = area.area-add u pu a blocks whole pq ps f f n item C ram A (λ j b l m. refl) size-is new room main-fits spare-fits ram-fits
 
-module _ (h : Family) (g : Geometry) (e : ℕ) (pow : g .u ≡ 2 ^ e) where
+module _ (h : Family) (g : Geometry) where
   -- nr records, nk entries, d deletions and N filters of the history
   pub record Parts (H : History) (nr nk d N : ℕ) (C : Flash) (ram : List ℕ) : Type 0 where
     pub ra : AreaIs (g .u) (RA g) (g .R) (raItem H) nr (C .main) (C .spare) ram
@@ -132,12 +132,13 @@ module _ (h : Family) (g : Geometry) (e : ℕ) (pow : g .u ≡ 2 ^ e) where
     pub spare-fits : spareSize g ≤ length (C .spare)
     pub ram-fits : ramSize g ≤ length ram
 
+module _ (h : Family) (g : Geometry) (e : ℕ) (pow : g .u ≡ 2 ^ e) where
   pub pu : 0 < g .u
   pu = rw pow (pow-pos e)
 
   -- ---- one more item, or filter, of the history: the part that grows, and the others that are kept
 
-  module _ (H : History) (nr nk d N : ℕ) (C : Flash) (ram : List ℕ) (P : Parts H nr nk d N C ram) where
+  module _ (H : History) (nr nk d N : ℕ) (C : Flash) (ram : List ℕ) (P : Parts h g H nr nk d N C ram) where
     -- the parts that a step on other blocks keeps
     module _ (lo hi p : ℕ) (r′ : List ℕ) (ops : List Op) (W : Did (g .u) lo hi p C ram r′ ops) where
       abbrev C′ : Flash
@@ -172,7 +173,7 @@ module _ (h : Family) (g : Geometry) (e : ℕ) (pow : g .u ≡ 2 ^ e) where
           area-did (g .u) pu (RA g) (g .R) (omega arith) (omega (arith, pu)) (omega arith) (raItem H) nr item C ram (P .ra) size-is new ra-room
           (omega (arith, P .main-fits)) (omega (arith, P .spare-fits)) (omega (arith, P .ram-fits))
 
-      pub ra-parts : Parts H (nr + 1) nk d N (applyAll (g .u) (itemOps (g .u) (RA g) nr item ram) C) (itemRam (g .u) (RA g) nr item ram)
+      pub ra-parts : Parts h g H (nr + 1) nk d N (applyAll (g .u) (itemOps (g .u) (RA g) nr item ram) C) (itemRam (g .u) (RA g) nr item ram)
       ra-parts = record {
         ra = area-more (g .u) pu (RA g) (g .R) (omega arith) (omega (arith, pu)) (omega arith) (raItem H) nr item C ram (P .ra) size-is new ra-room
             (omega (arith, P .main-fits)) (omega (arith, P .spare-fits)) (omega (arith, P .ram-fits));
@@ -197,7 +198,7 @@ module _ (h : Family) (g : Geometry) (e : ℕ) (pow : g .u ≡ 2 ^ e) where
           area-did (g .u) pu (KA g) (kaBlocks g) (omega arith) (omega (arith, pu)) (omega arith) (kaItem H) nk item C ram (P .ka) size-is new ka-room
           (omega (arith, P .main-fits)) (omega (arith, P .spare-fits)) (omega (arith, P .ram-fits))
 
-      pub ka-parts : Parts H nr (nk + 1) d N (applyAll (g .u) (itemOps (g .u) (KA g) nk item ram) C) (itemRam (g .u) (KA g) nk item ram)
+      pub ka-parts : Parts h g H nr (nk + 1) d N (applyAll (g .u) (itemOps (g .u) (KA g) nk item ram) C) (itemRam (g .u) (KA g) nk item ram)
       ka-parts = record {
         ra = keep-ra _ _ _ _ _ ka-did (inl (omega arith)) (inl (omega arith));
         ka = area-more (g .u) pu (KA g) (kaBlocks g) (omega arith) (omega (arith, pu)) (omega arith) (kaItem H) nk item C ram (P .ka) size-is new ka-room
@@ -219,7 +220,7 @@ module _ (h : Family) (g : Geometry) (e : ℕ) (pow : g .u ≡ 2 ^ e) where
           area-did (g .u) pu (DA g) (g .D) (omega arith) (omega (arith, pu)) (omega arith) (daItem H) d item C ram (P .da) size-is new da-room
           (omega (arith, P .main-fits)) (omega (arith, P .spare-fits)) (omega (arith, P .ram-fits))
 
-      pub da-parts : Parts H nr nk (d + 1) N (applyAll (g .u) (itemOps (g .u) (DA g) d item ram) C) (itemRam (g .u) (DA g) d item ram)
+      pub da-parts : Parts h g H nr nk (d + 1) N (applyAll (g .u) (itemOps (g .u) (DA g) d item ram) C) (itemRam (g .u) (DA g) d item ram)
       da-parts = record {
         ra = keep-ra _ _ _ _ _ da-did (inl (omega arith)) (inl (omega arith));
         ka = keep-ka _ _ _ _ _ da-did (inl (omega arith)) (inl (omega arith));
@@ -262,7 +263,7 @@ module _ (h : Family) (g : Geometry) (e : ℕ) (pow : g .u ≡ 2 ^ e) where
         };
       }
 
-      pub index-parts : Parts H nr nk d (N + 1) (applyAll (g .u) indexOps C) (filterRam (g .u) (keyIndex g) N filterIn)
+      pub index-parts : Parts h g H nr nk d (N + 1) (applyAll (g .u) indexOps C) (filterRam (g .u) (keyIndex g) N filterIn)
       index-parts = record {
         ra = keep-ra _ _ _ _ _ index-did (inl (omega arith)) (inl (omega arith));
         ka = keep-ka _ _ _ _ _ index-did (inl (omega arith)) (inl (omega arith));

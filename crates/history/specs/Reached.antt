@@ -29,8 +29,8 @@ map-append g m (c ∷ cs) ds = map-append g (mapOf g m c .next) cs ds
 pub record Reached (h : Family) (sizes : Sizes) (v : Volume) (m : Map) : Type 0 where
   pub can : allowed sizes ≡ true
   pub H : History
-  pub is : v ≡ volumeOf h sizes (sound sizes can) H (v .flash) (v .ram)
-  pub holds : Holds h sizes (sound sizes can) H (v .flash) (v .ram)
+  pub is : v ≡ volumeOf sizes H (v .flash) (v .ram)
+  pub holds : Holds h sizes H (v .flash) (v .ram)
   pub live : Live H m
 
 module _ (h : Family) (sizes : Sizes) where
@@ -38,13 +38,13 @@ module _ (h : Family) (sizes : Sizes) where
   g = geometry sizes
 
   module _ (can : allowed sizes ≡ true) (H : History) (C : Flash) (ram : List ℕ) (m : Map) (c : Call)
-      (I : Holds h sizes (sound sizes can) H C ram) (L : Live H m) (w : KeyWord c) where
+      (I : Holds h sizes H C ram) (L : Live H m) (w : KeyWord c) where
     abbrev v : Volume
-    v = volumeOf h sizes (sound sizes can) H C ram
+    v = volumeOf sizes H C ram
 
     one-reached : Reached h sizes (call h v c .volume) (mapOf g m c .next)
     one-reached =
-        let X = call-done h sizes (sound sizes can) can H C ram I c w (less h sizes (sound sizes can) can H m L) in
+        let X = call-done h sizes (sound sizes can) can H C ram I c w (less H m L) in
         record {
           can = can;
           H = stepHistory (recordCapacity g) (deletionCapacity g) H c .next;
@@ -55,7 +55,7 @@ module _ (h : Family) (sizes : Sizes) where
 
     one-says : replyOf (call h v c .outcome) ≡ mapOf g m c .says
     one-says =
-        call-done h sizes (sound sizes can) can H C ram I c w (less h sizes (sound sizes can) can H m L) .says
+        call-done h sizes (sound sizes can) can H C ram I c w (less H m L) .says
         ∙ step-same (recordCapacity g) (deletionCapacity g) H m c L .0
 
   moved : (w w′ : Volume) (m : Map) → w ≡ w′ → Reached h sizes w′ m → Reached h sizes w m

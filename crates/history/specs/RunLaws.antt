@@ -75,6 +75,24 @@ module _ (capacity room : ℕ) where
       go none q = rw q
       go (some j) q = rw q
 
+-- what is known after the calls, from the volume v with history H and the map m on
+pub record Ran (h : Family) (sizes : Sizes) (v : Volume) (H : History) (m : Map) (cs : List Call) : Type 0 where
+  pub agrees : EachAgrees h sizes v m cs
+  pub flash-is : applyAll (unitOf sizes) (opsOf h v cs) (v .flash) ≡ after h v cs .flash
+  pub ops-allowed : AllAllowed (unitOf sizes) (opsOf h v cs) (v .flash)
+  pub inside : Below (spareSize (geometry sizes)) (opsOf h v cs)
+  pub volume-is : after h v cs ≡ volumeOf sizes (historyOf h v H cs) (after h v cs .flash) (after h v cs .ram)
+  pub holds : Holds h sizes (historyOf h v H cs) (after h v cs .flash) (after h v cs .ram)
+  pub beyond : Beyond (geometry sizes) (v .flash) (after h v cs .flash) (v .ram) (after h v cs .ram)
+  pub room : (k : Key) (j : ℕ) → findLive (historyOf h v H cs) k ≡ some j
+      → length (historyOf h v H cs .deleted) < length (historyOf h v H cs .records)
+
+-- a live key leaves room for its deletion
+pub less : (H : History) (m : Map) → Live H m → (k : Key) (j : ℕ) → findLive H k ≡ some j → length (H .deleted) < length (H .records)
+less H m L k j q =
+    let L′ = Live-deletion H m k j L q in
+    omega (arith, L′ .count, length-append (H .deleted) (j ∷ []))
+
 module _ (h : Family) (sizes : Sizes) (ok : Sound sizes) (can : allowed sizes ≡ true) where
   abbrev g : Geometry
   g = geometry sizes
@@ -124,7 +142,7 @@ module _ (h : Family) (sizes : Sizes) (ok : Sound sizes) (can : allowed sizes �
     no-filters : 0 / (8 * (unitOf sizes)) ≡ 0
     no-filters = zero-div (8 * (unitOf sizes))
 
-    start-parts : Parts h g (ok .e) (units.pow sizes ok) emptyHistory 0 0 0 0 C ram
+    start-parts : Parts h g emptyHistory 0 0 0 0 C ram
     start-parts = record {
       ra = area-start (unitOf sizes) pu (RA g) (sizes .raBlocks) (omega arith) (omega (arith, pu)) (omega arith) (raItem emptyHistory) (C .main) (C .spare) ram
           (λ x l m. main-erased x (omega arith)) (λ x l m. spare-erased x (omega arith)) (λ x l m. ram-zero x (omega arith));
@@ -139,7 +157,7 @@ module _ (h : Family) (sizes : Sizes) (ok : Sound sizes) (can : allowed sizes �
       ram-fits = rw (length-write (v .ram) 0 (replicate (ramSize g) 0)) (enough .2);
     }
 
-    pub start-holds : Holds h sizes ok emptyHistory C ram
+    pub start-holds : Holds h sizes emptyHistory C ram
     start-holds = record {
       parts = rw no-filters start-parts;
       work = λ i l. ram-zero _ (omega arith);
@@ -162,27 +180,11 @@ module _ (h : Family) (sizes : Sizes) (ok : Sound sizes) (can : allowed sizes �
 
   -- ---- the calls
 
-  pub record Ran (v : Volume) (H : History) (m : Map) (cs : List Call) : Type 0 where
-    pub agrees : EachAgrees h sizes v m cs
-    pub flash-is : applyAll (unitOf sizes) (opsOf h v cs) (v .flash) ≡ after h v cs .flash
-    pub ops-allowed : AllAllowed (unitOf sizes) (opsOf h v cs) (v .flash)
-    pub inside : Below (spareSize g) (opsOf h v cs)
-    pub volume-is : after h v cs ≡ volumeOf h sizes ok (historyOf h v H cs) (after h v cs .flash) (after h v cs .ram)
-    pub holds : Holds h sizes ok (historyOf h v H cs) (after h v cs .flash) (after h v cs .ram)
-    pub beyond : Beyond g (v .flash) (after h v cs .flash) (v .ram) (after h v cs .ram)
-    pub room : (k : Key) (j : ℕ) → findLive (historyOf h v H cs) k ≡ some j → length (historyOf h v H cs .deleted) < length (historyOf h v H cs .records)
-
-  -- a live key leaves room for its deletion
-  pub less : (H : History) (m : Map) → Live H m → (k : Key) (j : ℕ) → findLive H k ≡ some j → length (H .deleted) < length (H .records)
-  less H m L k j q =
-      let L′ = Live-deletion H m k j L q in
-      omega (arith, L′ .count, length-append (H .deleted) (j ∷ []))
-
   -- one call and the map's step
   call-agrees : (H : History) (C : Flash) (ram : List ℕ) (m : Map) (c : Call) → Live H m → Live (stepHistory (recordCapacity g) (deletionCapacity g) H c .next) (mapOf g m c .next)
       → stepHistory (recordCapacity g) (deletionCapacity g) H c .says ≡ mapOf g m c .says
-      → Done h sizes ok can H C ram (call h (volumeOf h sizes ok H C ram) c) (stepHistory (recordCapacity g) (deletionCapacity g) H c)
-      → Agrees sizes (volumeOf h sizes ok H C ram) (call h (volumeOf h sizes ok H C ram) c) (mapOf g m c)
+      → Done h sizes H C ram (call h (volumeOf sizes H C ram) c) (stepHistory (recordCapacity g) (deletionCapacity g) H c)
+      → Agrees sizes (volumeOf sizes H C ram) (call h (volumeOf sizes H C ram) c) (mapOf g m c)
   call-agrees H C ram m c L L′ same X = record {
     says = X .says ∙ same;
     state-is = ap (λ (w : Volume). w .state) (X .volume-is) ∙ rw (L′ .n-is, L′ .d-is);
@@ -193,19 +195,19 @@ module _ (h : Family) (sizes : Sizes) (ok : Sound sizes) (can : allowed sizes �
     count-le = X .count-le;
   }
 
-  moved : (w w′ : Volume) (H H′ : History) (m : Map) (cs : List Call) → w ≡ w′ → H ≡ H′ → Ran w′ H′ m cs → Ran w H m cs
+  moved : (w w′ : Volume) (H H′ : History) (m : Map) (cs : List Call) → w ≡ w′ → H ≡ H′ → Ran h sizes w′ H′ m cs → Ran h sizes w H m cs
   moved w w′ H H′ m cs p q X = rw (p, q) X
 
   -- a call, and the calls after it
   joined : (H : History) (C : Flash) (ram : List ℕ) (m : Map) (c : Call) (cs : List Call)
-      → Agrees sizes (volumeOf h sizes ok H C ram) (call h (volumeOf h sizes ok H C ram) c) (mapOf g m c)
-      → Done h sizes ok can H C ram (call h (volumeOf h sizes ok H C ram) c) (stepHistory (recordCapacity g) (deletionCapacity g) H c)
-      → Ran (call h (volumeOf h sizes ok H C ram) c .volume) (growIf (call h (volumeOf h sizes ok H C ram) c .outcome) H c) (mapOf g m c .next) cs
-      → Ran (volumeOf h sizes ok H C ram) H m (c ∷ cs)
+      → Agrees sizes (volumeOf sizes H C ram) (call h (volumeOf sizes H C ram) c) (mapOf g m c)
+      → Done h sizes H C ram (call h (volumeOf sizes H C ram) c) (stepHistory (recordCapacity g) (deletionCapacity g) H c)
+      → Ran h sizes (call h (volumeOf sizes H C ram) c .volume) (growIf (call h (volumeOf sizes H C ram) c .outcome) H c) (mapOf g m c .next) cs
+      → Ran h sizes (volumeOf sizes H C ram) H m (c ∷ cs)
   joined H C ram m c cs A X T =
-      let v : Volume = volumeOf h sizes ok H C ram in
-      let w : Volume = call h (volumeOf h sizes ok H C ram) c .volume in
-      let one : List Op = call h (volumeOf h sizes ok H C ram) c .ops in
+      let v : Volume = volumeOf sizes H C ram in
+      let w : Volume = call h (volumeOf sizes H C ram) c .volume in
+      let one : List Op = call h (volumeOf sizes H C ram) c .ops in
       record {
         agrees = (A, T .agrees);
         flash-is = apply-append (unitOf sizes) one (opsOf h w cs) C ∙ rw (X .flash-is) (T .flash-is);
@@ -217,7 +219,7 @@ module _ (h : Family) (sizes : Sizes) (ok : Sound sizes) (can : allowed sizes �
         room = T .room;
       }
 
-  pub run : (H : History) (C : Flash) (ram : List ℕ) (m : Map) (cs : List Call) → KeyWords cs → Holds h sizes ok H C ram → Live H m → Ran (volumeOf h sizes ok H C ram) H m cs
+  pub run : (H : History) (C : Flash) (ram : List ℕ) (m : Map) (cs : List Call) → KeyWords cs → Holds h sizes H C ram → Live H m → Ran h sizes (volumeOf sizes H C ram) H m cs
   run H C ram m [] w I L = record {
     agrees = tt;
     flash-is = refl;
@@ -229,11 +231,11 @@ module _ (h : Family) (sizes : Sizes) (ok : Sound sizes) (can : allowed sizes �
     room = less H m L;
   }
   run H C ram m (c ∷ cs) w I L =
-      let X : Done h sizes ok can H C ram (call h (volumeOf h sizes ok H C ram) c) (stepHistory (recordCapacity g) (deletionCapacity g) H c)
+      let X : Done h sizes H C ram (call h (volumeOf sizes H C ram) c) (stepHistory (recordCapacity g) (deletionCapacity g) H c)
       = call-done h sizes ok can H C ram I c (w .0) (less H m L) in
       let same = step-same (recordCapacity g) (deletionCapacity g) H m c L in
-      let grown : growIf (call h (volumeOf h sizes ok H C ram) c .outcome) H c ≡ stepHistory (recordCapacity g) (deletionCapacity g) H c .next
-      = grow-reply (call h (volumeOf h sizes ok H C ram) c .outcome) H c ∙ ap (λ (o : Reply). growBy o H c) (X .says) ∙ grow-step (recordCapacity g) (deletionCapacity g) H c in
+      let grown : growIf (call h (volumeOf sizes H C ram) c .outcome) H c ≡ stepHistory (recordCapacity g) (deletionCapacity g) H c .next
+      = grow-reply (call h (volumeOf sizes H C ram) c .outcome) H c ∙ ap (λ (o : Reply). growBy o H c) (X .says) ∙ grow-step (recordCapacity g) (deletionCapacity g) H c in
       joined H C ram m c cs (call-agrees H C ram m c L (same .1) (same .0) X) X
-      (moved (call h (volumeOf h sizes ok H C ram) c .volume) _ _ (stepHistory (recordCapacity g) (deletionCapacity g) H c .next) (mapOf g m c .next) cs (X .volume-is) grown
+      (moved (call h (volumeOf sizes H C ram) c .volume) _ _ (stepHistory (recordCapacity g) (deletionCapacity g) H c .next) (mapOf g m c .next) cs (X .volume-is) grown
       (run (stepHistory (recordCapacity g) (deletionCapacity g) H c .next) _ _ (mapOf g m c .next) cs (w .1) (X .holds) (same .1)))

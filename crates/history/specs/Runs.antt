@@ -134,7 +134,7 @@ liveReply H (some j) = hits (recordBytes (recordAt H j))
 -- the volume v has the bytes of the history's image, and past them those that were handed in
 pub record ImageOf (h : Family) (g : Geometry) (H : History) (handed v : Volume) : Type 0 where
   pub main : (a : ℕ) → a < dataSize g → getD (v .flash .main) a 0 ≡ mainImage h g H a
-  pub spare : (x : ℕ) → x < spareSize g → getD (v .flash .spare) x 0 ≡ spareImage h g H x
+  pub spare : (x : ℕ) → x < spareSize g → getD (v .flash .spare) x 0 ≡ spareImage g H x
   pub ram : (a : ℕ) → a < ramSize g → getD (v .ram) a 0 ≡ ramImage h g H a
   pub main-past : (a : ℕ) → dataSize g ≤ a → getD (v .flash .main) a 0 ≡ getD (handed .flash .main) a 0
   pub spare-past : (x : ℕ) → spareSize g ≤ x → getD (v .flash .spare) x 0 ≡ getD (handed .flash .spare) x 0

@@ -34,28 +34,28 @@ use Rattle.history.specs.Volumes.{Holds, volumeOf}
 use Rattle.laws.specs.Sound.{Sound}
 use Rattle.laws.specs.Sound as units
 
+pub record Done (h : Family) (sizes : Sizes) (H : History) (C : Flash) (ram : List ℕ) (r : Result) (s : HistoryStep) : Type 0 where
+  pub says : replyOf (r .outcome) ≡ s .says
+  pub possible : Possible (r .outcome)
+  pub handed-on : HandedOn (r .outcome) (volumeOf sizes H C ram) (r .volume)
+  pub volume-is : r .volume ≡ volumeOf sizes (s .next) (r .volume .flash) (r .volume .ram)
+  pub holds : Holds h sizes (s .next) (r .volume .flash) (r .volume .ram)
+  pub flash-is : applyAll (unitOf sizes) (r .ops) C ≡ r .volume .flash
+  pub ops-allowed : AllAllowed (unitOf sizes) (r .ops) C
+  pub inside : Below (spareSize (geometry sizes)) (r .ops)
+  pub beyond : Beyond (geometry sizes) C (r .volume .flash) ram (r .volume .ram)
+  pub count-le : r .count ≤ length (H .records) / entriesPerPage (unitOf sizes)
+
 module _ (h : Family) (sizes : Sizes) (ok : Sound sizes) (can : allowed sizes ≡ true) where
   abbrev g : Geometry
   g = geometry sizes
-
-  pub record Done (H : History) (C : Flash) (ram : List ℕ) (r : Result) (s : HistoryStep) : Type 0 where
-    pub says : replyOf (r .outcome) ≡ s .says
-    pub possible : Possible (r .outcome)
-    pub handed-on : HandedOn (r .outcome) (volumeOf h sizes ok H C ram) (r .volume)
-    pub volume-is : r .volume ≡ volumeOf h sizes ok (s .next) (r .volume .flash) (r .volume .ram)
-    pub holds : Holds h sizes ok (s .next) (r .volume .flash) (r .volume .ram)
-    pub flash-is : applyAll (unitOf sizes) (r .ops) C ≡ r .volume .flash
-    pub ops-allowed : AllAllowed (unitOf sizes) (r .ops) C
-    pub inside : Below (spareSize g) (r .ops)
-    pub beyond : Beyond g C (r .volume .flash) ram (r .volume .ram)
-    pub count-le : r .count ≤ length (H .records) / entriesPerPage (unitOf sizes)
 
   pub pu : 0 < unitOf sizes
   pu = units.pu sizes ok
 
   -- ---- the work page zeroed
 
-  module _ (H : History) (nr nk d N : ℕ) (C : Flash) (ram : List ℕ) (P : Parts h g (ok .e) (units.pow sizes ok) H nr nk d N C ram) where
+  module _ (H : History) (nr nk d N : ℕ) (C : Flash) (ram : List ℕ) (P : Parts h g H nr nk d N C ram) where
     abbrev ram′ : List ℕ
     ram′ = zeroPage (unitOf sizes) (workRam (unitOf sizes)) ram
 
@@ -72,7 +72,7 @@ module _ (h : Family) (sizes : Sizes) (ok : Sound sizes) (can : allowed sizes �
       ram-length = length-write ram (workRam (unitOf sizes)) _;
     }
 
-    pub zeroed : Parts h g (ok .e) (units.pow sizes ok) H nr nk d N C ram′
+    pub zeroed : Parts h g H nr nk d N C ram′
     zeroed = record {
       ra = frame-area (unitOf sizes) 0 0 (workRam (unitOf sizes)) C C ram ram′ work-frame (RA g) (sizes .raBlocks) (raItem H) nr pu (omega arith) (omega (arith, pu)) (omega arith) (inr (omega arith)) (inl (omega arith)) (P .ra);
       ka = frame-area (unitOf sizes) 0 0 (workRam (unitOf sizes)) C C ram ram′ work-frame (KA g) (kaBlocks g) (kaItem H) nk pu (omega arith) (omega (arith, pu)) (omega arith) (inr (omega arith)) (inl (omega arith)) (P .ka);
@@ -92,9 +92,9 @@ module _ (h : Family) (sizes : Sizes) (ok : Sound sizes) (can : allowed sizes �
     pub work-beyond : Beyond g C C ram ram′
     work-beyond = frame-beyond g 0 0 (workRam (unitOf sizes)) C C ram ram′ work-frame (omega arith) (omega arith)
 
-  module _ (H : History) (C : Flash) (ram : List ℕ) (I : Holds h sizes ok H C ram) where
+  module _ (H : History) (C : Flash) (ram : List ℕ) (I : Holds h sizes H C ram) where
     abbrev v : Volume
-    v = volumeOf h sizes ok H C ram
+    v = volumeOf sizes H C ram
 
     abbrev n : ℕ
     n = length (H .records)
@@ -104,7 +104,7 @@ module _ (h : Family) (sizes : Sizes) (ok : Sound sizes) (can : allowed sizes �
 
     -- ---- refusals, and answers that change nothing
 
-    refuse-done : (i : ℕ) → (i ≢ 1) × (i ≢ 2) × (i ≢ 7) × (i ≢ 8) → Done H C ram (refuse v i) (historyStep (refuses i) H)
+    refuse-done : (i : ℕ) → (i ≢ 1) × (i ≢ 2) × (i ≢ 7) × (i ≢ 8) → Done h sizes H C ram (refuse v i) (historyStep (refuses i) H)
     refuse-done i p = record {
       says = refl;
       possible = p;
@@ -121,11 +121,11 @@ module _ (h : Family) (sizes : Sizes) (ok : Sound sizes) (can : allowed sizes �
     -- ---- an accepted change
 
     commit-done : (H′ : History) (n′ d′ : ℕ) (plan : List Planned) (ops : List Op) (ram′ : List ℕ) → planOps (unitOf sizes) plan C ≡ ops → n′ ≡ length (H′ .records) → d′ ≡ length (H′ .deleted)
-        → Parts h g (ok .e) (units.pow sizes ok) H′ n′ n′ d′ (keyFilters g n′) (applyAll (unitOf sizes) ops C) ram′
+        → Parts h g H′ n′ n′ d′ (keyFilters g n′) (applyAll (unitOf sizes) ops C) ram′
         → AllAllowed (unitOf sizes) ops C → Beyond g C (applyAll (unitOf sizes) ops C) ram ram′ → allFresh (C .spare) ops ≡ true → Below (spareSize g) ops
         → n′ ≤ recordCapacity g → d′ ≤ deletionCapacity g → d′ ≤ n′
         → ((j : ℕ) → j < n′ → KeyOk (recordAt H′ j .key)) → ((i : ℕ) → i < d′ → getD (H′ .deleted) i 0 < n′)
-        → Done H C ram (commit g v n′ d′ plan ram′) (historyStep accepts H′)
+        → Done h sizes H C ram (commit g v n′ d′ plan ram′) (historyStep accepts H′)
     unfolding commit
     commit-done H′ n′ d′ plan ops ram′ ops-are n-is d-is P allow past fresh low n-cap d-cap d-le keys gone =
         rw (ops-are, fresh)
@@ -179,10 +179,10 @@ module _ (h : Family) (sizes : Sizes) (ok : Sound sizes) (can : allowed sizes �
 
     module _ (r : Record) (word : KeyOk (r .key)) where
       insert-accepted : leb (recordCapacity g) (length (H .records)) ≡ false
-          → Done H C ram (commit g v (n + 1) d (insertionPlan h g n (r .key) (recordBytes r) ram) (insertionRam h g n (r .key) (recordBytes r) ram)) (historyStep accepts (withRecord H r))
+          → Done h sizes H C ram (commit g v (n + 1) d (insertionPlan h g n (r .key) (recordBytes r) ram) (insertionRam h g n (r .key) (recordBytes r) ram)) (historyStep accepts (withRecord H r))
       insert-accepted c =
           let room : length (H .records) < recordCapacity g = leb-false (recordCapacity g) (length (H .records)) c in
-          let X : Changed h g (ok .e) (units.pow sizes ok) (withRecord H r) (n + 1) d C ram (planOps (unitOf sizes) (insertionPlan h g n (r .key) (recordBytes r) ram) C) (insertionRam h g n (r .key) (recordBytes r) ram)
+          let X : Changed h g (withRecord H r) (n + 1) d C ram (planOps (unitOf sizes) (insertionPlan h g n (r .key) (recordBytes r) ram) C) (insertionRam h g n (r .key) (recordBytes r) ram)
           = insertion-changes h g (ok .e) (units.pow sizes ok) H r d C ram (I .parts) room word (I .keys) in
           commit-done (withRecord H r) (n + 1) d (insertionPlan h g n (r .key) (recordBytes r) ram) _ (insertionRam h g n (r .key) (recordBytes r) ram) refl (length-record r) refl
           (X .grown) (X .allowed) (X .beyond) (X .fresh (C .spare) (λ x l o. refl))
@@ -190,7 +190,7 @@ module _ (h : Family) (sizes : Sizes) (ok : Sound sizes) (can : allowed sizes �
           (omega arith) (I .d-cap) (omega (arith, I .d-le)) (keys-record r word) (λ i l. omega (arith, I .gone i l))
 
       insert-done : (o : Option ℕ) → findLive H (r .key) ≡ o
-          → Done H C ram (insertAfter h g v r (Option·map found o)) (insertHistory (recordCapacity g) (deletionCapacity g) H r o)
+          → Done h sizes H C ram (insertAfter h g v r (Option·map found o)) (insertHistory (recordCapacity g) H r o)
       unfolding change
       insert-done (some j) q = refuse-done 3 (omega arith, omega arith, omega arith, omega arith)
       insert-done none q =
@@ -216,7 +216,7 @@ module _ (h : Family) (sizes : Sizes) (ok : Sound sizes) (can : allowed sizes �
       did : Did (unitOf sizes) (DA g .first) (DA g .first + (sizes .daBlocks)) (DA g .ram) C ram ram₁ ops
       did = deletion-did h g (ok .e) (units.pow sizes ok) H n n (keyFilters g n) j C ram (I .parts) room-d
 
-      less-one : Parts h g (ok .e) (units.pow sizes ok) (withDeletion H j) n n (d + 1) (keyFilters g n) C₁ ram₁
+      less-one : Parts h g (withDeletion H j) n n (d + 1) (keyFilters g n) C₁ ram₁
       less-one = deletion-parts h g (ok .e) (units.pow sizes ok) H n n (keyFilters g n) j C ram (I .parts) room-d
 
       past : Beyond g C C₁ ram ram₁
@@ -229,19 +229,19 @@ module _ (h : Family) (sizes : Sizes) (ok : Sound sizes) (can : allowed sizes �
       inside₀ = did .fresh (take (spareSize g) (C .spare)) (λ x l m. getD-take (spareSize g) (C .spare) x 0 (omega arith))
 
       delete-accepted : length (H .deleted) < length (H .records)
-          → Done H C ram (commit g v n (d + 1) (deletionPlan g d j ram ++ []) (deletionRam g d j ram)) (historyStep accepts (withDeletion H j))
+          → Done h sizes H C ram (commit g v n (d + 1) (deletionPlan g d j ram ++ []) (deletionRam g d j ram)) (historyStep accepts (withDeletion H j))
       delete-accepted less =
           commit-done (withDeletion H j) n (d + 1) (deletionPlan g d j ram ++ []) ops ram₁ (ap (λ (ps : List Planned). planOps (unitOf sizes) ps C) (append-nil (deletionPlan g d j ram))) refl (length-deletion j) less-one (did .allowed) past fresh₀
           (fresh-below (spareSize g) (C .spare) ops inside₀)
           (I .n-cap) (omega (arith, room-d)) (omega arith) (I .keys) (gone-deletion j below)
 
       update-accepted : (r : Record) → KeyOk (r .key) → leb (recordCapacity g) (length (H .records)) ≡ false
-          → Done H C ram (commit g v (n + 1) (d + 1) (deletionPlan g d j ram ++ insertionPlan h g n (r .key) (recordBytes r) ram) (insertionRam h g n (r .key) (recordBytes r) (deletionRam g d j ram)))
+          → Done h sizes H C ram (commit g v (n + 1) (d + 1) (deletionPlan g d j ram ++ insertionPlan h g n (r .key) (recordBytes r) ram) (insertionRam h g n (r .key) (recordBytes r) (deletionRam g d j ram)))
           (historyStep accepts (withRecord (withDeletion H j) r))
       update-accepted r word c5 =
           let room : length (H .records) < recordCapacity g = leb-false (recordCapacity g) (length (H .records)) c5 in
           let more : List Op = planOps (unitOf sizes) (insertionPlan h g n (r .key) (recordBytes r) ram₁) C₁ in
-          let X : Changed h g (ok .e) (units.pow sizes ok) (withRecord (withDeletion H j) r) (n + 1) (d + 1) C₁ ram₁ (planOps (unitOf sizes) (insertionPlan h g n (r .key) (recordBytes r) ram₁) C₁) (insertionRam h g n (r .key) (recordBytes r) ram₁)
+          let X : Changed h g (withRecord (withDeletion H j) r) (n + 1) (d + 1) C₁ ram₁ (planOps (unitOf sizes) (insertionPlan h g n (r .key) (recordBytes r) ram₁) C₁) (insertionRam h g n (r .key) (recordBytes r) ram₁)
           = insertion-changes h g (ok .e) (units.pow sizes ok) (withDeletion H j) r (d + 1) C₁ ram₁ less-one room word (I .keys) in
           let both : planOps (unitOf sizes) (deletionPlan g d j ram ++ insertionPlan h g n (r .key) (recordBytes r) ram) C ≡ ops ++ planOps (unitOf sizes) (insertionPlan h g n (r .key) (recordBytes r) ram₁) C₁
           = ops-append (unitOf sizes) (deletionPlan g d j ram) (insertionPlan h g n (r .key) (recordBytes r) ram) C
@@ -255,7 +255,7 @@ module _ (h : Family) (sizes : Sizes) (ok : Sound sizes) (can : allowed sizes �
           (omega arith) (omega (arith, room-d)) (omega (arith, I .d-le)) (keys-record r word) (λ i l. omega (arith, gone-deletion j below i l))
 
     update-done : (r : Record) → KeyOk (r .key) → (o : Option ℕ) → findLive H (r .key) ≡ o
-        → Done H C ram (updateAfter h g v r (Option·map found o)) (updateHistory (recordCapacity g) (deletionCapacity g) H r o)
+        → Done h sizes H C ram (updateAfter h g v r (Option·map found o)) (updateHistory (recordCapacity g) (deletionCapacity g) H r o)
     unfolding change
     update-done r word none q = refuse-done 4 (omega arith, omega arith, omega arith, omega arith)
     update-done r word (some j) q =
@@ -266,7 +266,7 @@ module _ (h : Family) (sizes : Sizes) (ok : Sound sizes) (can : allowed sizes �
         (λ c6. rw (c, c6) (update-accepted j (found-below H (r .key) j q .0) c6 r word c)))
 
     delete-done : (k : Key) → ((j : ℕ) → findLive H k ≡ some j → length (H .deleted) < length (H .records)) → (o : Option ℕ) → findLive H k ≡ o
-        → Done H C ram (deleteAfter h g v (Option·map found o)) (deleteHistory (recordCapacity g) (deletionCapacity g) H o)
+        → Done h sizes H C ram (deleteAfter h g v (Option·map found o)) (deleteHistory (deletionCapacity g) H o)
     unfolding change
     delete-done k less none q = refuse-done 4 (omega arith, omega arith, omega arith, omega arith)
     delete-done k less (some j) q =
@@ -277,7 +277,7 @@ module _ (h : Family) (sizes : Sizes) (ok : Sound sizes) (can : allowed sizes �
     -- ---- lookup
 
     lookup-done : (k : Key) (opened : ℕ) → opened ≤ length (H .records) / entriesPerPage (unitOf sizes) → (o : Option ℕ) → findLive H k ≡ o
-        → Done H C ram (lookupAfter g v opened (Option·map found o)) (lookupHistory (recordCapacity g) (deletionCapacity g) H o)
+        → Done h sizes H C ram (lookupAfter g v opened (Option·map found o)) (lookupHistory H o)
     unfolding lookupAfter
     lookup-done k opened le none q = record {
       says = refl;
@@ -312,7 +312,7 @@ module _ (h : Family) (sizes : Sizes) (ok : Sound sizes) (can : allowed sizes �
     judged-is r = rw (volumes.state-good h sizes ok H C ram I can, volumes.long-enough h sizes ok H C ram I)
 
     answer-done : (c : Call) → KeyWord c → ((k : Key) (j : ℕ) → findLive H k ≡ some j → length (H .deleted) < length (H .records))
-        → Done H C ram (answer h g v c) (stepHistory (recordCapacity g) (deletionCapacity g) H c)
+        → Done h sizes H C ram (answer h g v c) (stepHistory (recordCapacity g) (deletionCapacity g) H c)
     answer-done (insert r) w less = rw (volumes.search-is h sizes ok H C ram I (r .key)) (insert-done r w (findLive H (r .key)) refl)
     answer-done (update r) w less = rw (volumes.search-is h sizes ok H C ram I (r .key)) (update-done r w (findLive H (r .key)) refl)
     answer-done (delete key) w less = rw (volumes.search-is h sizes ok H C ram I key) (delete-done key (less key) (findLive H key) refl)
@@ -320,6 +320,6 @@ module _ (h : Family) (sizes : Sizes) (ok : Sound sizes) (can : allowed sizes �
         rw (volumes.search-is h sizes ok H C ram I key) (lookup-done key _ (volumes.count-is h sizes ok H C ram I key) (findLive H key) refl)
 
     pub call-done : (c : Call) → KeyWord c → ((k : Key) (j : ℕ) → findLive H k ≡ some j → length (H .deleted) < length (H .records))
-        → Done H C ram (call h v c) (stepHistory (recordCapacity g) (deletionCapacity g) H c)
+        → Done h sizes H C ram (call h v c) (stepHistory (recordCapacity g) (deletionCapacity g) H c)
     unfolding call
     call-done c w less = rw (judged-is (answer h g v c)) (answer-done c w less)

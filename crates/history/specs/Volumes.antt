@@ -21,7 +21,7 @@ use Rattle.layout.specs.Items.{Record, RA, KA, DA, itemWord, itemPlace, bytesAt
 use Rattle.layout.specs.Index.{filterBit}
 use Rattle.layout.specs.Search.{found}
 use Rattle.layout.specs.Calls.{Volume, keyIndex, keyFilters, keyPositions, badState, tooShort, isDeleted, entryWord, tryAt, maybeIn, searchAt, search}
-use Rattle.history.specs.Image.{History, recordAt, raItem, kaItem, daItem, keyFilter}
+use Rattle.history.specs.Image.{History, recordsIn, deletionsIn, filtersIn, recordAt, raItem, kaItem, daItem, keyFilter}
 use Rattle.history.specs.Before.{Before, before-same, record-kept, deletion-kept, records-le, deleted-le}
 use Rattle.history.specs.Live.{liveAt, findLive, live-key}
 use Rattle.laws.specs.SearchLaws.{search-all, search-opened, scan-live, any-memb, allOf-true, memb-tab-all}
@@ -33,8 +33,24 @@ use Rattle.laws.specs.RowLaws.{places-suffice}
 use Rattle.laws.specs.Sound.{Sound}
 use Rattle.laws.specs.Sound as units
 
+-- ---- the image of a history, as an invariant
+
+pub record Holds (h : Family) (sizes : Sizes) (H : History) (C : Flash) (ram : List ℕ) : Type 0 where
+  pub parts : Parts h (geometry sizes) H (recordsIn H) (recordsIn H) (deletionsIn H) (filtersIn (geometry sizes) H) C ram
+  pub work : (i : ℕ) → i < page (unitOf sizes) → getD ram (workRam (unitOf sizes) + i) 0 ≡ 0
+  pub n-cap : recordsIn H ≤ recordCapacity (geometry sizes)
+  pub d-cap : deletionsIn H ≤ deletionCapacity (geometry sizes)
+  pub d-le : deletionsIn H ≤ recordsIn H
+  -- keys are allowed, and a deletion names a record
+  pub keys : (j : ℕ) → j < recordsIn H → KeyOk (recordAt H j .key)
+  pub gone : (i : ℕ) → i < deletionsIn H → getD (H .deleted) i 0 < recordsIn H
+
+-- the volume with the history's counts
+abbrev pub volumeOf : Sizes → History → Flash → List ℕ → Volume
+volumeOf sizes H C ram = record { state = stateOf sizes (recordsIn H) (deletionsIn H); flash = C; ram = ram }
+
 module _ (h : Family) (sizes : Sizes) (ok : Sound sizes) where
-  abbrev pub g : Geometry
+  abbrev g : Geometry
   g = geometry sizes
 
   abbrev pow : unitOf sizes ≡ 2 ^ ok .e
@@ -43,28 +59,7 @@ module _ (h : Family) (sizes : Sizes) (ok : Sound sizes) where
   abbrev pu : 0 < unitOf sizes
   pu = units.pu sizes ok
 
-  -- ---- the image of a history, as an invariant
-
-  pub record Holds (H : History) (C : Flash) (ram : List ℕ) : Type 0 where
-    pub parts : Parts h g (ok .e) pow H (length (H .records)) (length (H .records)) (length (H .deleted)) (keyFilters g (length (H .records))) C ram
-    pub work : (i : ℕ) → i < page (unitOf sizes) → getD ram (workRam (unitOf sizes) + i) 0 ≡ 0
-    pub n-cap : length (H .records) ≤ recordCapacity g
-    pub d-cap : length (H .deleted) ≤ deletionCapacity g
-    pub d-le : length (H .deleted) ≤ length (H .records)
-    -- keys are allowed, and a deletion names a record
-    pub keys : (j : ℕ) → j < length (H .records) → KeyOk (recordAt H j .key)
-    pub gone : (i : ℕ) → i < length (H .deleted) → getD (H .deleted) i 0 < length (H .records)
-
-  -- the volume with the history's counts
-  abbrev pub volumeOf : History → Flash → List ℕ → Volume
-  volumeOf H C ram =
-      record {
-        state = stateOf sizes (length (H .records)) (length (H .deleted));
-        flash = C;
-        ram = ram;
-      }
-
-  module _ (H : History) (C : Flash) (ram : List ℕ) (I : Holds H C ram) where
+  module _ (H : History) (C : Flash) (ram : List ℕ) (I : Holds h sizes H C ram) where
     abbrev n : ℕ
     n = length (H .records)
 
@@ -72,7 +67,7 @@ module _ (h : Family) (sizes : Sizes) (ok : Sound sizes) where
     d = length (H .deleted)
 
     abbrev v : Volume
-    v = volumeOf H C ram
+    v = volumeOf sizes H C ram
 
     -- record numbers are 32-bit numbers
     n-word : length (H .records) < 2 ^ 32

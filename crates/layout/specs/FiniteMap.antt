@@ -49,35 +49,39 @@ pub record Step : Type 0 where
 abbrev pub step : Reply → Map → Step
 step r m = record { says = r; next = m }
 
-module _ (capacity deletionCapacity : ℕ) where
-  -- "Insert: key present, 3; else n at record capacity, 5; else the key gets the record .., and n rises by one"
-  abbrev pub insertMap : Map → Level → Option Level → Step
-  insertMap m l (some o) = step (refuses refusal.present) m
-  insertMap m l none = cond (leb capacity (m .n)) (step (refuses refusal.full) m) (step accepts (record { levels = l ∷ m .levels; n = m .n + 1; d = m .d }))
+-- "Insert: key present, 3; else n at record capacity, 5; else the key gets the record .., and n rises by one"
+abbrev pub insertMap : ℕ → Map → Level → Option Level → Step
+insertMap capacity m l (some o) = step (refuses refusal.present) m
+insertMap capacity m l none =
+    cond (leb capacity (m .n)) (step (refuses refusal.full) m) (step accepts (record { levels = l ∷ m .levels; n = m .n + 1; d = m .d }))
 
-  -- "Update: key absent, 4; else n at record capacity, 5; else d at deletion capacity, 6; else the new record replaces the key's old one, and n and d rise by one"
-  abbrev pub updateMap : Map → Level → Option Level → Step
-  updateMap m l none = step (refuses refusal.absent) m
-  updateMap m l (some o) =
-      cond (leb capacity (m .n)) (step (refuses refusal.full) m)
-      (cond (leb deletionCapacity (m .d)) (step (refuses refusal.deletionsFull) m)
-      (step accepts (record { levels = l ∷ without (l .key) (m .levels); n = m .n + 1; d = m .d + 1 })))
+-- "Update: key absent, 4; else n at record capacity, 5; else d at deletion capacity, 6; else the new record replaces the key's old one,
+-- and n and d rise by one"
+abbrev pub updateMap : ℕ → ℕ → Map → Level → Option Level → Step
+updateMap capacity deletionCapacity m l none = step (refuses refusal.absent) m
+updateMap capacity deletionCapacity m l (some o) =
+    cond (leb capacity (m .n)) (step (refuses refusal.full) m)
+    (cond (leb deletionCapacity (m .d)) (step (refuses refusal.deletionsFull) m)
+    (step accepts (record { levels = l ∷ without (l .key) (m .levels); n = m .n + 1; d = m .d + 1 })))
 
-  -- "Delete: key absent, 4; else d at deletion capacity, 6; else the key leaves the map, and d rises by one"
-  abbrev pub deleteMap : Map → Key → Option Level → Step
-  deleteMap m k none = step (refuses refusal.absent) m
-  deleteMap m k (some o) = cond (leb deletionCapacity (m .d)) (step (refuses refusal.deletionsFull) m) (step accepts (record { levels = without k (m .levels); n = m .n; d = m .d + 1 }))
+-- "Delete: key absent, 4; else d at deletion capacity, 6; else the key leaves the map, and d rises by one"
+abbrev pub deleteMap : ℕ → Map → Key → Option Level → Step
+deleteMap deletionCapacity m k none = step (refuses refusal.absent) m
+deleteMap deletionCapacity m k (some o) =
+    cond (leb deletionCapacity (m .d)) (step (refuses refusal.deletionsFull) m)
+    (step accepts (record { levels = without k (m .levels); n = m .n; d = m .d + 1 }))
 
-  -- "Lookup: key present, hit with its record; else miss. Nothing changes"
-  abbrev pub lookupMap : Map → Option Level → Step
-  lookupMap m none = step misses m
-  lookupMap m (some o) = step (hits (o .bytes)) m
+-- "Lookup: key present, hit with its record; else miss. Nothing changes"
+abbrev pub lookupMap : Map → Option Level → Step
+lookupMap m none = step misses m
+lookupMap m (some o) = step (hits (o .bytes)) m
 
-  abbrev pub stepMap : Map → Call → Step
-  stepMap m (insert r) = insertMap m (levelOf r) (find (m .levels) (r .key))
-  stepMap m (update r) = updateMap m (levelOf r) (find (m .levels) (r .key))
-  stepMap m (delete key) = deleteMap m key (find (m .levels) key)
-  stepMap m (lookup key) = lookupMap m (find (m .levels) key)
+-- a call, by the two capacities
+abbrev pub stepMap : ℕ → ℕ → Map → Call → Step
+stepMap capacity deletionCapacity m (insert r) = insertMap capacity m (levelOf r) (find (m .levels) (r .key))
+stepMap capacity deletionCapacity m (update r) = updateMap capacity deletionCapacity m (levelOf r) (find (m .levels) (r .key))
+stepMap capacity deletionCapacity m (delete key) = deleteMap deletionCapacity m key (find (m .levels) key)
+stepMap capacity deletionCapacity m (lookup key) = lookupMap m (find (m .levels) key)
 
 -- "the two capacities that the format's S, R and D give"
 abbrev pub mapOf : Geometry → Map → Call → Step
