@@ -27,7 +27,7 @@ use Rattle.history.specs.MapLaws.{step-same, Live-deletion}
 use Rattle.history.specs.Parts.{Parts, Beyond, beyond-same, beyond-then}
 use Rattle.history.specs.AreaLaws.{area-start}
 use Rattle.history.specs.IndexLaws.{index-start}
-use Rattle.history.specs.Runs.{KeyWords, number, after, opsOf, replyOf, Agrees, EachAgrees, growIf, grow, historyOf}
+use Rattle.history.specs.Runs.{KeyWords, number, after, opsOf, replyOf, ResultAgrees, EachAgrees, growIf, grow, historyOf}
 use Rattle.history.specs.ProgramOrder.{Below, below-append}
 use Rattle.history.specs.Volumes.{Holds, volumeOf}
 use Rattle.history.specs.Steps.{Done, call-done}
@@ -184,7 +184,7 @@ module _ (h : Family) (sizes : Sizes) (ok : Sound sizes) (can : allowed sizes �
   call-agrees : (H : History) (C : Flash) (ram : List ℕ) (m : Map) (c : Call) → Live H m → Live (stepHistory (recordCapacity g) (deletionCapacity g) H c .next) (mapOf g m c .next)
       → stepHistory (recordCapacity g) (deletionCapacity g) H c .says ≡ mapOf g m c .says
       → Done h sizes H C ram (call h (volumeOf sizes H C ram) c) (stepHistory (recordCapacity g) (deletionCapacity g) H c)
-      → Agrees sizes (volumeOf sizes H C ram) (call h (volumeOf sizes H C ram) c) (mapOf g m c)
+      → ResultAgrees sizes (volumeOf sizes H C ram) (call h (volumeOf sizes H C ram) c) (mapOf g m c)
   call-agrees H C ram m c L L′ same X = record {
     says = X .says ∙ same;
     state-is = ap (λ (w : Volume). w .state) (X .volume-is) ∙ rw (L′ .n-is, L′ .d-is);
@@ -200,7 +200,7 @@ module _ (h : Family) (sizes : Sizes) (ok : Sound sizes) (can : allowed sizes �
 
   -- a call, and the calls after it
   joined : (H : History) (C : Flash) (ram : List ℕ) (m : Map) (c : Call) (cs : List Call)
-      → Agrees sizes (volumeOf sizes H C ram) (call h (volumeOf sizes H C ram) c) (mapOf g m c)
+      → ResultAgrees sizes (volumeOf sizes H C ram) (call h (volumeOf sizes H C ram) c) (mapOf g m c)
       → Done h sizes H C ram (call h (volumeOf sizes H C ram) c) (stepHistory (recordCapacity g) (deletionCapacity g) H c)
       → Ran h sizes (call h (volumeOf sizes H C ram) c .volume) (growIf (call h (volumeOf sizes H C ram) c .outcome) H c) (mapOf g m c .next) cs
       → Ran h sizes (volumeOf sizes H C ram) H m (c ∷ cs)

@@ -82,24 +82,28 @@ HandedOn (hit place bytes) v v′ = v′ ≡ v
 HandedOn miss v v′ = v′ ≡ v
 HandedOn (refused i) v v′ = v′ ≡ v
 
--- the result r of a call on the volume v, and the map's step
-pub record Agrees (sizes : Sizes) (v : Volume) (r : Result) (s : Step) : Type 0 where
-  pub says : replyOf (r .outcome) ≡ s .says
+-- what a caller sees of a call on the volume v (the outcome o, the count, the volume w left), and the map's step
+pub record Agrees (sizes : Sizes) (v : Volume) (o : Outcome) (count : ℕ) (w : Volume) (s : Step) : Type 0 where
+  pub says : replyOf o ≡ s .says
   -- "the state, which is the format's S, R and D with the map's n and d"
-  pub state-is : r .volume .state ≡ stateOf sizes (s .next .n) (s .next .d)
+  pub state-is : w .state ≡ stateOf sizes (s .next .n) (s .next .d)
   -- n - d is the number of live levels: the map's list has no key twice
-  pub live : r .volume .state .records ≡ r .volume .state .deletions + length (s .next .levels)
+  pub live : w .state .records ≡ w .state .deletions + length (s .next .levels)
   pub once : Nodup (s .next .levels)
-  pub possible : Possible (r .outcome)
-  pub handed-on : HandedOn (r .outcome) v (r .volume)
+  pub possible : Possible o
+  pub handed-on : HandedOn o v w
   -- "It is at most floor(n / (S/2))"
-  pub count-le : r .count ≤ v .state .records / entriesPerPage (unitOf sizes)
+  pub count-le : count ≤ v .state .records / entriesPerPage (unitOf sizes)
+
+-- of a layout's result
+abbrev pub ResultAgrees : Sizes → Volume → Result → Step → Type 0
+ResultAgrees sizes v r s = Agrees sizes v (r .outcome) (r .count) (r .volume) s
 
 -- of each call of a list, from the volume v and the map m on
 abbrev pub EachAgrees : Family → Sizes → Volume → Map → List Call → Type 0
 EachAgrees h sizes v m [] = Unit {0}
 EachAgrees h sizes v m (c ∷ cs) =
-    Agrees sizes v (call h v c) (mapOf (geometry sizes) m c)
+    ResultAgrees sizes v (call h v c) (mapOf (geometry sizes) m c)
     × EachAgrees h sizes (call h v c .volume) (mapOf (geometry sizes) m c .next) cs
 
 -- ---- demand 2

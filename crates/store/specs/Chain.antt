@@ -1,16 +1,16 @@
--- Demand 3 of the code: every chain of calls whose results satisfy the contracts, from an accepted format on, agrees with the map at FNV-1a.
+-- Demand 3 of the code: every chain of calls whose results satisfy the contracts, from an accepted format on, agrees with the map
+-- at FNV-1a.
 use mathlib.Core.Path.{_≡_, refl, ap, _∙_}
 use mathlib.Core.Bool.{Bool, true, false}
 use mathlib.Core.List.{List, [], _∷_, _++_}
-use Prim.Native.Nat.{ℕ, _+_, _/_, _≤_}
-use lib.ListN.{length}
-use Rattle.layout.specs.Geometry.{geometry, allowed, entriesPerPage, Sizes, unitOf, stateOf}
+use Prim.Native.Nat.{ℕ}
+use Rattle.layout.specs.Geometry.{geometry, allowed, Sizes, unitOf, stateOf}
 use Rattle.layout.specs.Flash.{applyAll}
 use Rattle.layout.specs.Hash.{fnvFamily}
 use Rattle.layout.specs.Calls.{Volume, Call, accepted, tooShort, format, call}
-use Rattle.layout.specs.FiniteMap.{Map, emptyMap, Step, mapOf}
-use Rattle.history.specs.Live.{emptyHistory, Nodup}
-use Rattle.history.specs.Runs.{KeyWords, after, opsOf, ProgramOrder, replyOf, Possible, HandedOn, EachAgrees, historyOf, ImageOf}
+use Rattle.layout.specs.FiniteMap.{Map, emptyMap, mapOf}
+use Rattle.history.specs.Live.{emptyHistory}
+use Rattle.history.specs.Runs.{KeyWords, after, opsOf, ProgramOrder, Agrees, EachAgrees, historyOf, ImageOf}
 use Rattle.history.specs.Demands.{demand-2, demand-3}
 use Rattle.state.specs.Contract.{Left, seen}
 
@@ -22,35 +22,27 @@ Chain v [] (l ∷ ls) = ⊥
 Chain v (c ∷ cs) [] = ⊥
 Chain v (c ∷ cs) (l ∷ ls) = (l ≡ seen (call fnvFamily v c)) × Chain (l .left) cs ls
 
--- what a caller sees of a call on the volume v, and the map's step
-pub record Sees (sizes : Sizes) (v : Volume) (l : Left) (s : Step) : Type 0 where
-  pub says : replyOf (l .outcome) ≡ s .says
-  pub state-is : l .left .state ≡ stateOf sizes (s .next .n) (s .next .d)
-  pub live : l .left .state .records ≡ l .left .state .deletions + length (s .next .levels)
-  pub once : Nodup (s .next .levels)
-  pub possible : Possible (l .outcome)
-  pub handed-on : HandedOn (l .outcome) v (l .left)
-  pub count-le : l .count ≤ v .state .records / entriesPerPage (unitOf sizes)
-
+-- of each call of a list: what its caller sees agrees with the map's step
 abbrev pub EachSees : Sizes → Volume → Map → List Call → List Left → Type 0
 EachSees sizes v m [] ls = Unit {0}
 EachSees sizes v m (c ∷ cs) [] = ⊥
-EachSees sizes v m (c ∷ cs) (l ∷ ls) = Sees sizes v l (mapOf (geometry sizes) m c) × EachSees sizes (l .left) (mapOf (geometry sizes) m c .next) cs ls
+EachSees sizes v m (c ∷ cs) (l ∷ ls) =
+    Agrees sizes v (l .outcome) (l .count) (l .left) (mapOf (geometry sizes) m c)
+    × EachSees sizes (l .left) (mapOf (geometry sizes) m c .next) cs ls
 
 -- the volume that the last call left
 abbrev pub lastLeft : Volume → List Left → Volume
 lastLeft v [] = v
 lastLeft v (l ∷ ls) = lastLeft (l .left) ls
 
-each-sees : (sizes : Sizes) (v : Volume) (m : Map) (cs : List Call) (ls : List Left) → Chain v cs ls → EachAgrees fnvFamily sizes v m cs → EachSees sizes v m cs ls
+each-sees : (sizes : Sizes) (v : Volume) (m : Map) (cs : List Call) (ls : List Left)
+    → Chain v cs ls → EachAgrees fnvFamily sizes v m cs → EachSees sizes v m cs ls
 each-sees sizes v m [] ls k a = tt
 each-sees sizes v m (c ∷ cs) [] k a = k
 each-sees sizes v m (c ∷ cs) (l ∷ ls) k a =
     let e : l ≡ seen (call fnvFamily v c) = k .0 in
-    let w : l .left ≡ call fnvFamily v c .volume = ap (λ (x : Left). x .left) e in (
-      rw e (record { says = a .0 .says; state-is = a .0 .state-is; live = a .0 .live; once = a .0 .once; possible = a .0 .possible; handed-on = a .0 .handed-on; count-le = a .0 .count-le }),
-      each-sees sizes (l .left) (mapOf (geometry sizes) m c .next) cs ls (k .1) (rw w (a .1)),
-    )
+    let w : l .left ≡ call fnvFamily v c .volume = ap (λ (x : Left). x .left) e in
+    (rw e (a .0), each-sees sizes (l .left) (mapOf (geometry sizes) m c .next) cs ls (k .1) (rw w (a .1)))
 
 last-is : (v : Volume) (cs : List Call) (ls : List Left) → Chain v cs ls → lastLeft v ls ≡ after fnvFamily v cs
 last-is v [] [] k = refl
@@ -64,7 +56,8 @@ pub record CodeRun (v : Volume) (sizes : Sizes) (first : Left) (cs : List Call) 
   pub started : first .left .state ≡ stateOf sizes 0 0
   pub each : EachSees sizes (first .left) emptyMap cs ls
   -- the chip operations of the list, done in order on the chip handed to the format, give the flash that the last call leaves
-  pub flash-is : applyAll (unitOf sizes) (format v sizes .ops ++ opsOf fnvFamily (first .left) cs) (v .flash) ≡ lastLeft (first .left) ls .flash
+  pub flash-is : applyAll (unitOf sizes) (format v sizes .ops ++ opsOf fnvFamily (first .left) cs) (v .flash)
+      ≡ lastLeft (first .left) ls .flash
   -- and keep the chip's discipline
   pub in-order : (P : ℕ → Bool) → ProgramOrder (format v sizes .ops ++ opsOf fnvFamily (first .left) cs) P
   pub image : ImageOf fnvFamily (geometry sizes) (historyOf fnvFamily (first .left) emptyHistory cs) v (lastLeft (first .left) ls)
