@@ -1,6 +1,7 @@
 // Areas that grow at their end, and the places of their items. Document 01, "Records, entries, deletions".
 ghost use mathlib.Core.Path.{_≡_};
 ghost use Prim.Native.Nat.{_<_};
+ghost use Rattle.layout.specs.Items as layout;
 ghost use Rattle.layout.specs.Items.{RA, KA, DA, itemPlace};
 ghost use Rattle.geometry.specs.Shape.{shape, Sound, area, place, AreaSound};
 use crate::Geometry;
@@ -20,6 +21,17 @@ pub struct Area {
     pub ram: usize,
 }
 
+impl Area {
+    // Does item n fill its page.
+    pub fn fills(self, n: usize) -> bool
+        requires { ⌜ AreaSound self ⌝ }
+        ensures { λ r. ⌜ r ≡ layout.fills (area self) n ⌝ }
+    {
+        let q = self.per_page;
+        n % q + 1 == q
+    }
+}
+
 pub fn record_area(g: Geometry) -> Area
     requires { ⌜ Sound g ⌝ }
     ensures equal { λ r. ⌜ area r ≡ RA (shape g) ⌝ }
@@ -29,7 +41,7 @@ pub fn record_area(g: Geometry) -> Area
         size: RECORD_SIZE,
         per_page: g.records_per_page(),
         first: 0,
-        ram: 0,
+        ram: g.ra_ram(),
     }
 }
 

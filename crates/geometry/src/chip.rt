@@ -1,7 +1,7 @@
 // A flash chip: sectors, pages and blocks, their sizes and their addresses. Document 01, "The chip and the desk".
 ghost use mathlib.Core.Path.{_≡_};
 ghost use Prim.Native.Nat.{_*_, _/_, _^_, _<_, _≤_};
-ghost use Rattle.layout.specs.Geometry.{sectorsPerBlock, sector, page, block, filterBits, sideBlocks};
+ghost use Rattle.layout.specs.Geometry.{sectorsPerPage, sectorsPerBlock, sector, page, block, filterBits, fourthSize, sideBlocks};
 
 // A chip by its unit, a sixteenth of the sector size.
 pub struct Chip {
@@ -55,6 +55,14 @@ impl Chip {
         4 * self.sector_size()
     }
 
+    // Bytes of a fourth of a filter: S/8.
+    pub fn fourth_size(self) -> usize
+        requires { ⌜ self .unit ≤ 32 ⌝ }
+        ensures { λ r. ⌜ r ≡ fourthSize (self .unit) ⌝ }
+    {
+        self.sector_size() / 8
+    }
+
     // Blocks of a side, and of a full partition set: S/4.
     pub fn side_blocks(self) -> usize
         requires { ⌜ self .unit ≤ 32 ⌝ }
@@ -84,6 +92,16 @@ impl Chip {
         ensures { λ r. ⌜ r ≡ b * block (self .unit) ⌝ }
     {
         b * self.block_size()
+    }
+
+    // ---- sectors
+
+    // Sectors of so many pages.
+    pub fn page_sectors(pages: usize) -> usize
+        requires { ⌜ pages * sectorsPerPage < 2 ^ 64 ⌝ }
+        ensures { λ r. ⌜ r ≡ pages * sectorsPerPage ⌝ }
+    {
+        pages * Chip::SECTORS_PER_PAGE
     }
 
     // The first sector of a block.

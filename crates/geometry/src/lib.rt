@@ -37,7 +37,9 @@ pub struct Geometry {
 }
 
 impl Geometry {
-    // The pages of the RAM by number: that of records is 0; entries, deletions, filters and work follow.
+    // The pages of the RAM by number: records, entries, deletions, filters, work.
+    pub const RA_PAGE: usize = 0;
+
     pub const KA_PAGE: usize = 1;
 
     pub const DA_PAGE: usize = 2;
@@ -163,37 +165,44 @@ impl Geometry {
         requires { ⌜ Sound self ⌝ }
         ensures { λ r. ⌜ r ≡ layout.ramSize (shape self) ⌝ }
     {
-        Geometry::RAM_PAGES * self.chip.page_size()
+        self.chip.page_address(Geometry::RAM_PAGES)
     }
 
     // ---- first bytes of the RAM's pages
+
+    pub fn ra_ram(self) -> usize
+        requires { ⌜ Sound self ⌝ }
+        ensures { λ r. ⌜ r ≡ layout.raRam (shape self .u) ⌝ }
+    {
+        self.chip.page_address(Geometry::RA_PAGE)
+    }
 
     pub fn ka_ram(self) -> usize
         requires { ⌜ Sound self ⌝ }
         ensures { λ r. ⌜ r ≡ layout.kaRam (shape self .u) ⌝ }
     {
-        Geometry::KA_PAGE * self.chip.page_size()
+        self.chip.page_address(Geometry::KA_PAGE)
     }
 
     pub fn da_ram(self) -> usize
         requires { ⌜ Sound self ⌝ }
         ensures { λ r. ⌜ r ≡ layout.daRam (shape self .u) ⌝ }
     {
-        Geometry::DA_PAGE * self.chip.page_size()
+        self.chip.page_address(Geometry::DA_PAGE)
     }
 
     pub fn ska_ram(self) -> usize
         requires { ⌜ Sound self ⌝ }
         ensures { λ r. ⌜ r ≡ layout.skaRam (shape self .u) ⌝ }
     {
-        Geometry::SKA_PAGE * self.chip.page_size()
+        self.chip.page_address(Geometry::SKA_PAGE)
     }
 
     pub fn work_ram(self) -> usize
         requires { ⌜ Sound self ⌝ }
         ensures { λ r. ⌜ r ≡ layout.workRam (shape self .u) ⌝ }
     {
-        Geometry::WORK_PAGE * self.chip.page_size()
+        self.chip.page_address(Geometry::WORK_PAGE)
     }
 }
 

@@ -1,10 +1,11 @@
 // Partition sets of an index: how many pages and blocks, how many bits of a filter in a page, and where they begin. Document 01,
 // "Filters". A set of c rounds is set number c + 1.
 ghost use mathlib.Core.Path.{_≡_};
-ghost use Prim.Native.Nat.{_*_, _^_, _<_, _≤_};
+ghost use Prim.Native.Nat.{_+_, _*_, _^_, _<_, _≤_};
+ghost use lib.Dec.{eqb};
 ghost use Rattle.memory.specs.Power.{log2up};
 ghost use Rattle.layout.specs.Geometry.{sideBlocks};
-ghost use Rattle.layout.specs.Index.{setPages, setWidth, setBlocks, sideBlock, fullBlock, setBlock};
+ghost use Rattle.layout.specs.Index.{filtersPerFlush, inSka, setPages, setWidth, setBlocks, sideBlock, fullBlock, setBlock};
 ghost use Rattle.geometry.specs.Shape.{shape, Sound};
 ghost use Rattle.geometry.specs.Indexes.{indexOf, indexFor};
 use crate::Chip;
@@ -20,6 +21,13 @@ pub const FILTERS_PER_ROUND: usize = FLUSHES_PER_ROUND * FILTERS_PER_FLUSH;
 
 // Pages of L1 for each fourth of the filters' bits: a sector of each flush.
 pub const PAGES_PER_FOURTH: usize = FLUSHES_PER_ROUND / Chip::SECTORS_PER_PAGE;
+
+// Does filter number `filters` fill the SKA page.
+pub fn fills_ska(filters: usize) -> bool
+    ensures { λ r. ⌜ r ≡ eqb (inSka filters + 1) filtersPerFlush ⌝ }
+{
+    filters % FILTERS_PER_FLUSH + 1 == FILTERS_PER_FLUSH
+}
 
 // An index: its first block and its SKA page in RAM.
 pub struct Index {
