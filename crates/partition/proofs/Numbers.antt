@@ -10,7 +10,7 @@ use Rattle.layout.specs.Geometry.{sector, page, block}
 use Rattle.layout.specs.Index.{Index, pagesPerFourth, setPages, setWidth, sideBlock}
 use Rattle.laws.specs.RowLaws.{unit-pos, width-is, width-pos, blocks-fit}
 use Rattle.laws.specs.Units.{UnitSound}
-use Rattle.partition.specs.Sources.{sourceOf, rowOf}
+use Rattle.partition.specs.Sources.{roundBytes, sourceOf, rowOf}
 use Rattle.fields.specs.declared.Source.{Source}
 use Rattle.partition.specs.declared.Row.{Row}
 use Rattle.partition.specs.Widths.{old-whole, sector-whole}
@@ -57,8 +57,8 @@ pub pages-le : (u c : ℕ) → UnitSound u → c ≤ 4 * u → setPages c ≤ 20
 pages-le u c U h = omega (arith, U .1 .most, blocks-fit u (U .0) (U .1 .power) c h)
 
 -- the row that the code makes
-module _ (u : ℕ) (ix : Index) (c p w v side first gap size : ℕ) (o l : Source) where
+module _ (u : ℕ) (ix : Index) (c p w v side first gap four size : ℕ) (o l : Source) where
   pub row-made : w ≡ setWidth u (c + 1) → v ≡ setWidth u c → side ≡ sideBlock u ix c * block u → first ≡ ix .first * block u
-      → gap ≡ page u → size ≡ sector u → o ≡ sourceOf side gap v w p → l ≡ sourceOf first (pagesPerFourth * gap) size w p
-      → _≡_ {A = Row} (record { w = w; split = 16 * c * w; end = 16 * (c + 1) * w; old = o; l1 = l }) (rowOf u ix c p)
-  row-made ew ev es ef eg ez eo el = rw (eo, el, ew, ev, es, ef, eg, ez)
+      → gap ≡ page u → four ≡ pagesPerFourth * page u → size ≡ sector u → o ≡ sourceOf side gap v w p → l ≡ sourceOf first four size w p
+      → _≡_ {A = Row} (record { w = w; split = roundBytes * c * w; end = roundBytes * (c + 1) * w; old = o; l1 = l }) (rowOf u ix c p)
+  row-made ew ev es ef eg e4 ez eo el = rw (eo, el, ew, ev, es, ef, eg, e4, ez)

@@ -12,7 +12,7 @@ use Rattle.memory.specs.Cases.{lt?, either}
 use Rattle.memory.specs.Numbers.{euclid, div-of, mod-of, div-lt}
 use Rattle.memory.specs.Bits.{bit, bitIn, pack, pack-ext}
 use Rattle.layout.specs.Geometry.{sector, page, block}
-use Rattle.layout.specs.Index.{Index, pagesPerFourth, rowBit, rowByte, bitAt, setWidth, fullFilters, sideBlock, flashPlace, setByte}
+use Rattle.layout.specs.Index.{Index, filtersPerRound, pagesPerFourth, rowBit, rowByte, bitAt, setWidth, fullFilters, sideBlock, flashPlace, setByte}
 use Rattle.laws.specs.RowLaws.{unit-pos, width-pos}
 use Rattle.laws.specs.Apart.{place-old, place-new}
 use Rattle.fields.specs.declared.Source.{Source}
@@ -24,6 +24,10 @@ use Rattle.partition.specs.Widths.{old-whole, sector-whole}
 unfoldable pub pageByte : List ℕ → Row → ℕ → ℕ
 pageByte main r y =
     cond (ltb y (r .split)) (fieldByte main (r .old) (r .w) y) (cond (ltb y (r .end)) (fieldByte main (r .l1) (r .w) (y - r .split)) 0)
+
+-- bytes that the filters of a round have in a page, for each bit of a filter there
+abbrev pub roundBytes : ℕ
+roundBytes = filtersPerRound / 8
 
 -- ---- where page p of the set after c rounds takes its bits from
 
@@ -41,8 +45,8 @@ module _ (u : ℕ) (ix : Index) where
   abbrev pub rowOf : ℕ → ℕ → Row
   rowOf c p = record {
     w = setWidth u (c + 1);
-    split = 16 * c * setWidth u (c + 1);
-    end = 16 * (c + 1) * setWidth u (c + 1);
+    split = roundBytes * c * setWidth u (c + 1);
+    end = roundBytes * (c + 1) * setWidth u (c + 1);
     old = oldOf c p;
     l1 = l1Of c p;
   }

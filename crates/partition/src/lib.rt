@@ -54,7 +54,7 @@ fn row_of(chip: Chip, set: Set, p: usize) -> Row
     let old = source_of(side, page, v, w, p);
     let l1 = source_of(
         first,
-        sets::PAGES_PER_FOURTH * page,
+        chip.page_address(sets::PAGES_PER_FOURTH),
         chip.sector_size(),
         w,
         p,

@@ -84,21 +84,22 @@ source-of-requires c κs =
       x .pre .3,
     )
 
-mul-source-of : tie.Need-mul-source-of
-mul-source-of c = search needs
+page-address-requires : tie.Need-page-address-requires
+page-address-requires c κs = search needs
 
 sector-size-requires : tie.Need-sector-size-requires
 sector-size-requires c κs = search needs
 
 source-of-requires-2 : tie.Need-source-of-requires-2
 source-of-requires-2 c κs =
-    let g = c .before .before in
+    let k = c .before in
+    let g = k .before .before in
     let a = g .before in
     let b = a .before .before .before .before in
     let x = b .before in
     let l = x .pre .0 .1 .most in (
       omega (arith, a .block-address2 .ensures, mul-le-mul (x .pre .2) l),
-      omega (arith, g .page-size .ensures, l),
+      omega (arith, k .page-address .ensures, l),
       new-width b .1,
       rw (new-width b .0, c .sector-size .ensures) (sector-le (x .args .chip .unit) (x .args .set .rounds + 1) (x .pre .0) (omega (arith, x .pre .1))),
       omega (arith, c .sector-size .ensures, l),
@@ -108,7 +109,8 @@ source-of-requires-2 c κs =
 returns : tie.Need-returns
 returns c =
     let z = c .before in
-    let o = z .before in
+    let k = z .before in
+    let o = k .before in
     let g = o .before in
     let f = g .before in
     let a = f .before in
@@ -118,9 +120,9 @@ returns c =
     let x = b .before .args in
     let e = rw (s .side-block .ensures .0) at (a .block-address .ensures) in
     row-made (x .chip .unit) (indexOf (x .set .index)) (x .set .rounds) (x .p) (b .set-width .result) (v .set-width2 .result) (a .block-address .result)
-    (f .block-address2 .result) (g .page-size .result) (z .sector-size .result) (o .source-of .result) (c .source-of2 .result)
-    (b .set-width .ensures) (v .set-width2 .ensures) e (f .block-address2 .ensures) (g .page-size .ensures) (z .sector-size .ensures)
+    (f .block-address2 .result) (g .page-size .result) (k .page-address .result) (z .sector-size .result) (o .source-of .result) (c .source-of2 .result)
+    (b .set-width .ensures) (v .set-width2 .ensures) e (f .block-address2 .ensures) (g .page-size .ensures) (k .page-address .ensures) (z .sector-size .ensures)
     (o .source-of .ensures) (c .source-of2 .ensures)
 
 pub row-of-spec : {M : Type 1} → statement M
-row-of-spec = tie.close (tie.spec add-set-width set-width-requires set-width-requires-2 side-block-requires block-address-requires block-address-requires-2 page-size-requires mul-split mul-split-2 add-end mul-end mul-end-2 source-of-requires mul-source-of sector-size-requires source-of-requires-2 returns)
+row-of-spec = tie.close (tie.spec add-set-width set-width-requires set-width-requires-2 side-block-requires block-address-requires block-address-requires-2 page-size-requires mul-split mul-split-2 add-end mul-end mul-end-2 source-of-requires page-address-requires sector-size-requires source-of-requires-2 returns)
