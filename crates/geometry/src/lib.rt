@@ -56,14 +56,14 @@ impl Geometry {
         requires { ⌜ Sound self ⌝ }
         ensures { λ r. ⌜ r ≡ layout.recordsPerPage (shape self .u) ⌝ }
     {
-        self.row.records
+        self.row.records as usize
     }
 
     pub fn entries_per_page(self) -> usize
         requires { ⌜ Sound self ⌝ }
         ensures { λ r. ⌜ r ≡ layout.entriesPerPage (shape self .u) ⌝ }
     {
-        self.row.entries
+        self.row.entries as usize
     }
 
     pub fn deletions_per_page(self) -> usize
@@ -77,7 +77,7 @@ impl Geometry {
         requires { ⌜ Sound self ⌝ }
         ensures { λ r. ⌜ r ≡ layout.filterBits (shape self .u) ⌝ }
     {
-        self.row.bits
+        self.row.bits as usize
     }
 
     // ---- areas, in blocks
@@ -232,7 +232,7 @@ fn with_blocks(row: Row, sizes: Sizes) -> Shaped
         return Shaped::Bad;
     }
     Shaped::Good(Geometry {
-        chip: Chip::with_sectors(row.sector),
+        chip: Chip::with_sectors(row.sector as usize),
         row,
         ra: sizes.ra_blocks as usize,
         da: sizes.da_blocks as usize,
@@ -247,7 +247,7 @@ pub fn geometry_for(sizes: Sizes) -> Shaped
     let mut i = 0;
     while i < 6 {
         let row = table::row_at(i);
-        if row.sector == size {
+        if row.sector as usize == size {
             return with_blocks(row, sizes);
         }
         i += 1;

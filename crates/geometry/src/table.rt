@@ -3,12 +3,12 @@ ghost use mathlib.Core.Path.{_≡_};
 ghost use Prim.Native.Nat.{_<_};
 ghost use Rattle.geometry.specs.Rows.{rowOf, Ruled};
 
-// A sector size in bytes, with the records and entries of a page and the bits of a filter.
+// A sector size in bytes, with the records and entries of a page and the bits of a filter; in one word, since a volume carries it.
 pub struct Row {
-    pub sector: usize,
-    pub records: usize,
-    pub entries: usize,
-    pub bits: usize,
+    pub sector: u16,
+    pub records: u16,
+    pub entries: u16,
+    pub bits: u16,
 }
 
 const ROWS: [Row; 6] = [

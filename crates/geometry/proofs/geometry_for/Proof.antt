@@ -29,6 +29,9 @@ row-at-requires c κs = omega arith
 row-sector : (c : tie.After-struct-known2 Inv-loop μ-loop) → rowOf (c .before .before .before .loop .i) .sector ≡ c .before .row-at .result .sector
 row-sector c = ap (λ (r : Row). r .sector) (sym (c .before .row-at .ensures .0))
 
+cast-if1 : tie.Need-cast-if1 Inv-loop μ-loop
+cast-if1 c = search needs
+
 with-blocks-requires : tie.Need-with-blocks-requires Inv-loop μ-loop
 with-blocks-requires c κs =
     let r = c .before .before .row-at in
@@ -68,6 +71,7 @@ geometry-for-spec =
     cast-size
     loop-holds
     row-at-requires
+    cast-if1
     with-blocks-requires
     returns
     add-i

@@ -25,19 +25,22 @@ returns-2 c =
       not-true (c .before .blocks-allowed2 .result) (c .if2 .taken),
     )
 
+cast-with-sectors : tie.Need-cast-with-sectors
+cast-with-sectors c = search needs
+
 with-sectors-requires : tie.Need-with-sectors-requires
 with-sectors-requires c κs = search needs
-
-cast-t6 : tie.Need-cast-t6
-cast-t6 c = search needs
 
 cast-t7 : tie.Need-cast-t7
 cast-t7 c = search needs
 
+cast-t8 : tie.Need-cast-t8
+cast-t8 c = search needs
+
 returns-3 : tie.Need-returns-3
 returns-3 c =
     let w = c .before .before in
-    let d = w .before in
+    let d = w .before .before in
     let b = d .before .before .before in
     let e = b .before .pre in
     let u = w .with-sectors .ensures ∙ ap (λ (r : Row). r .sector / 16) e in
@@ -50,4 +53,4 @@ returns-3 c =
     (λ i. Good (record { chip = record { unit = u i }; row = e i; ra = b .before .args .sizes .«ra_blocks»; da = b .before .args .sizes .«da_blocks» }))
 
 pub with-blocks-spec : {M : Type 1} → statement M
-with-blocks-spec = tie.close (tie.spec blocks-allowed-requires returns blocks-allowed-requires-2 returns-2 with-sectors-requires cast-t6 cast-t7 returns-3)
+with-blocks-spec = tie.close (tie.spec blocks-allowed-requires returns blocks-allowed-requires-2 returns-2 cast-with-sectors with-sectors-requires cast-t7 cast-t8 returns-3)
