@@ -17,8 +17,9 @@ use Rattle.layout.specs.Geometry.{sector, page, block}
 use Rattle.layout.specs.Flash.{Flash, Op, applyAll, allFresh}
 use Rattle.layout.specs.Items.{Area, itemPlace, source, bytesAt, itemWord, put, fills, itemRam}
 use Rattle.history.specs.Operations.{pageOps, itemOps}
-use Rattle.history.specs.FlashLaws.{fresh-programs, AllAllowed, programs-spare-out, programs-spare-in, programs-allowed, range-out, row-main}
+use Rattle.history.specs.FlashLaws.{fresh-programs, AllAllowed, programs-spare-out, programs-spare-in, programs-allowed, range-out, row-main, apply-main-length, apply-spare-length}
 use Rattle.history.specs.Image.{AreaIs, areaByte, areaRamByte, areaSpareByte}
+use Rattle.history.specs.Frames.{AreaGrown}
 use Rattle.history.specs.AreaNumbers.{start, room-left, in-page, flat, flat-at, flat-ext, flat-new}
 
 -- an area whose pages are full of items
@@ -120,11 +121,11 @@ module _ (u : ℕ) (pu : 0 < u) (a : Area) (blocks : ℕ) (whole : a .perPage * 
   read-bytes f n main spare ram A room j hj = tab-ext (a .size) _ (f j) (λ b hb. read-byte f n main spare ram A room j b hj hb)
 
   -- one more item; g is f with item n in it
-  module _ (f g : ℕ → ℕ → ℕ) (n : ℕ) (item : List ℕ) (C : Flash) (ram : List ℕ) (A : AreaIs u a blocks f n (C .main) (C .spare) ram)
-      (old : (j b : ℕ) → j < n → b < a .size → g j b ≡ f j b) (size-is : length item ≡ a .size) (new : (b : ℕ) → b < a .size → getD item b 0 ≡ g n b)
-      (room : n / a .perPage < blocks * 16)
-      (main-fits : (a .first + blocks) * block u ≤ length (C .main)) (spare-fits : (a .first + blocks) * 64 ≤ length (C .spare)) (ram-fits : a .ram + page u ≤ length ram) where
-    abbrev pub ops : List Op
+  module _ (f : ℕ → ℕ → ℕ) (n : ℕ) (item : List ℕ) (C : Flash) (ram : List ℕ) (A : AreaIs u a blocks f n (C .main) (C .spare) ram)
+      (size-is : length item ≡ a .size) (new : (b : ℕ) → b < a .size → getD item b 0 ≡ f n b) (room : n / a .perPage < blocks * 16)
+      (main-fits : (a .first + blocks) * block u ≤ length (C .main)) (spare-fits : (a .first + blocks) * 64 ≤ length (C .spare))
+      (ram-fits : a .ram + page u ≤ length ram) where
+    abbrev ops : List Op
     ops = itemOps u a n item ram
 
     -- bytes of the full pages, the first sector of the page to fill, byte y of its sector j
@@ -150,7 +151,7 @@ module _ (u : ℕ) (pu : 0 < u) (a : Area) (blocks : ℕ) (whole : a .perPage * 
 
     -- the RAM page with the new item in it
     put-ram : (i : ℕ) → i < page u
-        → getD (put a n item ram) (a .ram + i) 0 ≡ cond (ltb i (n % a .perPage * a .size + a .size)) (flat g (a .size) (done + i)) 0
+        → getD (put a n item ram) (a .ram + i) 0 ≡ cond (ltb i (n % a .perPage * a .size + a .size)) (flat f (a .size) (done + i)) 0
     unfolding put
     put-ram i h =
         let st = start n (a .perPage) (a .size) pq in
@@ -158,12 +159,12 @@ module _ (u : ℕ) (pu : 0 < u) (a : Area) (blocks : ℕ) (whole : a .perPage * 
         (λ c.
         let t : ltb i (n % a .perPage * a .size + a .size) ≡ true = lt-ltb i _ (omega arith) in
         getD-write-before ram (a .ram + n % a .perPage * a .size) item (a .ram + i) 0 (omega arith)
-        ∙ A .on-ram i h ∙ rw (c .0, t) (sym (flat-ext g f n (a .size) ps old (done + i) (omega arith))))
+        ∙ A .on-ram i h ∙ rw (c .0, t))
         (λ c. either (lt? i (n % a .perPage * a .size + a .size))
         (λ d.
         let s : a .ram + i - (a .ram + n % a .perPage * a .size) ≡ done + i - n * a .size = omega arith in
         getD-write-in ram (a .ram + n % a .perPage * a .size) item (a .ram + i) 0 (omega arith) (omega arith) (omega arith)
-        ∙ rw (d .0, s) (new (done + i - n * a .size) (omega arith) ∙ sym (flat-new g n (a .size) (done + i) (omega arith) (omega arith))))
+        ∙ rw (d .0, s) (new (done + i - n * a .size) (omega arith) ∙ sym (flat-new f n (a .size) (done + i) (omega arith) (omega arith))))
         (λ d. getD-write-after ram (a .ram + n % a .perPage * a .size) item (a .ram + i) 0 (omega arith) ∙ A .on-ram i h ∙ rw (c .0, d .0)))
 
     -- the page programmed is one write
@@ -179,7 +180,7 @@ module _ (u : ℕ) (pu : 0 < u) (a : Area) (blocks : ℕ) (whole : a .perPage * 
     -- the main area after the item that fills its page
     main-full : n % a .perPage + 1 ≡ a .perPage → (i : ℕ) → i < blocks * block u
         → getD (applyAll u (pageOps u a n (put a n item ram)) C .main) (a .first * block u + i) 0
-        ≡ cond (ltb i (done + a .perPage * a .size)) (flat g (a .size) i) 255
+        ≡ cond (ltb i (done + a .perPage * a .size)) (flat f (a .size) i) 255
     main-full full i h =
         let st = start n (a .perPage) (a .size) pq in
         let last : n % a .perPage * a .size + a .size ≡ a .perPage * a .size = omega (arith, ap (λ (x : ℕ). x * a .size) full) in
@@ -189,7 +190,7 @@ module _ (u : ℕ) (pu : 0 < u) (a : Area) (blocks : ℕ) (whole : a .perPage * 
         (λ c.
         let t : ltb i (done + a .perPage * a .size) ≡ true = lt-ltb i _ (omega arith) in
         getD-write-before (C .main) _ _ (a .first * block u + i) 0 (omega arith)
-        ∙ A .on-main i h ∙ rw (c .0, t) (sym (flat-ext g f n (a .size) ps old i (omega arith))))
+        ∙ A .on-main i h ∙ rw (c .0, t))
         (λ c. either (lt? i (done + a .perPage * a .size))
         (λ d.
         let k : i - done < a .perPage * a .size = omega arith in
@@ -201,7 +202,7 @@ module _ (u : ℕ) (pu : 0 < u) (a : Area) (blocks : ℕ) (whole : a .perPage * 
         ∙ rw (lt-ltb (i - done) (n % a .perPage * a .size + a .size) (omega arith), d .0, e))
         (λ d. getD-write-after (C .main) _ _ (a .first * block u + i) 0 (omega arith) ∙ A .on-main i h ∙ rw (c .0, d .0))))
 
-    main-add : (i : ℕ) → i < blocks * block u → getD (applyAll u ops C .main) (a .first * block u + i) 0 ≡ areaByte a g (n + 1) i
+    main-add : (i : ℕ) → i < blocks * block u → getD (applyAll u ops C .main) (a .first * block u + i) 0 ≡ areaByte a f (n + 1) i
     main-add i h =
         either (carry n (a .perPage) pq)
         (λ k.
@@ -210,10 +211,7 @@ module _ (u : ℕ) (pu : 0 < u) (a : Area) (blocks : ℕ) (whole : a .perPage * 
         rw (c, k .1, more) (main-full (k .0) i h))
         (λ k.
         let c : fills a n ≡ false = ne-eqb (n % a .perPage + 1) (a .perPage) (k .0) in
-        rw (c, k .1) (A .on-main i h
-        ∙ either (lt? i done)
-        (λ d. rw (d .0) (sym (flat-ext g f n (a .size) ps old i (omega (arith, start n (a .perPage) (a .size) pq)))))
-        (λ d. rw (d .0))))
+        rw (c, k .1) (A .on-main i h))
 
     spare-full : (x : ℕ) → x < blocks * 64
         → getD (applyAll u (pageOps u a n (put a n item ram)) C .spare) (a .first * 64 + x) 0 ≡ cond (ltb x (n / a .perPage * 4 + 4)) 0 255
@@ -239,7 +237,7 @@ module _ (u : ℕ) (pu : 0 < u) (a : Area) (blocks : ℕ) (whole : a .perPage * 
         let c : fills a n ≡ false = ne-eqb (n % a .perPage + 1) (a .perPage) (k .0) in
         rw (c, k .1) (A .on-spare x h))
 
-    ram-add : (i : ℕ) → i < page u → getD (itemRam u a n item ram) (a .ram + i) 0 ≡ areaRamByte a g (n + 1) i
+    ram-add : (i : ℕ) → i < page u → getD (itemRam u a n item ram) (a .ram + i) 0 ≡ areaRamByte a f (n + 1) i
     ram-add i h =
         either (carry n (a .perPage) pq)
         (λ k.
@@ -255,23 +253,20 @@ module _ (u : ℕ) (pu : 0 < u) (a : Area) (blocks : ℕ) (whole : a .perPage * 
         let more : (n % a .perPage + 1) * a .size ≡ n % a .perPage * a .size + a .size = omega arith in
         rw (c, k .1, k .2, more) (put-ram i h))
 
-    pub area-add : AreaIs u a blocks g (n + 1) (applyAll u ops C .main) (applyAll u ops C .spare) (itemRam u a n item ram)
-    area-add = record { on-main = main-add; on-spare = spare-add; on-ram = ram-add }
-
     -- the sectors of the page to fill are fresh
     page-fresh : (j : ℕ) → j < 4 → getD (C .spare) (firstSector + j * 1) 0 ≡ 255
     page-fresh j l =
         let s : firstSector + j * 1 ≡ a .first * 64 + (n / a .perPage * 4 + j) = omega arith in
         rw s (A .on-spare (n / a .perPage * 4 + j) (omega arith) ∙ rw (le-ltb (n / a .perPage * 4 + j) (n / a .perPage * 4) (omega arith)))
 
-    pub area-allowed : AllAllowed u ops C
+    area-allowed : AllAllowed u ops C
     area-allowed =
         either (bool? (fills a n))
         (λ c. rw c (programs-allowed u 1 firstSector 4 bytes C (omega arith) (λ j l. omega arith) page-fresh (λ j x l lt same. inr (x - firstSector, omega arith, omega arith))))
         (λ c. rw c tt)
 
     -- any spare that agrees with C's on the area's sectors finds them fresh
-    pub area-fresh : (spare : List ℕ) → ((x : ℕ) → a .first * 64 ≤ x → x < (a .first + blocks) * 64 → getD spare x 0 ≡ getD (C .spare) x 0) → allFresh spare ops ≡ true
+    area-fresh : (spare : List ℕ) → ((x : ℕ) → a .first * 64 ≤ x → x < (a .first + blocks) * 64 → getD spare x 0 ≡ getD (C .spare) x 0) → allFresh spare ops ≡ true
     unfolding allFresh
     area-fresh spare same =
         either (bool? (fills a n))
@@ -279,14 +274,14 @@ module _ (u : ℕ) (pu : 0 < u) (a : Area) (blocks : ℕ) (whole : a .perPage * 
         (λ c. rw c)
 
     -- what lies outside the area is kept
-    pub area-main-out : (x : ℕ) → (x < a .first * block u) ⊎ ((a .first + blocks) * block u ≤ x) → getD (applyAll u ops C .main) x 0 ≡ getD (C .main) x 0
+    area-main-out : (x : ℕ) → (x < a .first * block u) ⊎ ((a .first + blocks) * block u ≤ x) → getD (applyAll u ops C .main) x 0 ≡ getD (C .main) x 0
     area-main-out x o =
         either (bool? (fills a n))
         (λ c. rw c (range-out u 1 firstSector 4 (a .first * 64) ((a .first + blocks) * 64) bytes C x (omega arith) (λ j l. (omega arith, omega arith))
         (either o (λ b. inl (omega arith)) (λ b. inr (omega arith)))))
         (λ c. rw c)
 
-    pub area-spare-out : (x : ℕ) → (x < a .first * 64) ⊎ ((a .first + blocks) * 64 ≤ x) → getD (applyAll u ops C .spare) x 0 ≡ getD (C .spare) x 0
+    area-spare-out : (x : ℕ) → (x < a .first * 64) ⊎ ((a .first + blocks) * 64 ≤ x) → getD (applyAll u ops C .spare) x 0 ≡ getD (C .spare) x 0
     area-spare-out x o =
         either (bool? (fills a n))
         (λ c. rw c (programs-spare-out u 1 firstSector 4 bytes C x (λ j l. either o (λ b. omega arith) (λ b. omega arith))))
@@ -298,27 +293,44 @@ module _ (u : ℕ) (pu : 0 < u) (a : Area) (blocks : ℕ) (whole : a .perPage * 
         let left = room-left n (a .perPage) (a .size) pq in
         either o (λ b. getD-write-before ram _ item x 0 (omega arith)) (λ b. getD-write-after ram _ item x 0 (omega arith))
 
-    pub area-ram-out : (x : ℕ) → (x < a .ram) ⊎ (a .ram + page u ≤ x) → getD (itemRam u a n item ram) x 0 ≡ getD ram x 0
+    area-ram-out : (x : ℕ) → (x < a .ram) ⊎ (a .ram + page u ≤ x) → getD (itemRam u a n item ram) x 0 ≡ getD ram x 0
     area-ram-out x o =
         let long : length (replicate {A = ℕ} (page u) 0) ≡ page u = length-replicate {A = ℕ} (page u) 0 in
         either (bool? (fills a n))
         (λ c. rw c (either o (λ b. getD-write-before (put a n item ram) (a .ram) _ x 0 b) (λ b. getD-write-after (put a n item ram) (a .ram) _ x 0 (omega arith)) ∙ put-out x o))
         (λ c. rw c (put-out x o))
 
-    pub area-ram-length : length (itemRam u a n item ram) ≡ length ram
+    area-ram-length : length (itemRam u a n item ram) ≡ length ram
     area-ram-length = either (bool? (fills a n)) (λ c. rw c (length-write (put a n item ram) (a .ram) _ ∙ length-put)) (λ c. rw c length-put)
 
+    pub area-grown : AreaGrown u a blocks f n item C ram
+    area-grown = record {
+      did = record {
+        allowed = area-allowed;
+        fresh = area-fresh;
+        frame = record {
+          main = area-main-out;
+          spare = area-spare-out;
+          ram = area-ram-out;
+          main-length = apply-main-length u ops C;
+          spare-length = apply-spare-length u ops C;
+          ram-length = area-ram-length;
+        };
+      };
+      more = record { on-main = main-add; on-spare = spare-add; on-ram = ram-add };
+    }
+
     -- byte b of item i of the RAM page with the new item in it
-    put-byte : (i b : ℕ) → i ≤ n % a .perPage → b < a .size → getD (put a n item ram) (a .ram + (i * a .size + b)) 0 ≡ g (n / a .perPage * a .perPage + i) b
+    put-byte : (i b : ℕ) → i ≤ n % a .perPage → b < a .size → getD (put a n item ram) (a .ram + (i * a .size + b)) 0 ≡ f (n / a .perPage * a .perPage + i) b
     put-byte i b hi hb =
         let left = room-left n (a .perPage) (a .size) pq in
         let iw : i * a .size ≤ n % a .perPage * a .size = mul-le-mul-right (a .size) hi in
         let t : ltb (i * a .size + b) (n % a .perPage * a .size + a .size) ≡ true = lt-ltb (i * a .size + b) _ (omega arith) in
         let e : done + (i * a .size + b) ≡ (n / a .perPage * a .perPage + i) * a .size + b = omega arith in
-        put-ram (i * a .size + b) (omega (arith, whole)) ∙ rw (t, e) (flat-at g (a .size) (n / a .perPage * a .perPage + i) b hb)
+        put-ram (i * a .size + b) (omega (arith, whole)) ∙ rw (t, e) (flat-at f (a .size) (n / a .perPage * a .perPage + i) b hb)
 
     -- word w of item i of the RAM page with the new item in it (before it is programmed and zeroed)
-    pub put-word : (i w k : ℕ) → i ≤ n % a .perPage → w * 4 + 4 ≤ a .size → k < 2 ^ 32 → ((b : ℕ) → b < 4 → g (n / a .perPage * a .perPage + i) (w * 4 + b) ≡ byteOf k b)
+    pub put-word : (i w k : ℕ) → i ≤ n % a .perPage → w * 4 + 4 ≤ a .size → k < 2 ^ 32 → ((b : ℕ) → b < 4 → f (n / a .perPage * a .perPage + i) (w * 4 + b) ≡ byteOf k b)
         → word (put a n item ram) (a .ram + i * a .size + w * 4) ≡ k
     put-word i w k hi hw small is =
         bytes-word k _ _ _ _ small (byte 0 _ (omega arith) (omega arith)) (byte 1 _ (omega arith) (omega arith)) (byte 2 _ (omega arith) (omega arith)) (byte 3 _ (omega arith) (omega arith))

@@ -12,7 +12,6 @@ use borrow.Author.Tests.{eqb-true, eqb-false}
 use Rattle.memory.specs.Cases.{either, lt?}
 use Rattle.memory.specs.Numbers.{carry, euclid}
 use Rattle.memory.specs.Ranges.{any-ext, memb}
-use Rattle.memory.specs.Words.{word}
 use Rattle.layout.specs.Geometry.{Geometry, filterBits, kaBlocks, indexBlock, fullSets, recordCapacity, deletionCapacity, spareSize, kaRam}
 use Rattle.layout.specs.Flash.{Flash, Op, applyAll, planOps, allFresh}
 use Rattle.layout.specs.Hash.{Family}
@@ -29,7 +28,8 @@ use Rattle.history.specs.AreaLaws.{area-ext, put-word}
 use Rattle.history.specs.IndexLaws.{index-ext}
 use Rattle.laws.specs.ItemLaws.{length-record, length-entry, length-deletion, entry-key}
 use Rattle.history.specs.Parts as parts
-use Rattle.history.specs.Parts.{Parts, Did, Beyond, beyond-then, frame-beyond}
+use Rattle.history.specs.Frames.{Did, Beyond, beyond-then, frame-beyond}
+use Rattle.history.specs.Parts.{Parts}
 use Rattle.laws.specs.RowLaws.{places-suffice}
 
 -- what an insertion leaves behind: n records, d deletions
@@ -191,7 +191,7 @@ module _ (h : Family) (g : Geometry) (e : ℕ) (pow : g .u ≡ 2 ^ e) where
           let at : kaRam (g .u) + i * 8 + 0 * 4 ≡ kaRam (g .u) + i * 8 = omega arith in
           let k = recordAt (withRecord H r) (length (H .records) / (8 * g .u) * (8 * g .u) + i) .key in
           rw at at
-          (put-word (g .u) pu (KA g) (kaBlocks g) (omega arith) (omega (arith, pu)) (omega arith) (kaItem H′) (kaItem H′) n entry C₁ ram₁ (parts₁ .ka) (λ j b a c. refl)
+          (put-word (g .u) pu (KA g) (kaBlocks g) (omega arith) (omega (arith, pu)) (omega arith) (kaItem H′) n entry C₁ ram₁ (parts₁ .ka)
           (length-entry (r .key) n) entry-new (parts.ka-room h g e pow H′ (n + 1) n d N C₁ ram₁ parts₁ entry (length-entry (r .key) n) entry-new room)
           (omega (arith, parts₁ .main-fits)) (omega (arith, parts₁ .spare-fits)) (omega (arith, parts₁ .ram-fits))
           i 0 k (omega arith) (omega arith) (words′ (length (H .records) / (8 * g .u) * (8 * g .u) + i) (omega arith))

@@ -3,10 +3,10 @@ use mathlib.Core.Path.{_≡_, refl, ap, _∙_}
 use mathlib.Core.Bool.{Bool, true, false, cond}
 use mathlib.Core.Option.{Option, none, some}
 use mathlib.Core.List.{List, _++_}
-use Prim.Native.Nat.{ℕ, _/_, _≤_, _<_, _^_}
+use Prim.Native.Nat.{ℕ, _≤_, _<_}
 use native.Mathlib.Omega.{arith}
 use lib.ListN.{length, getD}
-use Rattle.layout.specs.Geometry.{Geometry, geometry, allowed, blocks, recordCapacity, deletionCapacity, spareSize, Sizes, unitOf, stateOf}
+use Rattle.layout.specs.Geometry.{Geometry, geometry, allowed, blocks, spareSize, Sizes, unitOf, stateOf}
 use Rattle.layout.specs.Flash.{Op, applyAll}
 use Rattle.layout.specs.Hash.{Family}
 use Rattle.layout.specs.Keys.{Key, KeyOk}
@@ -15,7 +15,7 @@ use Rattle.layout.specs.FiniteMap.{emptyMap}
 use Rattle.history.specs.FlashLaws.{apply-append}
 use Rattle.history.specs.Image.{History}
 use Rattle.history.specs.Live.{emptyHistory, live-start, findLive, lookupHistory}
-use Rattle.history.specs.Parts.{Beyond, beyond-then}
+use Rattle.history.specs.Frames.{Beyond, beyond-then}
 use Rattle.history.specs.ByAddress.{main-by-address, spare-by-address, ram-by-address}
 use Rattle.history.specs.Runs.{KeyWords, after, opsOf, ProgramOrder, EachAgrees, historyOf, ImageOf, replyOf, liveReply}
 use Rattle.history.specs.ProgramOrder.{in-order, erases-in-order, erased, erased-in}

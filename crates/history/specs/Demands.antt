@@ -3,7 +3,7 @@
 use mathlib.Core.Path.{_≡_}
 use mathlib.Core.Bool.{Bool, true, false}
 use mathlib.Core.List.{List, _++_}
-use Prim.Native.Nat.{ℕ, _/_}
+use Prim.Native.Nat.{ℕ}
 use Rattle.layout.specs.Geometry.{geometry, allowed, Sizes, unitOf, stateOf}
 use Rattle.layout.specs.Flash.{applyAll}
 use Rattle.layout.specs.Hash.{Family}

@@ -25,7 +25,7 @@ use Rattle.laws.specs.ItemLaws.{length-record, length-entry, length-deletion}
 use Rattle.laws.specs.SearchLaws.{search-opened}
 use Rattle.history.specs.PlanLaws.{ops-append}
 use Rattle.history.specs.ChangeLaws.{deletion-ops, insertion-after, insertion-ops, insertion-ram}
-use Rattle.history.specs.Parts.{Beyond, beyond-same}
+use Rattle.history.specs.Frames.{Beyond, beyond-same}
 use Rattle.history.specs.Inside.{Inside, inside-none, inside-append, inside-erases, main-past, spare-past, inside-item, inside-filter, Past, past-then, past-zero, past-item, past-filter}
 use Rattle.laws.specs.RowLaws.{places-suffice}
 use Rattle.laws.specs.Sound.{Sound, sound}

@@ -1,7 +1,7 @@
 -- The laws of an index: every filter reads as the image says, and one more filter, wherever it goes, keeps the image.
 use mathlib.Core.Path.{_≡_, refl, sym, ap, _∙_}
 use mathlib.Core.Logic.{_≢_, _⊎_, inl, inr}
-use mathlib.Core.Bool.{Bool, true}
+use mathlib.Core.Bool.{Bool}
 use mathlib.Core.List.{List, [], _++_}
 use Prim.Native.Nat.{ℕ, _+_, _-_, _*_, _/_, _%_, _^_, _≤_, _<_}
 use native.Mathlib.Nat.{mod-lt}
@@ -17,7 +17,8 @@ use Rattle.layout.specs.Items.{zeroPage}
 use Rattle.layout.specs.Index.{Index, rowByte, inSka, inL1, inSet, inFull, fullFilters, fullBlock, filterBit, withFilter, filterRam}
 use Rattle.history.specs.Operations.{flushOps, buildOps, flushAndBuildOps, filterOps}
 use Rattle.history.specs.Image.{IndexMain, IndexSpare, IndexIs}
-use Rattle.history.specs.FlashLaws.{fresh-append, AllAllowed, apply-append, allowed-append, apply-main-length, apply-spare-length}
+use Rattle.history.specs.Frames.{IndexGrown}
+use Rattle.history.specs.FlashLaws.{fresh-append, apply-append, allowed-append, apply-main-length, apply-spare-length}
 use Rattle.laws.specs.RowLaws.{unit-pos}
 use Rattle.history.specs.IndexRead.{SkaIs, onFlash, read-ska, read-flash, ska-ext, main-ext, main-kept, spare-kept, main-erased, spare-erased}
 use Rattle.history.specs.IndexFlush.{ska-add, ska-zero, ska-sector, flush-main, flush-main-out, flush-spare, flush-spare-out, flush-allowed, flush-fresh}
@@ -239,34 +240,35 @@ module _ (u e : ℕ) (pow : u ≡ 2 ^ e) (ix : Index) (Z : ℕ) where
         (ska-zero u (unit-pos u e pow) ix F ((N + 1) / 8) (zeroPage u (ix .ska) ram₁) (λ x lo hi. zero-in u (unit-pos u e pow) ix ram₁ x (rw l ram-fits) lo hi)))
         (λ a. rw (ne-eqb (N % 8 + 1) 8 (a .0), a .1, a .2) ska-one)
 
-    pub index-add : IndexIs u ix Z F (N + 1) (applyAll u ops C .main) (applyAll u ops C .spare) (filterRam u ix N ram₁)
-    index-add = record { on-main = after-filter .on-main; on-spare = after-filter .on-spare; on-ram = ska-after }
-
-    -- each program meets a fresh sector whose earlier sectors in the page are programmed
-    pub index-allowed : AllAllowed u ops C
-    index-allowed = after-filter .may
-
-    -- refusal 7 is tested on the spare area before the call: on any that agrees with C's on the index's sectors
-    pub index-fresh : (spare : List ℕ) → ((x : ℕ) → ix .first * 64 ≤ x → x < fullBlock u ix Z * 64 → getD spare x 0 ≡ getD (C .spare) x 0) → allFresh spare ops ≡ true
-    index-fresh = after-filter .free
-
-    -- what lies outside the index is kept
-    pub index-main-out : (x : ℕ) → (x < ix .first * block u) ⊎ (fullBlock u ix Z * block u ≤ x) → getD (applyAll u ops C .main) x 0 ≡ getD (C .main) x 0
-    index-main-out = after-filter .main-out
-
-    pub index-spare-out : (x : ℕ) → (x < ix .first * 64) ⊎ (fullBlock u ix Z * 64 ≤ x) → getD (applyAll u ops C .spare) x 0 ≡ getD (C .spare) x 0
-    index-spare-out = after-filter .spare-out
-
-    pub index-ram-out : (x : ℕ) → (x < ix .ska) ⊎ (ix .ska + page u ≤ x) → getD (filterRam u ix N ram₁) x 0 ≡ getD ram x 0
+    -- the RAM outside the SKA page is kept
+    index-ram-out : (x : ℕ) → (x < ix .ska) ⊎ (ix .ska + page u ≤ x) → getD (filterRam u ix N ram₁) x 0 ≡ getD ram x 0
     index-ram-out x o =
         let kept = filter-out u (unit-pos u e pow) ix new (N % 8) ram x (omega arith) o in
         either (eq? (N % 8 + 1) 8)
         (λ a. rw (a .0) (zero-out u (unit-pos u e pow) ix ram₁ x o ∙ kept))
         (λ a. rw (a .0) kept)
 
-    pub index-ram-length : length (filterRam u ix N ram₁) ≡ length ram
+    index-ram-length : length (filterRam u ix N ram₁) ≡ length ram
     index-ram-length =
         let kept = filter-length u (unit-pos u e pow) ix new (N % 8) ram in
         either (eq? (N % 8 + 1) 8)
         (λ a. rw (a .0) (length-write ram₁ (ix .ska) (replicate (64 * u) 0) ∙ kept))
         (λ a. rw (a .0) kept)
+
+    -- refusal 7 is tested on the spare area before the call: on any that agrees with C's on the index's sectors
+    pub index-grown : IndexGrown u ix Z F N new C ram
+    index-grown = record {
+      did = record {
+        allowed = after-filter .may;
+        fresh = after-filter .free;
+        frame = record {
+          main = after-filter .main-out;
+          spare = after-filter .spare-out;
+          ram = index-ram-out;
+          main-length = apply-main-length u ops C;
+          spare-length = apply-spare-length u ops C;
+          ram-length = index-ram-length;
+        };
+      };
+      more = record { on-main = after-filter .on-main; on-spare = after-filter .on-spare; on-ram = ska-after };
+    }

@@ -7,6 +7,7 @@ pub mod Inside
 pub mod RamPages
 pub mod ChangeLaws
 pub mod Image
+pub mod Frames
 pub mod IndexRead
 pub mod IndexFlush
 pub mod IndexBuild

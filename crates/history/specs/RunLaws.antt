@@ -24,7 +24,8 @@ use Rattle.history.specs.FlashLaws.{AllAllowed, apply-append, allowed-ap
 use Rattle.history.specs.Image.{History, raItem, kaItem, daItem, keyFilter}
 use Rattle.history.specs.Live.{findLive, withRecord, withDeletion, emptyHistory, Live, stepHistory}
 use Rattle.history.specs.MapLaws.{step-same, Live-deletion}
-use Rattle.history.specs.Parts.{Parts, Beyond, beyond-same, beyond-then}
+use Rattle.history.specs.Frames.{Beyond, beyond-same, beyond-then}
+use Rattle.history.specs.Parts.{Parts}
 use Rattle.history.specs.AreaLaws.{area-start}
 use Rattle.history.specs.IndexLaws.{index-start}
 use Rattle.history.specs.Runs.{KeyWords, number, after, opsOf, replyOf, ResultAgrees, EachAgrees, growIf, grow, historyOf}

@@ -4,10 +4,10 @@ use mathlib.Core.Logic.{_≢_}
 use mathlib.Core.Bool.{Bool, true, false, cond}
 use mathlib.Core.Option.{Option, none, some}
 use mathlib.Core.List.{List, [], _∷_, _++_}
-use Prim.Native.Nat.{ℕ, _+_, _/_, _^_, _≤_, _<_}
+use Prim.Native.Nat.{ℕ, _+_, _/_, _≤_, _<_}
 use lib.ListN.{length, getD}
 use lib.Dec.{eqb}
-use Rattle.layout.specs.Geometry.{State, Geometry, geometry, dataSize, spareSize, ramSize, entriesPerPage, Sizes, unitOf, stateOf}
+use Rattle.layout.specs.Geometry.{Geometry, geometry, dataSize, spareSize, ramSize, entriesPerPage, Sizes, unitOf, stateOf}
 use Rattle.layout.specs.Geometry.{sectorsPerPage, sectorsPerBlock}
 use Rattle.layout.specs.Flash.{Op, program, erase}
 use Rattle.layout.specs.Hash.{Family}

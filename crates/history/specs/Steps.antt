@@ -4,7 +4,7 @@ use mathlib.Core.Logic.{_≢_, inl, inr}
 use mathlib.Core.Bool.{true, false}
 use mathlib.Core.Option.{Option, none, some, Option·map}
 use mathlib.Core.List.{List, [], _∷_, _++_, append-nil}
-use Prim.Native.Nat.{ℕ, _+_, _-_, _/_, _≤_, _<_, _^_}
+use Prim.Native.Nat.{ℕ, _+_, _-_, _/_, _≤_, _<_}
 use native.Mathlib.Omega.{arith}
 use lib.ListN.{length, getD, take, replicate, length-append, length-replicate, getD-replicate, List·getD-append}
 use lib.Seq.{getD-append-seam, getD-take}
@@ -25,7 +25,8 @@ use Rattle.history.specs.PlanLaws.{ops-append}
 use Rattle.history.specs.ChangeLaws.{insertion-after}
 use Rattle.history.specs.Image.{History, recordAt, raItem, kaItem, daItem, keyFilter}
 use Rattle.history.specs.Live.{findLive, withRecord, withDeletion, HistoryStep, historyStep, insertHistory, updateHistory, deleteHistory, lookupHistory, stepHistory, found-below}
-use Rattle.history.specs.Parts.{Parts, Did, Frame, Beyond, beyond-same, beyond-then, frame-beyond, frame-area, frame-index}
+use Rattle.history.specs.Frames.{Did, Frame, Beyond, beyond-same, beyond-then, frame-beyond}
+use Rattle.history.specs.Parts.{Parts, frame-area, frame-index}
 use Rattle.history.specs.Changes.{Changed, deletion-did, deletion-parts, insertion-changes}
 use Rattle.history.specs.Runs.{KeyWord, replyOf, Possible, HandedOn}
 use Rattle.history.specs.ProgramOrder.{Below, fresh-below}
