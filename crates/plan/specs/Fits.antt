@@ -1,10 +1,10 @@
 -- Where segments fit, by the lengths of the main area, the spare area and the RAM.
 use mathlib.Core.Path.{_≡_, ap}
-use Prim.Native.Nat.{ℕ, _+_, _*_, _/_, _≤_, _<_}
+use Prim.Native.Nat.{ℕ, _+_, _-_, _*_, _≤_, _<_}
 use native.Mathlib.Nat.{mul-le-mul-right}
 use native.Mathlib.Omega.{arith}
-use Rattle.layout.specs.Geometry.{sectorsPerPage, sectorsPerBlock, sector, page, block, sideBlocks}
-use Rattle.layout.specs.Index.{fullBlock, setPages}
+use Rattle.layout.specs.Geometry.{sectorsPerPage, sectorsPerBlock, sector, page, block, fourthSize, sideBlocks}
+use Rattle.layout.specs.Index.{flushesPerRound, fullBlock, setPages}
 use Rattle.geometry.specs.Indexes.{indexOf}
 use Rattle.laws.specs.Units.{UnitSound}
 use Rattle.plan.specs.declared.Page.{Page}
@@ -17,12 +17,15 @@ pub record PageFits (u : ℕ) (p : Page) (main spare ram : ℕ) : Type 0 where
   pub in-spare : p .sector + sectorsPerPage ≤ spare
   pub in-ram : p .at + page u ≤ ram
 
--- the sectors of a flush lie 16 apart
+-- sectors from the first of a flush to its last
+abbrev pub flushReach : ℕ
+flushReach = (sectorsPerPage - 1) * flushesPerRound + 1
+
 pub record FlushFits (u : ℕ) (p : Page) (main spare ram : ℕ) : Type 0 where
   pub some : 0 < u
   pub small : u ≤ 32
-  pub in-main : (p .sector + 49) * sector u ≤ main
-  pub in-spare : p .sector + 49 ≤ spare
+  pub in-main : (p .sector + flushReach) * sector u ≤ main
+  pub in-spare : p .sector + flushReach ≤ spare
   pub in-ram : p .at + page u ≤ ram
 
 -- the first n sectors of the next set from sector s on, and what they are made of
@@ -47,30 +50,28 @@ at-lengths F m s m′ s′ e d p = rw (e, d) p
 pub at-numbers : (F : ℕ → ℕ → ℕ → Type 0) (a m s a′ m′ s′ : ℕ) → a′ ≡ a → m′ ≡ m → s′ ≡ s → F a m s → F a′ m′ s′
 at-numbers F a m s a′ m′ s′ h e d p = rw (h, e, d) p
 
--- sector j of a page; `size` is what code computes
+-- sector j of a page; `size` and `off` are what code computes
 module _ (u : ℕ) (p : Page) (main spare ram : ℕ) (F : PageFits u p main spare ram) (j : ℕ) (h : j < 4) where
   pub page-on-flash : (p .sector + j) * sector u + sector u ≤ main
   page-on-flash =
       let s : p .sector + j + 1 ≤ p .sector + 4 = omega arith in
       omega (arith, mul-le-mul-right (sector u) s, F .in-main)
 
-  pub page-in-ram : (size : ℕ) → size ≡ sector u → p .at + j * size + size ≤ ram
-  page-in-ram size e = rw e (omega (arith, mul-le-mul-right (sector u) h, F .in-ram))
+  pub page-in-ram : (size off : ℕ) → size ≡ sector u → off ≡ j * sector u → p .at + off + size ≤ ram
+  page-in-ram size off e o = rw (e, o) (omega (arith, mul-le-mul-right (sector u) h, F .in-ram))
 
--- sector j of a flush; `size` and `piece` are what code computes
+-- sector j of a flush; `size`, `off` and `piece` are what code computes
 module _ (u : ℕ) (p : Page) (main spare ram : ℕ) (F : FlushFits u p main spare ram) (j : ℕ) (h : j < 4) where
   pub flush-on-flash : (p .sector + j * 16) * sector u + sector u ≤ main
   flush-on-flash =
       let s : p .sector + j * 16 + 1 ≤ p .sector + 49 = omega arith in
       omega (arith, mul-le-mul-right (sector u) s, F .in-main)
 
-  pub flush-in-ram : (size : ℕ) → size ≡ sector u → p .at + j * size + size ≤ ram
-  flush-in-ram size e = rw e (omega (arith, mul-le-mul-right (sector u) h, F .in-ram))
+  pub flush-in-ram : (size off : ℕ) → size ≡ sector u → off ≡ j * sector u → p .at + off + size ≤ ram
+  flush-in-ram size off e o = rw (e, o) (omega (arith, mul-le-mul-right (sector u) h, F .in-ram))
 
-  pub flush-in-bits : (size piece : ℕ) → size ≡ sector u → piece ≡ size / 8 → j * piece + piece ≤ 256
-  flush-in-bits size piece e d =
-      let q : piece ≡ 2 * u = omega (arith, e, d) in
-      rw q (omega (arith, mul-le-mul-right (2 * u) h, F .small))
+  pub flush-in-bits : (piece : ℕ) → piece ≡ fourthSize u → j * piece + piece ≤ 256
+  flush-in-bits piece q = rw q (omega (arith, mul-le-mul-right (fourthSize u) h, F .small))
 
 -- sector j of the next set
 pub set-on-flash : (u : ℕ) (set : Set) (s n main spare : ℕ) → NextFits u set s n main spare → (j : ℕ) → j < n

@@ -4,8 +4,9 @@ use mathlib.Core.List.{List, _++_}
 use Prim.Native.Nat.{ℕ, _+_, _*_, _^_, _≤_, _<_}
 use native.Mathlib.Omega.{arith}
 use lib.ListN.{length, take, drop, length-append}
-use Rattle.layout.specs.Geometry.{raRam, kaRam, daRam}
+use Rattle.layout.specs.Geometry.{sectorsPerPage, raRam, kaRam, daRam}
 use Rattle.layout.specs.Flash.{Flash, Planned, plannedFrom}
+use Rattle.layout.specs.Index.{flushesPerRound}
 use Rattle.laws.specs.RowLaws.{blocks-fit}
 use Rattle.plan.specs.declared.Page.{Page}
 use Rattle.plan.specs.declared.Plan.{Plan}
@@ -86,9 +87,9 @@ pub record PagesFit (p : Plan) (main spare ram : ℕ) : Type 0 where
   pub da : PageFits (p .chip .unit) (daPage p) main spare ram
   pub ra : PageFits (p .chip .unit) (raPage p) main spare ram
   pub ka : PageFits (p .chip .unit) (kaPage p) main spare ram
-  pub da-count : p .da .count ≤ 4
-  pub ra-count : p .ra .count ≤ 4
-  pub ka-count : p .ka .count ≤ 4
+  pub da-count : p .da .count ≤ sectorsPerPage
+  pub ra-count : p .ra .count ≤ sectorsPerPage
+  pub ka-count : p .ka .count ≤ sectorsPerPage
 
 -- the next set and the erases
 pub record BuildFits (p : Plan) (main spare : ℕ) : Type 0 where
@@ -99,7 +100,7 @@ pub record BuildFits (p : Plan) (main spare : ℕ) : Type 0 where
 pub record PlanFits (p : Plan) (main spare ram : ℕ) : Type 0 where
   pub pages : PagesFit p main spare ram
   pub flush : FlushFits (p .chip .unit) (flushPage p) main spare ram
-  pub flush-count : p .flush .count ≤ 4
+  pub flush-count : p .flush .count ≤ sectorsPerPage
   pub build : BuildFits p main spare
 
 -- the marks of the sectors that it programs
@@ -107,7 +108,7 @@ pub record SpareFits (p : Plan) (spare : ℕ) : Type 0 where
   pub da : p .da .first + p .da .count ≤ spare
   pub ra : p .ra .first + p .ra .count ≤ spare
   pub ka : p .ka .first + p .ka .count ≤ spare
-  pub flush : p .flush .first + p .flush .count * 16 < spare + 16
+  pub flush : p .flush .first + p .flush .count * flushesPerRound < spare + flushesPerRound
   pub set : p .set .first + p .set .count ≤ spare
 
 -- where a plan fits, its sectors have marks, and there are not too many operations
@@ -129,24 +130,25 @@ count-fits p main spare ram F h =
     let o : p .old .count * 64 ≤ spare = omega (arith, F .build .old .in-spare) in
     omega (arith, s, l, o, h, F .pages .da-count, F .pages .ra-count, F .pages .ka-count, F .flush-count)
 
--- ---- the parts of a run, in order, are the run; `page` is what code computes
+-- ---- the parts of a run, in order, are the run; `da`, `ra` and `ka` are what code computes
 
 module _ (p : Plan) (s s₂ s₃ : Span) (c : Flash) where
-  pub pages-run : (page : ℕ) (new ram : List ℕ) (r₁ r₂ r₃ : Span) {x y z : Flash} → page ≡ kaRam (p .chip .unit)
+  pub pages-run : (da ra ka : ℕ) (new ram : List ℕ) (r₁ r₂ r₃ : Span) {x y z : Flash}
+      → da ≡ daRam (p .chip .unit) → ra ≡ raRam (p .chip .unit) → ka ≡ kaRam (p .chip .unit)
       → s₂ ≡ behind s (p .da .count) → s₃ ≡ behind s₂ (p .ra .count)
       → r₁ ≡ among s (p .da .count) → r₂ ≡ among s₂ (p .ra .count) → r₃ ≡ among s₃ (p .ka .count)
-      → x ≡ runOf (p .chip .unit) (filledPage (p .chip .unit) (record { sector = p .da .first; at = 2 * page }) (deletionIn new) ram) r₁ c
-      → y ≡ runOf (p .chip .unit) (filledPage (p .chip .unit) (record { sector = p .ra .first; at = 0 }) (recordIn new) ram) r₂ x
-      → z ≡ runOf (p .chip .unit) (filledPage (p .chip .unit) (record { sector = p .ka .first; at = page }) (entryIn new) ram) r₃ y
+      → x ≡ runOf (p .chip .unit) (filledPage (p .chip .unit) (record { sector = p .da .first; at = da }) (deletionIn new) ram) r₁ c
+      → y ≡ runOf (p .chip .unit) (filledPage (p .chip .unit) (record { sector = p .ra .first; at = ra }) (recordIn new) ram) r₂ x
+      → z ≡ runOf (p .chip .unit) (filledPage (p .chip .unit) (record { sector = p .ka .first; at = ka }) (entryIn new) ram) r₃ y
       → z ≡ done (p .chip .unit) (span (pagesOf p new ram) s) c
-  pages-run page new ram r₁ r₂ r₃ page-is e₂ e₃ a₁ a₂ a₃ d₁ d₂ d₃ =
+  pages-run da ra ka new ram r₁ r₂ r₃ da-is ra-is ka-is e₂ e₃ a₁ a₂ a₃ d₁ d₂ d₃ =
       let u : ℕ = p .chip .unit in
       let f₂ : ℕ → Planned = filledPage u (raPage p) (recordIn new) ram in
       let f₃ : ℕ → Planned = filledPage u (kaPage p) (entryIn new) ram in
       first-run u (filledPage u (daPage p) (deletionIn new) ram) (p .da .count)
-      (plannedFrom f₂ 0 (p .ra .count) ++ plannedFrom f₃ 0 (p .ka .count)) s r₁ s₂ c a₁ e₂ (rw page-is at d₁)
-      (first-run u f₂ (p .ra .count) (plannedFrom f₃ 0 (p .ka .count)) s₂ r₂ s₃ _ a₂ e₃ d₂
-      (last-run u f₃ (p .ka .count) s₃ r₃ _ a₃ (rw page-is at d₃)))
+      (plannedFrom f₂ 0 (p .ra .count) ++ plannedFrom f₃ 0 (p .ka .count)) s r₁ s₂ c a₁ e₂ (rw da-is at d₁)
+      (first-run u f₂ (p .ra .count) (plannedFrom f₃ 0 (p .ka .count)) s₂ r₂ s₃ _ a₂ e₃ (rw ra-is at d₂)
+      (last-run u f₃ (p .ka .count) s₃ r₃ _ a₃ (rw ka-is at d₃)))
 
   pub build-run : (r₁ r₂ r₃ : Span) {x y z : Flash} → s₂ ≡ behind s (p .set .count) → s₃ ≡ behind s₂ (p .l1 .count)
       → r₁ ≡ among s (p .set .count) → r₂ ≡ among s₂ (p .l1 .count) → r₃ ≡ among s₃ (p .old .count)

@@ -10,10 +10,9 @@ use lib.Seq.{getD-take, getD-drop, getD-append-add}
 use Rattle.memory.specs.Cases.{either, lt?}
 use Rattle.memory.specs.Bits.{pack}
 use Rattle.memory.specs.Lists.{tab, is-tab, tab-ext, getD-tab, write, getD-write-before, getD-write-in, pieces-in, pieces-out}
-use Rattle.layout.specs.Geometry.{sectorsPerPage, sectorsPerBlock, sector, page}
+use Rattle.layout.specs.Geometry.{sector, page, fourthSize}
 use Rattle.layout.specs.Flash.{Planned, known, made, wipe}
-use Rattle.layout.specs.Items.{Area, pageSector}
-use Rattle.layout.specs.Index.{Index, flushesPerRound, withFilter, flushSector, setByte, setBlock, setSector}
+use Rattle.layout.specs.Index.{Index, flushesPerRound, withFilter, setByte}
 use Rattle.flash.specs.Parts.{tab-part}
 use Rattle.geometry.specs.Indexes.{indexOf}
 use Rattle.filter.specs.Filter.{arrayBit}
@@ -31,17 +30,6 @@ module _ (u : ℕ) where
 
   abbrev pub setFrom : ℕ → Index → ℕ → ℕ → ℕ → Planned
   setFrom s ix z c j = made (s + j) (λ main. tab (sector u) (setByte u ix main z c j))
-
-  -- they are the layout's
-  pub page-from : (a : Area) (n : ℕ) (ram : List ℕ)
-      → pageSector u a n ram ≡ pageFrom (a .first * sectorsPerBlock + n / a .perPage * sectorsPerPage) (a .ram) ram
-  page-from a n ram = refl
-
-  pub flush-from : (ix : Index) (t : ℕ) (ram : List ℕ) → flushSector u ix t ram ≡ flushFrom (ix .first * sectorsPerBlock + t) (ix .ska) ram
-  flush-from ix t ram = refl
-
-  pub set-from : (ix : Index) (z c : ℕ) → setSector u ix z c ≡ setFrom (setBlock u ix z c * sectorsPerBlock) ix z c
-  set-from ix z c = refl
 
   -- the RAM with an item over the end of its page at `at`, and with the eighth filter in the SKA page there
   abbrev pub withItem : ℕ → List ℕ → List ℕ → List ℕ
@@ -90,23 +78,23 @@ module _ (u at : ℕ) (item ram : List ℕ) (short : length item ≤ sector u) (
       ap (λ (x : ℕ). getD ram x 0) a
       ∙ sym (getD-write-before ram (at + (page u - length item)) item (at + (j * sector u + y)) 0 (omega (arith, h)))
 
-  -- `size` is what code computes
-  module _ (size : ℕ) (size-is : size ≡ sector u) (j : ℕ) where
-    pub page-low : j + 1 < 4 → take (at + j * size + size - (at + j * size)) (drop (at + j * size) ram) ≡ tab (sector u) (byte j)
+  -- `size` and `off` are what code computes
+  module _ (size : ℕ) (size-is : size ≡ sector u) (j off : ℕ) (off-is : off ≡ j * sector u) where
+    pub page-low : j + 1 < 4 → take (at + off + size - (at + off)) (drop (at + off) ram) ≡ tab (sector u) (byte j)
     page-low h =
         let m = mul-le-mul-right (sector u) h in
         let e : at + j * sector u + sector u - (at + j * sector u) ≡ sector u = omega arith in
-        rw (size-is, e)
+        rw (size-is, off-is, e)
         (sym (tab-part ram (at + j * sector u) (sector u) (omega (arith, m, fits)))
         ∙ tab-ext (sector u) (λ y. getD ram (at + j * sector u + y) 0) (byte j) (λ y l. old-byte j y (omega (arith, m, l, short))))
 
     pub page-last : j < 4 → 4 ≤ j + 1
-        → take (at + j * size + (size - length item) - (at + j * size)) (drop (at + j * size) ram) ++ item ≡ tab (sector u) (byte j)
+        → take (at + off + (size - length item) - (at + off)) (drop (at + off) ram) ++ item ≡ tab (sector u) (byte j)
     page-last h k =
         let j3 : j ≡ 3 = omega arith in
         let m : j * sector u ≡ 3 * sector u = ap (λ (x : ℕ). x * sector u) j3 in
         let e : at + j * sector u + (sector u - length item) - (at + j * sector u) ≡ sector u - length item = omega arith in
-        rw (size-is, e)
+        rw (size-is, off-is, e)
         (joined-tab (take (sector u - length item) (drop (at + j * sector u) ram)) item (sector u - length item) (sector u) (byte j)
         (simp (length-take, length-drop) (omega (arith, m, fits)))
         (omega (arith, short))
@@ -164,12 +152,11 @@ module _ (u at : ℕ) (bits ram : List ℕ) (bytes : (k : ℕ) → getD bits k 0
       let b : y < 2 * u = omega (arith, n, l) in
       ap (λ (q : List ℕ). getD q y 0) t ∙ getD-tab (2 * u) (fourth-byte j) y 0 b ∙ sym (flush-new j y h b))
 
-  -- `size` and `piece` are what code computes
-  pub flush-sector : (size piece j : ℕ) → size ≡ sector u → piece ≡ size / 8 → j < 4
-      → take (at + j * size + (size - piece) - (at + j * size)) (drop (at + j * size) ram)
+  -- `size`, `off` and `piece` are what code computes
+  pub flush-sector : (size off piece j : ℕ) → size ≡ sector u → off ≡ j * sector u → piece ≡ fourthSize u → j < 4
+      → take (at + off + (size - piece) - (at + off)) (drop (at + off) ram)
       ++ take (j * piece + piece - j * piece) (drop (j * piece) bits) ≡ tab (sector u) (flush-byte j)
-  flush-sector size piece j e p h =
-      let q : piece ≡ 2 * u = omega (arith, e, p) in
+  flush-sector size off piece j e o q h =
       let a : at + j * (16 * u) + (16 * u - 2 * u) - (at + j * (16 * u)) ≡ 14 * u = omega arith in
       let d : j * (2 * u) + 2 * u - j * (2 * u) ≡ 2 * u = omega arith in
-      rw (q, e, a, d) (flush-parts j h)
+      rw (q, e, o, a, d) (flush-parts j h)

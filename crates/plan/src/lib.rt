@@ -6,7 +6,6 @@ ghost use lib.ListN.{length};
 ghost use Rattle.memory.specs.Lent.{before};
 ghost use Rattle.layout.specs.Geometry.{sectorsPerPage, sector};
 ghost use Rattle.layout.specs.Flash.{Flash, planOps, allFresh};
-ghost use Rattle.layout.specs.Index.{setPages};
 ghost use Rattle.laws.specs.LentFlash.{flashBefore, flashAfter};
 ghost use Rattle.plan.specs.Runs.{doneOne, done};
 ghost use Rattle.plan.specs.Spans.{span, among, behind, runOf};
@@ -16,6 +15,7 @@ ghost use Rattle.plan.specs.Plans.{newLength, pagesOf, buildOf, planned,
 ghost use Rattle.plan.specs.Plans.{PagesFit, BuildFits, PlanFits, SpareFits};
 use geometry::Chip;
 use geometry::Geometry;
+use geometry::areas;
 use geometry::sets;
 use geometry::sets::Set;
 
@@ -40,6 +40,13 @@ pub struct Plan {
     pub old: Segment,
     pub next: Set,
 }
+
+// The new bytes of a change: a deletion, then the record and then its entry.
+pub const RECORD_AT: usize = areas::DELETION_SIZE;
+
+pub const ENTRY_AT: usize = RECORD_AT + areas::RECORD_SIZE;
+
+pub const NEW_SIZE: usize = ENTRY_AT + areas::ENTRY_SIZE;
 
 // Operations `from` to `to` - 1 of a list.
 pub struct Span {
@@ -107,7 +114,7 @@ fn page_step(
 {
     let size = chip.sector_size();
     let s = page.sector + j;
-    let from = page.at + j * size;
+    let from = page.at + chip.sector_address(j);
     if j + 1 < Chip::SECTORS_PER_PAGE {
         let to = from + size;
         flash::program_sector(chip, s, &ram[from..to], main, spare);
@@ -117,7 +124,7 @@ fn page_step(
     flash::program_joined(chip, s, &ram[from..to], item, main, spare);
 }
 
-// Sectors of it.
+// A span of the sectors of such a page.
 fn page_run(
     chip: Chip,
     page: Page,
@@ -155,8 +162,8 @@ fn flush_step(
         ≡ doneOne (chip .unit) (flushed (chip .unit) page (before bits) (before ram) j) (flashBefore main spare) ⌝ }
 {
     let size = chip.sector_size();
-    let piece = size / sets::FILTERS_PER_FLUSH;
-    let from = page.at + j * size;
+    let piece = chip.fourth_size();
+    let from = page.at + chip.sector_address(j);
     let to = from + (size - piece);
     let lo = j * piece;
     let hi = lo + piece;
@@ -170,7 +177,7 @@ fn flush_step(
     );
 }
 
-// Sectors of it.
+// A span of the sectors of a flush.
 fn flush_run(
     chip: Chip,
     page: Page,
@@ -214,7 +221,7 @@ fn set_run(
     }
 }
 
-// Blocks of a segment.
+// A span of the blocks of a segment is erased.
 fn wipe_run(chip: Chip, blocks: Segment, part: Span, main: &mut [u8], spare: &mut [u8])
     requires { ⌜ WipeFits (chip .unit) blocks (length (now main)) (length (now spare)) × (part .to ≤ blocks .count) ⌝ }
     ensures { λ _. ⌜ flashAfter main spare ≡ runOf (chip .unit) (wiped (blocks .first)) part (flashBefore main spare) ⌝ }
@@ -240,18 +247,17 @@ fn pages(p: Plan, part: Span, new: &[u8], main: &mut [u8], spare: &mut [u8], ram
         ≡ done (p .chip .unit) (span (pagesOf p (before new) (before ram)) part) (flashBefore main spare) ⌝ }
 {
     let chip = p.chip;
-    let page = chip.page_size();
     let da = Page {
         sector: p.da.first,
-        at: Geometry::DA_PAGE * page,
+        at: chip.page_address(Geometry::DA_PAGE),
     };
     let ra = Page {
         sector: p.ra.first,
-        at: 0,
+        at: chip.page_address(Geometry::RA_PAGE),
     };
     let ka = Page {
         sector: p.ka.first,
-        at: page,
+        at: chip.page_address(Geometry::KA_PAGE),
     };
     let second = part.behind(p.da.count);
     let third = second.behind(p.ra.count);
@@ -259,7 +265,7 @@ fn pages(p: Plan, part: Span, new: &[u8], main: &mut [u8], spare: &mut [u8], ram
         chip,
         da,
         part.among(p.da.count),
-        &new[0..4],
+        &new[0..RECORD_AT],
         main,
         spare,
         ram,
@@ -268,7 +274,7 @@ fn pages(p: Plan, part: Span, new: &[u8], main: &mut [u8], spare: &mut [u8], ram
         chip,
         ra,
         second.among(p.ra.count),
-        &new[4..20],
+        &new[RECORD_AT..ENTRY_AT],
         main,
         spare,
         ram,
@@ -277,7 +283,7 @@ fn pages(p: Plan, part: Span, new: &[u8], main: &mut [u8], spare: &mut [u8], ram
         chip,
         ka,
         third.among(p.ka.count),
-        &new[20..28],
+        &new[ENTRY_AT..NEW_SIZE],
         main,
         spare,
         ram,
