@@ -18,6 +18,7 @@ use Rattle.layout.specs.Hash.{Family, fnvFamily}
 use Rattle.layout.specs.Items.{RA, KA, DA, entryBytes, deletionBytes, fills, Record, recordBytes}
 use Rattle.layout.specs.Search.{Stop, found, corrupt}
 use Rattle.layout.specs.Keys.{Key}
+use Rattle.layout.specs.Refusals as refusal
 use Rattle.layout.specs.Calls.{Volume, Call, insert, update, delete, lookup, Outcome, accepted, hit, miss, refused, Result, refuse, badState, tooShort, judged, format, formatted, keyIndex, keyFilters, keyPositions, tryAt, maybeIn, searchAt, search, deletionPlan, deletionRam, newFilter, insertionPlan, insertionRam, commit, noRoom, noDeletion, insertAfter, updateAfter, deleteAfter, lookupAfter, answer, call, Edit, one, change}
 use Rattle.history.specs.Operations.{recordRam, entryOps, entryRam, entered}
 use Rattle.history.specs.FlashLaws.{apply-main-length, apply-spare-length}
@@ -46,31 +47,31 @@ refuse-keeps v j i e = refl
 module _ (h : Family) (g : Geometry) (v : Volume) where
   commit-keeps : (n d : ℕ) (plan : List Planned) (ram : List ℕ) → Keeps v (commit g v n d plan ram)
   unfolding commit
-  commit-keeps n d plan ram = keeps-either v (allFresh (v .flash .spare) (planOps (g .u) plan (v .flash))) _ _ (λ i e. absurd (let z : true ≡ false = cc in true≢false z)) (refuse-keeps v 7)
+  commit-keeps n d plan ram = keeps-either v (allFresh (v .flash .spare) (planOps (g .u) plan (v .flash))) _ _ (λ i e. absurd (let z : true ≡ false = cc in true≢false z)) (refuse-keeps v refusal.notFresh)
 
   change-keeps : (e : Edit) → Keeps v (change h g v e)
   unfolding change
   change-keeps e =
-      keeps-either v (one (e .inserts) && noRoom g v) _ _ (refuse-keeps v 5) (keeps-either v (one (e .deletes) && noDeletion g v) _ _ (refuse-keeps v 6) (commit-keeps _ _ _ _))
+      keeps-either v (one (e .inserts) && noRoom g v) _ _ (refuse-keeps v refusal.full) (keeps-either v (one (e .deletes) && noDeletion g v) _ _ (refuse-keeps v refusal.deletionsFull) (commit-keeps _ _ _ _))
 
   insert-keeps : (r : Record) (s : Option Stop) → Keeps v (insertAfter h g v r s)
-  insert-keeps r (some corrupt) = refuse-keeps v 8
-  insert-keeps r (some (found j)) = refuse-keeps v 3
+  insert-keeps r (some corrupt) = refuse-keeps v refusal.corruptEntry
+  insert-keeps r (some (found j)) = refuse-keeps v refusal.present
   insert-keeps r none = change-keeps _
 
   update-keeps : (r : Record) (s : Option Stop) → Keeps v (updateAfter h g v r s)
-  update-keeps r (some corrupt) = refuse-keeps v 8
-  update-keeps r none = refuse-keeps v 4
+  update-keeps r (some corrupt) = refuse-keeps v refusal.corruptEntry
+  update-keeps r none = refuse-keeps v refusal.absent
   update-keeps r (some (found j)) = change-keeps _
 
   delete-keeps : (s : Option Stop) → Keeps v (deleteAfter h g v s)
-  delete-keeps (some corrupt) = refuse-keeps v 8
-  delete-keeps none = refuse-keeps v 4
+  delete-keeps (some corrupt) = refuse-keeps v refusal.corruptEntry
+  delete-keeps none = refuse-keeps v refusal.absent
   delete-keeps (some (found j)) = change-keeps _
 
   lookup-keeps : (opened : ℕ) (s : Option Stop) → Keeps v (lookupAfter g v opened s)
   unfolding lookupAfter
-  lookup-keeps opened (some corrupt) = refuse-keeps v 8
+  lookup-keeps opened (some corrupt) = refuse-keeps v refusal.corruptEntry
   lookup-keeps opened none = λ i e. refl
   lookup-keeps opened (some (found j)) = λ i e. refl
 
@@ -84,15 +85,15 @@ module _ (h : Family) (g : Geometry) (v : Volume) where
 pub refusal-keeps : (h : Family) (v : Volume) (c : Call) → Keeps v (call h v c)
 unfolding call judged
 refusal-keeps h v c =
-    keeps-either v (badState (v .state)) _ _ (refuse-keeps v 1)
-    (keeps-either v (tooShort (geometry (v .state .sizes)) (v .flash) (v .ram)) _ _ (refuse-keeps v 2) (answer-keeps h (geometry (v .state .sizes)) v c))
+    keeps-either v (badState (v .state)) _ _ (refuse-keeps v refusal.badState)
+    (keeps-either v (tooShort (geometry (v .state .sizes)) (v .flash) (v .ram)) _ _ (refuse-keeps v refusal.tooShort) (answer-keeps h (geometry (v .state .sizes)) v c))
 
 pub format-refusal-keeps : (v : Volume) (sizes : Sizes) → Keeps v (format v sizes)
 unfolding format formatted
 format-refusal-keeps v sizes =
     keeps-either v (allowed sizes) _ _
-    (keeps-either v (tooShort (geometry sizes) (v .flash) (v .ram)) _ _ (refuse-keeps v 2) (λ i e. absurd (let z : true ≡ false = cc in true≢false z)))
-    (refuse-keeps v 1)
+    (keeps-either v (tooShort (geometry sizes) (v .flash) (v .ram)) _ _ (refuse-keeps v refusal.tooShort) (λ i e. absurd (let z : true ≡ false = cc in true≢false z)))
+    (refuse-keeps v refusal.badState)
 
 -- ---- a format is accepted exactly if neither 1 nor 2 applies to it
 
@@ -131,32 +132,32 @@ refuse-most m v i = zero-le
 module _ (h : Family) (g : Geometry) (v : Volume) (m : ℕ) where
   commit-most : (n d : ℕ) (plan : List Planned) (ram : List ℕ) → Most m (commit g v n d plan ram)
   unfolding commit
-  commit-most n d plan ram = most-either m (allFresh (v .flash .spare) (planOps (g .u) plan (v .flash))) _ _ zero-le (refuse-most m v 7)
+  commit-most n d plan ram = most-either m (allFresh (v .flash .spare) (planOps (g .u) plan (v .flash))) _ _ zero-le (refuse-most m v refusal.notFresh)
 
   change-most : (e : Edit) → Most m (change h g v e)
   unfolding change
   change-most e =
-      most-either m (one (e .inserts) && noRoom g v) _ _ (refuse-most m v 5)
-      (most-either m (one (e .deletes) && noDeletion g v) _ _ (refuse-most m v 6) (commit-most _ _ _ _))
+      most-either m (one (e .inserts) && noRoom g v) _ _ (refuse-most m v refusal.full)
+      (most-either m (one (e .deletes) && noDeletion g v) _ _ (refuse-most m v refusal.deletionsFull) (commit-most _ _ _ _))
 
   insert-most : (r : Record) (s : Option Stop) → Most m (insertAfter h g v r s)
-  insert-most r (some corrupt) = refuse-most m v 8
-  insert-most r (some (found j)) = refuse-most m v 3
+  insert-most r (some corrupt) = refuse-most m v refusal.corruptEntry
+  insert-most r (some (found j)) = refuse-most m v refusal.present
   insert-most r none = change-most _
 
   update-most : (r : Record) (s : Option Stop) → Most m (updateAfter h g v r s)
-  update-most r (some corrupt) = refuse-most m v 8
-  update-most r none = refuse-most m v 4
+  update-most r (some corrupt) = refuse-most m v refusal.corruptEntry
+  update-most r none = refuse-most m v refusal.absent
   update-most r (some (found j)) = change-most _
 
   delete-most : (s : Option Stop) → Most m (deleteAfter h g v s)
-  delete-most (some corrupt) = refuse-most m v 8
-  delete-most none = refuse-most m v 4
+  delete-most (some corrupt) = refuse-most m v refusal.corruptEntry
+  delete-most none = refuse-most m v refusal.absent
   delete-most (some (found j)) = change-most _
 
   lookup-most : (opened : ℕ) (s : Option Stop) → opened ≤ m → Most m (lookupAfter g v opened s)
   unfolding lookupAfter
-  lookup-most opened (some corrupt) l = refuse-most m v 8
+  lookup-most opened (some corrupt) l = refuse-most m v refusal.corruptEntry
   lookup-most opened none l = l
   lookup-most opened (some (found j)) l = l
 
@@ -172,8 +173,8 @@ answer-most h g v (lookup key) =
 pub count-most : (h : Family) (v : Volume) (c : Call) → call h v c .count ≤ v .state .records / entriesPerPage (unitOf (v .state .sizes))
 unfolding call judged
 count-most h v c =
-    most-either _ (badState (v .state)) _ _ (refuse-most _ v 1)
-    (most-either _ (tooShort (geometry (v .state .sizes)) (v .flash) (v .ram)) _ _ (refuse-most _ v 2) (answer-most h (geometry (v .state .sizes)) v c))
+    most-either _ (badState (v .state)) _ _ (refuse-most _ v refusal.badState)
+    (most-either _ (tooShort (geometry (v .state .sizes)) (v .flash) (v .ram)) _ _ (refuse-most _ v refusal.tooShort) (answer-most h (geometry (v .state .sizes)) v c))
 
 -- ---- "bytes past the volume and past the desk's 20S never change"
 
@@ -274,40 +275,40 @@ module _ (h : Family) (sizes : Sizes) (ok : Sound sizes) where
         spare-length = apply-spare-length u (planOps u plan (v .flash)) (v .flash);
         ram-length = p .long;
       })
-      (λ fresh. refuse-kept v 7)
+      (λ fresh. refuse-kept v refusal.notFresh)
 
   module _ (v : Volume) where
     insert-kept : (r : Record) (s : Option Stop) → Kept v (insertAfter h g v r s)
     unfolding change
-    insert-kept r (some corrupt) = refuse-kept v 8
-    insert-kept r (some (found j)) = refuse-kept v 3
+    insert-kept r (some corrupt) = refuse-kept v refusal.corruptEntry
+    insert-kept r (some (found j)) = refuse-kept v refusal.present
     insert-kept r none =
-        kept-either v (noRoom g v) _ _ (λ a. refuse-kept v 5)
+        kept-either v (noRoom g v) _ _ (λ a. refuse-kept v refusal.full)
         (λ a. commit-kept v _ _ _ _ (insertion-bounded (v .state .records) (r .key) (recordBytes r) (v .ram) (v .flash) (leb-false (recordCapacity g) (v .state .records) a) (length-record r)))
 
     update-kept : (r : Record) (s : Option Stop) → Kept v (updateAfter h g v r s)
     unfolding change
-    update-kept r (some corrupt) = refuse-kept v 8
-    update-kept r none = refuse-kept v 4
+    update-kept r (some corrupt) = refuse-kept v refusal.corruptEntry
+    update-kept r none = refuse-kept v refusal.absent
     update-kept r (some (found j)) =
-        kept-either v (noRoom g v) _ _ (λ a. refuse-kept v 5)
-        (λ a. kept-either v (noDeletion g v) _ _ (λ b. refuse-kept v 6)
+        kept-either v (noRoom g v) _ _ (λ a. refuse-kept v refusal.full)
+        (λ a. kept-either v (noDeletion g v) _ _ (λ b. refuse-kept v refusal.deletionsFull)
         (λ b. commit-kept v _ _ _ _
         (update-bounded (v .state .records) (v .state .deletions) j (r .key) (recordBytes r) (v .ram) (v .flash)
         (leb-false (recordCapacity g) (v .state .records) a) (leb-false (deletionCapacity g) (v .state .deletions) b) (length-record r))))
 
     delete-kept : (s : Option Stop) → Kept v (deleteAfter h g v s)
     unfolding change
-    delete-kept (some corrupt) = refuse-kept v 8
-    delete-kept none = refuse-kept v 4
+    delete-kept (some corrupt) = refuse-kept v refusal.corruptEntry
+    delete-kept none = refuse-kept v refusal.absent
     delete-kept (some (found j)) =
-        kept-either v (noDeletion g v) _ _ (λ b. refuse-kept v 6)
+        kept-either v (noDeletion g v) _ _ (λ b. refuse-kept v refusal.deletionsFull)
         (λ b. commit-kept v _ _ _ _ (rw (append-nil (deletionPlan g (v .state .deletions) j (v .ram)))
         (deletion-bounded (v .state .deletions) j (v .ram) (v .flash) (leb-false (deletionCapacity g) (v .state .deletions) b))))
 
     lookup-kept : (opened : ℕ) (s : Option Stop) → Kept v (lookupAfter g v opened s)
     unfolding lookupAfter
-    lookup-kept opened (some corrupt) = refuse-kept v 8
+    lookup-kept opened (some corrupt) = refuse-kept v refusal.corruptEntry
     lookup-kept opened none = refuse-kept v 0
     lookup-kept opened (some (found j)) = refuse-kept v 0
 
