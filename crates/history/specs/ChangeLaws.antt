@@ -8,7 +8,7 @@ use Prim.Native.Nat.{ℕ, _+_, _^_, _<_}
 use native.Mathlib.Omega.{arith}
 use lib.ListN.{length}
 use Rattle.layout.specs.Geometry.{Geometry, raRam, kaRam, skaRam}
-use Rattle.layout.specs.Flash.{Flash, applyAll, Planned, planOps}
+use Rattle.layout.specs.Flash.{Flash, Planned, planOps}
 use Rattle.layout.specs.Hash.{Family}
 use Rattle.layout.specs.Items.{RA, KA, DA, entryBytes, deletionBytes, fills, itemPlan, itemRam}
 use Rattle.layout.specs.Index.{inSka, filterPlan, filterRam}
@@ -90,11 +90,3 @@ module _ (h : Family) (g : Geometry) (n : ℕ) (key : Key) where
           ∙ ops-both (g .u) (itemPlan (g .u) (RA g) n bytes ram) _ _ _ C (item-ops (g .u) (RA g) n bytes ram C)
           (ops-both (g .u) (itemPlan (g .u) (KA g) n (entryBytes key n) (recordRam g n bytes ram)) _ _ _ _ (item-ops (g .u) (KA g) n (entryBytes key n) (recordRam g n bytes ram) _)
           (ops-if (g .u) (fills (KA g) n) _ _ _ (filter-ops (g .u) e pow (keyIndex g) (keyFilters g n) (filteredRam h g n key bytes ram) (entered g n key bytes ram C))))
-
-      -- a deletion, then an insertion
-      pub update-ops : (d j : ℕ) (ram : List ℕ) (C : Flash)
-          → planOps (g .u) (deletionPlan g d j ram ++ insertionPlan h g n key bytes ram) C
-          ≡ itemOps (g .u) (DA g) d (deletionBytes j) ram ++ insertionOps h g n key bytes (deletionRam g d j ram) (applyAll (g .u) (itemOps (g .u) (DA g) d (deletionBytes j) ram) C)
-      update-ops d j ram C =
-          ops-both (g .u) (deletionPlan g d j ram) (insertionPlan h g n key bytes ram) _ _ C (deletion-ops g d j ram C)
-          (ap (λ (ps : List Planned). planOps (g .u) ps (applyAll (g .u) (itemOps (g .u) (DA g) d (deletionBytes j) ram) C)) (insertion-after (unit-pos (g .u) e pow) d j ram) ∙ insertion-ops (deletionRam g d j ram) _)

@@ -12,8 +12,5 @@ key? a b = eq? a b
 pub same-key : (a b : Key) → sameKey a b ≡ true → a ≡ b
 same-key a b e = either (key? a b) (λ p. p .1) (λ p. absurd (true≢false (sym e ∙ p .0)))
 
-pub key-same : (a b : Key) → a ≡ b → sameKey a b ≡ true
-key-same a b e = either (key? a b) (λ p. p .0) (λ p. absurd (p .1 e))
-
 pub key-other : (a b : Key) → a ≢ b → sameKey a b ≡ false
 key-other a b e = either (key? a b) (λ p. absurd (e (p .1))) (λ p. p .0)

@@ -1,13 +1,13 @@
 -- What the contracts of `lookup` and `find` promise is what the chain of calls asks of a lookup (`store/specs/Chain.antt`): together with the
 -- volume handed in, which both leave as it is, the answer gives all that a caller sees of the layout's call.
 use mathlib.Core.Path.{_≡_, refl}
-use mathlib.Core.Bool.{Bool, true, false, cond}
+use mathlib.Core.Bool.{cond}
 use mathlib.Core.Option.{Option, none, some}
 use mathlib.Core.List.{List}
 use Prim.Native.Nat.{ℕ}
 use lib.Dec.{eqb}
 use lib.ListN.{getD}
-use Rattle.memory.specs.Bits.{num}
+use Rattle.memory.specs.Bits.{eqb-num}
 use Rattle.memory.specs.Cases.{either, bool?}
 use Rattle.layout.specs.Geometry.{Geometry, geometry}
 use Rattle.layout.specs.Hash.{Family}
@@ -34,10 +34,6 @@ placeOf r = record { inRam = eqb (r .«in_ram») 1; at = r .offset }
 abbrev pub foundLeft : Volume → LookupResult → Left
 foundLeft v r = lookedLeft v (r .refusal) (r .found) (r .count) (placeOf r) (bytesAt (v .flash .main) (v .ram) (placeOf r) 16)
 
-num-back : (b : Bool) → eqb (num b) 1 ≡ b
-num-back true = refl
-num-back false = refl
-
 module _ (g : Geometry) (v : Volume) (opened : ℕ) where
   after-looked : (s : Option Stop)
       → lookedLeft v (looked (lookupAfter g v opened s) .refusal) (looked (lookupAfter g v opened s) .found) (looked (lookupAfter g v opened s) .count)
@@ -46,13 +42,13 @@ module _ (g : Geometry) (v : Volume) (opened : ℕ) where
   unfolding lookupAfter
   after-looked (some corrupt) = refl
   after-looked none = refl
-  after-looked (some (found j)) = rw (num-back _)
+  after-looked (some (found j)) = rw (eqb-num _)
 
   after-found : (s : Option Stop) → foundLeft v (looked (lookupAfter g v opened s)) ≡ seen (lookupAfter g v opened s)
   unfolding lookupAfter
   after-found (some corrupt) = refl
   after-found none = refl
-  after-found (some (found j)) = rw (num-back _)
+  after-found (some (found j)) = rw (eqb-num _)
 
 module _ (h : Family) (v : Volume) (key : ℕ) where
   abbrev g : Geometry

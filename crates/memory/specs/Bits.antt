@@ -43,7 +43,7 @@ num-lt : (t : Bool) → num t < 2
 num-lt true = omega arith
 num-lt false = omega arith
 
-eqb-num : (t : Bool) → eqb (num t) 1 ≡ t
+pub eqb-num : (t : Bool) → eqb (num t) 1 ≡ t
 eqb-num true = refl
 eqb-num false = refl
 
