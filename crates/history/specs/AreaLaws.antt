@@ -10,14 +10,16 @@ use lib.ListN.{length, getD, replicate, length-replicate, getD-replicate}
 use lib.Dec.{ltb}
 use borrow.Author.Tests.{lt-ltb, le-ltb, eq-eqb, ne-eqb}
 use Rattle.memory.specs.Cases.{bool?, lt?, either}
-use Rattle.memory.specs.Lists.{write, length-write, getD-write-before, getD-write-in, getD-write-after, tab, length-tab, getD-tab, tab-ext, part}
+use Rattle.memory.specs.Lists.{write, length-write, getD-write-before, getD-write-in, getD-write-after, tab, length-tab, getD-tab, tab-ext}
+use Rattle.memory.specs.Lists.{part}
 use Rattle.memory.specs.Numbers.{euclid, div-of, mod-of, carry}
 use Rattle.memory.specs.Words.{word, byteOf, bytes-word}
 use Rattle.layout.specs.Geometry.{sector, page, block}
 use Rattle.layout.specs.Flash.{Flash, Op, applyAll, allFresh}
 use Rattle.layout.specs.Items.{Area, itemPlace, source, bytesAt, itemWord, put, fills, itemRam}
 use Rattle.history.specs.Operations.{pageOps, itemOps}
-use Rattle.history.specs.FlashLaws.{fresh-programs, AllAllowed, programs-spare-out, programs-spare-in, programs-allowed, range-out, row-main, apply-main-length, apply-spare-length}
+use Rattle.history.specs.FlashLaws.{fresh-programs, AllAllowed, programs-spare-out, programs-spare-in, programs-allowed, range-out}
+use Rattle.history.specs.FlashLaws.{row-main, apply-main-length, apply-spare-length}
 use Rattle.history.specs.Image.{AreaIs, areaByte, areaRamByte, areaSpareByte}
 use Rattle.history.specs.Frames.{AreaGrown}
 use Rattle.history.specs.AreaNumbers.{start, room-left, in-page, flat, flat-at, flat-ext, flat-new}
@@ -43,7 +45,8 @@ module _ (u : ℕ) (pu : 0 < u) (a : Area) (blocks : ℕ) (whole : a .perPage * 
       onRam : (i : ℕ) → areaRamByte a f n i ≡ areaRamByte a g n i
       onRam i =
           either (lt? i (n % a .perPage * a .size))
-          (λ c. rw (c .0) (flat-ext f g n (a .size) ps same (n / a .perPage * (a .perPage * a .size) + i) (omega (arith, start n (a .perPage) (a .size) pq))))
+          (λ c. rw (c .0) (flat-ext f g n (a .size) ps same (n / a .perPage * (a .perPage * a .size) + i)
+          (omega (arith, start n (a .perPage) (a .size) pq))))
           (λ c. rw (c .0))
 
   -- an area whose bytes are kept is kept
@@ -95,14 +98,18 @@ module _ (u : ℕ) (pu : 0 < u) (a : Area) (blocks : ℕ) (whole : a .perPage * 
       rw (c .0, s) (A .on-main (j * a .size + b) (omega arith) ∙ rw t (flat-at f (a .size) j b hb)))
       (λ c.
       let P = in-page n (a .perPage) j pq (c .1) hj in
-      let k : (j - n / a .perPage * a .perPage) * a .size + a .size ≤ n % a .perPage * a .size = omega (arith, mul-le-mul-right (a .size) (P .1)) in
+      let k : (j - n / a .perPage * a .perPage) * a .size + a .size ≤ n % a .perPage * a .size
+      = omega (arith, mul-le-mul-right (a .size) (P .1)) in
       let k2 : n % a .perPage * a .size + a .size ≤ a .perPage * a .size = room-left n (a .perPage) (a .size) pq in
-      let t : ltb ((j - n / a .perPage * a .perPage) * a .size + b) (n % a .perPage * a .size) ≡ true = lt-ltb ((j - n / a .perPage * a .perPage) * a .size + b) _ (omega arith) in
+      let t : ltb ((j - n / a .perPage * a .perPage) * a .size + b) (n % a .perPage * a .size) ≡ true
+      = lt-ltb ((j - n / a .perPage * a .perPage) * a .size + b) _ (omega arith) in
       let whole-j : n / a .perPage * a .perPage + (j - n / a .perPage * a .perPage) ≡ j = omega arith in
       let e : n / a .perPage * (a .perPage * a .size) + ((j - n / a .perPage * a .perPage) * a .size + b) ≡ j * a .size + b
       = omega (arith, ap (λ (x : ℕ). x * a .size) whole-j) in
-      let s : a .ram + (j - n / a .perPage * a .perPage) * a .size + b ≡ a .ram + ((j - n / a .perPage * a .perPage) * a .size + b) = omega arith in
-      rw (c .0, P .0, s) (A .on-ram ((j - n / a .perPage * a .perPage) * a .size + b) (omega (arith, whole)) ∙ rw (t, e) (flat-at f (a .size) j b hb)))
+      let s : a .ram + (j - n / a .perPage * a .perPage) * a .size + b ≡ a .ram + ((j - n / a .perPage * a .perPage) * a .size + b)
+      = omega arith in
+      rw (c .0, P .0, s) (A .on-ram ((j - n / a .perPage * a .perPage) * a .size + b) (omega (arith, whole))
+      ∙ rw (t, e) (flat-at f (a .size) j b hb)))
 
   -- word i of item j reads as it was put
   pub read-word : (f : ℕ → ℕ → ℕ) (n : ℕ) (main spare ram : List ℕ) → AreaIs u a blocks f n main spare ram → n * a .size ≤ blocks * block u
@@ -110,7 +117,8 @@ module _ (u : ℕ) (pu : 0 < u) (a : Area) (blocks : ℕ) (whole : a .perPage * 
       → itemWord u a n main ram j i ≡ k
   unfolding itemWord
   read-word f n main spare ram A room j i k hj hi small is =
-      bytes-word k _ _ _ _ small (byte 0 _ (omega arith) (omega arith)) (byte 1 _ (omega arith) (omega arith)) (byte 2 _ (omega arith) (omega arith)) (byte 3 _ (omega arith) (omega arith))
+      bytes-word k _ _ _ _ small (byte 0 _ (omega arith) (omega arith)) (byte 1 _ (omega arith) (omega arith))
+      (byte 2 _ (omega arith) (omega arith)) (byte 3 _ (omega arith) (omega arith))
     where
       byte : (b x : ℕ) → b < 4 → x ≡ itemPlace u a n j .at + (i * 4 + b) → getD (source main ram (itemPlace u a n j)) x 0 ≡ byteOf k b
       byte b x hb e = rw e (read-byte f n main spare ram A room j (i * 4 + b) hj (omega arith) ∙ is b hb)
@@ -173,7 +181,8 @@ module _ (u : ℕ) (pu : 0 < u) (a : Area) (blocks : ℕ) (whole : a .perPage * 
     page-main =
         let from : firstSector * (16 * u) ≡ a .first * block u + done = omega (arith, done-is) in
         let long : 4 * (16 * u) ≡ a .perPage * a .size = omega (arith, whole) in
-        let same : tab (a .perPage * a .size) (λ i. bytes (i / (16 * u)) (i % (16 * u))) ≡ part (put a n item ram) (a .ram) (a .perPage * a .size)
+        let same : tab (a .perPage * a .size) (λ i. bytes (i / (16 * u)) (i % (16 * u)))
+        ≡ part (put a n item ram) (a .ram) (a .perPage * a .size)
         = tab-ext (a .perPage * a .size) _ _ (λ i l. rw (euclid i (16 * u) (omega arith) .whole)) in
         row-main u firstSector 4 bytes C (omega arith) (omega (arith, done-is, page-room, main-fits, whole)) ∙ rw (from, long, same)
 
@@ -246,7 +255,8 @@ module _ (u : ℕ) (pu : 0 < u) (a : Area) (blocks : ℕ) (whole : a .perPage * 
         let no : ltb i 0 ≡ false = le-ltb i 0 (omega arith) in
         let s : a .ram + i - a .ram ≡ i = omega arith in
         rw (c, k .2, z, no)
-        (getD-write-in (put a n item ram) (a .ram) _ (a .ram + i) 0 (omega arith) (omega (arith, length-replicate {A = ℕ} (page u) 0)) (omega (arith, ram-fits, length-put))
+        (getD-write-in (put a n item ram) (a .ram) _ (a .ram + i) 0 (omega arith) (omega (arith, length-replicate {A = ℕ} (page u) 0))
+        (omega (arith, ram-fits, length-put))
         ∙ rw s (getD-replicate (page u) i 0 0 h)))
         (λ k.
         let c : fills a n ≡ false = ne-eqb (n % a .perPage + 1) (a .perPage) (k .0) in
@@ -262,26 +272,32 @@ module _ (u : ℕ) (pu : 0 < u) (a : Area) (blocks : ℕ) (whole : a .perPage * 
     area-allowed : AllAllowed u ops C
     area-allowed =
         either (bool? (fills a n))
-        (λ c. rw c (programs-allowed u 1 firstSector 4 bytes C (omega arith) (λ j l. omega arith) page-fresh (λ j x l lt same. inr (x - firstSector, omega arith, omega arith))))
+        (λ c. rw c (programs-allowed u 1 firstSector 4 bytes C (omega arith) (λ j l. omega arith) page-fresh
+        (λ j x l lt same. inr (x - firstSector, omega arith, omega arith))))
         (λ c. rw c tt)
 
     -- any spare that agrees with C's on the area's sectors finds them fresh
-    area-fresh : (spare : List ℕ) → ((x : ℕ) → a .first * 64 ≤ x → x < (a .first + blocks) * 64 → getD spare x 0 ≡ getD (C .spare) x 0) → allFresh spare ops ≡ true
+    area-fresh : (spare : List ℕ) → ((x : ℕ) → a .first * 64 ≤ x → x < (a .first + blocks) * 64 → getD spare x 0 ≡ getD (C .spare) x 0)
+        → allFresh spare ops ≡ true
     unfolding allFresh
     area-fresh spare same =
         either (bool? (fills a n))
-        (λ c. rw c (fresh-programs u 1 firstSector 4 bytes spare (λ j l. same (firstSector + j * 1) (omega arith) (omega arith) ∙ page-fresh j l)))
+        (λ c. rw c (fresh-programs u 1 firstSector 4 bytes spare
+        (λ j l. same (firstSector + j * 1) (omega arith) (omega arith) ∙ page-fresh j l)))
         (λ c. rw c)
 
     -- what lies outside the area is kept
-    area-main-out : (x : ℕ) → (x < a .first * block u) ⊎ ((a .first + blocks) * block u ≤ x) → getD (applyAll u ops C .main) x 0 ≡ getD (C .main) x 0
+    area-main-out : (x : ℕ) → (x < a .first * block u) ⊎ ((a .first + blocks) * block u ≤ x)
+        → getD (applyAll u ops C .main) x 0 ≡ getD (C .main) x 0
     area-main-out x o =
         either (bool? (fills a n))
-        (λ c. rw c (range-out u 1 firstSector 4 (a .first * 64) ((a .first + blocks) * 64) bytes C x (omega arith) (λ j l. (omega arith, omega arith))
+        (λ c. rw c (range-out u 1 firstSector 4 (a .first * 64) ((a .first + blocks) * 64) bytes C x (omega arith)
+        (λ j l. (omega arith, omega arith))
         (either o (λ b. inl (omega arith)) (λ b. inr (omega arith)))))
         (λ c. rw c)
 
-    area-spare-out : (x : ℕ) → (x < a .first * 64) ⊎ ((a .first + blocks) * 64 ≤ x) → getD (applyAll u ops C .spare) x 0 ≡ getD (C .spare) x 0
+    area-spare-out : (x : ℕ) → (x < a .first * 64) ⊎ ((a .first + blocks) * 64 ≤ x)
+        → getD (applyAll u ops C .spare) x 0 ≡ getD (C .spare) x 0
     area-spare-out x o =
         either (bool? (fills a n))
         (λ c. rw c (programs-spare-out u 1 firstSector 4 bytes C x (λ j l. either o (λ b. omega arith) (λ b. omega arith))))
@@ -297,11 +313,13 @@ module _ (u : ℕ) (pu : 0 < u) (a : Area) (blocks : ℕ) (whole : a .perPage * 
     area-ram-out x o =
         let long : length (replicate {A = ℕ} (page u) 0) ≡ page u = length-replicate {A = ℕ} (page u) 0 in
         either (bool? (fills a n))
-        (λ c. rw c (either o (λ b. getD-write-before (put a n item ram) (a .ram) _ x 0 b) (λ b. getD-write-after (put a n item ram) (a .ram) _ x 0 (omega arith)) ∙ put-out x o))
+        (λ c. rw c (either o (λ b. getD-write-before (put a n item ram) (a .ram) _ x 0 b)
+        (λ b. getD-write-after (put a n item ram) (a .ram) _ x 0 (omega arith)) ∙ put-out x o))
         (λ c. rw c (put-out x o))
 
     area-ram-length : length (itemRam u a n item ram) ≡ length ram
-    area-ram-length = either (bool? (fills a n)) (λ c. rw c (length-write (put a n item ram) (a .ram) _ ∙ length-put)) (λ c. rw c length-put)
+    area-ram-length =
+        either (bool? (fills a n)) (λ c. rw c (length-write (put a n item ram) (a .ram) _ ∙ length-put)) (λ c. rw c length-put)
 
     pub area-grown : AreaGrown u a blocks f n item C ram
     area-grown = record {
@@ -321,7 +339,8 @@ module _ (u : ℕ) (pu : 0 < u) (a : Area) (blocks : ℕ) (whole : a .perPage * 
     }
 
     -- byte b of item i of the RAM page with the new item in it
-    put-byte : (i b : ℕ) → i ≤ n % a .perPage → b < a .size → getD (put a n item ram) (a .ram + (i * a .size + b)) 0 ≡ f (n / a .perPage * a .perPage + i) b
+    put-byte : (i b : ℕ) → i ≤ n % a .perPage → b < a .size
+        → getD (put a n item ram) (a .ram + (i * a .size + b)) 0 ≡ f (n / a .perPage * a .perPage + i) b
     put-byte i b hi hb =
         let left = room-left n (a .perPage) (a .size) pq in
         let iw : i * a .size ≤ n % a .perPage * a .size = mul-le-mul-right (a .size) hi in
@@ -330,10 +349,12 @@ module _ (u : ℕ) (pu : 0 < u) (a : Area) (blocks : ℕ) (whole : a .perPage * 
         put-ram (i * a .size + b) (omega (arith, whole)) ∙ rw (t, e) (flat-at f (a .size) (n / a .perPage * a .perPage + i) b hb)
 
     -- word w of item i of the RAM page with the new item in it (before it is programmed and zeroed)
-    pub put-word : (i w k : ℕ) → i ≤ n % a .perPage → w * 4 + 4 ≤ a .size → k < 2 ^ 32 → ((b : ℕ) → b < 4 → f (n / a .perPage * a .perPage + i) (w * 4 + b) ≡ byteOf k b)
+    pub put-word : (i w k : ℕ) → i ≤ n % a .perPage → w * 4 + 4 ≤ a .size → k < 2 ^ 32
+        → ((b : ℕ) → b < 4 → f (n / a .perPage * a .perPage + i) (w * 4 + b) ≡ byteOf k b)
         → word (put a n item ram) (a .ram + i * a .size + w * 4) ≡ k
     put-word i w k hi hw small is =
-        bytes-word k _ _ _ _ small (byte 0 _ (omega arith) (omega arith)) (byte 1 _ (omega arith) (omega arith)) (byte 2 _ (omega arith) (omega arith)) (byte 3 _ (omega arith) (omega arith))
+        bytes-word k _ _ _ _ small (byte 0 _ (omega arith) (omega arith)) (byte 1 _ (omega arith) (omega arith))
+        (byte 2 _ (omega arith) (omega arith)) (byte 3 _ (omega arith) (omega arith))
       where
         byte : (b x : ℕ) → b < 4 → x ≡ a .ram + (i * a .size + (w * 4 + b)) → getD (put a n item ram) x 0 ≡ byteOf k b
         byte b x hb e = rw e (put-byte i (w * 4 + b) hi (omega arith) ∙ is b hb)

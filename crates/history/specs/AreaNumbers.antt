@@ -32,7 +32,8 @@ flat-at f w j b h =
     ap₂ f (div-of (j * w + b) w j b s h) (mod-of (j * w + b) w j b s h)
 
 -- the bytes of the first n items are those of the items
-pub flat-ext : (f g : ℕ → ℕ → ℕ) (n w : ℕ) → 0 < w → ((j b : ℕ) → j < n → b < w → f j b ≡ g j b) → (i : ℕ) → i < n * w → flat f w i ≡ flat g w i
+pub flat-ext : (f g : ℕ → ℕ → ℕ) (n w : ℕ) → 0 < w → ((j b : ℕ) → j < n → b < w → f j b ≡ g j b) → (i : ℕ) → i < n * w
+    → flat f w i ≡ flat g w i
 flat-ext f g n w pw same i h = same (i / w) (i % w) (div-lt i w n pw h) (euclid i w pw .small)
 
 -- the bytes of item n

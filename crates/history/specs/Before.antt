@@ -22,7 +22,8 @@ append-nil [] = refl
 append-nil (x ∷ xs) = ap (λ l. x ∷ l) (append-nil xs)
 
 pub before-same : (H : History) → Before H H
-before-same H = record { records-more = []; records-are = append-nil (H .records); deleted-more = []; deleted-are = append-nil (H .deleted) }
+before-same H =
+    record { records-more = []; records-are = append-nil (H .records); deleted-more = []; deleted-are = append-nil (H .deleted) }
 
 append-assoc : {A : Type 0} (a b c : List A) → (a ++ b) ++ c ≡ a ++ (b ++ c)
 append-assoc [] b c = refl

@@ -18,7 +18,8 @@ use Rattle.layout.specs.Items.{RA, KA, DA}
 use Rattle.layout.specs.Index.{Index, flushesPerRound, filtersPerRound, inL1, inSet, inFull, setBlocks, fullFilters, sideBlock, fullBlock}
 use Rattle.layout.specs.Calls.{keyIndex}
 use Rattle.history.specs.Image.{History, recordsIn, deletionsIn, filtersIn, raItem, kaItem, daItem, keyFilter}
-use Rattle.history.specs.Image.{areaByte, areaSpareByte, l1Byte, sideByte, fullByte, indexByte, indexSpareByte, mainImage, spareImage, ramImage}
+use Rattle.history.specs.Image.{areaByte, areaSpareByte, l1Byte, sideByte, fullByte, indexByte, indexSpareByte, mainImage, spareImage}
+use Rattle.history.specs.Image.{ramImage}
 use Rattle.history.specs.Parts.{Parts, pu}
 
 -- ---- one cascade of tests for main area and spare area: a block has w bytes in the one, w marks in the other

@@ -33,7 +33,8 @@ use Rattle.history.specs.Parts.{Parts}
 use Rattle.laws.specs.RowLaws.{places-suffice}
 
 -- what an insertion leaves behind: n records, d deletions
-pub record Changed (h : Family) (g : Geometry) (H : History) (n d : ℕ) (C : Flash) (ram : List ℕ) (ops : List Op) (ram′ : List ℕ) : Type 0 where
+pub record Changed (h : Family) (g : Geometry) (H : History) (n d : ℕ) (C : Flash) (ram : List ℕ) (ops : List Op)
+    (ram′ : List ℕ) : Type 0 where
   pub grown : Parts h g H n n d (keyFilters g n) (applyAll (g .u) ops C) ram′
   pub allowed : AllAllowed (g .u) ops C
   pub beyond : Beyond g C (applyAll (g .u) ops C) ram ram′
@@ -63,7 +64,9 @@ module _ (h : Family) (g : Geometry) (e : ℕ) (pow : g .u ≡ 2 ^ e) where
     longer = record {
       ra = P .ra;
       ka = P .ka;
-      da = area-ext (g .u) pu (DA g) (g .D) (omega arith) (omega (arith, pu)) (omega arith) (daItem H) (daItem (withDeletion H j)) (length (H .deleted)) (C .main) (C .spare) ram
+      da =
+          area-ext (g .u) pu (DA g) (g .D) (omega arith) (omega (arith, pu)) (omega arith) (daItem H) (daItem (withDeletion H j))
+          (length (H .deleted)) (C .main) (C .spare) ram
           (λ i b l m. ap (λ (x : ℕ). getD (deletionBytes x) b 0) (sym (List·getD-append (H .deleted) (j ∷ []) 0 i l))) (P .da);
       filters = rw (filter-deletion H j) (P .filters);
       main-fits = P .main-fits;
@@ -74,24 +77,28 @@ module _ (h : Family) (g : Geometry) (e : ℕ) (pow : g .u ≡ 2 ^ e) where
     new : (b : ℕ) → b < 4 → getD (deletionBytes j) b 0 ≡ daItem (withDeletion H j) (length (H .deleted)) b
     new b l = ap (λ (x : ℕ). getD (deletionBytes x) b 0) (sym (getD-append-seam (H .deleted) j [] 0))
 
-    pub deletion-did : Did (g .u) (DA g .first) (DA g .first + g .D) (DA g .ram) C ram (deletionRam g (length (H .deleted)) j ram) (planOps (g .u) (deletionPlan g (length (H .deleted)) j ram) C)
+    pub deletion-did : Did (g .u) (DA g .first) (DA g .first + g .D) (DA g .ram) C ram (deletionRam g (length (H .deleted)) j ram)
+        (planOps (g .u) (deletionPlan g (length (H .deleted)) j ram) C)
     unfolding deletionRam
     deletion-did =
         rw (deletion-ops g (length (H .deleted)) j ram C)
-        (parts.da-did h g e pow (withDeletion H j) nr nk (length (H .deleted)) N C ram longer (deletionBytes j) (length-deletion j) new room)
+        (parts.da-did h g e pow (withDeletion H j) nr nk (length (H .deleted)) N C ram longer (deletionBytes j)
+        (length-deletion j) new room)
 
     pub deletion-parts : Parts h g (withDeletion H j) nr nk (length (H .deleted) + 1) N
         (applyAll (g .u) (planOps (g .u) (deletionPlan g (length (H .deleted)) j ram) C) C) (deletionRam g (length (H .deleted)) j ram)
     unfolding deletionRam
     deletion-parts =
         rw (deletion-ops g (length (H .deleted)) j ram C)
-        (parts.da-parts h g e pow (withDeletion H j) nr nk (length (H .deleted)) N C ram longer (deletionBytes j) (length-deletion j) new room)
+        (parts.da-parts h g e pow (withDeletion H j) nr nk (length (H .deleted)) N C ram longer (deletionBytes j)
+        (length-deletion j) new room)
 
   -- ---- an insertion
 
   module _ (H : History) (r : Record) (d : ℕ) (C : Flash) (ram : List ℕ)
       (P : Parts h g H (length (H .records)) (length (H .records)) d (keyFilters g (length (H .records))) C ram)
-      (room : length (H .records) < recordCapacity g) (key-word : KeyOk (r .key)) (words : (j : ℕ) → j < length (H .records) → KeyOk (recordAt H j .key)) where
+      (room : length (H .records) < recordCapacity g) (key-word : KeyOk (r .key))
+      (words : (j : ℕ) → j < length (H .records) → KeyOk (recordAt H j .key)) where
     abbrev n : ℕ
     n = length (H .records)
 
@@ -107,23 +114,30 @@ module _ (h : Family) (g : Geometry) (e : ℕ) (pow : g .u ≡ 2 ^ e) where
     last : r ≡ recordAt (withRecord H r) (length (H .records))
     last = sym (getD-append-seam (H .records) r [] noRecord)
 
-    filter-old : (f x : ℕ) → f < length (H .records) / (8 * g .u) → x < filterBits (g .u) → keyFilter h g H f x ≡ keyFilter h g (withRecord H r) f x
+    filter-old : (f x : ℕ) → f < length (H .records) / (8 * g .u) → x < filterBits (g .u)
+        → keyFilter h g H f x ≡ keyFilter h g (withRecord H r) f x
     unfolding keyFilter
     filter-old f x l m =
         let E = euclid (length (H .records)) (8 * g .u) (omega (arith, pu)) in
-        any-ext _ _ (8 * g .u) (λ i k. ap (λ (o : Record). memb x (keyPositions h g (o .key))) (old (f * (8 * g .u) + i) (omega (arith, mul-le-mul-right (8 * g .u) l))))
+        any-ext _ _ (8 * g .u) (λ i k. ap (λ (o : Record). memb x (keyPositions h g (o .key)))
+        (old (f * (8 * g .u) + i) (omega (arith, mul-le-mul-right (8 * g .u) l))))
 
     sets-fit : inFull (g .u) (length (H .records) / (8 * g .u)) ≤ fullSets g
     sets-fit = places-suffice (g .u) (g .R) (length (H .records)) pu (omega arith)
 
     longer-record : Parts h g (withRecord H r) n n d N C ram
     longer-record = record {
-      ra = area-ext (g .u) pu (RA g) (g .R) (omega arith) (omega (arith, pu)) (omega arith) (raItem H) (raItem (withRecord H r)) n (C .main) (C .spare) ram
+      ra =
+          area-ext (g .u) pu (RA g) (g .R) (omega arith) (omega (arith, pu)) (omega arith) (raItem H) (raItem (withRecord H r)) n (C .main)
+          (C .spare) ram
           (λ j b l m. ap (λ (o : Record). getD (recordBytes o) b 0) (old j l)) (P .ra);
-      ka = area-ext (g .u) pu (KA g) (kaBlocks g) (omega arith) (omega (arith, pu)) (omega arith) (kaItem H) (kaItem (withRecord H r)) n (C .main) (C .spare) ram
+      ka =
+          area-ext (g .u) pu (KA g) (kaBlocks g) (omega arith) (omega (arith, pu)) (omega arith) (kaItem H) (kaItem (withRecord H r)) n
+          (C .main) (C .spare) ram
           (λ j b l m. ap (λ (o : Record). getD (entryBytes (o .key) j) b 0) (old j l)) (P .ka);
       da = P .da;
-      filters = index-ext (g .u) e pow (keyIndex g) (fullSets g) (keyFilter h g H) (keyFilter h g (withRecord H r)) N (C .main) (C .spare) ram filter-old sets-fit (P .filters);
+      filters = index-ext (g .u) e pow (keyIndex g) (fullSets g) (keyFilter h g H) (keyFilter h g (withRecord H r)) N (C .main)
+          (C .spare) ram filter-old sets-fit (P .filters);
       main-fits = P .main-fits;
       spare-fits = P .spare-fits;
       ram-fits = P .ram-fits;
@@ -185,14 +199,16 @@ module _ (h : Family) (g : Geometry) (e : ℕ) (pow : g .u ≡ 2 ^ e) where
         (λ a. let q : j ≡ length (H .records) = omega arith in rw (q, ← last) key-word)
 
     module _ (full : length (H .records) % (8 * g .u) + 1 ≡ 8 * g .u) where
-      key-at : (i : ℕ) → i < 8 * g .u → keyAt keys (kaRam (g .u) + i * 8) ≡ recordAt (withRecord H r) (length (H .records) / (8 * g .u) * (8 * g .u) + i) .key
+      key-at : (i : ℕ) → i < 8 * g .u
+          → keyAt keys (kaRam (g .u) + i * 8) ≡ recordAt (withRecord H r) (length (H .records) / (8 * g .u) * (8 * g .u) + i) .key
       key-at i l =
           let E = euclid (length (H .records)) (8 * g .u) (omega (arith, pu)) in
           let at : kaRam (g .u) + i * 8 + 0 * 4 ≡ kaRam (g .u) + i * 8 = omega arith in
           let k = recordAt (withRecord H r) (length (H .records) / (8 * g .u) * (8 * g .u) + i) .key in
           rw at at
           (put-word (g .u) pu (KA g) (kaBlocks g) (omega arith) (omega (arith, pu)) (omega arith) (kaItem H′) n entry C₁ ram₁ (parts₁ .ka)
-          (length-entry (r .key) n) entry-new (parts.ka-room h g e pow H′ (n + 1) n d N C₁ ram₁ parts₁ entry (length-entry (r .key) n) entry-new room)
+          (length-entry (r .key) n) entry-new
+          (parts.ka-room h g e pow H′ (n + 1) n d N C₁ ram₁ parts₁ entry (length-entry (r .key) n) entry-new room)
           (omega (arith, parts₁ .main-fits)) (omega (arith, parts₁ .spare-fits)) (omega (arith, parts₁ .ram-fits))
           i 0 k (omega arith) (omega arith) (words′ (length (H .records) / (8 * g .u) * (8 * g .u) + i) (omega arith))
           (λ b m. entry-key k (length (H .records) / (8 * g .u) * (8 * g .u) + i) b m))
@@ -210,10 +226,12 @@ module _ (h : Family) (g : Geometry) (e : ℕ) (pow : g .u ≡ 2 ^ e) where
       abbrev filterIn : List ℕ
       filterIn = filteredRam h g (length (H .records)) (r .key) (recordBytes r) ram
 
-      did₃ : Did (g .u) (indexBlock g) (fullBlock (g .u) (keyIndex g) (fullSets g)) (keyIndex g .ska) C₂ ram₂ (filterRam (g .u) (keyIndex g) N filterIn) (filterOps (g .u) (keyIndex g) C₂ N filterIn)
+      did₃ : Did (g .u) (indexBlock g) (fullBlock (g .u) (keyIndex g) (fullSets g)) (keyIndex g .ska) C₂ ram₂
+          (filterRam (g .u) (keyIndex g) N filterIn) (filterOps (g .u) (keyIndex g) C₂ N filterIn)
       did₃ = parts.index-did h g e pow H′ (n + 1) (n + 1) d N C₂ ram₂ parts₂ (pageFilter h g keys) same sets-fit′
 
-      parts₃ : Parts h g H′ (n + 1) (n + 1) d (N + 1) (applyAll (g .u) (filterOps (g .u) (keyIndex g) C₂ N filterIn) C₂) (filterRam (g .u) (keyIndex g) N filterIn)
+      parts₃ : Parts h g H′ (n + 1) (n + 1) d (N + 1) (applyAll (g .u) (filterOps (g .u) (keyIndex g) C₂ N filterIn) C₂)
+          (filterRam (g .u) (keyIndex g) N filterIn)
       parts₃ = parts.index-parts h g e pow H′ (n + 1) (n + 1) d N C₂ ram₂ parts₂ (pageFilter h g keys) same sets-fit′
 
     -- ---- all of it
@@ -231,11 +249,13 @@ module _ (h : Family) (g : Geometry) (e : ℕ) (pow : g .u ≡ 2 ^ e) where
       allowed-all : AllAllowed (g .u) ops C₂ → AllAllowed (g .u) (raOps ++ (kaOps ++ ops)) C
       allowed-all a = allowed-append (g .u) raOps (kaOps ++ ops) C (did₁ .allowed) (allowed-append (g .u) kaOps ops C₁ (did₂ .allowed) a)
 
-      fresh-all : (spare : List ℕ) → ((x : ℕ) → x < spareSize g → (x < DA g .first * 64) ⊎ ((DA g .first + g .D) * 64 ≤ x) → getD spare x 0 ≡ getD (C .spare) x 0)
+      fresh-all : (spare : List ℕ) → ((x : ℕ) → x < spareSize g → (x < DA g .first * 64) ⊎ ((DA g .first + g .D) * 64 ≤ x)
+          → getD spare x 0 ≡ getD (C .spare) x 0)
           → allFresh spare ops ≡ true → allFresh spare (raOps ++ (kaOps ++ ops)) ≡ true
       fresh-all spare agree a =
           fresh-append spare raOps (kaOps ++ ops) (did₁ .fresh spare (λ x l m. agree x (omega arith) (inl (omega arith))))
-          (fresh-append spare kaOps ops (did₂ .fresh spare (λ x l m. agree x (omega arith) (inl (omega arith)) ∙ sym (did₁ .frame .spare x (inr (omega arith))))) a)
+          (fresh-append spare kaOps ops (did₂ .fresh spare
+          (λ x l m. agree x (omega arith) (inl (omega arith)) ∙ sym (did₁ .frame .spare x (inr (omega arith))))) a)
 
     -- no page of entries is full
     changed-part : length (H .records) % (8 * g .u) + 1 ≢ 8 * g .u → Changed h g H′ (n + 1) d C ram (raOps ++ (kaOps ++ [])) ram₂
@@ -267,17 +287,24 @@ module _ (h : Family) (g : Geometry) (e : ℕ) (pow : g .u ≡ 2 ^ e) where
         allowed = allowed-all ixOps (did₃ full .allowed);
         beyond = rw (done ixOps)
             (beyond-then g C C₂ C₃ ram ram₂ ram₃ beyond₂
-            (frame-beyond g (indexBlock g) (fullBlock (g .u) (keyIndex g) (fullSets g)) (keyIndex g .ska) C₂ C₃ ram₂ ram₃ (did₃ full .frame) (omega arith) (omega arith)));
+            (frame-beyond g (indexBlock g) (fullBlock (g .u) (keyIndex g) (fullSets g)) (keyIndex g .ska) C₂ C₃ ram₂ ram₃ (did₃ full .frame)
+            (omega arith) (omega arith)));
         fresh = λ spare agree. fresh-all ixOps spare agree
-            (did₃ full .fresh spare (λ x l m. agree x (omega arith) (inr (omega arith)) ∙ sym (did₂ .frame .spare x (inr (omega arith)) ∙ did₁ .frame .spare x (inr (omega arith)))));
+            (did₃ full .fresh spare (λ x l m. agree x (omega arith) (inr (omega arith))
+            ∙ sym (did₂ .frame .spare x (inr (omega arith)) ∙ did₁ .frame .spare x (inr (omega arith)))));
       }
 
     by-page : (b : Bool) (os : List Op) (r₃ : List ℕ) → (b ≡ true → Changed h g H′ (n + 1) d C ram (raOps ++ (kaOps ++ os)) r₃)
-        → (b ≡ false → Changed h g H′ (n + 1) d C ram (raOps ++ (kaOps ++ [])) ram₂) → Changed h g H′ (n + 1) d C ram (raOps ++ (kaOps ++ cond b os [])) (cond b r₃ ram₂)
+        → (b ≡ false → Changed h g H′ (n + 1) d C ram (raOps ++ (kaOps ++ [])) ram₂)
+        → Changed h g H′ (n + 1) d C ram (raOps ++ (kaOps ++ cond b os [])) (cond b r₃ ram₂)
     by-page true os r₃ full part = full refl
     by-page false os r₃ full part = part refl
 
-    pub insertion-changes : Changed h g H′ (n + 1) d C ram (planOps (g .u) (insertionPlan h g n (r .key) (recordBytes r) ram) C) (insertionRam h g n (r .key) (recordBytes r) ram)
+    pub insertion-changes : Changed h g H′ (n + 1) d C ram (planOps (g .u) (insertionPlan h g n (r .key) (recordBytes r) ram) C)
+        (insertionRam h g n (r .key) (recordBytes r) ram)
     insertion-changes =
-        rw (insertion-ops h g n (r .key) (recordBytes r) e pow bytes-size ram C, insertion-ram h g n (r .key) (recordBytes r) pu bytes-size ram)
+        rw (
+          insertion-ops h g n (r .key) (recordBytes r) e pow bytes-size ram C,
+          insertion-ram h g n (r .key) (recordBytes r) pu bytes-size ram,
+        )
         (by-page (fills (KA g) n) _ _ (λ q. changed-full (eqb-true _ _ q)) (λ q. changed-part (eqb-false _ _ q)))

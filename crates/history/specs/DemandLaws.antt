@@ -59,12 +59,15 @@ module _ (h : Family) (v : Volume) (sizes : Sizes) (calls : List Call) (can : al
   unfolding formatted
   after-format = refl
 
-  pub flash-is : applyAll (unitOf sizes) (format v sizes .ops ++ opsOf h (format v sizes .volume) calls) (v .flash) ≡ after h (format v sizes .volume) calls .flash
+  pub flash-is : applyAll (unitOf sizes) (format v sizes .ops ++ opsOf h (format v sizes .volume) calls) (v .flash)
+      ≡ after h (format v sizes .volume) calls .flash
   flash-is =
       rw is-formatted
-      (apply-append (unitOf sizes) (formatted v sizes .ops) (opsOf h (formatted v sizes .volume) calls) (v .flash) ∙ rw after-format (ran .flash-is))
+      (apply-append (unitOf sizes) (formatted v sizes .ops) (opsOf h (formatted v sizes .volume) calls) (v .flash)
+      ∙ rw after-format (ran .flash-is))
 
-  says : (P : ℕ → Bool) (x : ℕ) → x < spareSize g → getD (formatted v sizes .volume .flash .spare) x 0 ≡ cond (erased 0 (blocks g) P x) 0 255
+  says : (P : ℕ → Bool) (x : ℕ) → x < spareSize g
+      → getD (formatted v sizes .volume .flash .spare) x 0 ≡ cond (erased 0 (blocks g) P x) 0 255
   unfolding formatted
   says P x l = start-spare h sizes ok can v long .1 x l ∙ rw (erased-in 0 (blocks g) P x (omega arith) (omega arith))
 
@@ -80,7 +83,8 @@ module _ (h : Family) (v : Volume) (sizes : Sizes) (calls : List Call) (can : al
   all-in-order P =
       rw is-formatted
       (format-in-order (opsOf h (formatted v sizes .volume) calls) P
-      (in-order (unitOf sizes) (spareSize g) (opsOf h (formatted v sizes .volume) calls) (formatted v sizes .volume .flash) (erased 0 (blocks g) P) fits (says P) (ran .ops-allowed) (ran .inside)))
+      (in-order (unitOf sizes) (spareSize g) (opsOf h (formatted v sizes .volume) calls) (formatted v sizes .volume .flash)
+      (erased 0 (blocks g) P) fits (says P) (ran .ops-allowed) (ran .inside)))
 
   -- ---- demand 2
 
@@ -101,10 +105,12 @@ module _ (h : Family) (v : Volume) (sizes : Sizes) (calls : List Call) (can : al
   reply-is none = refl
   reply-is (some j) = refl
 
-  found : (key : Key) → KeyOk key → replyOf (call h (volumeOf sizes H (end .flash) (end .ram)) (lookup key) .outcome) ≡ liveReply H (findLive H key)
+  found : (key : Key) → KeyOk key
+      → replyOf (call h (volumeOf sizes H (end .flash) (end .ram)) (lookup key) .outcome) ≡ liveReply H (findLive H key)
   found key l = call-done h sizes ok can H (end .flash) (end .ram) (ran .holds) (lookup key) l (ran .room) .says ∙ reply-is (findLive H key)
 
-  looked-up : (e : Volume) → e ≡ volumeOf sizes H (end .flash) (end .ram) → (key : Key) → KeyOk key → replyOf (call h e (lookup key) .outcome) ≡ liveReply H (findLive H key)
+  looked-up : (e : Volume) → e ≡ volumeOf sizes H (end .flash) (end .ram) → (key : Key) → KeyOk key
+      → replyOf (call h e (lookup key) .outcome) ≡ liveReply H (findLive H key)
   looked-up e q key l = rw q (found key l)
 
   image : ImageOf h g H v end

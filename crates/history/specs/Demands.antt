@@ -21,7 +21,8 @@ pub record Run (h : Family) (v : Volume) (sizes : Sizes) (calls : List Call) : T
   -- each call answers as the map does, with the same state, n - d live levels, never by 1, 2, 7 or 8
   pub agrees : EachAgrees h sizes (format v sizes .volume) emptyMap calls
   -- "Done in that order on the chip handed to the format, they give the cells and marks that the last call leaves"
-  pub flash-is : applyAll (unitOf sizes) (format v sizes .ops ++ opsOf h (format v sizes .volume) calls) (v .flash) ≡ after h (format v sizes .volume) calls .flash
+  pub flash-is : applyAll (unitOf sizes) (format v sizes .ops ++ opsOf h (format v sizes .volume) calls) (v .flash)
+      ≡ after h (format v sizes .volume) calls .flash
   -- whatever sectors were programmed before the format
   pub in-order : (P : ℕ → Bool) → ProgramOrder (format v sizes .ops ++ opsOf h (format v sizes .volume) calls) P
 

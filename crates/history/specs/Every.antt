@@ -12,14 +12,18 @@ use borrow.Author.Tests.{leb-false, eqb-true}
 use Rattle.memory.specs.Cases.{either, bool?}
 use Rattle.memory.specs.Lists.{length-write, getD-write-after}
 use Rattle.memory.specs.Numbers.{carry, div-lt}
-use Rattle.layout.specs.Geometry.{Geometry, geometry, allowed, blocks, kaBlocks, fullSets, recordCapacity, deletionCapacity, ramSize, entriesPerPage, workRam, Sizes, unitOf}
+use Rattle.layout.specs.Geometry.{Geometry, geometry, allowed, blocks, kaBlocks, fullSets, recordCapacity, deletionCapacity, ramSize}
+use Rattle.layout.specs.Geometry.{entriesPerPage, workRam, Sizes, unitOf}
 use Rattle.layout.specs.Flash.{Flash, Op, applyAll, erases, Planned, planOps, allFresh}
 use Rattle.layout.specs.Hash.{Family, fnvFamily}
 use Rattle.layout.specs.Items.{RA, KA, DA, entryBytes, deletionBytes, fills, Record, recordBytes}
 use Rattle.layout.specs.Search.{Stop, found, corrupt}
 use Rattle.layout.specs.Keys.{Key}
 use Rattle.layout.specs.Refusals as refusal
-use Rattle.layout.specs.Calls.{Volume, Call, insert, update, delete, lookup, Outcome, accepted, hit, miss, refused, Result, refuse, badState, tooShort, judged, format, formatted, keyIndex, keyFilters, keyPositions, tryAt, maybeIn, searchAt, search, deletionPlan, deletionRam, newFilter, insertionPlan, insertionRam, commit, noRoom, noDeletion, insertAfter, updateAfter, deleteAfter, lookupAfter, answer, call, Edit, one, change}
+use Rattle.layout.specs.Calls.{Volume, Call, insert, update, delete, lookup, Outcome, accepted, hit, miss, refused, Result, refuse}
+use Rattle.layout.specs.Calls.{badState, tooShort, judged, format, formatted, keyIndex, keyFilters, keyPositions, tryAt, maybeIn, searchAt}
+use Rattle.layout.specs.Calls.{search, deletionPlan, deletionRam, newFilter, insertionPlan, insertionRam, commit, noRoom, noDeletion}
+use Rattle.layout.specs.Calls.{insertAfter, updateAfter, deleteAfter, lookupAfter, answer, call, Edit, one, change}
 use Rattle.history.specs.Operations.{recordRam, entryOps, entryRam, entered}
 use Rattle.history.specs.FlashLaws.{apply-main-length, apply-spare-length}
 use Rattle.laws.specs.ItemLaws.{length-record, length-entry, length-deletion}
@@ -27,7 +31,8 @@ use Rattle.laws.specs.SearchLaws.{search-opened}
 use Rattle.history.specs.PlanLaws.{ops-append}
 use Rattle.history.specs.ChangeLaws.{deletion-ops, insertion-after, insertion-ops, insertion-ram}
 use Rattle.history.specs.Frames.{Beyond, beyond-same}
-use Rattle.history.specs.Inside.{Inside, inside-none, inside-append, inside-erases, main-past, spare-past, inside-item, inside-filter, Past, past-then, past-zero, past-item, past-filter}
+use Rattle.history.specs.Inside.{Inside, inside-none, inside-append, inside-erases, main-past, spare-past, inside-item, inside-filter}
+use Rattle.history.specs.Inside.{Past, past-then, past-zero, past-item, past-filter}
 use Rattle.laws.specs.RowLaws.{places-suffice}
 use Rattle.laws.specs.Sound.{Sound, sound}
 use Rattle.laws.specs.Sound as units
@@ -47,12 +52,15 @@ refuse-keeps v j i e = refl
 module _ (h : Family) (g : Geometry) (v : Volume) where
   commit-keeps : (n d : ℕ) (plan : List Planned) (ram : List ℕ) → Keeps v (commit g v n d plan ram)
   unfolding commit
-  commit-keeps n d plan ram = keeps-either v (allFresh (v .flash .spare) (planOps (g .u) plan (v .flash))) _ _ (λ i e. absurd (let z : true ≡ false = cc in true≢false z)) (refuse-keeps v refusal.notFresh)
+  commit-keeps n d plan ram =
+      keeps-either v (allFresh (v .flash .spare) (planOps (g .u) plan (v .flash))) _ _
+      (λ i e. absurd (let z : true ≡ false = cc in true≢false z)) (refuse-keeps v refusal.notFresh)
 
   change-keeps : (e : Edit) → Keeps v (change h g v e)
   unfolding change
   change-keeps e =
-      keeps-either v (one (e .inserts) && noRoom g v) _ _ (refuse-keeps v refusal.full) (keeps-either v (one (e .deletes) && noDeletion g v) _ _ (refuse-keeps v refusal.deletionsFull) (commit-keeps _ _ _ _))
+      keeps-either v (one (e .inserts) && noRoom g v) _ _ (refuse-keeps v refusal.full)
+      (keeps-either v (one (e .deletes) && noDeletion g v) _ _ (refuse-keeps v refusal.deletionsFull) (commit-keeps _ _ _ _))
 
   insert-keeps : (r : Record) (s : Option Stop) → Keeps v (insertAfter h g v r s)
   insert-keeps r (some corrupt) = refuse-keeps v refusal.corruptEntry
@@ -86,18 +94,21 @@ pub refusal-keeps : (h : Family) (v : Volume) (c : Call) → Keeps v (call h v c
 unfolding call judged
 refusal-keeps h v c =
     keeps-either v (badState (v .state)) _ _ (refuse-keeps v refusal.badState)
-    (keeps-either v (tooShort (geometry (v .state .sizes)) (v .flash) (v .ram)) _ _ (refuse-keeps v refusal.tooShort) (answer-keeps h (geometry (v .state .sizes)) v c))
+    (keeps-either v (tooShort (geometry (v .state .sizes)) (v .flash) (v .ram)) _ _ (refuse-keeps v refusal.tooShort)
+    (answer-keeps h (geometry (v .state .sizes)) v c))
 
 pub format-refusal-keeps : (v : Volume) (sizes : Sizes) → Keeps v (format v sizes)
 unfolding format formatted
 format-refusal-keeps v sizes =
     keeps-either v (allowed sizes) _ _
-    (keeps-either v (tooShort (geometry sizes) (v .flash) (v .ram)) _ _ (refuse-keeps v refusal.tooShort) (λ i e. absurd (let z : true ≡ false = cc in true≢false z)))
+    (keeps-either v (tooShort (geometry sizes) (v .flash) (v .ram)) _ _ (refuse-keeps v refusal.tooShort)
+    (λ i e. absurd (let z : true ≡ false = cc in true≢false z)))
     (refuse-keeps v refusal.badState)
 
 -- ---- a format is accepted exactly if neither 1 nor 2 applies to it
 
-pub can-accepted : (v : Volume) (sizes : Sizes) → allowed sizes ≡ true → tooShort (geometry sizes) (v .flash) (v .ram) ≡ false → format v sizes .outcome ≡ accepted
+pub can-accepted : (v : Volume) (sizes : Sizes) → allowed sizes ≡ true → tooShort (geometry sizes) (v .flash) (v .ram) ≡ false
+    → format v sizes .outcome ≡ accepted
 unfolding format formatted
 can-accepted v sizes can long = rw (can, long)
 
@@ -107,7 +118,8 @@ isAccepted (hit place bytes) = false
 isAccepted miss = false
 isAccepted (refused i) = false
 
-pub accepted-can : (v : Volume) (sizes : Sizes) → format v sizes .outcome ≡ accepted → (allowed sizes ≡ true) × (tooShort (geometry sizes) (v .flash) (v .ram) ≡ false)
+pub accepted-can : (v : Volume) (sizes : Sizes) → format v sizes .outcome ≡ accepted
+    → (allowed sizes ≡ true) × (tooShort (geometry sizes) (v .flash) (v .ram) ≡ false)
 unfolding format
 accepted-can v sizes e =
     let t : isAccepted (format v sizes .outcome) ≡ true = ap isAccepted e in
@@ -132,7 +144,8 @@ refuse-most m v i = zero-le
 module _ (h : Family) (g : Geometry) (v : Volume) (m : ℕ) where
   commit-most : (n d : ℕ) (plan : List Planned) (ram : List ℕ) → Most m (commit g v n d plan ram)
   unfolding commit
-  commit-most n d plan ram = most-either m (allFresh (v .flash .spare) (planOps (g .u) plan (v .flash))) _ _ zero-le (refuse-most m v refusal.notFresh)
+  commit-most n d plan ram =
+      most-either m (allFresh (v .flash .spare) (planOps (g .u) plan (v .flash))) _ _ zero-le (refuse-most m v refusal.notFresh)
 
   change-most : (e : Edit) → Most m (change h g v e)
   unfolding change
@@ -168,13 +181,15 @@ answer-most h g v (update r) = update-most h g v _ r (search h g v (r .key) .sto
 answer-most h g v (delete key) = delete-most h g v _ (search h g v key .stop)
 answer-most h g v (lookup key) =
     lookup-most h g v _ (search h g v key .opened) (search h g v key .stop)
-    (search-opened (maybeIn g v (keyPositions h g key)) (tryAt g v (v .state .records) (v .state .deletions) key) (entriesPerPage (g .u)) (v .state .records))
+    (search-opened (maybeIn g v (keyPositions h g key)) (tryAt g v (v .state .records) (v .state .deletions) key) (entriesPerPage (g .u))
+    (v .state .records))
 
 pub count-most : (h : Family) (v : Volume) (c : Call) → call h v c .count ≤ v .state .records / entriesPerPage (unitOf (v .state .sizes))
 unfolding call judged
 count-most h v c =
     most-either _ (badState (v .state)) _ _ (refuse-most _ v refusal.badState)
-    (most-either _ (tooShort (geometry (v .state .sizes)) (v .flash) (v .ram)) _ _ (refuse-most _ v refusal.tooShort) (answer-most h (geometry (v .state .sizes)) v c))
+    (most-either _ (tooShort (geometry (v .state .sizes)) (v .flash) (v .ram)) _ _ (refuse-most _ v refusal.tooShort)
+    (answer-most h (geometry (v .state .sizes)) v c))
 
 -- ---- "bytes past the volume and past the desk's 20S never change"
 
@@ -193,11 +208,13 @@ module _ (h : Family) (sizes : Sizes) (ok : Sound sizes) where
   pu : 0 < unitOf sizes
   pu = units.pu sizes ok
 
-  deletion-bounded : (d j : ℕ) (ram : List ℕ) (C : Flash) → d < deletionCapacity g → Bounded g ram (planOps u (deletionPlan g d j ram) C) (deletionRam g d j ram)
+  deletion-bounded : (d j : ℕ) (ram : List ℕ) (C : Flash) → d < deletionCapacity g
+      → Bounded g ram (planOps u (deletionPlan g d j ram) C) (deletionRam g d j ram)
   unfolding deletionRam
   deletion-bounded d j ram C l = record {
     inside = rw (deletion-ops g d j ram C)
-        (inside-item u (blocks g) (DA g) (sizes .daBlocks) d (deletionBytes j) ram (omega arith) (div-lt d (16 * u) ((sizes .daBlocks) * 16) (omega (arith, pu)) (omega arith)));
+        (inside-item u (blocks g) (DA g) (sizes .daBlocks) d (deletionBytes j) ram (omega arith)
+        (div-lt d (16 * u) ((sizes .daBlocks) * 16) (omega (arith, pu)) (omega arith)));
     past = past-item u (DA g) d (ramSize g) (deletionBytes j) ram (omega (arith, pu)) (omega arith) (length-deletion j) (omega arith);
   }
 
@@ -230,22 +247,31 @@ module _ (h : Family) (sizes : Sizes) (ok : Sound sizes) where
     insertion-bounded : Bounded g ram (planOps u (insertionPlan h g n key bytes ram) C) (insertionRam h g n key bytes ram)
     insertion-bounded = record {
       inside = rw (insertion-ops h g n key bytes (ok .e) (units.pow sizes ok) size ram C)
-          (inside-append u (blocks g) _ _ (inside-item u (blocks g) (RA g) (sizes .raBlocks) n bytes ram (omega arith) (div-lt n (4 * u) ((sizes .raBlocks) * 16) (omega (arith, pu)) (omega arith)))
-          (inside-append u (blocks g) (entryOps g n key bytes ram) _ (inside-item u (blocks g) (KA g) (kaBlocks g) n (entryBytes key n) (recordRam g n bytes ram) (omega arith) (ka-room n room))
+          (inside-append u (blocks g) _ _
+          (inside-item u (blocks g) (RA g) (sizes .raBlocks) n bytes ram (omega arith)
+          (div-lt n (4 * u) ((sizes .raBlocks) * 16) (omega (arith, pu)) (omega arith)))
+          (inside-append u (blocks g) (entryOps g n key bytes ram) _
+          (inside-item u (blocks g) (KA g) (kaBlocks g) n (entryBytes key n) (recordRam g n bytes ram) (omega arith) (ka-room n room))
           (inside-if (fills (KA g) n) _ (λ a.
-          inside-filter u (ok .e) (units.pow sizes ok) (blocks g) (keyIndex g) (fullSets g) (omega arith) (keyFilters g n) (entered g n key bytes ram C) _ (sets-room n room (eqb-true (n % (8 * u) + 1) (8 * u) a))))));
+          inside-filter u (ok .e) (units.pow sizes ok) (blocks g) (keyIndex g) (fullSets g) (omega arith) (keyFilters g n)
+          (entered g n key bytes ram C) _ (sets-room n room (eqb-true (n % (8 * u) + 1) (8 * u) a))))));
       past = rw (insertion-ram h g n key bytes pu size ram)
           (past-if (fills (KA g) n) _ _
-          (past-then (ramSize g) ram _ _ entry-past (past-filter u pu (keyIndex g) (keyFilters g n) (ramSize g) (newFilter h g n key (recordRam g n bytes ram)) _ (omega arith))) entry-past);
+          (past-then (ramSize g) ram _ _ entry-past
+          (past-filter u pu (keyIndex g) (keyFilters g n) (ramSize g) (newFilter h g n key (recordRam g n bytes ram)) _
+          (omega arith))) entry-past);
     }
 
-  update-bounded : (n d j : ℕ) (key : Key) (bytes ram : List ℕ) (C : Flash) → n < recordCapacity g → d < deletionCapacity g → length bytes ≡ 16
-      → Bounded g ram (planOps u (deletionPlan g d j ram ++ insertionPlan h g n key bytes ram) C) (insertionRam h g n key bytes (deletionRam g d j ram))
+  update-bounded : (n d j : ℕ) (key : Key) (bytes ram : List ℕ) (C : Flash) → n < recordCapacity g → d < deletionCapacity g
+      → length bytes ≡ 16
+      → Bounded g ram (planOps u (deletionPlan g d j ram ++ insertionPlan h g n key bytes ram) C)
+      (insertionRam h g n key bytes (deletionRam g d j ram))
   update-bounded n d j key bytes ram C room less size =
       let D₁ = deletion-bounded d j ram C less in
       let I₁ = insertion-bounded n key bytes (deletionRam g d j ram) (applyAll u (planOps u (deletionPlan g d j ram) C) C) room size in
       record {
-        inside = rw (ops-append u (deletionPlan g d j ram) (insertionPlan h g n key bytes ram) C, insertion-after h g n key bytes pu d j ram)
+        inside =
+            rw (ops-append u (deletionPlan g d j ram) (insertionPlan h g n key bytes ram) C, insertion-after h g n key bytes pu d j ram)
             (inside-append u (blocks g) _ _ (D₁ .inside) (I₁ .inside));
         past = past-then (ramSize g) ram _ _ (D₁ .past) (I₁ .past);
       }
@@ -261,7 +287,8 @@ module _ (h : Family) (sizes : Sizes) (ok : Sound sizes) where
   refuse-kept : (v : Volume) (i : ℕ) → Kept v (refuse v i)
   refuse-kept v i = beyond-same g (v .flash) (v .ram)
 
-  commit-kept : (v : Volume) (n d : ℕ) (plan : List Planned) (ram : List ℕ) → Bounded g (v .ram) (planOps u plan (v .flash)) ram → Kept v (commit g v n d plan ram)
+  commit-kept : (v : Volume) (n d : ℕ) (plan : List Planned) (ram : List ℕ) → Bounded g (v .ram) (planOps u plan (v .flash)) ram
+      → Kept v (commit g v n d plan ram)
   unfolding commit
   commit-kept v n d plan ram b =
       kept-either v (allFresh (v .flash .spare) (planOps u plan (v .flash))) _ _
@@ -284,7 +311,8 @@ module _ (h : Family) (sizes : Sizes) (ok : Sound sizes) where
     insert-kept r (some (found j)) = refuse-kept v refusal.present
     insert-kept r none =
         kept-either v (noRoom g v) _ _ (λ a. refuse-kept v refusal.full)
-        (λ a. commit-kept v _ _ _ _ (insertion-bounded (v .state .records) (r .key) (recordBytes r) (v .ram) (v .flash) (leb-false (recordCapacity g) (v .state .records) a) (length-record r)))
+        (λ a. commit-kept v _ _ _ _ (insertion-bounded (v .state .records) (r .key) (recordBytes r) (v .ram) (v .flash)
+        (leb-false (recordCapacity g) (v .state .records) a) (length-record r)))
 
     update-kept : (r : Record) (s : Option Stop) → Kept v (updateAfter h g v r s)
     unfolding change
@@ -338,7 +366,8 @@ unfolding badState
 state-allowed v good =
     either (bool? (allowed (v .state .sizes))) (λ a. a) (λ a. let z : true ≡ false = rw a at good in absurd (true≢false z))
 
-pub beyond-kept : (h : Family) (v : Volume) (c : Call) → Beyond (geometry (v .state .sizes)) (v .flash) (call h v c .volume .flash) (v .ram) (call h v c .volume .ram)
+pub beyond-kept : (h : Family) (v : Volume) (c : Call)
+    → Beyond (geometry (v .state .sizes)) (v .flash) (call h v c .volume .flash) (v .ram) (call h v c .volume .ram)
 unfolding call judged
 beyond-kept h v c =
     either (bool? (badState (v .state)))
@@ -347,7 +376,8 @@ beyond-kept h v c =
     (λ b. rw (a, b) (beyond-same (geometry (v .state .sizes)) (v .flash) (v .ram)))
     (λ b. rw (a, b) (answer-kept h (v .state .sizes) (sound _ (state-allowed v a)) v c)))
 
-pub format-beyond-kept : (v : Volume) (sizes : Sizes) → Beyond (geometry sizes) (v .flash) (format v sizes .volume .flash) (v .ram) (format v sizes .volume .ram)
+pub format-beyond-kept : (v : Volume) (sizes : Sizes)
+    → Beyond (geometry sizes) (v .flash) (format v sizes .volume .flash) (v .ram) (format v sizes .volume .ram)
 unfolding format
 format-beyond-kept v sizes =
     either (bool? (allowed sizes))

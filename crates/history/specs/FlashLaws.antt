@@ -1,4 +1,5 @@
--- Which sectors lists of operations ask to be fresh, and what they do to the flash: each byte and mark inside and outside the sectors and blocks named.
+-- Which sectors lists of operations ask to be fresh, and what they do to the
+-- flash: each byte and mark inside and outside the sectors and blocks named.
 use mathlib.Core.Path.{_≡_, refl, sym, ap, _∙_}
 use mathlib.Core.Logic.{_≢_, _⊎_, inl, inr}
 use mathlib.Core.Bool.{true, false, and-eq-true-iff}
@@ -17,7 +18,8 @@ use Rattle.history.specs.Operations.{programs}
 
 -- ---- refusal 7: the sectors to be programmed are fresh, by the marks before the first operation
 
-pub fresh-append : (spare : List ℕ) (xs ys : List Op) → allFresh spare xs ≡ true → allFresh spare ys ≡ true → allFresh spare (xs ++ ys) ≡ true
+pub fresh-append : (spare : List ℕ) (xs ys : List Op) → allFresh spare xs ≡ true → allFresh spare ys ≡ true
+    → allFresh spare (xs ++ ys) ≡ true
 unfolding allFresh
 fresh-append spare [] ys a b = b
 fresh-append spare (program s bytes ∷ os) ys a b =
@@ -25,13 +27,15 @@ fresh-append spare (program s bytes ∷ os) ys a b =
     rw (p .0) (fresh-append spare os ys (p .1) b)
 fresh-append spare (erase k ∷ os) ys a b = fresh-append spare os ys a b
 
-pub fresh-programs : (u d s k : ℕ) (f : ℕ → ℕ → ℕ) (spare : List ℕ) → ((j : ℕ) → j < k → getD spare (s + j * d) 0 ≡ 255) → allFresh spare (programs u d s k f) ≡ true
+pub fresh-programs : (u d s k : ℕ) (f : ℕ → ℕ → ℕ) (spare : List ℕ) → ((j : ℕ) → j < k → getD spare (s + j * d) 0 ≡ 255)
+    → allFresh spare (programs u d s k f) ≡ true
 unfolding allFresh fresh
 fresh-programs u d s zero f spare h = refl
 fresh-programs u d s (suc k) f spare h =
     let e : s + 0 * d ≡ s = omega arith in
     let h0 : getD spare s 0 ≡ 255 = rw e at (h 0 (omega arith)) in
-    rw h0 (fresh-programs u d (s + d) k (λ j. f (suc j)) spare (λ j l. let up : s + suc j * d ≡ s + d + j * d = omega arith in rw up at (h (suc j) (omega arith))))
+    rw h0 (fresh-programs u d (s + d) k (λ j. f (suc j)) spare
+    (λ j l. let up : s + suc j * d ≡ s + d + j * d = omega arith in rw up at (h (suc j) (omega arith))))
 
 pub fresh-erases : (spare : List ℕ) (b k : ℕ) → allFresh spare (erases b k) ≡ true
 unfolding allFresh
@@ -40,10 +44,14 @@ fresh-erases spare b (suc k) = fresh-erases spare (suc b) k
 
 module _ (u : ℕ) where
   -- equal bytes are equal operations
-  pub programs-ext : (d s k : ℕ) (f g : ℕ → ℕ → ℕ) → ((j y : ℕ) → j < k → y < 16 * u → f j y ≡ g j y) → programs u d s k f ≡ programs u d s k g
+  pub programs-ext : (d s k : ℕ) (f g : ℕ → ℕ → ℕ) → ((j y : ℕ) → j < k → y < 16 * u → f j y ≡ g j y)
+      → programs u d s k f ≡ programs u d s k g
   programs-ext d s zero f g e = refl
   programs-ext d s (suc k) f g e =
-      rw (tab-ext (16 * u) (f zero) (g zero) (λ y l. e 0 y (omega arith) l), programs-ext d (s + d) k (λ j. f (suc j)) (λ j. g (suc j)) (λ j y l m. e (suc j) y (omega arith) m))
+      rw (
+        tab-ext (16 * u) (f zero) (g zero) (λ y l. e 0 y (omega arith) l),
+        programs-ext d (s + d) k (λ j. f (suc j)) (λ j. g (suc j)) (λ j y l m. e (suc j) y (omega arith) m),
+      )
 
   -- a program: the sector is fresh, and the sectors before it in its page are not
   abbrev pub Allowed : Op → Flash → Type 0
@@ -65,8 +73,10 @@ module _ (u : ℕ) where
   -- operations keep the lengths of both areas
   pub apply-main-length : (os : List Op) (c : Flash) → length (applyAll u os c .main) ≡ length (c .main)
   apply-main-length [] c = refl
-  apply-main-length (program s bytes ∷ os) c = apply-main-length os (apply u (program s bytes) c) ∙ length-write (c .main) (s * (16 * u)) bytes
-  apply-main-length (erase b ∷ os) c = apply-main-length os (apply u (erase b) c) ∙ length-write (c .main) (b * (1024 * u)) (replicate (1024 * u) 255)
+  apply-main-length (program s bytes ∷ os) c =
+      apply-main-length os (apply u (program s bytes) c) ∙ length-write (c .main) (s * (16 * u)) bytes
+  apply-main-length (erase b ∷ os) c =
+      apply-main-length os (apply u (erase b) c) ∙ length-write (c .main) (b * (1024 * u)) (replicate (1024 * u) 255)
 
   pub apply-spare-length : (os : List Op) (c : Flash) → length (applyAll u os c .spare) ≡ length (c .spare)
   apply-spare-length [] c = refl
@@ -80,7 +90,8 @@ module _ (u : ℕ) where
       → getD (applyAll u (programs u d s k f) c .spare) x 0 ≡ getD (c .spare) x 0
   programs-spare-out d s zero f c x o = refl
   programs-spare-out d s (suc k) f c x o =
-      programs-spare-out d (s + d) k (λ j. f (suc j)) (apply u (program s (tab (16 * u) (f zero))) c) x (λ j l. let n = o (suc j) (omega arith) in omega arith)
+      programs-spare-out d (s + d) k (λ j. f (suc j)) (apply u (program s (tab (16 * u) (f zero))) c) x
+      (λ j l. let n = o (suc j) (omega arith) in omega arith)
       ∙ getD-set-other (c .spare) s x 0 0 (let n = o 0 (omega arith) in omega arith)
 
   pub programs-main-out : (d s k : ℕ) (f : ℕ → ℕ → ℕ) (c : Flash) (x y : ℕ) → y < (16 * u) → ((j : ℕ) → j < k → x ≢ s + j * d)
@@ -88,7 +99,8 @@ module _ (u : ℕ) where
   programs-main-out d s zero f c x y h o = refl
   programs-main-out d s (suc k) f c x y h o =
       let t = length-tab (16 * u) (f zero) in
-      programs-main-out d (s + d) k (λ j. f (suc j)) (apply u (program s (tab (16 * u) (f zero))) c) x y h (λ j l. let n = o (suc j) (omega arith) in omega arith)
+      programs-main-out d (s + d) k (λ j. f (suc j)) (apply u (program s (tab (16 * u) (f zero))) c) x y h
+      (λ j l. let n = o (suc j) (omega arith) in omega arith)
       ∙ either (lt? x s)
       (λ a. getD-write-before (c .main) (s * (16 * u)) _ (x * (16 * u) + y) 0 (omega (arith, mul-le-mul-right (16 * u) (a .1))))
       (λ a.
@@ -105,10 +117,12 @@ module _ (u : ℕ) where
       ∙ getD-set-same (c .spare) s 0 0 (omega arith))
   programs-spare-in d s (suc k) f c (suc j) hd h a =
       let e : s + suc j * d ≡ s + d + j * d = omega arith in
-      rw e (programs-spare-in d (s + d) k (λ j. f (suc j)) (apply u (program s (tab (16 * u) (f zero))) c) j hd (rw (length-set (c .spare) s 0) (omega arith)) (omega arith))
+      rw e (programs-spare-in d (s + d) k (λ j. f (suc j)) (apply u (program s (tab (16 * u) (f zero))) c) j hd
+      (rw (length-set (c .spare) s 0) (omega arith)) (omega arith))
 
   -- byte y of the j-th sector written
-  pub programs-main-in : (d s k : ℕ) (f : ℕ → ℕ → ℕ) (c : Flash) (j y : ℕ) → 0 < d → (s + j * d) * (16 * u) + (16 * u) ≤ length (c .main) → j < k → y < (16 * u)
+  pub programs-main-in : (d s k : ℕ) (f : ℕ → ℕ → ℕ) (c : Flash) (j y : ℕ) → 0 < d → (s + j * d) * (16 * u) + (16 * u) ≤ length (c .main)
+      → j < k → y < (16 * u)
       → getD (applyAll u (programs u d s k f) c .main) ((s + j * d) * (16 * u) + y) 0 ≡ f j y
   programs-main-in d s zero f c j y hd h a b = absurd (not-suc-le-zero a)
   programs-main-in d s (suc k) f c zero y hd h a b =
@@ -157,7 +171,8 @@ module _ (u : ℕ) where
           go (suc i) a b = (i, omega arith, omega arith)
 
   -- sectors between lo and hi leave what is before and after
-  pub range-out : (d s k lo hi : ℕ) (f : ℕ → ℕ → ℕ) (c : Flash) (a : ℕ) → 0 < (16 * u) → ((j : ℕ) → j < k → (lo ≤ s + j * d) × (s + j * d < hi))
+  pub range-out : (d s k lo hi : ℕ) (f : ℕ → ℕ → ℕ) (c : Flash) (a : ℕ) → 0 < (16 * u)
+      → ((j : ℕ) → j < k → (lo ≤ s + j * d) × (s + j * d < hi))
       → (a < lo * (16 * u)) ⊎ (hi * (16 * u) ≤ a) → getD (applyAll u (programs u d s k f) c .main) a 0 ≡ getD (c .main) a 0
   range-out d s k lo hi f c a pS r o =
       let E = euclid a (16 * u) pS in
@@ -179,9 +194,11 @@ module _ (u : ℕ) where
   erases-main-out b (suc k) c x o =
       let l : length (replicate {A = ℕ} (1024 * u) 255) ≡ 1024 * u = length-replicate {A = ℕ} (1024 * u) 255 in
       erases-main-out (suc b) k (apply u (erase b) c) x (either o (λ a. inl (omega arith)) (λ a. inr (omega arith)))
-      ∙ either o (λ a. getD-write-before (c .main) (b * (1024 * u)) _ x 0 a) (λ a. getD-write-after (c .main) (b * (1024 * u)) _ x 0 (omega arith))
+      ∙ either o (λ a. getD-write-before (c .main) (b * (1024 * u)) _ x 0 a)
+      (λ a. getD-write-after (c .main) (b * (1024 * u)) _ x 0 (omega arith))
 
-  pub erases-main-in : (b k : ℕ) (c : Flash) (x : ℕ) → (b + k) * (1024 * u) ≤ length (c .main) → b * (1024 * u) ≤ x → x < (b + k) * (1024 * u)
+  pub erases-main-in : (b k : ℕ) (c : Flash) (x : ℕ) → (b + k) * (1024 * u) ≤ length (c .main) → b * (1024 * u) ≤ x
+      → x < (b + k) * (1024 * u)
       → getD (applyAll u (erases b k) c .main) x 0 ≡ 255
   erases-main-in b zero c x h lo hi = absurd (omega arith)
   erases-main-in b (suc k) c x h lo hi =
@@ -191,9 +208,11 @@ module _ (u : ℕ) where
       erases-main-out (suc b) k (apply u (erase b) c) x (inl (a .1))
       ∙ getD-write-in (c .main) (b * (1024 * u)) _ x 0 lo (omega arith) (omega arith)
       ∙ getD-replicate (1024 * u) (x - b * (1024 * u)) 255 0 (omega arith))
-      (λ a. erases-main-in (suc b) k (apply u (erase b) c) x (rw (length-write (c .main) (b * (1024 * u)) (replicate (1024 * u) 255)) (omega arith)) (a .1) (omega arith))
+      (λ a. erases-main-in (suc b) k (apply u (erase b) c) x
+      (rw (length-write (c .main) (b * (1024 * u)) (replicate (1024 * u) 255)) (omega arith)) (a .1) (omega arith))
 
-  pub erases-spare-out : (b k : ℕ) (c : Flash) (x : ℕ) → (x < b * 64) ⊎ ((b + k) * 64 ≤ x) → getD (applyAll u (erases b k) c .spare) x 0 ≡ getD (c .spare) x 0
+  pub erases-spare-out : (b k : ℕ) (c : Flash) (x : ℕ) → (x < b * 64) ⊎ ((b + k) * 64 ≤ x)
+      → getD (applyAll u (erases b k) c .spare) x 0 ≡ getD (c .spare) x 0
   erases-spare-out b zero c x o = refl
   erases-spare-out b (suc k) c x o =
       let l : length (replicate {A = ℕ} 64 255) ≡ 64 = length-replicate {A = ℕ} 64 255 in
@@ -210,19 +229,22 @@ module _ (u : ℕ) where
       erases-spare-out (suc b) k (apply u (erase b) c) x (inl (a .1))
       ∙ getD-write-in (c .spare) (b * 64) _ x 0 lo (omega arith) (omega arith)
       ∙ getD-replicate 64 (x - b * 64) 255 0 (omega arith))
-      (λ a. erases-spare-in (suc b) k (apply u (erase b) c) x (rw (length-write (c .spare) (b * 64) (replicate 64 255)) (omega arith)) (a .1) (omega arith))
+      (λ a. erases-spare-in (suc b) k (apply u (erase b) c) x (rw (length-write (c .spare) (b * 64) (replicate 64 255)) (omega arith))
+      (a .1) (omega arith))
 
   -- ---- sectors in a row are one write of cells
 
   pub row-main : (s k : ℕ) (f : ℕ → ℕ → ℕ) (c : Flash) → 0 < (16 * u) → (s + k) * (16 * u) ≤ length (c .main)
       → applyAll u (programs u 1 s k f) c .main ≡ write (c .main) (s * (16 * u)) (tab (k * (16 * u)) (λ i. f (i / (16 * u)) (i % (16 * u))))
   row-main s k f c pS fits =
-      ext-getD 0 (applyAll u (programs u 1 s k f) c .main) (write (c .main) (s * (16 * u)) (tab (k * (16 * u)) (λ i. f (i / (16 * u)) (i % (16 * u)))))
+      ext-getD 0 (applyAll u (programs u 1 s k f) c .main)
+      (write (c .main) (s * (16 * u)) (tab (k * (16 * u)) (λ i. f (i / (16 * u)) (i % (16 * u)))))
       (apply-main-length (programs u 1 s k f) c ∙ sym (length-write (c .main) (s * (16 * u)) _))
       (λ a h. at a (rw (apply-main-length (programs u 1 s k f) c) at h))
     where
       at : (a : ℕ) → a < length (c .main)
-          → getD (applyAll u (programs u 1 s k f) c .main) a 0 ≡ getD (write (c .main) (s * (16 * u)) (tab (k * (16 * u)) (λ i. f (i / (16 * u)) (i % (16 * u))))) a 0
+          → getD (applyAll u (programs u 1 s k f) c .main) a 0
+          ≡ getD (write (c .main) (s * (16 * u)) (tab (k * (16 * u)) (λ i. f (i / (16 * u)) (i % (16 * u))))) a 0
       at a h =
           let t = length-tab (k * (16 * u)) (λ i. f (i / (16 * u)) (i % (16 * u))) in
           either (lt? a (s * (16 * u)))
@@ -234,8 +256,10 @@ module _ (u : ℕ) where
           let E = euclid (a - s * (16 * u)) (16 * u) pS in
           let j : (a - s * (16 * u)) / (16 * u) < k = div-lt (a - s * (16 * u)) (16 * u) k pS (omega arith) in
           let e : (s + (a - s * (16 * u)) / (16 * u) * 1) * (16 * u) + (a - s * (16 * u)) % (16 * u) ≡ a = omega arith in
-          (rw e at (programs-main-in 1 s k f c ((a - s * (16 * u)) / (16 * u)) ((a - s * (16 * u)) % (16 * u)) (omega arith) (omega (arith, mul-le-mul-right (16 * u) j)) j (E .small)))
-          ∙ sym (getD-write-in (c .main) (s * (16 * u)) (tab (k * (16 * u)) (λ i. f (i / (16 * u)) (i % (16 * u)))) a 0 (b .1) (omega arith) h
+          (rw e at (programs-main-in 1 s k f c ((a - s * (16 * u)) / (16 * u)) ((a - s * (16 * u)) % (16 * u)) (omega arith)
+          (omega (arith, mul-le-mul-right (16 * u) j)) j (E .small)))
+          ∙ sym (getD-write-in (c .main) (s * (16 * u)) (tab (k * (16 * u)) (λ i. f (i / (16 * u)) (i % (16 * u)))) a 0 (b .1)
+          (omega arith) h
           ∙ getD-tab (k * (16 * u)) (λ i. f (i / (16 * u)) (i % (16 * u))) (a - s * (16 * u)) 0 (omega arith)))
           (λ d.
           range-out 1 s k s (s + k) f c a pS (λ j l. (omega arith, omega arith)) (inr (d .1))

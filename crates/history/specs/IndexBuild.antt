@@ -17,8 +17,12 @@ use Rattle.layout.specs.Flash.{Flash, Op, applyAll, erases, allFresh}
 use Rattle.layout.specs.Index.{Index, rowByte, bitAt, setPages, setWidth, setBlocks, fullFilters, sideBlock, fullBlock, flashPlace, setByte}
 use Rattle.history.specs.Operations.{programs, buildOps}
 use Rattle.history.specs.Image.{partitionByte, sideByte, fullByte, IndexMain, IndexSpare}
-use Rattle.history.specs.FlashLaws.{fresh-append, fresh-programs, fresh-erases, AllAllowed, apply-append, allowed-append, apply-main-length, apply-spare-length, programs-main-in, programs-spare-in, programs-spare-out, programs-allowed, range-out, erases-allowed, erases-main-in, erases-main-out, erases-spare-in, erases-spare-out}
-use Rattle.laws.specs.RowLaws.{row-ext, unit-pos, set-whole, width-pos, blocks-fit, full-blocks, full-width, blocks-some, blocks-le, side-range}
+use Rattle.history.specs.FlashLaws.{fresh-append, fresh-programs, fresh-erases, AllAllowed, apply-append, allowed-append}
+use Rattle.history.specs.FlashLaws.{apply-main-length, apply-spare-length, programs-main-in, programs-spare-in, programs-spare-out}
+use Rattle.history.specs.FlashLaws.{programs-allowed, range-out, erases-allowed, erases-main-in, erases-main-out, erases-spare-in}
+use Rattle.history.specs.FlashLaws.{erases-spare-out}
+use Rattle.laws.specs.RowLaws.{row-ext, unit-pos, set-whole, width-pos, blocks-fit, full-blocks, full-width, blocks-some, blocks-le}
+use Rattle.laws.specs.RowLaws.{side-range}
 use Rattle.history.specs.IndexRead.{read-flash}
 
 -- ---- the sectors of some blocks are programmed, then L1's block and the old set's blocks erased
@@ -58,7 +62,9 @@ module _ (u : ℕ) (pu : 0 < u) (r : Rebuild) (f : ℕ → ℕ → ℕ) (C : Fla
   rebuilt = applyAll u (rebuildOps u r f) C
 
   rebuilt-is : rebuilt ≡ C3
-  rebuilt-is = apply-append u (programs u 1 (r .dest * 64) (r .sectors) f) (erases (r .first) 1 ++ erases (r .old) (r .gone)) C ∙ apply-append u (erases (r .first) 1) (erases (r .old) (r .gone)) C1
+  rebuilt-is =
+      apply-append u (programs u 1 (r .dest * 64) (r .sectors) f) (erases (r .first) 1 ++ erases (r .old) (r .gone)) C
+      ∙ apply-append u (erases (r .first) 1) (erases (r .old) (r .gone)) C1
 
   main-is : (x : ℕ) → getD (rebuilt .main) x 0 ≡ getD (C3 .main) x 0
   main-is x = ap (λ (D : Flash). getD (D .main) x 0) rebuilt-is
@@ -69,7 +75,8 @@ module _ (u : ℕ) (pu : 0 < u) (r : Rebuild) (f : ℕ → ℕ → ℕ) (C : Fla
   -- what each step leaves
   main1 : (x : ℕ) → (x < r .dest * (1024 * u)) ⊎ ((r .dest + r .new) * (1024 * u) ≤ x) → getD (C1 .main) x 0 ≡ getD (C .main) x 0
   main1 x o =
-      range-out u 1 (r .dest * 64) (r .sectors) (r .dest * 64) ((r .dest + r .new) * 64) f C x (omega arith) (λ j l. (omega arith, omega arith))
+      range-out u 1 (r .dest * 64) (r .sectors) (r .dest * 64) ((r .dest + r .new) * 64) f C x (omega arith)
+      (λ j l. (omega arith, omega arith))
       (either o (λ a. inl (omega arith)) (λ a. inr (omega arith)))
 
   main2 : (x : ℕ) → (x < r .first * (1024 * u)) ⊎ ((r .first + 1) * (1024 * u) ≤ x) → getD (C2 .main) x 0 ≡ getD (C1 .main) x 0
@@ -88,7 +95,8 @@ module _ (u : ℕ) (pu : 0 < u) (r : Rebuild) (f : ℕ → ℕ → ℕ) (C : Fla
   spare3 x o = erases-spare-out u (r .old) (r .gone) C2 x o
 
   -- what lies in none of the three places is kept
-  main-same : (x : ℕ) → (x < r .dest * (1024 * u)) ⊎ ((r .dest + r .new) * (1024 * u) ≤ x) → (x < r .first * (1024 * u)) ⊎ ((r .first + 1) * (1024 * u) ≤ x)
+  main-same : (x : ℕ) → (x < r .dest * (1024 * u)) ⊎ ((r .dest + r .new) * (1024 * u) ≤ x)
+      → (x < r .first * (1024 * u)) ⊎ ((r .first + 1) * (1024 * u) ≤ x)
       → (x < r .old * (1024 * u)) ⊎ ((r .old + r .gone) * (1024 * u) ≤ x) → getD (rebuilt .main) x 0 ≡ getD (C .main) x 0
   main-same x a b d = main-is x ∙ main3 x d ∙ main2 x b ∙ main1 x a
 
@@ -123,9 +131,12 @@ module _ (u : ℕ) (pu : 0 < u) (r : Rebuild) (f : ℕ → ℕ → ℕ) (C : Fla
         let m2 = mul-le-mul-right (1024 * u) (r .dest-in) in
         let m4 = mul-le-mul-right (16 * u) j-lt in
         main-is (r .dest * (1024 * u) + i)
-        ∙ main3 (r .dest * (1024 * u) + i) (either (r .apart) (λ a. inl (omega (arith, mul-le-mul-right (1024 * u) a))) (λ a. inr (omega (arith, mul-le-mul-right (1024 * u) a))))
+        ∙ main3 (r .dest * (1024 * u) + i)
+        (either (r .apart) (λ a. inl (omega (arith, mul-le-mul-right (1024 * u) a)))
+        (λ a. inr (omega (arith, mul-le-mul-right (1024 * u) a))))
         ∙ main2 (r .dest * (1024 * u) + i) (inr (omega arith))
-        ∙ rw x-is (programs-main-in u 1 (r .dest * 64) (r .sectors) f C (i / (16 * u)) (i % (16 * u)) (omega arith) (omega arith) (omega arith) (E .small))
+        ∙ rw x-is (programs-main-in u 1 (r .dest * 64) (r .sectors) f C (i / (16 * u)) (i % (16 * u)) (omega arith) (omega arith)
+        (omega arith) (E .small))
 
     main-first : (i : ℕ) → i < 1024 * u → getD (rebuilt .main) (r .first * (1024 * u) + i) 0 ≡ 255
     main-first i h =
@@ -139,9 +150,11 @@ module _ (u : ℕ) (pu : 0 < u) (r : Rebuild) (f : ℕ → ℕ → ℕ) (C : Fla
 
     main-old : (i : ℕ) → i < r .gone * (1024 * u) → getD (rebuilt .main) (r .old * (1024 * u) + i) 0 ≡ 255
     main-old i h =
-        let l : length (C2 .main) ≡ length (C .main) = apply-main-length u (erases (r .first) 1) C1 ∙ apply-main-length u (programs u 1 (r .dest * 64) (r .sectors) f) C in
+        let l : length (C2 .main) ≡ length (C .main)
+        = apply-main-length u (erases (r .first) 1) C1 ∙ apply-main-length u (programs u 1 (r .dest * 64) (r .sectors) f) C in
         main-is (r .old * (1024 * u) + i)
-        ∙ erases-main-in u (r .old) (r .gone) C2 (r .old * (1024 * u) + i) (rw l (omega (arith, mul-le-mul-right (1024 * u) (r .old-in)))) (omega arith) (omega arith)
+        ∙ erases-main-in u (r .old) (r .gone) C2 (r .old * (1024 * u) + i) (rw l (omega (arith, mul-le-mul-right (1024 * u) (r .old-in))))
+        (omega arith) (omega arith)
 
   module _ (fits : r .end * 64 ≤ length (C .spare)) where
     spare-new : (x : ℕ) → x < r .new * 64 → getD (rebuilt .spare) (r .dest * 64 + x) 0 ≡ 0
@@ -161,7 +174,8 @@ module _ (u : ℕ) (pu : 0 < u) (r : Rebuild) (f : ℕ → ℕ → ℕ) (C : Fla
 
     spare-old : (x : ℕ) → x < r .gone * 64 → getD (rebuilt .spare) (r .old * 64 + x) 0 ≡ 255
     spare-old x h =
-        let l : length (C2 .spare) ≡ length (C .spare) = apply-spare-length u (erases (r .first) 1) C1 ∙ apply-spare-length u (programs u 1 (r .dest * 64) (r .sectors) f) C in
+        let l : length (C2 .spare) ≡ length (C .spare)
+        = apply-spare-length u (erases (r .first) 1) C1 ∙ apply-spare-length u (programs u 1 (r .dest * 64) (r .sectors) f) C in
         spare-is (r .old * 64 + x)
         ∙ erases-spare-in u (r .old) (r .gone) C2 (r .old * 64 + x) (rw l (omega arith)) (omega arith) (omega arith)
 
@@ -173,13 +187,17 @@ module _ (u : ℕ) (pu : 0 < u) (r : Rebuild) (f : ℕ → ℕ → ℕ) (C : Fla
         (λ j l. omega arith)
         (λ j l. let a : r .dest * 64 + j * 1 ≡ r .dest * 64 + j = omega arith in rw a (free j (omega arith)))
         (λ j x l a b. inr (x - r .dest * 64, omega arith, omega arith)))
-        (allowed-append u (erases (r .first) 1) (erases (r .old) (r .gone)) C1 (erases-allowed u (r .first) 1 C1) (erases-allowed u (r .old) (r .gone) C2))
+        (allowed-append u (erases (r .first) 1) (erases (r .old) (r .gone)) C1 (erases-allowed u (r .first) 1 C1)
+        (erases-allowed u (r .old) (r .gone) C2))
 
-  rebuild-fresh : (spare : List ℕ) → ((x : ℕ) → x < r .new * 64 → getD spare (r .dest * 64 + x) 0 ≡ 255) → allFresh spare (rebuildOps u r f) ≡ true
+  rebuild-fresh : (spare : List ℕ) → ((x : ℕ) → x < r .new * 64 → getD spare (r .dest * 64 + x) 0 ≡ 255)
+      → allFresh spare (rebuildOps u r f) ≡ true
   rebuild-fresh spare free =
       fresh-append spare (programs u 1 (r .dest * 64) (r .sectors) f) (erases (r .first) 1 ++ erases (r .old) (r .gone))
-      (fresh-programs u 1 (r .dest * 64) (r .sectors) f spare (λ j l. let a : r .dest * 64 + j * 1 ≡ r .dest * 64 + j = omega arith in rw a (free j (omega arith))))
-      (fresh-append spare (erases (r .first) 1) (erases (r .old) (r .gone)) (fresh-erases spare (r .first) 1) (fresh-erases spare (r .old) (r .gone)))
+      (fresh-programs u 1 (r .dest * 64) (r .sectors) f spare
+      (λ j l. let a : r .dest * 64 + j * 1 ≡ r .dest * 64 + j = omega arith in rw a (free j (omega arith))))
+      (fresh-append spare (erases (r .first) 1) (erases (r .old) (r .gone)) (fresh-erases spare (r .first) 1)
+      (fresh-erases spare (r .old) (r .gone)))
 
 -- ---- what a list of operations makes of an index
 
@@ -188,8 +206,10 @@ pub record IndexAfter (u : ℕ) (ix : Index) (Z : ℕ) (F : ℕ → ℕ → Bool
   pub on-main : IndexMain u ix Z F z c t (applyAll u ops C .main)
   pub on-spare : IndexSpare u ix Z z c t (applyAll u ops C .spare)
   pub may : AllAllowed u ops C
-  pub free : (spare : List ℕ) → ((x : ℕ) → from * 64 ≤ x → x < fullBlock u ix Z * 64 → getD spare x 0 ≡ getD (C .spare) x 0) → allFresh spare ops ≡ true
-  pub main-out : (x : ℕ) → (x < ix .first * block u) ⊎ (fullBlock u ix Z * block u ≤ x) → getD (applyAll u ops C .main) x 0 ≡ getD (C .main) x 0
+  pub free : (spare : List ℕ) → ((x : ℕ) → from * 64 ≤ x → x < fullBlock u ix Z * 64 → getD spare x 0 ≡ getD (C .spare) x 0)
+      → allFresh spare ops ≡ true
+  pub main-out : (x : ℕ) → (x < ix .first * block u) ⊎ (fullBlock u ix Z * block u ≤ x)
+      → getD (applyAll u ops C .main) x 0 ≡ getD (C .main) x 0
   pub spare-out : (x : ℕ) → (x < ix .first * 64) ⊎ (fullBlock u ix Z * 64 ≤ x) → getD (applyAll u ops C .spare) x 0 ≡ getD (C .spare) x 0
 
 -- ---- the sides
@@ -210,32 +230,40 @@ module _ (u e : ℕ) (pow : u ≡ 2 ^ e) (ix : Index) (Z : ℕ) (F : ℕ → ℕ
     (main-fits : fullBlock u ix Z * block u ≤ length (C .main)) (spare-fits : fullBlock u ix Z * 64 ≤ length (C .spare)) where
   -- the bits as they stand are those of the filters
   row-is : (p y : ℕ) → p < setPages (c + 1)
-      → rowByte (λ g x. bitAt (C .main) [] (flashPlace u ix z c (z * fullFilters u + g) x)) (128 * (c + 1)) (setWidth u (c + 1)) (p * setWidth u (c + 1)) y
+      → rowByte (λ g x. bitAt (C .main) [] (flashPlace u ix z c (z * fullFilters u + g) x)) (128 * (c + 1)) (setWidth u (c + 1))
+      (p * setWidth u (c + 1)) y
       ≡ rowByte (λ g. F (z * fullFilters u + g)) (128 * (c + 1)) (setWidth u (c + 1)) (p * setWidth u (c + 1)) y
   row-is p y h =
       let W = set-whole u e pow (c + 1) (omega arith) in
-      row-ext (λ g x. bitAt (C .main) [] (flashPlace u ix z c (z * fullFilters u + g) x)) (λ g. F (z * fullFilters u + g)) (128 * (c + 1)) (setWidth u (c + 1)) (p * setWidth u (c + 1)) y
+      row-ext (λ g x. bitAt (C .main) [] (flashPlace u ix z c (z * fullFilters u + g) x)) (λ g. F (z * fullFilters u + g)) (128 * (c + 1))
+      (setWidth u (c + 1)) (p * setWidth u (c + 1)) y
       (width-pos u e pow (c + 1) (omega arith))
-      (λ g r hg hr. read-flash u e pow ix Z F z c 16 (C .main) I hc hz (omega arith) [] (z * fullFilters u + g) (p * setWidth u (c + 1) + r) (omega arith)
+      (λ g r hg hr. read-flash u e pow ix Z F z c 16 (C .main) I hc hz (omega arith) [] (z * fullFilters u + g) (p * setWidth u (c + 1) + r)
+      (omega arith)
       (omega (arith, mul-le-mul-right (setWidth u (c + 1)) h)))
 
   -- byte i of the new set
   set-byte : (i : ℕ) → i < 2 ^ log2up (c + 1) * block u
-      → setByte u ix (C .main) z c (i / (16 * u)) (i % (16 * u)) ≡ partitionByte u F (z * fullFilters u) (128 * (c + 1)) (setWidth u (c + 1)) i
+      → setByte u ix (C .main) z c (i / (16 * u)) (i % (16 * u))
+      ≡ partitionByte u F (z * fullFilters u) (128 * (c + 1)) (setWidth u (c + 1)) i
   unfolding setByte
   set-byte i h =
       let pu = unit-pos u e pow in
       let E = euclid i (16 * u) (omega arith) in
-      let four : (i / (16 * u) / 4 * 4 + i / (16 * u) % 4) * (16 * u) ≡ i / (16 * u) * (16 * u) = ap (λ (n : ℕ). n * (16 * u)) (omega arith) in
+      let four : (i / (16 * u) / 4 * 4 + i / (16 * u) % 4) * (16 * u) ≡ i / (16 * u) * (16 * u)
+      = ap (λ (n : ℕ). n * (16 * u)) (omega arith) in
       let r4 : i / (16 * u) % 4 < 4 = omega arith in
       let m4 = mul-le-mul-right (16 * u) r4 in
-      let d : i / (64 * u) ≡ i / (16 * u) / 4 = div-of i (64 * u) (i / (16 * u) / 4) (i / (16 * u) % 4 * (16 * u) + i % (16 * u)) (omega arith) (omega arith) in
-      let m : i % (64 * u) ≡ i / (16 * u) % 4 * (16 * u) + i % (16 * u) = mod-of i (64 * u) (i / (16 * u) / 4) (i / (16 * u) % 4 * (16 * u) + i % (16 * u)) (omega arith) (omega arith) in
+      let d : i / (64 * u) ≡ i / (16 * u) / 4
+      = div-of i (64 * u) (i / (16 * u) / 4) (i / (16 * u) % 4 * (16 * u) + i % (16 * u)) (omega arith) (omega arith) in
+      let m : i % (64 * u) ≡ i / (16 * u) % 4 * (16 * u) + i % (16 * u)
+      = mod-of i (64 * u) (i / (16 * u) / 4) (i / (16 * u) % 4 * (16 * u) + i % (16 * u)) (omega arith) (omega arith) in
       let p-lt : i / (64 * u) < setPages (c + 1) = div-lt i (64 * u) (setPages (c + 1)) (omega arith) (omega arith) in
       rw (← d, ← m) (row-is (i / (64 * u)) (i % (64 * u)) p-lt)
 
   -- a place for the new set: past L1, apart from the old side, in the index
-  module _ (dest : ℕ) (after : ix .first + 1 ≤ dest) (apart : (dest + 4 * u ≤ sideBlock u ix c) ⊎ (sideBlock u ix c + 4 * u ≤ dest)) (dest-in : dest + 4 * u ≤ fullBlock u ix Z) where
+  module _ (dest : ℕ) (after : ix .first + 1 ≤ dest) (apart : (dest + 4 * u ≤ sideBlock u ix c) ⊎ (sideBlock u ix c + 4 * u ≤ dest))
+      (dest-in : dest + 4 * u ≤ fullBlock u ix Z) where
     new-fit : 2 ^ log2up (c + 1) ≤ 4 * u
     new-fit = blocks-fit u e pow (c + 1) (omega arith)
 
@@ -263,18 +291,22 @@ module _ (u e : ℕ) (pow : u ≡ 2 ^ e) (ix : Index) (Z : ℕ) (F : ℕ → ℕ
     }
 
     abbrev buildTo : List Op
-    buildTo = programs u 1 (dest * 64) (setPages (c + 1) * 4) (setByte u ix (C .main) z c) ++ (erases (ix .first) 1 ++ erases (sideBlock u ix c) (setBlocks c))
+    buildTo =
+        programs u 1 (dest * 64) (setPages (c + 1) * 4) (setByte u ix (C .main) z c)
+        ++ (erases (ix .first) 1 ++ erases (sideBlock u ix c) (setBlocks c))
 
     -- the new set, then L1 and the old side, erased
     to-new : (i : ℕ) → i < 2 ^ log2up (c + 1) * block u
-        → getD (applyAll u buildTo C .main) (dest * block u + i) 0 ≡ partitionByte u F (z * fullFilters u) (128 * (c + 1)) (setWidth u (c + 1)) i
+        → getD (applyAll u buildTo C .main) (dest * block u + i) 0
+        ≡ partitionByte u F (z * fullFilters u) (128 * (c + 1)) (setWidth u (c + 1)) i
     to-new i h = main-new u (unit-pos u e pow) plan (setByte u ix (C .main) z c) C main-fits i h ∙ set-byte i h
 
     to-l1 : (i : ℕ) → i < block u → getD (applyAll u buildTo C .main) (ix .first * block u + i) 0 ≡ 255
     to-l1 = main-first u (unit-pos u e pow) plan (setByte u ix (C .main) z c) C main-fits
 
     to-same : (x : ℕ) → (x < dest * block u) ⊎ ((dest + 2 ^ log2up (c + 1)) * block u ≤ x) → (ix .first + 1) * block u ≤ x
-        → (x < sideBlock u ix c * block u) ⊎ ((sideBlock u ix c + setBlocks c) * block u ≤ x) → getD (applyAll u buildTo C .main) x 0 ≡ getD (C .main) x 0
+        → (x < sideBlock u ix c * block u) ⊎ ((sideBlock u ix c + setBlocks c) * block u ≤ x)
+        → getD (applyAll u buildTo C .main) x 0 ≡ getD (C .main) x 0
     to-same x a b d = main-same u (unit-pos u e pow) plan (setByte u ix (C .main) z c) C x a (inr b) d
 
     to-old : (i : ℕ) → i < sideBlocks u * block u → getD (applyAll u buildTo C .main) (sideBlock u ix c * block u + i) 0 ≡ 255
@@ -283,7 +315,8 @@ module _ (u e : ℕ) (pow : u ≡ 2 ^ e) (ix : Index) (Z : ℕ) (F : ℕ → ℕ
         (λ a. main-old u (unit-pos u e pow) plan (setByte u ix (C .main) z c) C main-fits i (a .1))
         (λ a.
         to-same (sideBlock u ix c * block u + i)
-        (either apart (λ b. inr (omega (arith, mul-le-mul-right (1024 * u) b, mul-le-mul-right (1024 * u) new-fit))) (λ b. inl (omega (arith, mul-le-mul-right (1024 * u) b))))
+        (either apart (λ b. inr (omega (arith, mul-le-mul-right (1024 * u) b, mul-le-mul-right (1024 * u) new-fit)))
+        (λ b. inl (omega (arith, mul-le-mul-right (1024 * u) b))))
         (omega (arith, mul-le-mul-right (1024 * u) old-after)) (inr (omega arith))
         ∙ I .here i h ∙ rw (a .0))
 
@@ -295,7 +328,8 @@ module _ (u e : ℕ) (pow : u ≡ 2 ^ e) (ix : Index) (Z : ℕ) (F : ℕ → ℕ
     to-spare-l1 = spare-first u (unit-pos u e pow) plan (setByte u ix (C .main) z c) C spare-fits
 
     to-spare-same : (x : ℕ) → (x < dest * 64) ⊎ ((dest + 2 ^ log2up (c + 1)) * 64 ≤ x) → (ix .first + 1) * 64 ≤ x
-        → (x < sideBlock u ix c * 64) ⊎ ((sideBlock u ix c + setBlocks c) * 64 ≤ x) → getD (applyAll u buildTo C .spare) x 0 ≡ getD (C .spare) x 0
+        → (x < sideBlock u ix c * 64) ⊎ ((sideBlock u ix c + setBlocks c) * 64 ≤ x)
+        → getD (applyAll u buildTo C .spare) x 0 ≡ getD (C .spare) x 0
     to-spare-same x a b d = spare-same u (unit-pos u e pow) plan (setByte u ix (C .main) z c) C x a (inr b) d
 
     to-spare-old : (x : ℕ) → x < sideBlocks u * 64 → getD (applyAll u buildTo C .spare) (sideBlock u ix c * 64 + x) 0 ≡ 255
@@ -309,8 +343,10 @@ module _ (u e : ℕ) (pow : u ≡ 2 ^ e) (ix : Index) (Z : ℕ) (F : ℕ → ℕ
         ∙ M .here x h ∙ rw (a .0))
 
     -- the image is the new one, and the place was fresh: then all is well
-    build-after : (z′ c′ t′ : ℕ) → IndexMain u ix Z F z′ c′ t′ (applyAll u buildTo C .main) → IndexSpare u ix Z z′ c′ t′ (applyAll u buildTo C .spare)
-        → ((x : ℕ) → x < sideBlocks u * 64 → getD (C .spare) (dest * 64 + x) 0 ≡ 255) → IndexAfter u ix Z F (ix .first + 1) z′ c′ t′ buildTo C
+    build-after : (z′ c′ t′ : ℕ) → IndexMain u ix Z F z′ c′ t′ (applyAll u buildTo C .main)
+        → IndexSpare u ix Z z′ c′ t′ (applyAll u buildTo C .spare)
+        → ((x : ℕ) → x < sideBlocks u * 64 → getD (C .spare) (dest * 64 + x) 0 ≡ 255)
+        → IndexAfter u ix Z F (ix .first + 1) z′ c′ t′ buildTo C
     build-after z′ c′ t′ I′ M′ free = record {
       on-main = I′;
       on-spare = M′;
@@ -344,15 +380,21 @@ module _ (u e : ℕ) (pow : u ≡ 2 ^ e) (ix : Index) (Z : ℕ) (F : ℕ → ℕ
     back : sideBlock u ix (c + 1 + 1) ≡ sideBlock u ix c
     back = same-side u ix (c + 1 + 1) c (omega arith)
 
-    side-here : (i : ℕ) → i < sideBlocks u * block u → getD (applyAll u side C .main) (sideBlock u ix (c + 1) * block u + i) 0 ≡ sideByte u F (z * fullFilters u) (c + 1) i
+    side-here : (i : ℕ) → i < sideBlocks u * block u
+        → getD (applyAll u side C .main) (sideBlock u ix (c + 1) * block u + i) 0 ≡ sideByte u F (z * fullFilters u) (c + 1) i
     side-here i h =
         either (lt? i (2 ^ log2up (c + 1) * block u))
         (λ a. rw (blocks-next, a .0) (to-new other other-after (sides-apart u ix c) other-in i (a .1)))
         (λ a. rw (blocks-next, a .0)
-        (to-same other other-after (sides-apart u ix c) other-in (other * block u + i) (inr (omega arith)) (omega (arith, mul-le-mul-right (1024 * u) other-after))
+        (to-same other other-after (sides-apart u ix c) other-in (other * block u + i) (inr (omega arith))
+        (omega (arith, mul-le-mul-right (1024 * u) other-after))
         (either (sides-apart u ix c)
         (λ b. inl (omega (arith, mul-le-mul-right (1024 * u) b)))
-        (λ b. inr (omega (arith, mul-le-mul-right (1024 * u) b, mul-le-mul-right (1024 * u) (old-fit other other-after (sides-apart u ix c) other-in)))))
+        (λ b. inr (omega (
+          arith,
+          mul-le-mul-right (1024 * u) b,
+          mul-le-mul-right (1024 * u) (old-fit other other-after (sides-apart u ix c) other-in),
+        ))))
         ∙ I .there i h))
 
     side-main : IndexMain u ix Z F z (c + 1) 0 (applyAll u side C .main)
@@ -362,19 +404,29 @@ module _ (u e : ℕ) (pow : u ≡ 2 ^ e) (ix : Index) (Z : ℕ) (F : ℕ → ℕ
       there = λ i h. rw back (to-old other other-after (sides-apart u ix c) other-in i h);
       full = λ k i l h.
           to-same other other-after (sides-apart u ix c) other-in (fullBlock u ix k * block u + i)
-          (inr (omega (arith, mul-le-mul-right (1024 * u) (side-range u ix (c + 1) .1), mul-le-mul-right (1024 * u) (new-fit other other-after (sides-apart u ix c) other-in))))
+          (inr (omega (
+            arith,
+            mul-le-mul-right (1024 * u) (side-range u ix (c + 1) .1),
+            mul-le-mul-right (1024 * u) (new-fit other other-after (sides-apart u ix c) other-in),
+          )))
           (omega arith)
-          (inr (omega (arith, mul-le-mul-right (1024 * u) (side-range u ix c .1), mul-le-mul-right (1024 * u) (old-fit other other-after (sides-apart u ix c) other-in))))
+          (inr (omega (
+            arith,
+            mul-le-mul-right (1024 * u) (side-range u ix c .1),
+            mul-le-mul-right (1024 * u) (old-fit other other-after (sides-apart u ix c) other-in),
+          )))
           ∙ I .full k i l h;
     }
 
-    side-spare-here : (x : ℕ) → x < sideBlocks u * 64 → getD (applyAll u side C .spare) (sideBlock u ix (c + 1) * 64 + x) 0 ≡ cond (ltb x (setBlocks (c + 1) * 64)) 0 255
+    side-spare-here : (x : ℕ) → x < sideBlocks u * 64
+        → getD (applyAll u side C .spare) (sideBlock u ix (c + 1) * 64 + x) 0 ≡ cond (ltb x (setBlocks (c + 1) * 64)) 0 255
     side-spare-here x h =
         either (lt? x (2 ^ log2up (c + 1) * 64))
         (λ a. rw (blocks-next, a .0) (to-spare-new other other-after (sides-apart u ix c) other-in x (a .1)))
         (λ a. rw (blocks-next, a .0)
         (to-spare-same other other-after (sides-apart u ix c) other-in (other * 64 + x) (inr (omega arith)) (omega (arith, other-after))
-        (either (sides-apart u ix c) (λ b. inl (omega arith)) (λ b. inr (omega (arith, old-fit other other-after (sides-apart u ix c) other-in))))
+        (either (sides-apart u ix c) (λ b. inl (omega arith))
+        (λ b. inr (omega (arith, old-fit other other-after (sides-apart u ix c) other-in))))
         ∙ M .there x h))
 
     side-spare : IndexSpare u ix Z z (c + 1) 0 (applyAll u side C .spare)
@@ -392,7 +444,8 @@ module _ (u e : ℕ) (pow : u ≡ 2 ^ e) (ix : Index) (Z : ℕ) (F : ℕ → ℕ
 
     pub build-side : IndexAfter u ix Z F (ix .first + 1) z (c + 1) 0 (buildOps u ix (C .main) z c) C
     build-side =
-        rw (ne-eqb (c + 1) (4 * u) (omega arith)) (build-after other other-after (sides-apart u ix c) other-in z (c + 1) 0 side-main side-spare (M .there))
+        rw (ne-eqb (c + 1) (4 * u) (omega arith))
+        (build-after other other-after (sides-apart u ix c) other-in z (c + 1) 0 side-main side-spare (M .there))
 
   -- ---- a full set goes to the next place for full sets
 
@@ -416,7 +469,8 @@ module _ (u e : ℕ) (pow : u ≡ 2 ^ e) (ix : Index) (Z : ℕ) (F : ℕ → ℕ
     new-is = rw last (full-blocks u e pow)
 
     -- it has a bit of each filter to a page
-    whole-byte : (i : ℕ) → partitionByte u F (z * fullFilters u) (128 * (c + 1)) (setWidth u (c + 1)) i ≡ partitionByte u F (z * fullFilters u) (fullFilters u) 1 i
+    whole-byte : (i : ℕ) → partitionByte u F (z * fullFilters u) (128 * (c + 1)) (setWidth u (c + 1)) i
+        ≡ partitionByte u F (z * fullFilters u) (fullFilters u) 1 i
     whole-byte i =
         ap (λ (n : ℕ). partitionByte u F (z * fullFilters u) (128 * n) (setWidth u n) i) last
         ∙ ap (λ (w : ℕ). partitionByte u F (z * fullFilters u) (fullFilters u) w i) (full-width u e pow)
@@ -434,11 +488,20 @@ module _ (u e : ℕ) (pow : u ≡ 2 ^ e) (ix : Index) (Z : ℕ) (F : ℕ → ℕ
         to-same place place-after place-apart place-in (fullBlock u ix k * block u + i)
         (either ne
         (λ a. inl (omega (arith, mul-le-mul-right (4 * u * (1024 * u)) a)))
-        (λ a. inr (omega (arith, mul-le-mul-right (4 * u * (1024 * u)) a, mul-le-mul-right (1024 * u) (new-fit place place-after place-apart place-in)))))
+        (λ a. inr (omega (
+          arith,
+          mul-le-mul-right (4 * u * (1024 * u)) a,
+          mul-le-mul-right (1024 * u) (new-fit place place-after place-apart place-in),
+        ))))
         (omega arith)
-        (inr (omega (arith, mul-le-mul-right (1024 * u) (side-range u ix c .1), mul-le-mul-right (1024 * u) (old-fit place place-after place-apart place-in))))
+        (inr (omega (
+          arith,
+          mul-le-mul-right (1024 * u) (side-range u ix c .1),
+          mul-le-mul-right (1024 * u) (old-fit place place-after place-apart place-in),
+        )))
 
-    full-at : (k i : ℕ) → k < Z → i < sideBlocks u * block u → getD (applyAll u placed C .main) (fullBlock u ix k * block u + i) 0 ≡ fullByte u F (z + 1) k i
+    full-at : (k i : ℕ) → k < Z → i < sideBlocks u * block u
+        → getD (applyAll u placed C .main) (fullBlock u ix k * block u + i) 0 ≡ fullByte u F (z + 1) k i
     full-at k i l h =
         either (eq? k z)
         (λ a. rw (a .1, lt-ltb z (z + 1) (omega arith)) (to-new place place-after place-apart place-in i (rw new-is h) ∙ whole-byte i))
@@ -456,9 +519,14 @@ module _ (u e : ℕ) (pow : u ≡ 2 ^ e) (ix : Index) (Z : ℕ) (F : ℕ → ℕ
           (omega (arith, mul-le-mul-right (1024 * u) (side-range u ix (c + 1) .0)))
           (either (sides-apart u ix c)
           (λ b. inl (omega (arith, mul-le-mul-right (1024 * u) b)))
-          (λ b. inr (omega (arith, mul-le-mul-right (1024 * u) b, mul-le-mul-right (1024 * u) (old-fit place place-after place-apart place-in)))))
+          (λ b. inr (omega (
+            arith,
+            mul-le-mul-right (1024 * u) b,
+            mul-le-mul-right (1024 * u) (old-fit place place-after place-apart place-in),
+          ))))
           ∙ I .there i h ∙ rw (le-ltb i (0 * (1024 * u)) (omega arith));
-      there = λ i h. ap (λ (b : ℕ). getD (applyAll u placed C .main) (b * block u + i) 0) side-a ∙ to-old place place-after place-apart place-in i h;
+      there = λ i h. ap (λ (b : ℕ). getD (applyAll u placed C .main) (b * block u + i) 0) side-a
+          ∙ to-old place place-after place-apart place-in i h;
       full = full-at;
     }
 
@@ -472,7 +540,8 @@ module _ (u e : ℕ) (pow : u ≡ 2 ^ e) (ix : Index) (Z : ℕ) (F : ℕ → ℕ
         (omega arith)
         (inr (omega (arith, side-range u ix c .1, old-fit place place-after place-apart place-in)))
 
-    full-spare-at : (k x : ℕ) → k < Z → x < sideBlocks u * 64 → getD (applyAll u placed C .spare) (fullBlock u ix k * 64 + x) 0 ≡ cond (ltb k (z + 1)) 0 255
+    full-spare-at : (k x : ℕ) → k < Z → x < sideBlocks u * 64
+        → getD (applyAll u placed C .spare) (fullBlock u ix k * 64 + x) 0 ≡ cond (ltb k (z + 1)) 0 255
     full-spare-at k x l h =
         either (eq? k z)
         (λ a. rw (a .1, lt-ltb z (z + 1) (omega arith)) (to-spare-new place place-after place-apart place-in x (rw new-is h)))
@@ -490,7 +559,8 @@ module _ (u e : ℕ) (pow : u ≡ 2 ^ e) (ix : Index) (Z : ℕ) (F : ℕ → ℕ
           (omega (arith, side-range u ix (c + 1) .0))
           (either (sides-apart u ix c) (λ b. inl (omega arith)) (λ b. inr (omega (arith, old-fit place place-after place-apart place-in))))
           ∙ M .there x h ∙ rw (le-ltb x (0 * 64) zero-le);
-      there = λ x h. ap (λ (b : ℕ). getD (applyAll u placed C .spare) (b * 64 + x) 0) side-a ∙ to-spare-old place place-after place-apart place-in x h;
+      there = λ x h. ap (λ (b : ℕ). getD (applyAll u placed C .spare) (b * 64 + x) 0) side-a
+          ∙ to-spare-old place place-after place-apart place-in x h;
       full = full-spare-at;
     }
 
@@ -498,4 +568,5 @@ module _ (u e : ℕ) (pow : u ≡ 2 ^ e) (ix : Index) (Z : ℕ) (F : ℕ → ℕ
     place-fresh x h = M .full z x room h ∙ rw (le-ltb z z (omega arith))
 
     pub build-full : IndexAfter u ix Z F (ix .first + 1) (z + 1) 0 0 (buildOps u ix (C .main) z c) C
-    build-full = rw (eq-eqb (c + 1) (4 * u) last) (build-after place place-after place-apart place-in (z + 1) 0 0 full-main full-spare place-fresh)
+    build-full =
+        rw (eq-eqb (c + 1) (4 * u) last) (build-after place place-after place-apart place-in (z + 1) 0 0 full-main full-spare place-fresh)

@@ -19,7 +19,8 @@ use Rattle.layout.specs.Flash.{Flash, applyAll, allFresh}
 use Rattle.layout.specs.Index.{Index, rowByte, fullFilters, sideBlock, fullBlock, withFilter}
 use Rattle.history.specs.Operations.{programs}
 use Rattle.history.specs.Image.{l1Byte, IndexMain, IndexSpare}
-use Rattle.history.specs.FlashLaws.{fresh-programs, AllAllowed, programs-main-in, programs-main-out, programs-spare-in, programs-spare-out, programs-allowed, range-out}
+use Rattle.history.specs.FlashLaws.{fresh-programs, AllAllowed, programs-main-in, programs-main-out, programs-spare-in}
+use Rattle.history.specs.FlashLaws.{programs-spare-out, programs-allowed, range-out}
 use Rattle.laws.specs.RowLaws.{row-new, row-old, row-none, side-range}
 use Rattle.history.specs.IndexRead.{SkaIs}
 
@@ -28,7 +29,8 @@ use Rattle.history.specs.IndexRead.{SkaIs}
 module _ (u : ℕ) (pu : 0 < u) (ix : Index) where
   -- a byte of another slot lies in none of the four pieces
   apart : (s p y j : ℕ) → y < 16 * u → y / (2 * u) ≢ s → s < 8
-      → (ix .ska + (p * (16 * u) + y) < ix .ska + s * (2 * u) + j * (16 * u)) ⊎ (ix .ska + s * (2 * u) + j * (16 * u) + 2 * u ≤ ix .ska + (p * (16 * u) + y))
+      → (ix .ska + (p * (16 * u) + y) < ix .ska + s * (2 * u) + j * (16 * u))
+      ⊎ (ix .ska + s * (2 * u) + j * (16 * u) + 2 * u ≤ ix .ska + (p * (16 * u) + y))
   apart s p y j hy ne hs =
       let E = euclid y (2 * u) (omega arith) in
       let su : s * (2 * u) + 2 * u ≤ 16 * u = omega (arith, mul-le-mul-right (2 * u) hs) in
@@ -43,7 +45,8 @@ module _ (u : ℕ) (pu : 0 < u) (ix : Index) where
       (λ d. let g : s < y / (2 * u) = omega arith in inr (omega (arith, mul-le-mul-right (2 * u) g)))))
 
   pub ska-add : (F : ℕ → ℕ → Bool) (new : ℕ → Bool) (flushes s : ℕ) (ram : List ℕ) → s < 8 → ix .ska + page u ≤ length ram
-      → ((x : ℕ) → x < 64 * u → new x ≡ F (8 * flushes + s) x) → SkaIs u ix F flushes s ram → SkaIs u ix F flushes (s + 1) (withFilter u ix s new ram)
+      → ((x : ℕ) → x < 64 * u → new x ≡ F (8 * flushes + s) x) → SkaIs u ix F flushes s ram
+      → SkaIs u ix F flushes (s + 1) (withFilter u ix s new ram)
   ska-add F new flushes s ram hs fits same I i hi =
       let E = euclid i (16 * u) (omega arith) in
       let q4 : i / (16 * u) < 4 = div-lt i (16 * u) 4 (omega arith) (omega arith) in
@@ -55,7 +58,8 @@ module _ (u : ℕ) (pu : 0 < u) (ix : Index) where
       let at : ix .ska + i ≡ ix .ska + s * (2 * u) + i / (16 * u) * (16 * u) + i % (16 * u) % (2 * u) = omega arith in
       rw at (pieces-in (2 * u) (16 * u) (ix .ska + s * (2 * u)) 4 _ ram (i / (16 * u)) (i % (16 * u) % (2 * u)) 0 (omega arith)
       (omega (arith, mul-le-mul-right (16 * u) q4)) q4 (E2 .small))
-      ∙ pack-ext 8 _ _ (λ b l. same (i / (16 * u) * (16 * u) + (i % (16 * u) % (2 * u) * 8 + b)) (omega (arith, mul-le-mul-right (16 * u) q4)))
+      ∙ pack-ext 8 _ _ (λ b l. same (i / (16 * u) * (16 * u) + (i % (16 * u) % (2 * u) * 8 + b))
+      (omega (arith, mul-le-mul-right (16 * u) q4)))
       ∙ sym (row-new u pu (λ g. F (8 * flushes + g)) s (i / (16 * u) * (16 * u)) (i % (16 * u)) (a .1)))
       (λ a.
       let at : ix .ska + i ≡ ix .ska + (i / (16 * u) * (16 * u) + i % (16 * u)) = omega arith in
@@ -65,13 +69,16 @@ module _ (u : ℕ) (pu : 0 < u) (ix : Index) where
       ∙ sym (row-old u pu (λ g. F (8 * flushes + g)) s (i / (16 * u) * (16 * u)) (i % (16 * u)) (a .1)))
 
   -- a zeroed page holds no filter
-  pub ska-zero : (F : ℕ → ℕ → Bool) (flushes : ℕ) (ram : List ℕ) → ((x : ℕ) → ix .ska ≤ x → x < ix .ska + page u → getD ram x 0 ≡ 0) → SkaIs u ix F flushes 0 ram
+  pub ska-zero : (F : ℕ → ℕ → Bool) (flushes : ℕ) (ram : List ℕ) → ((x : ℕ) → ix .ska ≤ x → x < ix .ska + page u → getD ram x 0 ≡ 0)
+      → SkaIs u ix F flushes 0 ram
   ska-zero F flushes ram z i h =
-      z (ix .ska + i) (omega arith) (omega arith) ∙ sym (row-none (λ g. F (8 * flushes + g)) (16 * u) (i / (16 * u) * (16 * u)) (i % (16 * u)))
+      z (ix .ska + i) (omega arith) (omega arith)
+      ∙ sym (row-none (λ g. F (8 * flushes + g)) (16 * u) (i / (16 * u) * (16 * u)) (i % (16 * u)))
 
   -- a full page, sector by sector
   pub ska-sector : (F : ℕ → ℕ → Bool) (flushes : ℕ) (ram : List ℕ) → SkaIs u ix F flushes 8 ram
-      → (i y : ℕ) → i < 4 → y < sector u → getD ram (ix .ska + (i * sector u + y)) 0 ≡ rowByte (λ g. F (8 * flushes + g)) 8 (sector u) (i * sector u) y
+      → (i y : ℕ) → i < 4 → y < sector u
+      → getD ram (ix .ska + (i * sector u + y)) 0 ≡ rowByte (λ g. F (8 * flushes + g)) 8 (sector u) (i * sector u) y
   ska-sector F flushes ram I i y hi hy =
       let d : (i * (16 * u) + y) / (16 * u) ≡ i = digits-div i hy in
       let m : (i * (16 * u) + y) % (16 * u) ≡ y = digits-mod i hy in
@@ -93,7 +100,8 @@ module _ (u : ℕ) (pu : 0 < u) (ix : Index) (Z z c t : ℕ) (C : Flash) (f : �
   flush-spare-out x o = programs-spare-out u 16 (ix .first * 64 + t) 4 f C x (λ j l. either o (λ a. omega arith) (λ a. omega arith))
 
   module _ (F : ℕ → ℕ → Bool) (I : IndexMain u ix Z F z c t (C .main)) (fits : fullBlock u ix Z * block u ≤ length (C .main))
-      (bytes : (i y : ℕ) → i < 4 → y < sector u → f i y ≡ rowByte (λ g. F (z * fullFilters u + 128 * c + 8 * t + g)) 8 (sector u) (i * sector u) y) where
+      (bytes : (i y : ℕ) → i < 4 → y < sector u
+      → f i y ≡ rowByte (λ g. F (z * fullFilters u + 128 * c + 8 * t + g)) 8 (sector u) (i * sector u) y) where
     flush-l1 : (i : ℕ) → i < block u → getD (flushed .main) (ix .first * block u + i) 0 ≡ l1Byte u F (z * fullFilters u + 128 * c) (t + 1) i
     flush-l1 i h =
         let E = euclid i (16 * u) (omega arith) in
@@ -110,7 +118,8 @@ module _ (u : ℕ) (pu : 0 < u) (ix : Index) (Z z c t : ℕ) (C : Flash) (f : �
         ∙ bytes (i / (16 * u) / 16) (i % (16 * u)) i4 (E .small)))
         (λ e.
         let old = I .l1 i h in
-        (rw a (programs-main-out u 16 (ix .first * 64 + t) 4 f C (ix .first * 64 + i / (16 * u)) (i % (16 * u)) (E .small) (λ j l. omega arith)))
+        (rw a (programs-main-out u 16 (ix .first * 64 + t) 4 f C (ix .first * 64 + i / (16 * u)) (i % (16 * u)) (E .small)
+        (λ j l. omega arith)))
         ∙ old
         ∙ either (lt? (i / (16 * u) % 16) t)
         (λ b. rw (b .0, lt-ltb (i / (16 * u) % 16) (t + 1) (omega arith)))
@@ -119,8 +128,10 @@ module _ (u : ℕ) (pu : 0 < u) (ix : Index) (Z z c t : ℕ) (C : Flash) (f : �
     pub flush-main : IndexMain u ix Z F z c (t + 1) (flushed .main)
     flush-main = record {
       l1 = flush-l1;
-      here = λ i h. flush-main-out (sideBlock u ix c * block u + i) (inr (omega (arith, mul-le-mul-right (1024 * u) (side-range u ix c .0)))) ∙ I .here i h;
-      there = λ i h. flush-main-out (sideBlock u ix (c + 1) * block u + i) (inr (omega (arith, mul-le-mul-right (1024 * u) (side-range u ix (c + 1) .0)))) ∙ I .there i h;
+      here = λ i h. flush-main-out (sideBlock u ix c * block u + i)
+          (inr (omega (arith, mul-le-mul-right (1024 * u) (side-range u ix c .0)))) ∙ I .here i h;
+      there = λ i h. flush-main-out (sideBlock u ix (c + 1) * block u + i)
+          (inr (omega (arith, mul-le-mul-right (1024 * u) (side-range u ix (c + 1) .0)))) ∙ I .there i h;
       full = λ k i l h. flush-main-out (fullBlock u ix k * block u + i) (inr (omega arith)) ∙ I .full k i l h;
     }
 
@@ -143,7 +154,9 @@ module _ (u : ℕ) (pu : 0 < u) (ix : Index) (Z z c t : ℕ) (C : Flash) (f : �
 
     pub flush-fresh : (spare : List ℕ) → ((x : ℕ) → ix .first * 64 ≤ x → x < fullBlock u ix Z * 64 → getD spare x 0 ≡ getD (C .spare) x 0)
         → allFresh spare (programs u 16 (ix .first * 64 + t) 4 f) ≡ true
-    flush-fresh spare same = fresh-programs u 16 (ix .first * 64 + t) 4 f spare (λ j l. same (ix .first * 64 + t + j * 16) (omega arith) (omega arith) ∙ flush-at j l)
+    flush-fresh spare same =
+        fresh-programs u 16 (ix .first * 64 + t) 4 f spare
+        (λ j l. same (ix .first * 64 + t + j * 16) (omega arith) (omega arith) ∙ flush-at j l)
 
     pub flush-spare : IndexSpare u ix Z z c (t + 1) (flushed .spare)
     flush-spare = record {

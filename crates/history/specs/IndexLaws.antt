@@ -20,8 +20,10 @@ use Rattle.history.specs.Image.{IndexMain, IndexSpare, IndexIs}
 use Rattle.history.specs.Frames.{IndexGrown}
 use Rattle.history.specs.FlashLaws.{fresh-append, apply-append, allowed-append, apply-main-length, apply-spare-length}
 use Rattle.laws.specs.RowLaws.{unit-pos}
-use Rattle.history.specs.IndexRead.{SkaIs, onFlash, read-ska, read-flash, ska-ext, main-ext, main-kept, spare-kept, main-erased, spare-erased}
-use Rattle.history.specs.IndexFlush.{ska-add, ska-zero, ska-sector, flush-main, flush-main-out, flush-spare, flush-spare-out, flush-allowed, flush-fresh}
+use Rattle.history.specs.IndexRead.{SkaIs, onFlash, read-ska, read-flash, ska-ext, main-ext, main-kept, spare-kept, main-erased}
+use Rattle.history.specs.IndexRead.{spare-erased}
+use Rattle.history.specs.IndexFlush.{ska-add, ska-zero, ska-sector, flush-main, flush-main-out, flush-spare, flush-spare-out}
+use Rattle.history.specs.IndexFlush.{flush-allowed, flush-fresh}
 use Rattle.history.specs.IndexBuild.{IndexAfter, build-side, build-full}
 use Rattle.history.specs.SkaLaws.{filter-out, filter-length, zero-in, zero-out}
 
@@ -42,7 +44,8 @@ module _ (u e : ℕ) (pow : u ≡ 2 ^ e) (ix : Index) (Z : ℕ) where
   read-filter F N main spare ram I full f x hf hx =
       either (lt? f (N / 8 * 8))
       (λ a. rw (a .0)
-      (read-flash u e pow ix Z F (inFull u N) (inSet u N) (inL1 N) main (I .on-main) (mod-lt (N / 8 / 16) four-pos) full (omega arith) ram f x (omega (arith, flash-count N)) hx))
+      (read-flash u e pow ix Z F (inFull u N) (inSet u N) (inL1 N) main (I .on-main) (mod-lt (N / 8 / 16) four-pos) full
+      (omega arith) ram f x (omega (arith, flash-count N)) hx))
       (λ a.
       let back : 8 * (N / 8) + (f - N / 8 * 8) ≡ f = omega arith in
       rw (a .0) (read-ska u e pow ix F (N / 8) (inSka N) main ram (omega arith) (I .on-ram) (f - N / 8 * 8) x (omega arith) hx ∙ rw back))
@@ -51,7 +54,8 @@ module _ (u e : ℕ) (pow : u ≡ 2 ^ e) (ix : Index) (Z : ℕ) where
   pub index-ext : (F G : ℕ → ℕ → Bool) (N : ℕ) (main spare ram : List ℕ) → ((f x : ℕ) → f < N → x < filterBits u → F f x ≡ G f x)
       → inFull u N ≤ Z → IndexIs u ix Z F N main spare ram → IndexIs u ix Z G N main spare ram
   index-ext F G N main spare ram same full I = record {
-    on-main = main-ext u e pow ix F G Z (inFull u N) (inSet u N) (inL1 N) main (mod-lt (N / 8 / 16) four-pos) (λ f x a b. same f x (omega (arith, flash-count N)) b) (I .on-main);
+    on-main = main-ext u e pow ix F G Z (inFull u N) (inSet u N) (inL1 N) main (mod-lt (N / 8 / 16) four-pos)
+        (λ f x a b. same f x (omega (arith, flash-count N)) b) (I .on-main);
     on-spare = I .on-spare;
     on-ram = ska-ext u e pow ix F G (N / 8) (inSka N) ram (λ f x a b. same f x (omega arith) b) (I .on-ram);
   }
@@ -98,18 +102,22 @@ module _ (u e : ℕ) (pow : u ≡ 2 ^ e) (ix : Index) (Z : ℕ) where
     on-main = rw (apply-append u xs ys C) (B .on-main);
     on-spare = rw (apply-append u xs ys C) (B .on-spare);
     may = allowed-append u xs ys C (A .may) (B .may);
-    free = λ spare same. fresh-append spare xs ys (A .free spare same) (B .free spare (λ x lo hi. same x (omega arith) hi ∙ sym (out x lo)));
+    free = λ spare same. fresh-append spare xs ys (A .free spare same)
+        (B .free spare (λ x lo hi. same x (omega arith) hi ∙ sym (out x lo)));
     main-out = λ x o. rw (apply-append u xs ys C) (B .main-out x o ∙ A .main-out x o);
     spare-out = λ x o. rw (apply-append u xs ys C) (B .spare-out x o ∙ A .spare-out x o);
   }
 
-  module _ (F : ℕ → ℕ → Bool) (z c t flushes : ℕ) (C : Flash) (ram : List ℕ) (I : IndexMain u ix Z F z c t (C .main)) (M : IndexSpare u ix Z z c t (C .spare))
+  module _ (F : ℕ → ℕ → Bool) (z c t flushes : ℕ) (C : Flash) (ram : List ℕ) (I : IndexMain u ix Z F z c t (C .main))
+      (M : IndexSpare u ix Z z c t (C .spare))
       (full : SkaIs u ix F flushes 8 ram) (count : onFlash u z c t ≡ 8 * flushes) (hc : c < 4 * u) (hz : z ≤ Z) (ht : t < 16)
       (main-fits : fullBlock u ix Z * block u ≤ length (C .main)) (spare-fits : fullBlock u ix Z * 64 ≤ length (C .spare)) where
     bytes : (i y : ℕ) → i < 4 → y < sector u
-        → getD ram (ix .ska + (i * sector u + y)) 0 ≡ rowByte (λ g. F (z * fullFilters u + 128 * c + 8 * t + g)) 8 (sector u) (i * sector u) y
+        → getD ram (ix .ska + (i * sector u + y)) 0
+        ≡ rowByte (λ g. F (z * fullFilters u + 128 * c + 8 * t + g)) 8 (sector u) (i * sector u) y
     bytes i y hi hy =
-        ska-sector u (unit-pos u e pow) ix F flushes ram full i y hi hy ∙ ap (λ (n : ℕ). rowByte (λ g. F (n + g)) 8 (sector u) (i * sector u) y) (sym count)
+        ska-sector u (unit-pos u e pow) ix F flushes ram full i y hi hy
+        ∙ ap (λ (n : ℕ). rowByte (λ g. F (n + g)) 8 (sector u) (i * sector u) y) (sym count)
 
     abbrev sectors : ℕ → ℕ → ℕ
     sectors i y = getD ram (ix .ska + (i * sector u + y)) 0
@@ -141,18 +149,22 @@ module _ (u e : ℕ) (pow : u ≡ 2 ^ e) (ix : Index) (Z : ℕ) where
       after-side : c + 1 < 4 * u → IndexAfter u ix Z F (ix .first) z (c + 1) 0 (flushOps u ix t ram ++ buildOps u ix (flushed .main) z c) C
       after-side more =
           after-append F z c (t + 1) z (c + 1) 0 (flushOps u ix t ram) (buildOps u ix (flushed .main) z c) C after-flush past-l1
-          (build-side u e pow ix Z F z c flushed main-16 spare-16 hc hz (rw (apply-main-length u (flushOps u ix t ram) C) main-fits) (rw (apply-spare-length u (flushOps u ix t ram) C) spare-fits) more)
+          (build-side u e pow ix Z F z c flushed main-16 spare-16 hc hz (rw (apply-main-length u (flushOps u ix t ram) C) main-fits)
+          (rw (apply-spare-length u (flushOps u ix t ram) C) spare-fits) more)
 
-      after-full : c + 1 ≡ 4 * u → z < Z → IndexAfter u ix Z F (ix .first) (z + 1) 0 0 (flushOps u ix t ram ++ buildOps u ix (flushed .main) z c) C
+      after-full : c + 1 ≡ 4 * u → z < Z
+          → IndexAfter u ix Z F (ix .first) (z + 1) 0 0 (flushOps u ix t ram ++ buildOps u ix (flushed .main) z c) C
       after-full last room =
           after-append F z c (t + 1) (z + 1) 0 0 (flushOps u ix t ram) (buildOps u ix (flushed .main) z c) C after-flush past-l1
-          (build-full u e pow ix Z F z c flushed main-16 spare-16 hc hz (rw (apply-main-length u (flushOps u ix t ram) C) main-fits) (rw (apply-spare-length u (flushOps u ix t ram) C) spare-fits) last room)
+          (build-full u e pow ix Z F z c flushed main-16 spare-16 hc hz (rw (apply-main-length u (flushOps u ix t ram) C) main-fits)
+          (rw (apply-spare-length u (flushOps u ix t ram) C) spare-fits) last room)
 
   -- ---- one more filter
 
   module _ (F : ℕ → ℕ → Bool) (N : ℕ) (new : ℕ → Bool) (C : Flash) (ram : List ℕ) (I : IndexIs u ix Z F N (C .main) (C .spare) ram)
       (same : (x : ℕ) → x < filterBits u → new x ≡ F N x) (room : inFull u (N + 1) ≤ Z)
-      (main-fits : fullBlock u ix Z * block u ≤ length (C .main)) (spare-fits : fullBlock u ix Z * 64 ≤ length (C .spare)) (ram-fits : ix .ska + page u ≤ length ram) where
+      (main-fits : fullBlock u ix Z * block u ≤ length (C .main)) (spare-fits : fullBlock u ix Z * 64 ≤ length (C .spare))
+      (ram-fits : ix .ska + page u ≤ length ram) where
     -- the RAM with the filter in the SKA page, and the operations
     abbrev pub ram₁ : List ℕ
     ram₁ = withFilter u ix (inSka N) new ram
@@ -170,26 +182,33 @@ module _ (u e : ℕ) (pow : u ≡ 2 ^ e) (ix : Index) (Z : ℕ) where
       ska-8 : SkaIs u ix F (N / 8) 8 ram₁
       ska-8 = rw eight at ska-one
 
-      by-flush : N / 8 % 16 + 1 ≢ 16 → IndexAfter u ix Z F (ix .first) (inFull u N) (inSet u N) (inL1 N + 1) (flushAndBuildOps u ix C N ram₁) C
+      by-flush : N / 8 % 16 + 1 ≢ 16
+          → IndexAfter u ix Z F (ix .first) (inFull u N) (inSet u N) (inL1 N + 1) (flushAndBuildOps u ix C N ram₁) C
       unfolding flushAndBuildOps
       by-flush less =
           rw (ne-eqb (N / 8 % 16 + 1) 16 less)
-          (after-flush F (inFull u N) (inSet u N) (inL1 N) (N / 8) C ram₁ (I .on-main) (I .on-spare) ska-8 (flash-count N) (mod-lt (N / 8 / 16) four-pos) hz (omega arith) main-fits spare-fits)
+          (after-flush F (inFull u N) (inSet u N) (inL1 N) (N / 8) C ram₁ (I .on-main) (I .on-spare) ska-8 (flash-count N)
+          (mod-lt (N / 8 / 16) four-pos) hz (omega arith) main-fits spare-fits)
 
-      by-side : N / 8 % 16 + 1 ≡ 16 → inSet u N + 1 ≢ 4 * u → IndexAfter u ix Z F (ix .first) (inFull u N) (inSet u N + 1) 0 (flushAndBuildOps u ix C N ram₁) C
+      by-side : N / 8 % 16 + 1 ≡ 16 → inSet u N + 1 ≢ 4 * u
+          → IndexAfter u ix Z F (ix .first) (inFull u N) (inSet u N + 1) 0 (flushAndBuildOps u ix C N ram₁) C
       unfolding flushAndBuildOps
       by-side sixteen more =
           let hc : inSet u N < 4 * u = mod-lt (N / 8 / 16) four-pos in
           rw (eq-eqb (N / 8 % 16 + 1) 16 sixteen)
-          (after-side F (inFull u N) (inSet u N) (inL1 N) (N / 8) C ram₁ (I .on-main) (I .on-spare) ska-8 (flash-count N) hc hz (omega arith) main-fits spare-fits sixteen (omega arith))
+          (after-side F (inFull u N) (inSet u N) (inL1 N) (N / 8) C ram₁ (I .on-main) (I .on-spare) ska-8 (flash-count N) hc hz
+          (omega arith) main-fits spare-fits sixteen (omega arith))
 
-      by-full : N / 8 % 16 + 1 ≡ 16 → inSet u N + 1 ≡ 4 * u → inFull u N < Z → IndexAfter u ix Z F (ix .first) (inFull u N + 1) 0 0 (flushAndBuildOps u ix C N ram₁) C
+      by-full : N / 8 % 16 + 1 ≡ 16 → inSet u N + 1 ≡ 4 * u → inFull u N < Z
+          → IndexAfter u ix Z F (ix .first) (inFull u N + 1) 0 0 (flushAndBuildOps u ix C N ram₁) C
       unfolding flushAndBuildOps
       by-full sixteen last less =
           rw (eq-eqb (N / 8 % 16 + 1) 16 sixteen)
-          (after-full F (inFull u N) (inSet u N) (inL1 N) (N / 8) C ram₁ (I .on-main) (I .on-spare) ska-8 (flash-count N) (mod-lt (N / 8 / 16) four-pos) hz (omega arith) main-fits spare-fits sixteen last less)
+          (after-full F (inFull u N) (inSet u N) (inL1 N) (N / 8) C ram₁ (I .on-main) (I .on-spare) ska-8 (flash-count N)
+          (mod-lt (N / 8 / 16) four-pos) hz (omega arith) main-fits spare-fits sixteen last less)
 
-    after-page : N % 8 + 1 ≡ 8 → (N + 1) / 8 ≡ N / 8 + 1 → IndexAfter u ix Z F (ix .first) (inFull u (N + 1)) (inSet u (N + 1)) (inL1 (N + 1)) (flushAndBuildOps u ix C N ram₁) C
+    after-page : N % 8 + 1 ≡ 8 → (N + 1) / 8 ≡ N / 8 + 1
+        → IndexAfter u ix Z F (ix .first) (inFull u (N + 1)) (inSet u (N + 1)) (inL1 (N + 1)) (flushAndBuildOps u ix C N ram₁) C
     after-page eight up =
         either (carry (N / 8) 16 (omega arith))
         (λ b. either (carry (N / 8 / 16) (4 * u) four-pos)
@@ -197,19 +216,22 @@ module _ (u e : ℕ) (pow : u ≡ 2 ^ e) (ix : Index) (Z : ℕ) where
         let z-is : inFull u (N + 1) ≡ inFull u N + 1 = rw (up, b .1) (d .1) in
         let c-is : inSet u (N + 1) ≡ 0 = rw (up, b .1) (d .2) in
         let t-is : inL1 (N + 1) ≡ 0 = rw up (b .2) in
-        after-as F (ix .first) (inFull u N + 1) (inFull u (N + 1)) 0 (inSet u (N + 1)) 0 (inL1 (N + 1)) (flushAndBuildOps u ix C N ram₁) C z-is c-is t-is
+        after-as F (ix .first) (inFull u N + 1) (inFull u (N + 1)) 0 (inSet u (N + 1)) 0 (inL1 (N + 1))
+        (flushAndBuildOps u ix C N ram₁) C z-is c-is t-is
         (by-full eight (omega arith) (b .0) (d .0) (omega arith)))
         (λ d.
         let z-is : inFull u (N + 1) ≡ inFull u N = rw (up, b .1) (d .1) in
         let c-is : inSet u (N + 1) ≡ inSet u N + 1 = rw (up, b .1) (d .2) in
         let t-is : inL1 (N + 1) ≡ 0 = rw up (b .2) in
-        after-as F (ix .first) (inFull u N) (inFull u (N + 1)) (inSet u N + 1) (inSet u (N + 1)) 0 (inL1 (N + 1)) (flushAndBuildOps u ix C N ram₁) C z-is c-is t-is
+        after-as F (ix .first) (inFull u N) (inFull u (N + 1)) (inSet u N + 1) (inSet u (N + 1)) 0 (inL1 (N + 1))
+        (flushAndBuildOps u ix C N ram₁) C z-is c-is t-is
         (by-side eight (omega arith) (b .0) (d .0))))
         (λ b.
         let z-is : inFull u (N + 1) ≡ inFull u N = rw (up, b .1) in
         let c-is : inSet u (N + 1) ≡ inSet u N = rw (up, b .1) in
         let t-is : inL1 (N + 1) ≡ inL1 N + 1 = rw up (b .2) in
-        after-as F (ix .first) (inFull u N) (inFull u (N + 1)) (inSet u N) (inSet u (N + 1)) (inL1 N + 1) (inL1 (N + 1)) (flushAndBuildOps u ix C N ram₁) C z-is c-is t-is
+        after-as F (ix .first) (inFull u N) (inFull u (N + 1)) (inSet u N) (inSet u (N + 1)) (inL1 N + 1) (inL1 (N + 1))
+        (flushAndBuildOps u ix C N ram₁) C z-is c-is t-is
         (by-flush eight (omega arith) (b .0)))
 
     -- no operation: the filter stays in the SKA page
@@ -229,7 +251,8 @@ module _ (u e : ℕ) (pow : u ≡ 2 ^ e) (ix : Index) (Z : ℕ) where
         either (carry N 8 (omega arith))
         (λ a. rw (eq-eqb (N % 8 + 1) 8 (a .0)) (after-page (a .0) (a .1)))
         (λ a. rw (ne-eqb (N % 8 + 1) 8 (a .0))
-        (after-as F (ix .first) (inFull u N) (inFull u (N + 1)) (inSet u N) (inSet u (N + 1)) (inL1 N) (inL1 (N + 1)) [] C (rw (a .1)) (rw (a .1)) (rw (a .1)) after-none))
+        (after-as F (ix .first) (inFull u N) (inFull u (N + 1)) (inSet u N) (inSet u (N + 1)) (inL1 N) (inL1 (N + 1)) [] C (rw (a .1))
+        (rw (a .1)) (rw (a .1)) after-none))
 
     -- the SKA page after the call
     ska-after : SkaIs u ix F ((N + 1) / 8) (inSka (N + 1)) (filterRam u ix N ram₁)
@@ -237,7 +260,8 @@ module _ (u e : ℕ) (pow : u ≡ 2 ^ e) (ix : Index) (Z : ℕ) where
         let l : length ram₁ ≡ length ram = filter-length u (unit-pos u e pow) ix new (N % 8) ram in
         either (carry N 8 (omega arith))
         (λ a. rw (eq-eqb (N % 8 + 1) 8 (a .0), a .2)
-        (ska-zero u (unit-pos u e pow) ix F ((N + 1) / 8) (zeroPage u (ix .ska) ram₁) (λ x lo hi. zero-in u (unit-pos u e pow) ix ram₁ x (rw l ram-fits) lo hi)))
+        (ska-zero u (unit-pos u e pow) ix F ((N + 1) / 8) (zeroPage u (ix .ska) ram₁)
+        (λ x lo hi. zero-in u (unit-pos u e pow) ix ram₁ x (rw l ram-fits) lo hi)))
         (λ a. rw (ne-eqb (N % 8 + 1) 8 (a .0), a .1, a .2) ska-one)
 
     -- the RAM outside the SKA page is kept

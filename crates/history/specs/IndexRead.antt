@@ -13,7 +13,8 @@ use Rattle.memory.specs.Cases.{lt?, either}
 use Rattle.memory.specs.Numbers.{euclid, div-lt}
 use Rattle.memory.specs.Power.{log2up, log2up-enough}
 use Rattle.layout.specs.Geometry.{page, block, sideBlocks}
-use Rattle.layout.specs.Index.{Index, bitAt, setPages, setWidth, setBlocks, fullFilters, sideBlock, fullBlock, skaPlace, l1Place, setPlace, flashPlace}
+use Rattle.layout.specs.Index.{Index, bitAt, setPages, setWidth, setBlocks, fullFilters, sideBlock, fullBlock, skaPlace, l1Place, setPlace}
+use Rattle.layout.specs.Index.{flashPlace}
 use Rattle.history.specs.Image.{skaByte, l1Byte, partitionByte, sideByte, fullByte, IndexMain, IndexSpare}
 use Rattle.laws.specs.RowLaws.{read-row, row-ext, unit-pos, set-whole, width-pos, blocks-fit, blocks-some, side-range}
 
@@ -35,9 +36,11 @@ module _ (u e : ℕ) (pow : u ≡ 2 ^ e) (ix : Index) where
       let i4 : x / (16 * u) < 4 = div-lt x (16 * u) 4 (omega arith) (omega arith) in
       let g8 : g < 8 = omega arith in
       let y-lt : (g * (16 * u) + x % (16 * u)) / 8 < 16 * u = omega (arith, mul-le-mul-right (16 * u) g8) in
-      let a : ix .ska + x / (16 * u) * (16 * u) + (g * (16 * u) + x % (16 * u)) / 8 ≡ ix .ska + (x / (16 * u) * (16 * u) + (g * (16 * u) + x % (16 * u)) / 8) = omega arith in
+      let a : ix .ska + x / (16 * u) * (16 * u) + (g * (16 * u) + x % (16 * u)) / 8
+      ≡ ix .ska + (x / (16 * u) * (16 * u) + (g * (16 * u) + x % (16 * u)) / 8) = omega arith in
       let d : (x / (16 * u) * (16 * u) + (g * (16 * u) + x % (16 * u)) / 8) / (16 * u) ≡ x / (16 * u) = digits-div (x / (16 * u)) y-lt in
-      let m : (x / (16 * u) * (16 * u) + (g * (16 * u) + x % (16 * u)) / 8) % (16 * u) ≡ (g * (16 * u) + x % (16 * u)) / 8 = digits-mod (x / (16 * u)) y-lt in
+      let m : (x / (16 * u) * (16 * u) + (g * (16 * u) + x % (16 * u)) / 8) % (16 * u) ≡ (g * (16 * u) + x % (16 * u)) / 8
+      = digits-mod (x / (16 * u)) y-lt in
       rw (a, I (x / (16 * u) * (16 * u) + (g * (16 * u) + x % (16 * u)) / 8) (omega (arith, mul-le-mul-right (16 * u) i4)), d, m)
       (read-row (λ g. F (8 * flushes + g)) s (16 * u) (x / (16 * u) * (16 * u)) g (x % (16 * u)) hg (E .small) ∙ rw (E .whole))
 
@@ -49,19 +52,33 @@ module _ (u e : ℕ) (pow : u ≡ 2 ^ e) (ix : Index) where
       let pu = unit-pos u e pow in
       let E = euclid x (16 * u) (omega arith) in
       let i4 : x / (16 * u) < 4 = div-lt x (16 * u) 4 (omega arith) (omega arith) in
-      let y-lt : (f % 8 * (16 * u) + x % (16 * u)) / 8 < 16 * u = omega (arith, mul-le-mul-right (16 * u) (mod-lt f {m = 8} (omega arith))) in
+      let y-lt : (f % 8 * (16 * u) + x % (16 * u)) / 8 < 16 * u
+      = omega (arith, mul-le-mul-right (16 * u) (mod-lt f {m = 8} (omega arith))) in
       let q-lt : 16 * (x / (16 * u)) + f / 8 < 64 = omega arith in
       let f4 : (f / 8 / 4 * 4 + f / 8 % 4) * (16 * u) ≡ f / 8 * (16 * u) = ap (λ (n : ℕ). n * (16 * u)) (omega arith) in
-      let a : ix .first * (1024 * u) + ((4 * (x / (16 * u)) + f / 8 / 4) * (64 * u) + f / 8 % 4 * (16 * u)) + (f % 8 * (16 * u) + x % (16 * u)) / 8
+      let a : ix .first * (1024 * u) + ((4 * (x / (16 * u)) + f / 8 / 4) * (64 * u) + f / 8 % 4 * (16 * u))
+      + (f % 8 * (16 * u) + x % (16 * u)) / 8
       ≡ ix .first * (1024 * u) + ((16 * (x / (16 * u)) + f / 8) * (16 * u) + (f % 8 * (16 * u) + x % (16 * u)) / 8) = omega arith in
-      let d : ((16 * (x / (16 * u)) + f / 8) * (16 * u) + (f % 8 * (16 * u) + x % (16 * u)) / 8) / (16 * u) ≡ 16 * (x / (16 * u)) + f / 8 = digits-div (16 * (x / (16 * u)) + f / 8) y-lt in
-      let m : ((16 * (x / (16 * u)) + f / 8) * (16 * u) + (f % 8 * (16 * u) + x % (16 * u)) / 8) % (16 * u) ≡ (f % 8 * (16 * u) + x % (16 * u)) / 8 = digits-mod (16 * (x / (16 * u)) + f / 8) y-lt in
+      let d : ((16 * (x / (16 * u)) + f / 8) * (16 * u) + (f % 8 * (16 * u) + x % (16 * u)) / 8) / (16 * u) ≡ 16 * (x / (16 * u)) + f / 8
+      = digits-div (16 * (x / (16 * u)) + f / 8) y-lt in
+      let m : ((16 * (x / (16 * u)) + f / 8) * (16 * u) + (f % 8 * (16 * u) + x % (16 * u)) / 8) % (16 * u)
+      ≡ (f % 8 * (16 * u) + x % (16 * u)) / 8 = digits-mod (16 * (x / (16 * u)) + f / 8) y-lt in
       let t-is : (16 * (x / (16 * u)) + f / 8) % 16 ≡ f / 8 = omega arith in
       let p-is : (16 * (x / (16 * u)) + f / 8) / 16 ≡ x / (16 * u) = omega arith in
       let on : ltb (f / 8) t ≡ true = lt-ltb (f / 8) t (omega arith) in
       let back : base + 8 * (f / 8) + f % 8 ≡ base + f = omega arith in
-      rw (a, I ((16 * (x / (16 * u)) + f / 8) * (16 * u) + (f % 8 * (16 * u) + x % (16 * u)) / 8) (omega (arith, mul-le-mul-right (16 * u) q-lt)), d, m, t-is, p-is, on)
-      (read-row (λ g. F (base + 8 * (f / 8) + g)) 8 (16 * u) (x / (16 * u) * (16 * u)) (f % 8) (x % (16 * u)) (omega arith) (E .small) ∙ rw (E .whole, back))
+      rw (
+        a,
+        I ((16 * (x / (16 * u)) + f / 8) * (16 * u) + (f % 8 * (16 * u) + x % (16 * u)) / 8)
+            (omega (arith, mul-le-mul-right (16 * u) q-lt)),
+        d,
+        m,
+        t-is,
+        p-is,
+        on,
+      )
+      (read-row (λ g. F (base + 8 * (f / 8) + g)) 8 (16 * u) (x / (16 * u) * (16 * u)) (f % 8) (x % (16 * u)) (omega arith) (E .small)
+      ∙ rw (E .whole, back))
 
   -- P pages of a set from block b on
   pub read-set : (F : ℕ → ℕ → Bool) (base N P w b : ℕ) (main ram : List ℕ) → 0 < w → P * w ≡ 64 * u → N ≤ 8 * P
@@ -73,7 +90,8 @@ module _ (u e : ℕ) (pow : u ≡ 2 ^ e) (ix : Index) where
       let gw : g * w + w ≤ 8 * (P * w) = omega (arith, mul-le-mul-right w hg, mul-le-mul-right w small) in
       let y-lt : (g * w + x % w) / 8 < 64 * u = omega arith in
       let p-lt : x / w < P = div-lt x w P pw (omega arith) in
-      let a : b * (1024 * u) + x / w * (64 * u) + (g * w + x % w) / 8 ≡ b * (1024 * u) + (x / w * (64 * u) + (g * w + x % w) / 8) = omega arith in
+      let a : b * (1024 * u) + x / w * (64 * u) + (g * w + x % w) / 8 ≡ b * (1024 * u) + (x / w * (64 * u) + (g * w + x % w) / 8)
+      = omega arith in
       let d : (x / w * (64 * u) + (g * w + x % w) / 8) / (64 * u) ≡ x / w = digits-div (x / w) y-lt in
       let m : (x / w * (64 * u) + (g * w + x % w) / 8) % (64 * u) ≡ (g * w + x % w) / 8 = digits-mod (x / w) y-lt in
       rw (a, I (x / w * (64 * u) + (g * w + x % w) / 8) (digits-lt p-lt y-lt), d, m)
@@ -81,22 +99,26 @@ module _ (u e : ℕ) (pow : u ≡ 2 ^ e) (ix : Index) where
 
   -- ---- all filters on flash
 
-  module _ (Z : ℕ) (F : ℕ → ℕ → Bool) (z c t : ℕ) (main : List ℕ) (I : IndexMain u ix Z F z c t main) (hc : c < 4 * u) (hz : z ≤ Z) (ht : t ≤ 16) where
+  module _ (Z : ℕ) (F : ℕ → ℕ → Bool) (z c t : ℕ) (main : List ℕ) (I : IndexMain u ix Z F z c t main) (hc : c < 4 * u) (hz : z ≤ Z)
+      (ht : t ≤ 16) where
     read-full : (ram : List ℕ) (f x : ℕ) → f < z * fullFilters u → x < 64 * u
         → bitAt main ram (setPlace u (fullBlock u ix (f / fullFilters u)) 1 (f % fullFilters u) x) ≡ F f x
     read-full ram f x hf hx =
         let E = euclid f (128 * (4 * u)) (omega arith) in
         let k-lt : f / (128 * (4 * u)) < z = div-lt f (128 * (4 * u)) z (omega arith) hf in
-        read-set F (f / (128 * (4 * u)) * (128 * (4 * u))) (128 * (4 * u)) (64 * u) 1 (fullBlock u ix (f / (128 * (4 * u)))) main ram (omega arith) (omega arith) (omega arith)
+        read-set F (f / (128 * (4 * u)) * (128 * (4 * u))) (128 * (4 * u)) (64 * u) 1 (fullBlock u ix (f / (128 * (4 * u)))) main ram
+        (omega arith) (omega arith) (omega arith)
         (λ i h. I .full (f / (128 * (4 * u))) i (omega arith) (omega arith) ∙ rw (lt-ltb (f / (128 * (4 * u))) z k-lt))
         (f % (128 * (4 * u))) x (E .small) hx
         ∙ rw (E .whole)
 
-    read-side : (ram : List ℕ) (g x : ℕ) → g < 128 * c → x < 64 * u → bitAt main ram (setPlace u (sideBlock u ix c) (setWidth u c) g x) ≡ F (z * fullFilters u + g) x
+    read-side : (ram : List ℕ) (g x : ℕ) → g < 128 * c → x < 64 * u
+        → bitAt main ram (setPlace u (sideBlock u ix c) (setWidth u c) g x) ≡ F (z * fullFilters u + g) x
     read-side ram g x hg hx =
         let pc : 0 < c = omega arith in
         let fit = blocks-fit u e pow c (omega arith) in
-        read-set F (z * fullFilters u) (128 * c) (setPages c) (setWidth u c) (sideBlock u ix c) main ram (width-pos u e pow c (omega arith)) (set-whole u e pow c (omega arith))
+        read-set F (z * fullFilters u) (128 * c) (setPages c) (setWidth u c) (sideBlock u ix c) main ram (width-pos u e pow c (omega arith))
+        (set-whole u e pow c (omega arith))
         (omega (arith, log2up-enough c))
         (λ i h.
         let b-is : setBlocks c ≡ 2 ^ log2up c = blocks-some u c pc in
@@ -113,7 +135,8 @@ module _ (u e : ℕ) (pow : u ≡ 2 ^ e) (ix : Index) where
         rw (a .0, b .0) (read-side ram (f - z * fullFilters u) x (omega arith) hx ∙ rw back))
         (λ b.
         let back : z * fullFilters u + 128 * c + (f - (z * fullFilters u + 128 * c)) ≡ f = omega arith in
-        rw (a .0, b .0) (read-l1 F (z * fullFilters u + 128 * c) t main ram ht (I .l1) (f - (z * fullFilters u + 128 * c)) x (omega arith) hx ∙ rw back)))
+        rw (a .0, b .0) (read-l1 F (z * fullFilters u + 128 * c) t main ram ht (I .l1) (f - (z * fullFilters u + 128 * c)) x
+        (omega arith) hx ∙ rw back)))
 
   -- ---- only the filters that are there decide
 
@@ -127,14 +150,17 @@ module _ (u e : ℕ) (pow : u ≡ 2 ^ e) (ix : Index) where
       (λ g r hg hr. same (8 * flushes + g) (i / (16 * u) * (16 * u) + r) (omega arith) (omega (arith, mul-le-mul-right (16 * u) q4)))
 
   module _ (F G : ℕ → ℕ → Bool) where
-    l1-ext : (base t i : ℕ) → ((f x : ℕ) → f < base + 8 * t → x < 64 * u → F f x ≡ G f x) → i < block u → l1Byte u F base t i ≡ l1Byte u G base t i
+    l1-ext : (base t i : ℕ) → ((f x : ℕ) → f < base + 8 * t → x < 64 * u → F f x ≡ G f x) → i < block u
+        → l1Byte u F base t i ≡ l1Byte u G base t i
     l1-ext base t i same h =
         let pu = unit-pos u e pow in
         let q64 : i / (16 * u) < 64 = div-lt i (16 * u) 64 (omega arith) (omega arith) in
         let q4 : i / (16 * u) / 16 < 4 = omega arith in
         either (lt? (i / (16 * u) % 16) t)
-        (λ a. rw (a .0) (row-ext (λ g. F (base + 8 * (i / (16 * u) % 16) + g)) (λ g. G (base + 8 * (i / (16 * u) % 16) + g)) 8 (16 * u) (i / (16 * u) / 16 * (16 * u)) (i % (16 * u)) (omega arith)
-        (λ g r hg hr. same (base + 8 * (i / (16 * u) % 16) + g) (i / (16 * u) / 16 * (16 * u) + r) (omega arith) (omega (arith, mul-le-mul-right (16 * u) q4)))))
+        (λ a. rw (a .0) (row-ext (λ g. F (base + 8 * (i / (16 * u) % 16) + g)) (λ g. G (base + 8 * (i / (16 * u) % 16) + g)) 8 (16 * u)
+        (i / (16 * u) / 16 * (16 * u)) (i % (16 * u)) (omega arith)
+        (λ g r hg hr. same (base + 8 * (i / (16 * u) % 16) + g) (i / (16 * u) / 16 * (16 * u) + r) (omega arith)
+        (omega (arith, mul-le-mul-right (16 * u) q4)))))
         (λ a. rw (a .0))
 
     partition-ext : (base N P w i : ℕ) → 0 < w → P * w ≡ 64 * u → ((f x : ℕ) → f < base + N → x < 64 * u → F f x ≡ G f x) → i < P * page u
@@ -145,21 +171,24 @@ module _ (u e : ℕ) (pow : u ≡ 2 ^ e) (ix : Index) where
         row-ext (λ g. F (base + g)) (λ g. G (base + g)) N w (i / (64 * u) * w) (i % (64 * u)) pw
         (λ g r hg hr. same (base + g) (i / (64 * u) * w + r) (omega arith) (omega (arith, mul-le-mul-right w p-lt)))
 
-    side-ext : (base c i : ℕ) → c < 4 * u → ((f x : ℕ) → f < base + 128 * c → x < 64 * u → F f x ≡ G f x) → sideByte u F base c i ≡ sideByte u G base c i
+    side-ext : (base c i : ℕ) → c < 4 * u → ((f x : ℕ) → f < base + 128 * c → x < 64 * u → F f x ≡ G f x)
+        → sideByte u F base c i ≡ sideByte u G base c i
     side-ext base c i hc same =
         either (lt? i (setBlocks c * block u))
         (λ a. rw (a .0) (either (lt? 0 c)
         (λ p.
         let b-is : setBlocks c ≡ 2 ^ log2up c = blocks-some u c (p .1) in
         let b-by : setBlocks c * (1024 * u) ≡ 2 ^ log2up c * (1024 * u) = ap (λ (n : ℕ). n * (1024 * u)) b-is in
-        partition-ext base (128 * c) (setPages c) (setWidth u c) i (width-pos u e pow c (omega arith)) (set-whole u e pow c (omega arith)) same (omega arith))
+        partition-ext base (128 * c) (setPages c) (setWidth u c) i (width-pos u e pow c (omega arith))
+        (set-whole u e pow c (omega arith)) same (omega arith))
         (λ p. absurd (none c (omega arith) (a .1)))))
         (λ a. rw (a .0))
       where
         none : (c : ℕ) → c ≡ 0 → i < setBlocks c * (1024 * u) → ⊥
         none c e h = let h′ : i < 0 * (1024 * u) = rw e at h in omega arith
 
-    full-ext : (z k i : ℕ) → ((f x : ℕ) → f < z * fullFilters u → x < 64 * u → F f x ≡ G f x) → i < sideBlocks u * block u → fullByte u F z k i ≡ fullByte u G z k i
+    full-ext : (z k i : ℕ) → ((f x : ℕ) → f < z * fullFilters u → x < 64 * u → F f x ≡ G f x) → i < sideBlocks u * block u
+        → fullByte u F z k i ≡ fullByte u G z k i
     full-ext z k i same h =
         either (lt? k z)
         (λ a. rw (a .0) (partition-ext (k * fullFilters u) (fullFilters u) (64 * u) 1 i (omega arith) (omega arith)
@@ -207,7 +236,8 @@ module _ (u : ℕ) (ix : Index) where
     full-spare k i l h = (omega arith, omega (arith, mul-le-mul-right (4 * u) l))
 
     pub main-kept : (F : ℕ → ℕ → Bool) (z c t : ℕ) (main main′ : List ℕ) → IndexMain u ix Z F z c t main
-        → ((x : ℕ) → ix .first * block u ≤ x → x < fullBlock u ix Z * block u → getD main′ x 0 ≡ getD main x 0) → IndexMain u ix Z F z c t main′
+        → ((x : ℕ) → ix .first * block u ≤ x → x < fullBlock u ix Z * block u → getD main′ x 0 ≡ getD main x 0)
+        → IndexMain u ix Z F z c t main′
     main-kept F z c t main main′ I same = record {
       l1 = λ i h. let p = l1-main i h in same (ix .first * block u + i) (p .0) (p .1) ∙ I .l1 i h;
       here = λ i h. let p = side-main c i h in same (sideBlock u ix c * block u + i) (p .0) (p .1) ∙ I .here i h;
@@ -224,16 +254,19 @@ module _ (u : ℕ) (ix : Index) where
       full = λ k i l h. let p = full-spare k i l h in same (fullBlock u ix k * 64 + i) (p .0) (p .1) ∙ I .full k i l h;
     }
 
-    pub main-erased : (F : ℕ → ℕ → Bool) (main : List ℕ) → ((x : ℕ) → ix .first * block u ≤ x → x < fullBlock u ix Z * block u → getD main x 0 ≡ 255)
+    pub main-erased : (F : ℕ → ℕ → Bool) (main : List ℕ)
+        → ((x : ℕ) → ix .first * block u ≤ x → x < fullBlock u ix Z * block u → getD main x 0 ≡ 255)
         → IndexMain u ix Z F 0 0 0 main
     main-erased F main same = record {
       l1 = λ i h. let p = l1-main i h in same (ix .first * block u + i) (p .0) (p .1) ∙ rw (le-ltb (i / (16 * u) % 16) 0 zero-le);
-      here = λ i h. let p = side-main 0 i h in same (sideBlock u ix 0 * block u + i) (p .0) (p .1) ∙ rw (le-ltb i (0 * (1024 * u)) (omega arith));
+      here = λ i h. let p = side-main 0 i h in same (sideBlock u ix 0 * block u + i) (p .0) (p .1)
+          ∙ rw (le-ltb i (0 * (1024 * u)) (omega arith));
       there = λ i h. let p = side-main (0 + 1) i h in same (sideBlock u ix (0 + 1) * block u + i) (p .0) (p .1);
       full = λ k i l h. let p = full-main k i l h in same (fullBlock u ix k * block u + i) (p .0) (p .1) ∙ rw (le-ltb k 0 zero-le);
     }
 
-    pub spare-erased : (spare : List ℕ) → ((x : ℕ) → ix .first * 64 ≤ x → x < fullBlock u ix Z * 64 → getD spare x 0 ≡ 255) → IndexSpare u ix Z 0 0 0 spare
+    pub spare-erased : (spare : List ℕ) → ((x : ℕ) → ix .first * 64 ≤ x → x < fullBlock u ix Z * 64 → getD spare x 0 ≡ 255)
+        → IndexSpare u ix Z 0 0 0 spare
     spare-erased spare same = record {
       l1 = λ i h. let p = l1-spare i h in same (ix .first * 64 + i) (p .0) (p .1) ∙ rw (le-ltb (i % 16) 0 zero-le);
       here = λ i h. let p = side-spare 0 i h in same (sideBlock u ix 0 * 64 + i) (p .0) (p .1) ∙ rw (le-ltb i (0 * 64) zero-le);

@@ -14,7 +14,8 @@ use Rattle.memory.specs.Numbers.{carry}
 use Rattle.layout.specs.Geometry.{sector, page, block}
 use Rattle.layout.specs.Flash.{Flash, Op, program, erase, apply, applyAll, erases}
 use Rattle.layout.specs.Items.{Area, put, fills, itemRam, zeroPage}
-use Rattle.layout.specs.Index.{Index, inSka, inL1, inSet, inFull, setPages, setBlocks, sideBlock, fullBlock, setBlock, withFilter, filterRam}
+use Rattle.layout.specs.Index.{Index, inSka, inL1, inSet, inFull, setPages, setBlocks, sideBlock, fullBlock, setBlock, withFilter}
+use Rattle.layout.specs.Index.{filterRam}
 use Rattle.history.specs.Operations.{programs, itemOps, flushOps, buildOps, flushAndBuildOps, filterOps}
 use Rattle.laws.specs.RowLaws.{unit-pos, blocks-fit, side-range}
 use Rattle.history.specs.SkaLaws.{filter-out, filter-length}
@@ -38,15 +39,19 @@ module _ (u B : ℕ) where
   unfolding Inside
   inside-programs d s zero f h = tt
   inside-programs d s (suc k) f h =
-      let first = h 0 (omega arith) in
-      (omega arith, length-tab (16 * u) (f zero), inside-programs d (s + d) k (λ j. f (suc j)) (λ j l. let next = h (suc j) (omega arith) in omega arith))
+      let first = h 0 (omega arith) in (
+        omega arith,
+        length-tab (16 * u) (f zero),
+        inside-programs d (s + d) k (λ j. f (suc j)) (λ j l. let next = h (suc j) (omega arith) in omega arith),
+      )
 
   pub inside-erases : (b k : ℕ) → b + k ≤ B → Inside u B (erases b k)
   unfolding Inside
   inside-erases b zero h = tt
   inside-erases b (suc k) h = (omega arith, inside-erases (suc b) k (omega arith))
 
-  pub main-past : (os : List Op) (c : Flash) (x : ℕ) → Inside u B os → B * block u ≤ x → getD (applyAll u os c .main) x 0 ≡ getD (c .main) x 0
+  pub main-past : (os : List Op) (c : Flash) (x : ℕ) → Inside u B os → B * block u ≤ x
+      → getD (applyAll u os c .main) x 0 ≡ getD (c .main) x 0
   unfolding Inside
   main-past [] c x i l = refl
   main-past (program s bytes ∷ os) c x i l =
@@ -73,10 +78,12 @@ module _ (u B : ℕ) where
   inside-none = tt
 
   -- a page of an area that has so many blocks
-  pub inside-item : (a : Area) (blocks n : ℕ) (item ram : List ℕ) → a .first + blocks ≤ B → n / a .perPage < blocks * 16 → Inside u B (itemOps u a n item ram)
+  pub inside-item : (a : Area) (blocks n : ℕ) (item ram : List ℕ) → a .first + blocks ≤ B → n / a .perPage < blocks * 16
+      → Inside u B (itemOps u a n item ram)
   inside-item a blocks n item ram e h =
       either (bool? (fills a n))
-      (λ f. rw f (inside-programs 1 (a .first * 64 + n / a .perPage * 4) 4 (λ j y. getD (put a n item ram) (a .ram + (j * sector u + y)) 0) (λ j l. omega arith)))
+      (λ f. rw f (inside-programs 1 (a .first * 64 + n / a .perPage * 4) 4 (λ j y. getD (put a n item ram) (a .ram + (j * sector u + y)) 0)
+      (λ j l. omega arith)))
       (λ f. rw f inside-none)
 
 -- ---- one more filter of an index with Z places for full sets
@@ -86,7 +93,8 @@ module _ (u e : ℕ) (pow : u ≡ 2 ^ e) (B : ℕ) (ix : Index) (Z : ℕ) (end :
   four-pos = omega (arith, unit-pos u e pow)
 
   inside-flush : (t : ℕ) (ram : List ℕ) → t < 16 → Inside u B (flushOps u ix t ram)
-  inside-flush t ram h = inside-programs u B 16 (ix .first * 64 + t) 4 (λ i y. getD ram (ix .ska + (i * sector u + y)) 0) (λ j l. omega (arith, end))
+  inside-flush t ram h =
+      inside-programs u B 16 (ix .first * 64 + t) 4 (λ i y. getD ram (ix .ska + (i * sector u + y)) 0) (λ j l. omega (arith, end))
 
   -- the set of c + 1 rounds at its place, and that of c rounds on its side
   new-inside : (z c : ℕ) → c < 4 * u → (c + 1 ≡ 4 * u → z < Z) → setBlock u ix z c * 64 + setPages (c + 1) * 4 ≤ B * 64
@@ -104,7 +112,8 @@ module _ (u e : ℕ) (pow : u ≡ 2 ^ e) (B : ℕ) (ix : Index) (Z : ℕ) (end :
   inside-build main z c hc hz =
       let n = new-inside z c hc hz in
       inside-append u B _ _ (inside-programs u B 1 (setBlock u ix z c * 64) (setPages (c + 1) * 4) _ (λ j l. omega (arith, n)))
-      (inside-append u B _ _ (inside-erases u B (ix .first) 1 (omega (arith, end))) (inside-erases u B (sideBlock u ix c) (setBlocks c) (old-inside c hc)))
+      (inside-append u B _ _ (inside-erases u B (ix .first) 1 (omega (arith, end)))
+      (inside-erases u B (sideBlock u ix c) (setBlocks c) (old-inside c hc)))
 
   -- the last round of a set takes one more place
   place-left : (N : ℕ) → inFull u (N + 1) ≤ Z → N % 8 + 1 ≡ 8 → N / 8 % 16 + 1 ≡ 16 → inSet u N + 1 ≡ 4 * u → inFull u N < Z
@@ -141,7 +150,10 @@ past-then N r s t p q = record { same = λ x l. q .same x l ∙ p .same x l; lon
 pub past-zero : (u at N : ℕ) (ram : List ℕ) → at + page u ≤ N → Past N ram (zeroPage u at ram)
 past-zero u at N ram h =
     let l : length (replicate {A = ℕ} (64 * u) 0) ≡ 64 * u = length-replicate {A = ℕ} (64 * u) 0 in
-    record { same = λ x g. getD-write-after ram at (replicate (64 * u) 0) x 0 (omega arith); long = length-write ram at (replicate (64 * u) 0) }
+    record {
+      same = λ x g. getD-write-after ram at (replicate (64 * u) 0) x 0 (omega arith);
+      long = length-write ram at (replicate (64 * u) 0);
+    }
 
 pub past-item : (u : ℕ) (a : Area) (n N : ℕ) (item ram : List ℕ) → 0 < a .perPage → a .perPage * a .size ≡ page u → length item ≡ a .size
     → a .ram + page u ≤ N → Past N ram (itemRam u a n item ram)

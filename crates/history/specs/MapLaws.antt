@@ -19,7 +19,8 @@ use Rattle.layout.specs.FiniteMap.{Level, Map, find, without, Step, insertMap, 
 use Rattle.layout.specs.Items.{Record}
 use Rattle.laws.specs.KeyLaws.{key?, same-key, key-other}
 use Rattle.history.specs.Image.{History, recordAt}
-use Rattle.history.specs.Live.{liveAt, findLive, withRecord, withDeletion, HistoryStep, insertHistory, updateHistory, deleteHistory, lookupHistory, stepHistory, levelAt, Nodup, Live}
+use Rattle.history.specs.Live.{liveAt, findLive, withRecord, withDeletion, HistoryStep, insertHistory, updateHistory, deleteHistory}
+use Rattle.history.specs.Live.{lookupHistory, stepHistory, levelAt, Nodup, Live}
 
 -- ---- membership and one more deletion
 
@@ -89,7 +90,8 @@ module _ (H : History) (r : Record) where
   unfolding liveAt
   live-old k j h = rw (record-old j h)
 
-  pub live-new : (k : Key) → memb (length (H .records)) (H .deleted) ≡ false → liveAt (withRecord H r) k (length (H .records)) ≡ sameKey (r .key) k
+  pub live-new : (k : Key) → memb (length (H .records)) (H .deleted) ≡ false
+      → liveAt (withRecord H r) k (length (H .records)) ≡ sameKey (r .key) k
   unfolding liveAt
   live-new k e = rw (record-new, e) (and-true (sameKey (r .key) k))
 
@@ -149,7 +151,8 @@ Live-record H M r L e = record {
         (λ t. rw t (L .same k ∙ old (findLive H k) k refl)))
 
     -- the new record shares its key with no live one
-    new-old : (k : Key) (i j : ℕ) → i < length (H .records) → j ≡ length (H .records) → liveAt (withRecord H r) k i ≡ true → liveAt (withRecord H r) k j ≡ true → ⊥
+    new-old : (k : Key) (i j : ℕ) → i < length (H .records) → j ≡ length (H .records) → liveAt (withRecord H r) k i ≡ true
+        → liveAt (withRecord H r) k j ≡ true → ⊥
     new-old k i j h q a b =
         let t : sameKey (r .key) k ≡ true = sym (live-new H r k fresh) ∙ rw (← q) b in
         let k-is : r .key ≡ k = same-key (r .key) k t in
@@ -233,13 +236,15 @@ module _ (capacity deletionCapacity : ℕ) where
 
   -- the two capacity tests have one value on both sides
   room : {H : History} {M : Map} → Live H M
-      → ((leb capacity (length (H .records)) ≡ true) × (leb capacity (M .n) ≡ true)) ⊎ ((leb capacity (length (H .records)) ≡ false) × (leb capacity (M .n) ≡ false))
+      → ((leb capacity (length (H .records)) ≡ true) × (leb capacity (M .n) ≡ true))
+      ⊎ ((leb capacity (length (H .records)) ≡ false) × (leb capacity (M .n) ≡ false))
   room {H} {M} L = either (bool? (leb capacity (length (H .records)))) (λ t. inl (t, rw (L .n-is) t)) (λ t. inr (t, rw (L .n-is) t))
 
   room-deletion : {H : History} {M : Map} → Live H M
       → ((leb deletionCapacity (length (H .deleted)) ≡ true) × (leb deletionCapacity (M .d) ≡ true))
       ⊎ ((leb deletionCapacity (length (H .deleted)) ≡ false) × (leb deletionCapacity (M .d) ≡ false))
-  room-deletion {H} {M} L = either (bool? (leb deletionCapacity (length (H .deleted)))) (λ t. inl (t, rw (L .d-is) t)) (λ t. inr (t, rw (L .d-is) t))
+  room-deletion {H} {M} L =
+      either (bool? (leb deletionCapacity (length (H .deleted)))) (λ t. inl (t, rw (L .d-is) t)) (λ t. inr (t, rw (L .d-is) t))
 
   insert-same : (H : History) (M : Map) (r : Record) (o : Option ℕ) → Live H M → findLive H (r .key) ≡ o
       → Same (insertHistory capacity H r o) (insertMap capacity M (levelOf r) (Option·map (levelAt H) o))
@@ -260,13 +265,17 @@ module _ (capacity deletionCapacity : ℕ) where
       one-less : Live (withDeletion H j) (record { levels = without (r .key) (M .levels); n = M .n; d = M .d + 1 })
       one-less = Live-deletion H M (r .key) j L e
 
-      both : Live (withRecord (withDeletion H j) r) (record { levels = levelOf r ∷ without (r .key) (M .levels); n = M .n + 1; d = M .d + 1 })
-      both = Live-record (withDeletion H j) _ r one-less (map-eq-none-iff _ _ .0 (sym (one-less .same (r .key)) ∙ find-without (r .key) (M .levels)))
+      both : Live (withRecord (withDeletion H j) r)
+          (record { levels = levelOf r ∷ without (r .key) (M .levels); n = M .n + 1; d = M .d + 1 })
+      both =
+          Live-record (withDeletion H j) _ r one-less
+          (map-eq-none-iff _ _ .0 (sym (one-less .same (r .key)) ∙ find-without (r .key) (M .levels)))
 
   delete-same : (H : History) (M : Map) (k : Key) (o : Option ℕ) → Live H M → findLive H k ≡ o
       → Same (deleteHistory deletionCapacity H o) (deleteMap deletionCapacity M k (Option·map (levelAt H) o))
   delete-same H M k none L e = (refl, L)
-  delete-same H M k (some j) L e = either (room-deletion L) (λ s. rw (s .0, s .1) (refl, L)) (λ s. rw (s .0, s .1) (refl, Live-deletion H M k j L e))
+  delete-same H M k (some j) L e =
+      either (room-deletion L) (λ s. rw (s .0, s .1) (refl, L)) (λ s. rw (s .0, s .1) (refl, Live-deletion H M k j L e))
 
   lookup-same : (H : History) (M : Map) (o : Option ℕ) → Live H M
       → Same (lookupHistory H o) (lookupMap M (Option·map (levelAt H) o))

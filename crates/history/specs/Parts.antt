@@ -10,7 +10,8 @@ use lib.ListN.{length, getD}
 use lib.Pow.{pow-pos}
 use Rattle.memory.specs.Cases.{either}
 use Rattle.memory.specs.Numbers.{div-lt}
-use Rattle.layout.specs.Geometry.{Geometry, page, block, filterBits, kaBlocks, blocks, indexBlock, fullSets, recordCapacity, deletionCapacity, dataSize, spareSize, ramSize}
+use Rattle.layout.specs.Geometry.{Geometry, page, block, filterBits, kaBlocks, blocks, indexBlock, fullSets, recordCapacity}
+use Rattle.layout.specs.Geometry.{deletionCapacity, dataSize, spareSize, ramSize}
 use Rattle.layout.specs.Flash.{Flash, Op, applyAll}
 use Rattle.layout.specs.Hash.{Family}
 use Rattle.layout.specs.Items.{Area, RA, KA, DA, itemRam}
@@ -77,25 +78,34 @@ module _ (h : Family) (g : Geometry) (e : ℕ) (pow : g .u ≡ 2 ^ e) where
 
       keep-ra : (RA g .first + g .R ≤ lo) ⊎ (hi ≤ RA g .first) → (RA g .ram + page (g .u) ≤ p) ⊎ (p + page (g .u) ≤ RA g .ram)
           → AreaIs (g .u) (RA g) (g .R) (raItem H) nr (C′ .main) (C′ .spare) r′
-      keep-ra o q = frame-area (g .u) lo hi p C C′ ram r′ (W .frame) (RA g) (g .R) (raItem H) nr pu (omega arith) (omega (arith, pu)) (omega arith) o q (P .ra)
+      keep-ra o q =
+          frame-area (g .u) lo hi p C C′ ram r′ (W .frame) (RA g) (g .R) (raItem H) nr pu (omega arith) (omega (arith, pu))
+          (omega arith) o q (P .ra)
 
       keep-ka : (KA g .first + kaBlocks g ≤ lo) ⊎ (hi ≤ KA g .first) → (KA g .ram + page (g .u) ≤ p) ⊎ (p + page (g .u) ≤ KA g .ram)
           → AreaIs (g .u) (KA g) (kaBlocks g) (kaItem H) nk (C′ .main) (C′ .spare) r′
-      keep-ka o q = frame-area (g .u) lo hi p C C′ ram r′ (W .frame) (KA g) (kaBlocks g) (kaItem H) nk pu (omega arith) (omega (arith, pu)) (omega arith) o q (P .ka)
+      keep-ka o q =
+          frame-area (g .u) lo hi p C C′ ram r′ (W .frame) (KA g) (kaBlocks g) (kaItem H) nk pu (omega arith) (omega (arith, pu))
+          (omega arith) o q (P .ka)
 
       keep-da : (DA g .first + g .D ≤ lo) ⊎ (hi ≤ DA g .first) → (DA g .ram + page (g .u) ≤ p) ⊎ (p + page (g .u) ≤ DA g .ram)
           → AreaIs (g .u) (DA g) (g .D) (daItem H) d (C′ .main) (C′ .spare) r′
-      keep-da o q = frame-area (g .u) lo hi p C C′ ram r′ (W .frame) (DA g) (g .D) (daItem H) d pu (omega arith) (omega (arith, pu)) (omega arith) o q (P .da)
+      keep-da o q =
+          frame-area (g .u) lo hi p C C′ ram r′ (W .frame) (DA g) (g .D) (daItem H) d pu (omega arith) (omega (arith, pu)) (omega arith) o q
+          (P .da)
 
       keep-filters : hi ≤ indexBlock g → p + page (g .u) ≤ keyIndex g .ska
           → IndexIs (g .u) (keyIndex g) (fullSets g) (keyFilter h g H) N (C′ .main) (C′ .spare) r′
-      keep-filters o q = frame-index (g .u) lo hi p C C′ ram r′ (W .frame) e pow (keyIndex g) (fullSets g) (keyFilter h g H) N (inr o) (inr q) (P .filters)
+      keep-filters o q =
+          frame-index (g .u) lo hi p C C′ ram r′ (W .frame) e pow (keyIndex g) (fullSets g) (keyFilter h g H) N (inr o) (inr q) (P .filters)
 
       fits : (dataSize g ≤ length (C′ .main)) × (spareSize g ≤ length (C′ .spare)) × (ramSize g ≤ length r′)
-      fits = (rw (W .frame .main-length) (P .main-fits), rw (W .frame .spare-length) (P .spare-fits), rw (W .frame .ram-length) (P .ram-fits))
+      fits =
+          (rw (W .frame .main-length) (P .main-fits), rw (W .frame .spare-length) (P .spare-fits), rw (W .frame .ram-length) (P .ram-fits))
 
     -- RA
-    module _ (item : List ℕ) (size-is : length item ≡ 16) (new : (b : ℕ) → b < 16 → getD item b 0 ≡ raItem H nr b) (room : nr < recordCapacity g) where
+    module _ (item : List ℕ) (size-is : length item ≡ 16) (new : (b : ℕ) → b < 16 → getD item b 0 ≡ raItem H nr b)
+        (room : nr < recordCapacity g) where
       ra-room : nr / (4 * g .u) < g .R * 16
       ra-room = div-lt nr (4 * g .u) (g .R * 16) (omega (arith, pu)) (omega arith)
 
@@ -121,7 +131,8 @@ module _ (h : Family) (g : Geometry) (e : ℕ) (pow : g .u ≡ 2 ^ e) where
       }
 
     -- KA
-    module _ (item : List ℕ) (size-is : length item ≡ 8) (new : (b : ℕ) → b < 8 → getD item b 0 ≡ kaItem H nk b) (room : nk < recordCapacity g) where
+    module _ (item : List ℕ) (size-is : length item ≡ 8) (new : (b : ℕ) → b < 8 → getD item b 0 ≡ kaItem H nk b)
+        (room : nk < recordCapacity g) where
       pub ka-room : nk / (8 * g .u) < kaBlocks g * 16
       ka-room = div-lt nk (8 * g .u) ((g .R + 1) / 2 * 16) (omega (arith, pu)) (omega (arith, mul-le-mul-right (g .u) half))
         where
@@ -150,7 +161,8 @@ module _ (h : Family) (g : Geometry) (e : ℕ) (pow : g .u ≡ 2 ^ e) where
       }
 
     -- DA
-    module _ (item : List ℕ) (size-is : length item ≡ 4) (new : (b : ℕ) → b < 4 → getD item b 0 ≡ daItem H d b) (room : d < deletionCapacity g) where
+    module _ (item : List ℕ) (size-is : length item ≡ 4) (new : (b : ℕ) → b < 4 → getD item b 0 ≡ daItem H d b)
+        (room : d < deletionCapacity g) where
       da-room : d / (16 * g .u) < g .D * 16
       da-room = div-lt d (16 * g .u) (g .D * 16) (omega (arith, pu)) (omega arith)
 
@@ -176,7 +188,8 @@ module _ (h : Family) (g : Geometry) (e : ℕ) (pow : g .u ≡ 2 ^ e) where
       }
 
     -- the index over KA
-    module _ (new : ℕ → Bool) (same : (x : ℕ) → x < filterBits (g .u) → new x ≡ keyFilter h g H N x) (room : inFull (g .u) (N + 1) ≤ fullSets g) where
+    module _ (new : ℕ → Bool) (same : (x : ℕ) → x < filterBits (g .u) → new x ≡ keyFilter h g H N x)
+        (room : inFull (g .u) (N + 1) ≤ fullSets g) where
       abbrev filterIn : List ℕ
       filterIn = withFilter (g .u) (keyIndex g) (inSka N) new ram
 

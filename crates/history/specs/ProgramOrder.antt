@@ -49,32 +49,38 @@ says-false true x p q = absurd (omega (arith, p, q))
 says-false false x p q = refl
 
 module _ (u N : ℕ) where
-  says-program : (s : ℕ) (bytes : List ℕ) (c : Flash) (P : ℕ → Bool) → N ≤ length (c .spare) → Says N c P → Says N (apply u (program s bytes) c) (programmed (program s bytes) P)
+  says-program : (s : ℕ) (bytes : List ℕ) (c : Flash) (P : ℕ → Bool) → N ≤ length (c .spare) → Says N c P
+      → Says N (apply u (program s bytes) c) (programmed (program s bytes) P)
   says-program s bytes c P long m x l =
       either (eq? x s)
       (λ a. rw (a .0) (rw (a .1) (getD-set-same (c .spare) s 0 0 (omega arith))))
       (λ a. rw (a .0) (getD-set-other (c .spare) s x 0 0 (a .1) ∙ m x l))
 
-  says-erase : (b : ℕ) (c : Flash) (P : ℕ → Bool) → N ≤ length (c .spare) → Says N c P → Says N (apply u (erase b) c) (programmed (erase b) P)
+  says-erase : (b : ℕ) (c : Flash) (P : ℕ → Bool) → N ≤ length (c .spare) → Says N c P
+      → Says N (apply u (erase b) c) (programmed (erase b) P)
   says-erase b c P long m x l =
       let z : length (replicate {A = ℕ} 64 255) ≡ 64 = length-replicate {A = ℕ} 64 255 in
       either (eq? (x / 64) b)
-      (λ a. rw (a .0) (getD-write-in (c .spare) (b * 64) (replicate 64 255) x 0 (omega arith) (omega arith) (omega arith) ∙ getD-replicate 64 (x - b * 64) 255 0 (omega arith)))
+      (λ a. rw (a .0) (getD-write-in (c .spare) (b * 64) (replicate 64 255) x 0 (omega arith) (omega arith) (omega arith)
+      ∙ getD-replicate 64 (x - b * 64) 255 0 (omega arith)))
       (λ a. rw (a .0)
       (either (lt? x (b * 64))
       (λ q. getD-write-before (c .spare) (b * 64) (replicate 64 255) x 0 (q .1) ∙ m x l)
       (λ q. getD-write-after (c .spare) (b * 64) (replicate 64 255) x 0 (omega arith) ∙ m x l)))
 
   -- what is allowed by the marks is in-order by the operations
-  pub in-order : (ops : List Op) (c : Flash) (P : ℕ → Bool) → N ≤ length (c .spare) → Says N c P → AllAllowed u ops c → Below N ops → ProgramOrder ops P
+  pub in-order : (ops : List Op) (c : Flash) (P : ℕ → Bool) → N ≤ length (c .spare) → Says N c P → AllAllowed u ops c → Below N ops
+      → ProgramOrder ops P
   in-order [] c P long m a b = tt
   in-order (program s bytes ∷ os) c P long m a b = (
     says-false (P s) (getD (c .spare) s 0) (m s (b .0)) (a .0 .0),
     (λ x l q. says-true (P x) (getD (c .spare) x 0) (m x (omega (arith, b .0))) (a .0 .1 x l q)),
-    in-order os (apply u (program s bytes) c) (programmed (program s bytes) P) (rw (length-set (c .spare) s 0) long) (says-program s bytes c P long m) (a .1) (b .1),
+    in-order os (apply u (program s bytes) c) (programmed (program s bytes) P) (rw (length-set (c .spare) s 0) long)
+        (says-program s bytes c P long m) (a .1) (b .1),
   )
   in-order (erase b ∷ os) c P long m a l =
-      in-order os (apply u (erase b) c) (programmed (erase b) P) (rw (length-write (c .spare) (b * 64) (replicate 64 255)) long) (says-erase b c P long m) (a .1) l
+      in-order os (apply u (erase b) c) (programmed (erase b) P) (rw (length-write (c .spare) (b * 64) (replicate 64 255)) long)
+      (says-erase b c P long m) (a .1) l
 
 -- erased blocks count as not programmed, whatever was before
 abbrev pub erased : ℕ → ℕ → (ℕ → Bool) → ℕ → Bool

@@ -41,18 +41,21 @@ module _ (u : ℕ) where
   unfolding put
   put-same a n at item r r′ p = record {
     bytes = λ x lo hi. write-same r r′ (a .ram + n % a .perPage * a .size) item x 0 (p .long) (p .bytes x lo hi);
-    long = length-write r (a .ram + n % a .perPage * a .size) item ∙ p .long ∙ sym (length-write r′ (a .ram + n % a .perPage * a .size) item);
+    long = length-write r (a .ram + n % a .perPage * a .size) item ∙ p .long
+        ∙ sym (length-write r′ (a .ram + n % a .perPage * a .size) item);
   }
 
   pub item-plan-same : (a : Area) (n : ℕ) (item r r′ : List ℕ) → SamePage u (a .ram) r r′ → itemPlan u a n item r ≡ itemPlan u a n item r′
   item-plan-same a n item r r′ p =
       either (bool? (fills a n))
       (λ q. rw q (sectors-ext u 0 4 (λ j. a .first * 64 + n / a .perPage * 4 + j) _ _
-      (λ j y l m. put-same a n (a .ram) item r r′ p .bytes (a .ram + (j * (16 * u) + y)) (omega arith) (omega (arith, m, mul-le-mul-right (16 * u) l)))))
+      (λ j y l m. put-same a n (a .ram) item r r′ p .bytes (a .ram + (j * (16 * u) + y)) (omega arith)
+      (omega (arith, m, mul-le-mul-right (16 * u) l)))))
       (λ q. rw q)
 
   -- a page that is not that of the area
-  module _ (a : Area) (n at : ℕ) (item ram : List ℕ) (some : 0 < a .perPage) (whole : a .perPage * a .size ≡ page u) (size : length item ≡ a .size)
+  module _ (a : Area) (n at : ℕ) (item ram : List ℕ) (some : 0 < a .perPage) (whole : a .perPage * a .size ≡ page u)
+      (size : length item ≡ a .size)
       (apart : (at + page u ≤ a .ram) ⊎ (a .ram + page u ≤ at)) where
     put-apart : SamePage u at ram (put a n item ram)
     unfolding put
@@ -83,24 +86,28 @@ module _ (u : ℕ) where
 
   -- ---- a filter
 
-  pub with-filter-same : (ix : Index) (s at : ℕ) (new : ℕ → Bool) (r r′ : List ℕ) → SamePage u at r r′ → SamePage u at (withFilter u ix s new r) (withFilter u ix s new r′)
+  pub with-filter-same : (ix : Index) (s at : ℕ) (new : ℕ → Bool) (r r′ : List ℕ) → SamePage u at r r′
+      → SamePage u at (withFilter u ix s new r) (withFilter u ix s new r′)
   with-filter-same ix s at new r r′ p = record {
     bytes = λ x lo hi. pieces-same (2 * u) (16 * u) (ix .ska + s * (2 * u)) 4 _ r r′ x 0 (p .long) (p .bytes x lo hi);
-    long = length-pieces (2 * u) (16 * u) (ix .ska + s * (2 * u)) 4 _ r ∙ p .long ∙ sym (length-pieces (2 * u) (16 * u) (ix .ska + s * (2 * u)) 4 _ r′);
+    long = length-pieces (2 * u) (16 * u) (ix .ska + s * (2 * u)) 4 _ r ∙ p .long
+        ∙ sym (length-pieces (2 * u) (16 * u) (ix .ska + s * (2 * u)) 4 _ r′);
   }
 
   flush-same : (ix : Index) (F : ℕ) (r r′ : List ℕ) → SamePage u (ix .ska) r r′ → flushAndBuild u ix F r ≡ flushAndBuild u ix F r′
   unfolding flushAndBuild
   flush-same ix F r r′ p =
       ap (λ (ps : List Planned). ps ++ cond (eqb (inL1 F + 1) 16) (buildPlan u ix (inFull u F) (inSet u F)) [])
-      (sectors-ext u 0 4 (λ i. ix .first * 64 + inL1 F + i * 16) (λ i y. getD r (ix .ska + (i * (16 * u) + y)) 0) (λ i y. getD r′ (ix .ska + (i * (16 * u) + y)) 0)
+      (sectors-ext u 0 4 (λ i. ix .first * 64 + inL1 F + i * 16) (λ i y. getD r (ix .ska + (i * (16 * u) + y)) 0)
+      (λ i y. getD r′ (ix .ska + (i * (16 * u) + y)) 0)
       (λ i y l m. p .bytes (ix .ska + (i * (16 * u) + y)) (omega arith) (omega (arith, m, mul-le-mul-right (16 * u) l))))
 
   pub filter-plan-same : (ix : Index) (F : ℕ) (r r′ : List ℕ) → SamePage u (ix .ska) r r′ → filterPlan u ix F r ≡ filterPlan u ix F r′
   filter-plan-same ix F r r′ p = either (bool? (eqb (inSka F + 1) 8)) (λ q. rw q (flush-same ix F r r′ p)) (λ q. rw q)
 
 -- the filter of a page of entries
-pub page-filter-same : (h : Family) (g : Geometry) (r r′ : List ℕ) → SamePage (g .u) (kaRam (g .u)) r r′ → pageFilter h g r ≡ pageFilter h g r′
+pub page-filter-same : (h : Family) (g : Geometry) (r r′ : List ℕ) → SamePage (g .u) (kaRam (g .u)) r r′
+    → pageFilter h g r ≡ pageFilter h g r′
 unfolding pageFilter
 page-filter-same h g r r′ p = λ q x. bit x q
   where

@@ -62,7 +62,8 @@ module _ (h : Family) (sizes : Sizes) where
   moved w w′ m p X = rw p X
 
   -- a call reaches, and answers as the map does
-  pub reach-call : (v : Volume) (m : Map) (c : Call) → Reached h sizes v m → KeyWord c → Reached h sizes (call h v c .volume) (mapOf g m c .next)
+  pub reach-call : (v : Volume) (m : Map) (c : Call) → Reached h sizes v m → KeyWord c
+      → Reached h sizes (call h v c .volume) (mapOf g m c .next)
   reach-call v m c X w =
       moved (call h v c .volume) _ (mapOf g m c .next) (ap (λ (x : Volume). call h x c .volume) (X .is))
       (one-reached (X .can) (X .H) (v .flash) (v .ram) m c (X .holds) (X .live) w)
@@ -77,7 +78,8 @@ module _ (h : Family) (sizes : Sizes) where
   reach v m (c ∷ cs) X w = reach (call h v c .volume) (mapOf g m c .next) cs (reach-call v m c X (w .0)) (w .1)
 
   -- a format, whatever was handed in
-  pub reach-format : (v : Volume) → allowed sizes ≡ true → tooShort g (v .flash) (v .ram) ≡ false → Reached h sizes (format v sizes .volume) emptyMap
+  pub reach-format : (v : Volume) → allowed sizes ≡ true → tooShort g (v .flash) (v .ram) ≡ false
+      → Reached h sizes (format v sizes .volume) emptyMap
   unfolding formatted
   reach-format v can long =
       rw (format-is h sizes (sound sizes can) can v long)

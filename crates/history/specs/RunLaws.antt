@@ -13,14 +13,17 @@ use borrow.Author.Tests.{ltb-false}
 use Rattle.memory.specs.Booleans.{or-eq-false-iff}
 use Rattle.memory.specs.Cases.{either, bool?}
 use Rattle.memory.specs.Lists.{write, length-write, getD-write-in, getD-write-after}
-use Rattle.layout.specs.Geometry.{Geometry, geometry, allowed, kaBlocks, blocks, fullSets, recordCapacity, deletionCapacity, dataSize, spareSize, ramSize, Sizes, unitOf}
+use Rattle.layout.specs.Geometry.{Geometry, geometry, allowed, kaBlocks, blocks, fullSets, recordCapacity, deletionCapacity, dataSize}
+use Rattle.layout.specs.Geometry.{spareSize, ramSize, Sizes, unitOf}
 use Rattle.layout.specs.Flash.{Flash, Op, applyAll, erases}
 use Rattle.layout.specs.Hash.{Family}
 use Rattle.layout.specs.Items.{RA, KA, DA}
 use Rattle.layout.specs.Keys.{Key}
-use Rattle.layout.specs.Calls.{Volume, Call, insert, update, delete, lookup, Outcome, accepted, hit, miss, refused, keyIndex, tooShort, format, formatted, call}
+use Rattle.layout.specs.Calls.{Volume, Call, insert, update, delete, lookup, Outcome, accepted, hit, miss, refused, keyIndex, tooShort}
+use Rattle.layout.specs.Calls.{format, formatted, call}
 use Rattle.layout.specs.FiniteMap.{Map, Reply, accepts, hits, misses, refuses, mapOf}
-use Rattle.history.specs.FlashLaws.{AllAllowed, apply-append, allowed-append, erases-main-in, erases-main-out, erases-spare-in, erases-spare-out, apply-main-length, apply-spare-length}
+use Rattle.history.specs.FlashLaws.{AllAllowed, apply-append, allowed-append, erases-main-in, erases-main-out, erases-spare-in}
+use Rattle.history.specs.FlashLaws.{erases-spare-out, apply-main-length, apply-spare-length}
 use Rattle.history.specs.Image.{History, raItem, kaItem, daItem, keyFilter}
 use Rattle.history.specs.Live.{findLive, withRecord, withDeletion, emptyHistory, Live, stepHistory}
 use Rattle.history.specs.MapLaws.{step-same, Live-deletion}
@@ -53,12 +56,14 @@ module _ (capacity room : ℕ) where
   grow-step : (H : History) (c : Call) → growBy (stepHistory capacity room H c .says) H c ≡ stepHistory capacity room H c .next
   grow-step H (insert r) = go (findLive H (r .key)) refl
     where
-      go : (o : Option ℕ) → findLive H (r .key) ≡ o → growBy (stepHistory capacity room H (insert r) .says) H (insert r) ≡ stepHistory capacity room H (insert r) .next
+      go : (o : Option ℕ) → findLive H (r .key) ≡ o
+          → growBy (stepHistory capacity room H (insert r) .says) H (insert r) ≡ stepHistory capacity room H (insert r) .next
       go (some j) q = rw q
       go none q = either (bool? (leb capacity (length (H .records)))) (λ c. rw (q, c)) (λ c. rw (q, c))
   grow-step H (update r) = go (findLive H (r .key)) refl
     where
-      go : (o : Option ℕ) → findLive H (r .key) ≡ o → growBy (stepHistory capacity room H (update r) .says) H (update r) ≡ stepHistory capacity room H (update r) .next
+      go : (o : Option ℕ) → findLive H (r .key) ≡ o
+          → growBy (stepHistory capacity room H (update r) .says) H (update r) ≡ stepHistory capacity room H (update r) .next
       go none q = rw q
       go (some j) q =
           either (bool? (leb capacity (length (H .records))))
@@ -67,12 +72,16 @@ module _ (capacity room : ℕ) where
           rw (q, c, b) (ap (λ (o : Option ℕ). withRecord (withDeletion H (number o)) r) q)))
   grow-step H (delete key) = go (findLive H key) refl
     where
-      go : (o : Option ℕ) → findLive H key ≡ o → growBy (stepHistory capacity room H (delete key) .says) H (delete key) ≡ stepHistory capacity room H (delete key) .next
+      go : (o : Option ℕ) → findLive H key ≡ o
+          → growBy (stepHistory capacity room H (delete key) .says) H (delete key) ≡ stepHistory capacity room H (delete key) .next
       go none q = rw q
-      go (some j) q = either (bool? (leb room (length (H .deleted)))) (λ b. rw (q, b)) (λ b. rw (q, b) (ap (λ (o : Option ℕ). withDeletion H (number o)) q))
+      go (some j) q =
+          either (bool? (leb room (length (H .deleted)))) (λ b. rw (q, b))
+          (λ b. rw (q, b) (ap (λ (o : Option ℕ). withDeletion H (number o)) q))
   grow-step H (lookup key) = go (findLive H key) refl
     where
-      go : (o : Option ℕ) → findLive H key ≡ o → growBy (stepHistory capacity room H (lookup key) .says) H (lookup key) ≡ stepHistory capacity room H (lookup key) .next
+      go : (o : Option ℕ) → findLive H key ≡ o
+          → growBy (stepHistory capacity room H (lookup key) .says) H (lookup key) ≡ stepHistory capacity room H (lookup key) .next
       go none q = rw q
       go (some j) q = rw q
 
@@ -145,13 +154,21 @@ module _ (h : Family) (sizes : Sizes) (ok : Sound sizes) (can : allowed sizes �
 
     start-parts : Parts h g emptyHistory 0 0 0 0 C ram
     start-parts = record {
-      ra = area-start (unitOf sizes) pu (RA g) (sizes .raBlocks) (omega arith) (omega (arith, pu)) (omega arith) (raItem emptyHistory) (C .main) (C .spare) ram
+      ra =
+          area-start (unitOf sizes) pu (RA g) (sizes .raBlocks) (omega arith) (omega (arith, pu)) (omega arith) (raItem emptyHistory)
+          (C .main) (C .spare) ram
           (λ x l m. main-erased x (omega arith)) (λ x l m. spare-erased x (omega arith)) (λ x l m. ram-zero x (omega arith));
-      ka = area-start (unitOf sizes) pu (KA g) (kaBlocks g) (omega arith) (omega (arith, pu)) (omega arith) (kaItem emptyHistory) (C .main) (C .spare) ram
+      ka =
+          area-start (unitOf sizes) pu (KA g) (kaBlocks g) (omega arith) (omega (arith, pu)) (omega arith) (kaItem emptyHistory) (C .main)
+          (C .spare) ram
           (λ x l m. main-erased x (omega arith)) (λ x l m. spare-erased x (omega arith)) (λ x l m. ram-zero x (omega arith));
-      da = area-start (unitOf sizes) pu (DA g) (sizes .daBlocks) (omega arith) (omega (arith, pu)) (omega arith) (daItem emptyHistory) (C .main) (C .spare) ram
+      da =
+          area-start (unitOf sizes) pu (DA g) (sizes .daBlocks) (omega arith) (omega (arith, pu)) (omega arith) (daItem emptyHistory)
+          (C .main) (C .spare) ram
           (λ x l m. main-erased x (omega arith)) (λ x l m. spare-erased x (omega arith)) (λ x l m. ram-zero x (omega arith));
-      filters = index-start (unitOf sizes) (ok .e) (units.pow sizes ok) (keyIndex g) (fullSets g) (keyFilter h g emptyHistory) (C .main) (C .spare) ram
+      filters =
+          index-start (unitOf sizes) (ok .e) (units.pow sizes ok) (keyIndex g) (fullSets g) (keyFilter h g emptyHistory) (C .main)
+          (C .spare) ram
           (λ x l m. main-erased x (omega arith)) (λ x l m. spare-erased x (omega arith)) (λ x l m. ram-zero x (omega arith));
       main-fits = rw (apply-main-length (unitOf sizes) (erases 0 (blocks g)) (v .flash)) (enough .0);
       spare-fits = rw (apply-spare-length (unitOf sizes) (erases 0 (blocks g)) (v .flash)) (enough .1);
@@ -182,7 +199,8 @@ module _ (h : Family) (sizes : Sizes) (ok : Sound sizes) (can : allowed sizes �
   -- ---- the calls
 
   -- one call and the map's step
-  call-agrees : (H : History) (C : Flash) (ram : List ℕ) (m : Map) (c : Call) → Live H m → Live (stepHistory (recordCapacity g) (deletionCapacity g) H c .next) (mapOf g m c .next)
+  call-agrees : (H : History) (C : Flash) (ram : List ℕ) (m : Map) (c : Call) → Live H m
+      → Live (stepHistory (recordCapacity g) (deletionCapacity g) H c .next) (mapOf g m c .next)
       → stepHistory (recordCapacity g) (deletionCapacity g) H c .says ≡ mapOf g m c .says
       → Done h sizes H C ram (call h (volumeOf sizes H C ram) c) (stepHistory (recordCapacity g) (deletionCapacity g) H c)
       → ResultAgrees sizes (volumeOf sizes H C ram) (call h (volumeOf sizes H C ram) c) (mapOf g m c)
@@ -203,7 +221,8 @@ module _ (h : Family) (sizes : Sizes) (ok : Sound sizes) (can : allowed sizes �
   joined : (H : History) (C : Flash) (ram : List ℕ) (m : Map) (c : Call) (cs : List Call)
       → ResultAgrees sizes (volumeOf sizes H C ram) (call h (volumeOf sizes H C ram) c) (mapOf g m c)
       → Done h sizes H C ram (call h (volumeOf sizes H C ram) c) (stepHistory (recordCapacity g) (deletionCapacity g) H c)
-      → Ran h sizes (call h (volumeOf sizes H C ram) c .volume) (growIf (call h (volumeOf sizes H C ram) c .outcome) H c) (mapOf g m c .next) cs
+      → Ran h sizes (call h (volumeOf sizes H C ram) c .volume) (growIf (call h (volumeOf sizes H C ram) c .outcome) H c)
+      (mapOf g m c .next) cs
       → Ran h sizes (volumeOf sizes H C ram) H m (c ∷ cs)
   joined H C ram m c cs A X T =
       let v : Volume = volumeOf sizes H C ram in
@@ -220,7 +239,8 @@ module _ (h : Family) (sizes : Sizes) (ok : Sound sizes) (can : allowed sizes �
         room = T .room;
       }
 
-  pub run : (H : History) (C : Flash) (ram : List ℕ) (m : Map) (cs : List Call) → KeyWords cs → Holds h sizes H C ram → Live H m → Ran h sizes (volumeOf sizes H C ram) H m cs
+  pub run : (H : History) (C : Flash) (ram : List ℕ) (m : Map) (cs : List Call) → KeyWords cs → Holds h sizes H C ram → Live H m
+      → Ran h sizes (volumeOf sizes H C ram) H m cs
   run H C ram m [] w I L = record {
     agrees = tt;
     flash-is = refl;
@@ -236,7 +256,9 @@ module _ (h : Family) (sizes : Sizes) (ok : Sound sizes) (can : allowed sizes �
       = call-done h sizes ok can H C ram I c (w .0) (less H m L) in
       let same = step-same (recordCapacity g) (deletionCapacity g) H m c L in
       let grown : growIf (call h (volumeOf sizes H C ram) c .outcome) H c ≡ stepHistory (recordCapacity g) (deletionCapacity g) H c .next
-      = grow-reply (call h (volumeOf sizes H C ram) c .outcome) H c ∙ ap (λ (o : Reply). growBy o H c) (X .says) ∙ grow-step (recordCapacity g) (deletionCapacity g) H c in
+      = grow-reply (call h (volumeOf sizes H C ram) c .outcome) H c ∙ ap (λ (o : Reply). growBy o H c) (X .says)
+      ∙ grow-step (recordCapacity g) (deletionCapacity g) H c in
       joined H C ram m c cs (call-agrees H C ram m c L (same .1) (same .0) X) X
-      (moved (call h (volumeOf sizes H C ram) c .volume) _ _ (stepHistory (recordCapacity g) (deletionCapacity g) H c .next) (mapOf g m c .next) cs (X .volume-is) grown
+      (moved (call h (volumeOf sizes H C ram) c .volume) _ _ (stepHistory (recordCapacity g) (deletionCapacity g) H c .next)
+      (mapOf g m c .next) cs (X .volume-is) grown
       (run (stepHistory (recordCapacity g) (deletionCapacity g) H c .next) _ _ (mapOf g m c .next) cs (w .1) (X .holds) (same .1)))

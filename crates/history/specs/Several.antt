@@ -42,7 +42,8 @@ abbrev pub AllTaken : Geometry → Map → List Call → Type 0
 AllTaken g m [] = Unit {0}
 AllTaken g m (c ∷ cs) = (mapOf g m c .says ≡ accepts) × AllTaken g (mapOf g m c .next) cs
 
-pub taken-append : (g : Geometry) (m : Map) (cs ds : List Call) → AllTaken g m cs → AllTaken g (mapAfter g m cs) ds → AllTaken g m (cs ++ ds)
+pub taken-append : (g : Geometry) (m : Map) (cs ds : List Call) → AllTaken g m cs → AllTaken g (mapAfter g m cs) ds
+    → AllTaken g m (cs ++ ds)
 taken-append g m [] ds A B = B
 taken-append g m (c ∷ cs) ds A B = (A .0, taken-append g (mapOf g m c .next) cs ds (A .1) B)
 
@@ -53,7 +54,8 @@ reply-accepted miss e = absurd (let z : true ≡ false = cc in true≢false z)
 reply-accepted (refused i) e = absurd (let z : true ≡ false = cc in true≢false z)
 
 -- all is done, and the volume is the one after the calls
-pub all-done : (h : Family) (sizes : Sizes) (v : Volume) (m : Map) (cs : List Call) → Reached h sizes v m → KeyWords cs → AllTaken (geometry sizes) m cs
+pub all-done : (h : Family) (sizes : Sizes) (v : Volume) (m : Map) (cs : List Call) → Reached h sizes v m → KeyWords cs
+    → AllTaken (geometry sizes) m cs
     → (callAll h v cs .outcome ≡ accepted) × (callAll h v cs .volume ≡ after h v cs) × (callAll h v cs .done ≡ length cs)
 all-done h sizes v m [] X w A = (refl, refl, refl)
 all-done h sizes v m (c ∷ cs) X w A =

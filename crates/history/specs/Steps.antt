@@ -12,19 +12,23 @@ use lib.Dec.{leb}
 use borrow.Author.Tests.{leb-false}
 use Rattle.memory.specs.Cases.{either, bool?, lt?}
 use Rattle.memory.specs.Lists.{length-write, getD-write-before, getD-write-in, getD-write-after}
-use Rattle.layout.specs.Geometry.{Geometry, geometry, allowed, page, entriesPerPage, kaBlocks, fullSets, recordCapacity, deletionCapacity, spareSize, workRam, Sizes, unitOf}
+use Rattle.layout.specs.Geometry.{Geometry, geometry, allowed, page, entriesPerPage, kaBlocks, fullSets, recordCapacity, deletionCapacity}
+use Rattle.layout.specs.Geometry.{spareSize, workRam, Sizes, unitOf}
 use Rattle.layout.specs.Flash.{Flash, Op, applyAll, Planned, planOps, allFresh}
 use Rattle.layout.specs.Hash.{Family}
 use Rattle.layout.specs.Items.{RA, KA, DA, zeroPage, Record, noRecord, recordBytes}
 use Rattle.layout.specs.Search.{found}
 use Rattle.layout.specs.Keys.{Key, KeyOk}
-use Rattle.layout.specs.Calls.{Volume, Call, insert, update, delete, lookup, Result, refuse, judged, keyIndex, keyFilters, deletionPlan, deletionRam, insertionPlan, insertionRam, commit, insertAfter, updateAfter, deleteAfter, lookupAfter, answer, call, change}
+use Rattle.layout.specs.Calls.{Volume, Call, insert, update, delete, lookup, Result, refuse, judged, keyIndex, keyFilters, deletionPlan}
+use Rattle.layout.specs.Calls.{deletionRam, insertionPlan, insertionRam, commit, insertAfter, updateAfter, deleteAfter, lookupAfter, answer}
+use Rattle.layout.specs.Calls.{call, change}
 use Rattle.layout.specs.FiniteMap.{accepts, hits, refuses}
 use Rattle.history.specs.FlashLaws.{fresh-append, AllAllowed, apply-append, allowed-append}
 use Rattle.history.specs.PlanLaws.{ops-append}
 use Rattle.history.specs.ChangeLaws.{insertion-after}
 use Rattle.history.specs.Image.{History, recordAt, raItem, kaItem, daItem, keyFilter}
-use Rattle.history.specs.Live.{findLive, withRecord, withDeletion, HistoryStep, historyStep, insertHistory, updateHistory, deleteHistory, lookupHistory, stepHistory, found-below}
+use Rattle.history.specs.Live.{findLive, withRecord, withDeletion, HistoryStep, historyStep, insertHistory, updateHistory}
+use Rattle.history.specs.Live.{deleteHistory, lookupHistory, stepHistory, found-below}
 use Rattle.history.specs.Frames.{Did, Frame, Beyond, beyond-same, beyond-then, frame-beyond}
 use Rattle.history.specs.Parts.{Parts, frame-area, frame-index}
 use Rattle.history.specs.Changes.{Changed, deletion-did, deletion-parts, insertion-changes}
@@ -67,7 +71,8 @@ module _ (h : Family) (sizes : Sizes) (ok : Sound sizes) (can : allowed sizes �
     work-frame = record {
       main = λ x o. refl;
       spare = λ x o. refl;
-      ram = λ x o. either o (λ a. getD-write-before ram (workRam (unitOf sizes)) _ x 0 a) (λ a. getD-write-after ram (workRam (unitOf sizes)) _ x 0 (omega (arith, zeros)));
+      ram = λ x o. either o (λ a. getD-write-before ram (workRam (unitOf sizes)) _ x 0 a)
+          (λ a. getD-write-after ram (workRam (unitOf sizes)) _ x 0 (omega (arith, zeros)));
       main-length = refl;
       spare-length = refl;
       ram-length = length-write ram (workRam (unitOf sizes)) _;
@@ -75,10 +80,14 @@ module _ (h : Family) (sizes : Sizes) (ok : Sound sizes) (can : allowed sizes �
 
     pub zeroed : Parts h g H nr nk d N C ram′
     zeroed = record {
-      ra = frame-area (unitOf sizes) 0 0 (workRam (unitOf sizes)) C C ram ram′ work-frame (RA g) (sizes .raBlocks) (raItem H) nr pu (omega arith) (omega (arith, pu)) (omega arith) (inr (omega arith)) (inl (omega arith)) (P .ra);
-      ka = frame-area (unitOf sizes) 0 0 (workRam (unitOf sizes)) C C ram ram′ work-frame (KA g) (kaBlocks g) (kaItem H) nk pu (omega arith) (omega (arith, pu)) (omega arith) (inr (omega arith)) (inl (omega arith)) (P .ka);
-      da = frame-area (unitOf sizes) 0 0 (workRam (unitOf sizes)) C C ram ram′ work-frame (DA g) (sizes .daBlocks) (daItem H) d pu (omega arith) (omega (arith, pu)) (omega arith) (inr (omega arith)) (inl (omega arith)) (P .da);
-      filters = frame-index (unitOf sizes) 0 0 (workRam (unitOf sizes)) C C ram ram′ work-frame (ok .e) (units.pow sizes ok) (keyIndex g) (fullSets g) (keyFilter h g H) N (inr (omega arith)) (inl (omega arith)) (P .filters);
+      ra = frame-area (unitOf sizes) 0 0 (workRam (unitOf sizes)) C C ram ram′ work-frame (RA g) (sizes .raBlocks) (raItem H) nr pu
+          (omega arith) (omega (arith, pu)) (omega arith) (inr (omega arith)) (inl (omega arith)) (P .ra);
+      ka = frame-area (unitOf sizes) 0 0 (workRam (unitOf sizes)) C C ram ram′ work-frame (KA g) (kaBlocks g) (kaItem H) nk pu (omega arith)
+          (omega (arith, pu)) (omega arith) (inr (omega arith)) (inl (omega arith)) (P .ka);
+      da = frame-area (unitOf sizes) 0 0 (workRam (unitOf sizes)) C C ram ram′ work-frame (DA g) (sizes .daBlocks) (daItem H) d pu
+          (omega arith) (omega (arith, pu)) (omega arith) (inr (omega arith)) (inl (omega arith)) (P .da);
+      filters = frame-index (unitOf sizes) 0 0 (workRam (unitOf sizes)) C C ram ram′ work-frame (ok .e) (units.pow sizes ok) (keyIndex g)
+          (fullSets g) (keyFilter h g H) N (inr (omega arith)) (inl (omega arith)) (P .filters);
       main-fits = P .main-fits;
       spare-fits = P .spare-fits;
       ram-fits = rw (work-frame .ram-length) (P .ram-fits);
@@ -87,7 +96,8 @@ module _ (h : Family) (sizes : Sizes) (ok : Sound sizes) (can : allowed sizes �
     pub work-zero : (i : ℕ) → i < page (unitOf sizes) → getD ram′ (workRam (unitOf sizes) + i) 0 ≡ 0
     work-zero i l =
         let s : workRam (unitOf sizes) + i - workRam (unitOf sizes) ≡ i = omega arith in
-        getD-write-in ram (workRam (unitOf sizes)) (replicate (page (unitOf sizes)) 0) (workRam (unitOf sizes) + i) 0 (omega arith) (omega (arith, zeros)) (omega (arith, P .ram-fits))
+        getD-write-in ram (workRam (unitOf sizes)) (replicate (page (unitOf sizes)) 0) (workRam (unitOf sizes) + i) 0 (omega arith)
+        (omega (arith, zeros)) (omega (arith, P .ram-fits))
         ∙ rw s (getD-replicate (page (unitOf sizes)) i 0 0 l)
 
     pub work-beyond : Beyond g C C ram ram′
@@ -121,9 +131,11 @@ module _ (h : Family) (sizes : Sizes) (ok : Sound sizes) (can : allowed sizes �
 
     -- ---- an accepted change
 
-    commit-done : (H′ : History) (n′ d′ : ℕ) (plan : List Planned) (ops : List Op) (ram′ : List ℕ) → planOps (unitOf sizes) plan C ≡ ops → n′ ≡ length (H′ .records) → d′ ≡ length (H′ .deleted)
+    commit-done : (H′ : History) (n′ d′ : ℕ) (plan : List Planned) (ops : List Op) (ram′ : List ℕ) → planOps (unitOf sizes) plan C ≡ ops
+        → n′ ≡ length (H′ .records) → d′ ≡ length (H′ .deleted)
         → Parts h g H′ n′ n′ d′ (keyFilters g n′) (applyAll (unitOf sizes) ops C) ram′
-        → AllAllowed (unitOf sizes) ops C → Beyond g C (applyAll (unitOf sizes) ops C) ram ram′ → allFresh (C .spare) ops ≡ true → Below (spareSize g) ops
+        → AllAllowed (unitOf sizes) ops C → Beyond g C (applyAll (unitOf sizes) ops C) ram ram′ → allFresh (C .spare) ops ≡ true
+        → Below (spareSize g) ops
         → n′ ≤ recordCapacity g → d′ ≤ deletionCapacity g → d′ ≤ n′
         → ((j : ℕ) → j < n′ → KeyOk (recordAt H′ j .key)) → ((i : ℕ) → i < d′ → getD (H′ .deleted) i 0 < n′)
         → Done h sizes H C ram (commit g v n′ d′ plan ram′) (historyStep accepts H′)
@@ -147,7 +159,9 @@ module _ (h : Family) (sizes : Sizes) (ok : Sound sizes) (can : allowed sizes �
           flash-is = refl;
           ops-allowed = allow;
           inside = low;
-          beyond = beyond-then g C (applyAll (unitOf sizes) ops C) (applyAll (unitOf sizes) ops C) ram ram′ (zeroPage (unitOf sizes) (workRam (unitOf sizes)) ram′) past
+          beyond =
+              beyond-then g C (applyAll (unitOf sizes) ops C) (applyAll (unitOf sizes) ops C) ram ram′
+              (zeroPage (unitOf sizes) (workRam (unitOf sizes)) ram′) past
               (work-beyond H′ n′ n′ d′ (keyFilters g n′) (applyAll (unitOf sizes) ops C) ram′ P);
           count-le = omega arith;
         })
@@ -168,7 +182,8 @@ module _ (h : Family) (sizes : Sizes) (ok : Sound sizes) (can : allowed sizes �
         let q : j ≡ length (H .records) = omega arith in
         rw (q, getD-append-seam (H .records) r [] noRecord) w)
 
-    gone-deletion : (j : ℕ) → j < length (H .records) → (i : ℕ) → i < length (H .deleted) + 1 → getD (withDeletion H j .deleted) i 0 < length (H .records)
+    gone-deletion : (j : ℕ) → j < length (H .records) → (i : ℕ) → i < length (H .deleted) + 1
+        → getD (withDeletion H j .deleted) i 0 < length (H .records)
     gone-deletion j m i l =
         either (lt? i (length (H .deleted)))
         (λ a. rw (List·getD-append (H .deleted) (j ∷ []) 0 i (a .1)) (I .gone i (a .1)))
@@ -180,14 +195,18 @@ module _ (h : Family) (sizes : Sizes) (ok : Sound sizes) (can : allowed sizes �
 
     module _ (r : Record) (word : KeyOk (r .key)) where
       insert-accepted : leb (recordCapacity g) (length (H .records)) ≡ false
-          → Done h sizes H C ram (commit g v (n + 1) d (insertionPlan h g n (r .key) (recordBytes r) ram) (insertionRam h g n (r .key) (recordBytes r) ram)) (historyStep accepts (withRecord H r))
+          → Done h sizes H C ram (commit g v (n + 1) d (insertionPlan h g n (r .key) (recordBytes r) ram)
+          (insertionRam h g n (r .key) (recordBytes r) ram)) (historyStep accepts (withRecord H r))
       insert-accepted c =
           let room : length (H .records) < recordCapacity g = leb-false (recordCapacity g) (length (H .records)) c in
-          let X : Changed h g (withRecord H r) (n + 1) d C ram (planOps (unitOf sizes) (insertionPlan h g n (r .key) (recordBytes r) ram) C) (insertionRam h g n (r .key) (recordBytes r) ram)
+          let X : Changed h g (withRecord H r) (n + 1) d C ram (planOps (unitOf sizes) (insertionPlan h g n (r .key) (recordBytes r) ram) C)
+          (insertionRam h g n (r .key) (recordBytes r) ram)
           = insertion-changes h g (ok .e) (units.pow sizes ok) H r d C ram (I .parts) room word (I .keys) in
-          commit-done (withRecord H r) (n + 1) d (insertionPlan h g n (r .key) (recordBytes r) ram) _ (insertionRam h g n (r .key) (recordBytes r) ram) refl (length-record r) refl
+          commit-done (withRecord H r) (n + 1) d (insertionPlan h g n (r .key) (recordBytes r) ram) _
+          (insertionRam h g n (r .key) (recordBytes r) ram) refl (length-record r) refl
           (X .grown) (X .allowed) (X .beyond) (X .fresh (C .spare) (λ x l o. refl))
-          (fresh-below (spareSize g) (C .spare) _ (X .fresh (take (spareSize g) (C .spare)) (λ x l o. getD-take (spareSize g) (C .spare) x 0 l)))
+          (fresh-below (spareSize g) (C .spare) _
+          (X .fresh (take (spareSize g) (C .spare)) (λ x l o. getD-take (spareSize g) (C .spare) x 0 l)))
           (omega arith) (I .d-cap) (omega (arith, I .d-le)) (keys-record r word) (λ i l. omega (arith, I .gone i l))
 
       insert-done : (o : Option ℕ) → findLive H (r .key) ≡ o
@@ -221,7 +240,8 @@ module _ (h : Family) (sizes : Sizes) (ok : Sound sizes) (can : allowed sizes �
       less-one = deletion-parts h g (ok .e) (units.pow sizes ok) H n n (keyFilters g n) j C ram (I .parts) room-d
 
       past : Beyond g C C₁ ram ram₁
-      past = frame-beyond g (DA g .first) (DA g .first + (sizes .daBlocks)) (DA g .ram) C C₁ ram ram₁ (did .frame) (omega arith) (omega arith)
+      past =
+          frame-beyond g (DA g .first) (DA g .first + (sizes .daBlocks)) (DA g .ram) C C₁ ram ram₁ (did .frame) (omega arith) (omega arith)
 
       fresh₀ : allFresh (C .spare) ops ≡ true
       fresh₀ = did .fresh (C .spare) (λ x l m. refl)
@@ -230,30 +250,39 @@ module _ (h : Family) (sizes : Sizes) (ok : Sound sizes) (can : allowed sizes �
       inside₀ = did .fresh (take (spareSize g) (C .spare)) (λ x l m. getD-take (spareSize g) (C .spare) x 0 (omega arith))
 
       delete-accepted : length (H .deleted) < length (H .records)
-          → Done h sizes H C ram (commit g v n (d + 1) (deletionPlan g d j ram ++ []) (deletionRam g d j ram)) (historyStep accepts (withDeletion H j))
+          → Done h sizes H C ram (commit g v n (d + 1) (deletionPlan g d j ram ++ []) (deletionRam g d j ram))
+          (historyStep accepts (withDeletion H j))
       delete-accepted less =
-          commit-done (withDeletion H j) n (d + 1) (deletionPlan g d j ram ++ []) ops ram₁ (ap (λ (ps : List Planned). planOps (unitOf sizes) ps C) (append-nil (deletionPlan g d j ram))) refl (length-deletion j) less-one (did .allowed) past fresh₀
+          commit-done (withDeletion H j) n (d + 1) (deletionPlan g d j ram ++ []) ops ram₁
+          (ap (λ (ps : List Planned). planOps (unitOf sizes) ps C) (append-nil (deletionPlan g d j ram))) refl
+          (length-deletion j) less-one (did .allowed) past fresh₀
           (fresh-below (spareSize g) (C .spare) ops inside₀)
           (I .n-cap) (omega (arith, room-d)) (omega arith) (I .keys) (gone-deletion j below)
 
       update-accepted : (r : Record) → KeyOk (r .key) → leb (recordCapacity g) (length (H .records)) ≡ false
-          → Done h sizes H C ram (commit g v (n + 1) (d + 1) (deletionPlan g d j ram ++ insertionPlan h g n (r .key) (recordBytes r) ram) (insertionRam h g n (r .key) (recordBytes r) (deletionRam g d j ram)))
+          → Done h sizes H C ram (commit g v (n + 1) (d + 1) (deletionPlan g d j ram ++ insertionPlan h g n (r .key) (recordBytes r) ram)
+          (insertionRam h g n (r .key) (recordBytes r) (deletionRam g d j ram)))
           (historyStep accepts (withRecord (withDeletion H j) r))
       update-accepted r word c5 =
           let room : length (H .records) < recordCapacity g = leb-false (recordCapacity g) (length (H .records)) c5 in
           let more : List Op = planOps (unitOf sizes) (insertionPlan h g n (r .key) (recordBytes r) ram₁) C₁ in
-          let X : Changed h g (withRecord (withDeletion H j) r) (n + 1) (d + 1) C₁ ram₁ (planOps (unitOf sizes) (insertionPlan h g n (r .key) (recordBytes r) ram₁) C₁) (insertionRam h g n (r .key) (recordBytes r) ram₁)
+          let X : Changed h g (withRecord (withDeletion H j) r) (n + 1) (d + 1) C₁ ram₁
+          (planOps (unitOf sizes) (insertionPlan h g n (r .key) (recordBytes r) ram₁) C₁) (insertionRam h g n (r .key) (recordBytes r) ram₁)
           = insertion-changes h g (ok .e) (units.pow sizes ok) (withDeletion H j) r (d + 1) C₁ ram₁ less-one room word (I .keys) in
-          let both : planOps (unitOf sizes) (deletionPlan g d j ram ++ insertionPlan h g n (r .key) (recordBytes r) ram) C ≡ ops ++ planOps (unitOf sizes) (insertionPlan h g n (r .key) (recordBytes r) ram₁) C₁
+          let both : planOps (unitOf sizes) (deletionPlan g d j ram ++ insertionPlan h g n (r .key) (recordBytes r) ram) C ≡ ops
+          ++ planOps (unitOf sizes) (insertionPlan h g n (r .key) (recordBytes r) ram₁) C₁
           = ops-append (unitOf sizes) (deletionPlan g d j ram) (insertionPlan h g n (r .key) (recordBytes r) ram) C
           ∙ ap (λ (ps : List Planned). ops ++ planOps (unitOf sizes) ps C₁) (insertion-after h g n (r .key) (recordBytes r) pu d j ram) in
           let done = apply-append (unitOf sizes) ops more C in
-          commit-done (withRecord (withDeletion H j) r) (n + 1) (d + 1) _ (ops ++ more) (insertionRam h g n (r .key) (recordBytes r) ram₁) both (length-record r) (length-deletion j)
-          (rw done (X .grown)) (allowed-append (unitOf sizes) ops more C (did .allowed) (X .allowed)) (rw done (beyond-then g C C₁ _ ram ram₁ _ past (X .beyond)))
+          commit-done (withRecord (withDeletion H j) r) (n + 1) (d + 1) _ (ops ++ more)
+          (insertionRam h g n (r .key) (recordBytes r) ram₁) both (length-record r) (length-deletion j)
+          (rw done (X .grown)) (allowed-append (unitOf sizes) ops more C (did .allowed) (X .allowed))
+          (rw done (beyond-then g C C₁ _ ram ram₁ _ past (X .beyond)))
           (fresh-append (C .spare) ops more fresh₀ (X .fresh (C .spare) (λ x l o. sym (did .frame .spare x o))))
           (fresh-below (spareSize g) (C .spare) _ (fresh-append (take (spareSize g) (C .spare)) ops more inside₀
           (X .fresh (take (spareSize g) (C .spare)) (λ x l o. getD-take (spareSize g) (C .spare) x 0 l ∙ sym (did .frame .spare x o)))))
-          (omega arith) (omega (arith, room-d)) (omega (arith, I .d-le)) (keys-record r word) (λ i l. omega (arith, gone-deletion j below i l))
+          (omega arith) (omega (arith, room-d)) (omega (arith, I .d-le)) (keys-record r word)
+          (λ i l. omega (arith, gone-deletion j below i l))
 
     update-done : (r : Record) → KeyOk (r .key) → (o : Option ℕ) → findLive H (r .key) ≡ o
         → Done h sizes H C ram (updateAfter h g v r (Option·map found o)) (updateHistory (recordCapacity g) (deletionCapacity g) H r o)
@@ -266,7 +295,8 @@ module _ (h : Family) (sizes : Sizes) (ok : Sound sizes) (can : allowed sizes �
         (λ c6. rw (c, c6) (refuse-done 6 (omega arith, omega arith, omega arith, omega arith)))
         (λ c6. rw (c, c6) (update-accepted j (found-below H (r .key) j q .0) c6 r word c)))
 
-    delete-done : (k : Key) → ((j : ℕ) → findLive H k ≡ some j → length (H .deleted) < length (H .records)) → (o : Option ℕ) → findLive H k ≡ o
+    delete-done : (k : Key) → ((j : ℕ) → findLive H k ≡ some j → length (H .deleted) < length (H .records)) → (o : Option ℕ)
+        → findLive H k ≡ o
         → Done h sizes H C ram (deleteAfter h g v (Option·map found o)) (deleteHistory (deletionCapacity g) H o)
     unfolding change
     delete-done k less none q = refuse-done 4 (omega arith, omega arith, omega arith, omega arith)
@@ -318,7 +348,8 @@ module _ (h : Family) (sizes : Sizes) (ok : Sound sizes) (can : allowed sizes �
     answer-done (update r) w less = rw (volumes.search-is h sizes ok H C ram I (r .key)) (update-done r w (findLive H (r .key)) refl)
     answer-done (delete key) w less = rw (volumes.search-is h sizes ok H C ram I key) (delete-done key (less key) (findLive H key) refl)
     answer-done (lookup key) w less =
-        rw (volumes.search-is h sizes ok H C ram I key) (lookup-done key _ (volumes.count-is h sizes ok H C ram I key) (findLive H key) refl)
+        rw (volumes.search-is h sizes ok H C ram I key)
+        (lookup-done key _ (volumes.count-is h sizes ok H C ram I key) (findLive H key) refl)
 
     pub call-done : (c : Call) → KeyWord c → ((k : Key) (j : ℕ) → findLive H k ≡ some j → length (H .deleted) < length (H .records))
         → Done h sizes H C ram (call h v c) (stepHistory (recordCapacity g) (deletionCapacity g) H c)

@@ -14,13 +14,15 @@ use Rattle.memory.specs.Cases.{either, bool?}
 use Rattle.memory.specs.Numbers.{euclid}
 use Rattle.memory.specs.Ranges.{any-ext, any-at, memb}
 use Rattle.layout.specs.Keys.{Key, KeyOk, sameKey, keyBytes, keyIn, numberIn}
-use Rattle.layout.specs.Geometry.{Geometry, geometry, allowed, page, block, filterBits, entriesPerPage, kaBlocks, fullSets, recordCapacity, deletionCapacity, workRam, Sizes, unitOf, stateOf}
+use Rattle.layout.specs.Geometry.{Geometry, geometry, allowed, page, block, filterBits, entriesPerPage, kaBlocks, fullSets, recordCapacity}
+use Rattle.layout.specs.Geometry.{deletionCapacity, workRam, Sizes, unitOf, stateOf}
 use Rattle.layout.specs.Flash.{Flash}
 use Rattle.layout.specs.Hash.{Family, positions}
 use Rattle.layout.specs.Items.{Record, RA, KA, DA, itemWord, itemPlace, bytesAt, recordBytes}
 use Rattle.layout.specs.Index.{filterBit}
 use Rattle.layout.specs.Search.{found}
-use Rattle.layout.specs.Calls.{Volume, keyIndex, keyFilters, keyPositions, badState, tooShort, isDeleted, entryWord, tryAt, maybeIn, searchAt, search}
+use Rattle.layout.specs.Calls.{Volume, keyIndex, keyFilters, keyPositions, badState, tooShort, isDeleted, entryWord, tryAt, maybeIn}
+use Rattle.layout.specs.Calls.{searchAt, search}
 use Rattle.history.specs.Image.{History, recordsIn, deletionsIn, filtersIn, recordAt, raItem, kaItem, daItem, keyFilter}
 use Rattle.history.specs.Before.{Before, before-same, record-kept, deletion-kept, records-le, deleted-le}
 use Rattle.history.specs.Live.{liveAt, findLive, live-key}
@@ -82,30 +84,36 @@ module _ (h : Family) (sizes : Sizes) (ok : Sound sizes) where
 
     pub key-at : (j : ℕ) → j < length (H .records) → keyIn (entryWord g v j 0) (entryWord g v j 1) ≡ recordAt H j .key
     key-at j l =
-        read-word (unitOf sizes) pu (KA g) (kaBlocks g) (omega arith) (omega (arith, pu)) (omega arith) (kaItem H) n (C .main) (C .spare) ram (I .parts .ka) ka-room
+        read-word (unitOf sizes) pu (KA g) (kaBlocks g) (omega arith) (omega (arith, pu)) (omega arith) (kaItem H) n (C .main)
+        (C .spare) ram (I .parts .ka) ka-room
         j 0 (recordAt H j .key) l (omega arith) (I .keys j l) (λ b m. entry-key (recordAt H j .key) j b m)
 
     pub number-at : (j : ℕ) → j < length (H .records) → numberIn (entryWord g v j 1) ≡ j
     number-at j l =
-        read-word (unitOf sizes) pu (KA g) (kaBlocks g) (omega arith) (omega (arith, pu)) (omega arith) (kaItem H) n (C .main) (C .spare) ram (I .parts .ka) ka-room
+        read-word (unitOf sizes) pu (KA g) (kaBlocks g) (omega arith) (omega (arith, pu)) (omega arith) (kaItem H) n (C .main)
+        (C .spare) ram (I .parts .ka) ka-room
         j 1 j l (omega arith) (omega (arith, n-word)) (λ b m. entry-number (recordAt H j .key) j b m)
 
     pub deletion-at : (i : ℕ) → i < length (H .deleted) → itemWord (unitOf sizes) (DA g) d (C .main) ram i 0 ≡ getD (H .deleted) i 0
     deletion-at i l =
-        read-word (unitOf sizes) pu (DA g) (sizes .daBlocks) (omega arith) (omega (arith, pu)) (omega arith) (daItem H) d (C .main) (C .spare) ram (I .parts .da) (omega (arith, I .d-cap))
-        i 0 (getD (H .deleted) i 0) l (omega arith) (omega (arith, I .gone i l, n-word)) (λ b m. deletion-number (getD (H .deleted) i 0) b m)
+        read-word (unitOf sizes) pu (DA g) (sizes .daBlocks) (omega arith) (omega (arith, pu)) (omega arith) (daItem H) d (C .main)
+        (C .spare) ram (I .parts .da) (omega (arith, I .d-cap))
+        i 0 (getD (H .deleted) i 0) l (omega arith) (omega (arith, I .gone i l, n-word))
+        (λ b m. deletion-number (getD (H .deleted) i 0) b m)
 
     -- every filter on the volume reads as the history says
     pub filter-is : (f x : ℕ) → f < length (H .records) / (8 * (unitOf sizes)) → x < filterBits (unitOf sizes)
         → filterBit (unitOf sizes) (keyIndex g) (C .main) ram (keyFilters g n) f x ≡ keyFilter h g H f x
     filter-is f x l m =
-        read-filter (unitOf sizes) (ok .e) pow (keyIndex g) (fullSets g) (keyFilter h g H) (keyFilters g n) (C .main) (C .spare) ram (I .parts .filters)
+        read-filter (unitOf sizes) (ok .e) pow (keyIndex g) (fullSets g) (keyFilter h g H) (keyFilters g n) (C .main) (C .spare) ram
+        (I .parts .filters)
         (places-suffice (unitOf sizes) (sizes .raBlocks) (length (H .records)) pu (I .n-cap)) f x l m
 
     pub position-lt : (k : Key) (x : ℕ) → memb x (keyPositions h g k) ≡ true → x < filterBits (unitOf sizes)
     unfolding positions
     position-lt k x q =
-        memb-tab-all (λ y. y < 64 * (unitOf sizes)) 3 (λ j. h 0 (keyBytes k) % 4 * (16 * (unitOf sizes)) + h (j + 1) (keyBytes k) % (16 * (unitOf sizes)))
+        memb-tab-all (λ y. y < 64 * (unitOf sizes)) 3
+        (λ j. h 0 (keyBytes k) % 4 * (16 * (unitOf sizes)) + h (j + 1) (keyBytes k) % (16 * (unitOf sizes)))
         (λ j l.
         let a : h 0 (keyBytes k) % 4 * (16 * (unitOf sizes)) + h (j + 1) (keyBytes k) % (16 * (unitOf sizes)) < 4 * (16 * (unitOf sizes))
         = digits-lt (mod-lt (h 0 (keyBytes k)) {m = 4} (omega arith)) (mod-lt (h (j + 1) (keyBytes k)) (omega (arith, pu))) in
@@ -147,13 +155,15 @@ module _ (h : Family) (sizes : Sizes) (ok : Sound sizes) where
           (λ a. rw a))
 
       -- a page that was full then has its filter now, wherever it lies
-      skipped : (k : Key) (f i : ℕ) → f < length (H₀ .records) / (8 * unitOf sizes) → i < 8 * unitOf sizes → maybeIn g v (keyPositions h g k) f ≡ false
+      skipped : (k : Key) (f i : ℕ) → f < length (H₀ .records) / (8 * unitOf sizes) → i < 8 * unitOf sizes
+          → maybeIn g v (keyPositions h g k) f ≡ false
           → tryAt g v n₀ d₀ k (f * (8 * unitOf sizes) + i) ≡ none
       skipped k f i l m c =
           let q : 0 < 8 * unitOf sizes = omega (arith, pu) in
           let E = euclid (length (H₀ .records)) (8 * unitOf sizes) q in
           let j : f * (8 * unitOf sizes) + i < length (H₀ .records) = omega (arith, mul-le-mul-right (8 * unitOf sizes) l, E .whole) in
-          let now : f < length (H .records) / (8 * unitOf sizes) = le-div-iff-mul-le q .1 (omega (arith, mul-le-mul-right (8 * unitOf sizes) l, E .whole, records-le H₀ H B)) in
+          let now : f < length (H .records) / (8 * unitOf sizes)
+          = le-div-iff-mul-le q .1 (omega (arith, mul-le-mul-right (8 * unitOf sizes) l, E .whole, records-le H₀ H B)) in
           try-then k (f * (8 * unitOf sizes) + i) j
           ∙ either (bool? (liveAt H₀ k (f * (8 * unitOf sizes) + i)))
           (λ t.
@@ -167,7 +177,8 @@ module _ (h : Family) (sizes : Sizes) (ok : Sound sizes) where
       pub search-then : (k : Key) → searchAt h g v n₀ d₀ k .stop ≡ Option·map found (findLive H₀ k)
       unfolding searchAt
       search-then k =
-          search-all (maybeIn g v (keyPositions h g k)) (tryAt g v n₀ d₀ k) (8 * unitOf sizes) (length (H₀ .records)) (omega (arith, pu)) (skipped k)
+          search-all (maybeIn g v (keyPositions h g k)) (tryAt g v n₀ d₀ k) (8 * unitOf sizes) (length (H₀ .records)) (omega (arith, pu))
+          (skipped k)
           ∙ scan-live (tryAt g v n₀ d₀ k) (liveAt H₀ k) (length (H₀ .records)) (try-then k)
 
     -- the search ends at the newest live record of the key, or finds none
@@ -179,9 +190,11 @@ module _ (h : Family) (sizes : Sizes) (ok : Sound sizes) where
     count-is k = search-opened (maybeIn g v (keyPositions h g k)) (tryAt g v n d k) (8 * unitOf sizes) (length (H .records))
 
     -- the bytes of a record where it lies
-    pub record-is : (j : ℕ) → j < length (H .records) → bytesAt (C .main) ram (itemPlace (unitOf sizes) (RA g) n j) 16 ≡ recordBytes (recordAt H j)
+    pub record-is : (j : ℕ) → j < length (H .records)
+        → bytesAt (C .main) ram (itemPlace (unitOf sizes) (RA g) n j) 16 ≡ recordBytes (recordAt H j)
     record-is j l =
-        read-bytes (unitOf sizes) pu (RA g) (sizes .raBlocks) (omega arith) (omega (arith, pu)) (omega arith) (raItem H) n (C .main) (C .spare) ram (I .parts .ra) (omega (arith, I .n-cap)) j l
+        read-bytes (unitOf sizes) pu (RA g) (sizes .raBlocks) (omega arith) (omega (arith, pu)) (omega arith) (raItem H) n (C .main)
+        (C .spare) ram (I .parts .ra) (omega (arith, I .n-cap)) j l
         ∙ tab-record (recordAt H j)
 
     -- refusals 1 and 2 do not apply
@@ -192,4 +205,8 @@ module _ (h : Family) (sizes : Sizes) (ok : Sound sizes) where
     pub long-enough : tooShort g C ram ≡ false
     unfolding tooShort
     long-enough =
-        rw (le-ltb (length (C .main)) _ (I .parts .main-fits), le-ltb (length (C .spare)) _ (I .parts .spare-fits), le-ltb (length ram) _ (I .parts .ram-fits))
+        rw (
+          le-ltb (length (C .main)) _ (I .parts .main-fits),
+          le-ltb (length (C .spare)) _ (I .parts .spare-fits),
+          le-ltb (length ram) _ (I .parts .ram-fits),
+        )

@@ -17,16 +17,25 @@ use Rattle.laws.specs.RowLaws.{row-ext, unit-pos, set-whole, width-pos, 
 
 module _ (u : ℕ) (ix : Index) where
   -- filter g of the set before the next one
-  pub place-old : (z c g x : ℕ) → g < 128 * c → flashPlace u ix z c (z * fullFilters u + g) x ≡ setPlace u (sideBlock u ix c) (setWidth u c) g x
+  pub place-old : (z c g x : ℕ) → g < 128 * c
+      → flashPlace u ix z c (z * fullFilters u + g) x ≡ setPlace u (sideBlock u ix c) (setWidth u c) g x
   place-old z c g x h =
       let s : z * fullFilters u + g - z * fullFilters u ≡ g = omega arith in
-      rw (le-ltb (z * fullFilters u + g) (z * fullFilters u) (omega arith), lt-ltb (z * fullFilters u + g) (z * fullFilters u + 128 * c) (omega arith), s)
+      rw (
+        le-ltb (z * fullFilters u + g) (z * fullFilters u) (omega arith),
+        lt-ltb (z * fullFilters u + g) (z * fullFilters u + 128 * c) (omega arith),
+        s,
+      )
 
   -- and one of L1
   pub place-new : (z c g x : ℕ) → 128 * c ≤ g → flashPlace u ix z c (z * fullFilters u + g) x ≡ l1Place u ix (g - 128 * c) x
   place-new z c g x h =
       let s : z * fullFilters u + g - (z * fullFilters u + 128 * c) ≡ g - 128 * c = omega arith in
-      rw (le-ltb (z * fullFilters u + g) (z * fullFilters u) (omega arith), le-ltb (z * fullFilters u + g) (z * fullFilters u + 128 * c) (omega arith), s)
+      rw (
+        le-ltb (z * fullFilters u + g) (z * fullFilters u) (omega arith),
+        le-ltb (z * fullFilters u + g) (z * fullFilters u + 128 * c) (omega arith),
+        s,
+      )
 
   -- one round more is on the other side
   side-other : (c : ℕ) → (sideBlock u ix c + 4 * u ≤ sideBlock u ix (c + 1)) ⊎ (sideBlock u ix (c + 1) + 4 * u ≤ sideBlock u ix c)
@@ -49,8 +58,10 @@ module _ (u e : ℕ) (pow : u ≡ 2 ^ e) (ix : Index) where
   old-range c g x hc hg hx =
       let w : ℕ = setWidth u c in
       let E = euclid x (setWidth u c) (width-pos u e pow c (omega arith)) in
-      let y-lt : (g * setWidth u c + x % setWidth u c) / 8 < 64 * u = omega (arith, mul-le-mul-right (setWidth u c) hg, filters-fit u e pow c (omega arith)) in
-      let p-lt : x / setWidth u c < setPages c = div-lt x (setWidth u c) (setPages c) (width-pos u e pow c (omega arith)) (omega (arith, set-whole u e pow c (omega arith))) in
+      let y-lt : (g * setWidth u c + x % setWidth u c) / 8 < 64 * u
+      = omega (arith, mul-le-mul-right (setWidth u c) hg, filters-fit u e pow c (omega arith)) in
+      let p-lt : x / setWidth u c < setPages c
+      = div-lt x (setWidth u c) (setPages c) (width-pos u e pow c (omega arith)) (omega (arith, set-whole u e pow c (omega arith))) in
       omega (arith, mul-le-mul-right (64 * u) p-lt, mul-le-mul-right (1024 * u) (blocks-fit u e pow c (omega arith)))
 
   -- that of a bit of L1 in L1's
@@ -66,7 +77,8 @@ module _ (u e : ℕ) (pow : u ≡ 2 ^ e) (ix : Index) where
       omega (arith, mul-le-mul-right u i4, mul-le-mul-right u f4, mul-le-mul-right u s4, mul-le-mul-right u f8)
 
   module _ (z c : ℕ) (hc : c < 4 * u) (main main′ : List ℕ)
-      (same : (x : ℕ) → (x < setBlock u ix z c * block u) ⊎ (setBlock u ix z c * block u + setPages (c + 1) * page u ≤ x) → getD main x 0 ≡ getD main′ x 0) where
+      (same : (x : ℕ) → (x < setBlock u ix z c * block u) ⊎ (setBlock u ix z c * block u + setPages (c + 1) * page u ≤ x)
+      → getD main x 0 ≡ getD main′ x 0) where
     bit-same : (g x : ℕ) → g < 128 * (c + 1) → x < 64 * u
         → bitAt main [] (flashPlace u ix z c (z * fullFilters u + g) x) ≡ bitAt main′ [] (flashPlace u ix z c (z * fullFilters u + g) x)
     unfolding bitAt
@@ -77,14 +89,17 @@ module _ (u e : ℕ) (pow : u ≡ 2 ^ e) (ix : Index) where
         let at : ℕ = sideBlock u ix c * (1024 * u) + x / setWidth u c * (64 * u) + (g * setWidth u c + x % setWidth u c) / 8 in
         let fit = mul-le-mul-right (1024 * u) (blocks-fit u e pow (c + 1) (omega arith)) in
         let out : (at < setBlock u ix z c * (1024 * u)) ⊎ (setBlock u ix z c * (1024 * u) + 16 * 2 ^ log2up (c + 1) * (64 * u) ≤ at)
-        = either (next-apart u ix z c) (λ d. inl (omega (arith, mul-le-mul-right (1024 * u) d))) (λ d. inr (omega (arith, mul-le-mul-right (1024 * u) d))) in
+        = either (next-apart u ix z c) (λ d. inl (omega (arith, mul-le-mul-right (1024 * u) d)))
+        (λ d. inr (omega (arith, mul-le-mul-right (1024 * u) d))) in
         rw (place-old u ix z c g x (a .1)) (ap (λ (v : ℕ). bit v ((g * setWidth u c + x % setWidth u c) % 8)) (same at out)))
         (λ a.
         let f : ℕ = g - 128 * c in
         let m = l1-range f x (omega arith) hx in
-        let at : ℕ = ix .first * (1024 * u) + ((4 * (x / (16 * u)) + f / 8 / 4) * (64 * u) + f / 8 % 4 * (16 * u)) + (f % 8 * (16 * u) + x % (16 * u)) / 8 in
+        let at : ℕ = ix .first * (1024 * u) + ((4 * (x / (16 * u)) + f / 8 / 4) * (64 * u) + f / 8 % 4 * (16 * u))
+        + (f % 8 * (16 * u) + x % (16 * u)) / 8 in
         rw (place-new u ix z c g x (a .1))
-        (ap (λ (v : ℕ). bit v ((f % 8 * (16 * u) + x % (16 * u)) % 8)) (same at (inl (omega (arith, mul-le-mul-right (1024 * u) (next-after u ix z c)))))))
+        (ap (λ (v : ℕ). bit v ((f % 8 * (16 * u) + x % (16 * u)) % 8))
+        (same at (inl (omega (arith, mul-le-mul-right (1024 * u) (next-after u ix z c)))))))
 
     -- main areas that agree outside the next set's place give the same set
     pub set-byte-same : (j y : ℕ) → j < setPages (c + 1) * 4 → y < sector u → setByte u ix main z c j y ≡ setByte u ix main′ z c j y
@@ -92,6 +107,8 @@ module _ (u e : ℕ) (pow : u ≡ 2 ^ e) (ix : Index) where
     set-byte-same j y hj hy =
         let w-pos = width-pos u e pow (c + 1) (omega arith) in
         let p-lt : j / 4 < setPages (c + 1) = omega arith in
-        row-ext (λ g x. bitAt main [] (flashPlace u ix z c (z * fullFilters u + g) x)) (λ g x. bitAt main′ [] (flashPlace u ix z c (z * fullFilters u + g) x))
+        row-ext (λ g x. bitAt main [] (flashPlace u ix z c (z * fullFilters u + g) x))
+        (λ g x. bitAt main′ [] (flashPlace u ix z c (z * fullFilters u + g) x))
         (128 * (c + 1)) (setWidth u (c + 1)) (j / 4 * setWidth u (c + 1)) (j % 4 * sector u + y) w-pos
-        (λ g r hg hr. bit-same g (j / 4 * setWidth u (c + 1) + r) hg (omega (arith, mul-le-mul-right (setWidth u (c + 1)) p-lt, set-whole u e pow (c + 1) (omega arith))))
+        (λ g r hg hr. bit-same g (j / 4 * setWidth u (c + 1) + r) hg
+        (omega (arith, mul-le-mul-right (setWidth u (c + 1)) p-lt, set-whole u e pow (c + 1) (omega arith))))

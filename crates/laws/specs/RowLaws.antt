@@ -16,7 +16,8 @@ use Rattle.memory.specs.Power.{log2up, log2up-enough, width}
 use Rattle.layout.specs.Index.{Index, rowBit, rowByte, setPages, setWidth, setBlocks, sideBlock}
 
 -- bit r of the w bits of filter g, read from the row's bytes
-pub read-row : (G : ℕ → ℕ → Bool) (N w lo g r : ℕ) → g < N → r < w → bit (rowByte G N w lo ((g * w + r) / 8)) ((g * w + r) % 8) ≡ G g (lo + r)
+pub read-row : (G : ℕ → ℕ → Bool) (N w lo g r : ℕ) → g < N → r < w
+    → bit (rowByte G N w lo ((g * w + r) / 8)) ((g * w + r) % 8) ≡ G g (lo + r)
 unfolding rowByte rowBit
 read-row G N w lo g r hg hr =
     let q : (g * w + r) / 8 * 8 + (g * w + r) % 8 ≡ g * w + r = omega arith in
@@ -25,7 +26,8 @@ read-row G N w lo g r hg hr =
     bit-pack 8 _ ((g * w + r) % 8) (omega arith) ∙ rw (q, d, m, lt-ltb g N hg)
 
 -- only the bits that are there decide
-pub row-ext : (G H : ℕ → ℕ → Bool) (N w lo y : ℕ) → 0 < w → ((g r : ℕ) → g < N → r < w → G g (lo + r) ≡ H g (lo + r)) → rowByte G N w lo y ≡ rowByte H N w lo y
+pub row-ext : (G H : ℕ → ℕ → Bool) (N w lo y : ℕ) → 0 < w → ((g r : ℕ) → g < N → r < w → G g (lo + r) ≡ H g (lo + r))
+    → rowByte G N w lo y ≡ rowByte H N w lo y
 unfolding rowByte rowBit
 row-ext G H N w lo y pw same = pack-ext 8 _ _ (λ b l. one (y * 8 + b))
   where
@@ -51,7 +53,8 @@ module _ (u : ℕ) (pu : 0 < u) where
       mod-of (y * 8 + b) (16 * u) (y / (2 * u)) (y % (2 * u) * 8 + b) (omega arith) (omega arith)
 
   -- a byte of the newest filter
-  pub row-new : (G : ℕ → ℕ → Bool) (s lo y : ℕ) → y / (2 * u) ≡ s → rowByte G (s + 1) (16 * u) lo y ≡ pack 8 (λ b. G s (lo + (y % (2 * u) * 8 + b)))
+  pub row-new : (G : ℕ → ℕ → Bool) (s lo y : ℕ) → y / (2 * u) ≡ s
+      → rowByte G (s + 1) (16 * u) lo y ≡ pack 8 (λ b. G s (lo + (y % (2 * u) * 8 + b)))
   unfolding rowByte rowBit
   row-new G s lo y e = pack-ext 8 _ _ (λ b l. rw (slot-div y b l, slot-mod y b l, e, lt-ltb s (s + 1) (omega arith)))
 

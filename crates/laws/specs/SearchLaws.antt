@@ -24,7 +24,8 @@ orElse-assoc (some r) b c = refl
 pub scan-add : (try : ℕ → Option Stop) (lo a b : ℕ) → scan try lo (a + b) ≡ orElse (scan try (lo + a) b) (scan try lo a)
 unfolding scan
 scan-add try lo a zero = rw add-zero
-scan-add try lo a (suc b) = rw (add-suc, scan-add try lo a b, add-assoc) (sym (orElse-assoc (try (lo + (a + b))) (scan try (lo + a) b) (scan try lo a)))
+scan-add try lo a (suc b) =
+    rw (add-suc, scan-add try lo a b, add-assoc) (sym (orElse-assoc (try (lo + (a + b))) (scan try (lo + a) b) (scan try lo a)))
 
 pub scan-none : (try : ℕ → Option Stop) (lo len : ℕ) → ((i : ℕ) → i < len → try (lo + i) ≡ none) → scan try lo len ≡ none
 unfolding scan
@@ -71,7 +72,8 @@ opened-le gate try q (suc p) =
 -- ---- the whole search
 
 -- the whole search, RAM's entries first, as one scan
-pub search-all : (gate : ℕ → Bool) (try : ℕ → Option Stop) (q n : ℕ) → 0 < q → ((p i : ℕ) → p < n / q → i < q → gate p ≡ false → try (p * q + i) ≡ none)
+pub search-all : (gate : ℕ → Bool) (try : ℕ → Option Stop) (q n : ℕ) → 0 < q
+    → ((p i : ℕ) → p < n / q → i < q → gate p ≡ false → try (p * q + i) ≡ none)
     → searchFrom gate try q n .stop ≡ scan try 0 n
 search-all gate try q n pq h =
     let E = euclid n q pq in

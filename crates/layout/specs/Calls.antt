@@ -8,11 +8,13 @@ use lib.Dec.{ltb, leb, eqb}
 use Rattle.memory.specs.Lists.{write}
 use Rattle.memory.specs.Ranges.{any, memb, allOf}
 use Rattle.layout.specs.Keys.{Key, keyBytes, keyIn, numberIn, keyAt}
-use Rattle.layout.specs.Geometry.{State, Geometry, geometry, Sizes, stateOf, allowed, recordCapacity, deletionCapacity, dataSize, spareSize, ramSize, blocks, indexBlock, entriesPerPage, kaRam, skaRam, workRam}
+use Rattle.layout.specs.Geometry.{State, Geometry, geometry, Sizes, stateOf, allowed, recordCapacity, deletionCapacity, dataSize}
+use Rattle.layout.specs.Geometry.{spareSize, ramSize, blocks, indexBlock, entriesPerPage, kaRam, skaRam, workRam}
 use Rattle.layout.specs.Flash.{Flash, Op, applyAll, erases, Planned, planOps, allFresh}
 use Rattle.layout.specs.Hash.{Family, positions, positionCount}
 use Rattle.layout.specs.Index.{Index, filterBit, withFilter, filterPlan, filterRam, inSka}
-use Rattle.layout.specs.Items.{RA, KA, DA, Record, recordBytes, entryBytes, deletionBytes, Place, itemPlace, bytesAt, itemWord, put, fills, itemPlan, itemRam, zeroPage}
+use Rattle.layout.specs.Items.{RA, KA, DA, Record, recordBytes, entryBytes, deletionBytes, Place, itemPlace, bytesAt, itemWord, put}
+use Rattle.layout.specs.Items.{fills, itemPlan, itemRam, zeroPage}
 use Rattle.layout.specs.Refusals as refusal
 use Rattle.layout.specs.Search.{Stop, found, corrupt, Found, tryEntry, searchFrom}
 
@@ -56,7 +58,8 @@ refuse v i = record { outcome = refused i; count = 0; volume = v; ops = [] }
 unfoldable pub badState : State → Bool
 badState s =
     not (allowed (s .sizes))
-    || (ltb (recordCapacity (geometry (s .sizes))) (s .records) || (ltb (deletionCapacity (geometry (s .sizes))) (s .deletions) || ltb (s .records) (s .deletions)))
+    || (ltb (recordCapacity (geometry (s .sizes))) (s .records)
+    || (ltb (deletionCapacity (geometry (s .sizes))) (s .deletions) || ltb (s .records) (s .deletions)))
 
 -- "cells under 64SB, marks under 64B or desk under 20S bytes"
 unfoldable pub tooShort : Geometry → Flash → List ℕ → Bool
@@ -64,7 +67,9 @@ tooShort g c ram = ltb (length (c .main)) (dataSize g) || (ltb (length (c .spare
 
 -- 1, then 2, then the call's own
 unfoldable pub judged : Volume → Result → Result
-judged v r = cond (badState (v .state)) (refuse v refusal.badState) (cond (tooShort (geometry (v .state .sizes)) (v .flash) (v .ram)) (refuse v refusal.tooShort) r)
+judged v r =
+    cond (badState (v .state)) (refuse v refusal.badState)
+    (cond (tooShort (geometry (v .state .sizes)) (v .flash) (v .ram)) (refuse v refusal.tooShort) r)
 
 -- ---- format
 
@@ -86,7 +91,9 @@ formatted v sizes =
 
 -- it does not judge the old state
 unfoldable pub format : Volume → Sizes → Result
-format v sizes = cond (allowed sizes) (cond (tooShort (geometry sizes) (v .flash) (v .ram)) (refuse v refusal.tooShort) (formatted v sizes)) (refuse v refusal.badState)
+format v sizes =
+    cond (allowed sizes) (cond (tooShort (geometry sizes) (v .flash) (v .ram)) (refuse v refusal.tooShort) (formatted v sizes))
+    (refuse v refusal.badState)
 
 -- the index over KA
 abbrev pub keyIndex : Geometry → Index
@@ -96,8 +103,8 @@ keyIndex g = record { first = indexBlock g; ska = skaRam (g .u) }
 abbrev pub keyFilters : Geometry → ℕ → ℕ
 keyFilters g n = n / entriesPerPage (g .u)
 
--- ---- the search on a volume, by bounds n₀ and d₀: among the first n₀ records and the first d₀ deletions. Where these and the filters lie goes
--- by the volume's own n and d, of which the bounds are at most as many
+-- ---- the search on a volume, by bounds n₀ and d₀: among the first n₀ records and the first d₀ deletions.
+-- Where these and the filters lie goes by the volume's own n and d, of which the bounds are at most as many
 
 -- is record number j one of the first d₀ in DA
 unfoldable pub isDeleted : Geometry → Volume → ℕ → ℕ → Bool
@@ -119,7 +126,8 @@ maybeIn g v ps f = allOf (filterBit (g .u) (keyIndex g) (v .flash .main) (v .ram
 abbrev pub keyPositions : Family → Geometry → Key → List ℕ
 keyPositions h g key = positions h positionCount (g .u) (keyBytes key)
 
--- pages that n₀ records fill are opened by their filters; the entries past them are tried first, as those in RAM are, wherever they lie by now
+-- pages that n₀ records fill are opened by their filters; the entries past
+-- them are tried first, as those in RAM are, wherever they lie by now
 unfoldable pub searchAt : Family → Geometry → Volume → ℕ → ℕ → Key → Found
 searchAt h g v n₀ d₀ key = searchFrom (maybeIn g v (keyPositions h g key)) (tryAt g v n₀ d₀ key) (entriesPerPage (g .u)) n₀
 
@@ -196,7 +204,12 @@ unfoldable pub lookupAfter : Geometry → Volume → ℕ → Option Stop → Res
 lookupAfter g v opened (some corrupt) = refuse v refusal.corruptEntry
 lookupAfter g v opened none = record { outcome = miss; count = opened; volume = v; ops = [] }
 lookupAfter g v opened (some (found j)) =
-    record { outcome = hit (recordPlace g v j) (bytesAt (v .flash .main) (v .ram) (recordPlace g v j) 16); count = opened; volume = v; ops = [] }
+    record {
+      outcome = hit (recordPlace g v j) (bytesAt (v .flash .main) (v .ram) (recordPlace g v j) 16);
+      count = opened;
+      volume = v;
+      ops = [];
+    }
 
 -- what a change does: the number of the record that it deletes, the record that it inserts
 pub record Edit : Type 0 where

@@ -18,7 +18,8 @@ use Rattle.layout.specs.Hash.{fnvFrom, fnvFamily, positions, positionCou
 use Rattle.layout.specs.Index.{BitPlace, rowBit, rowByte, withFilter, filterPlace, filterPlan, flushAndBuild}
 use Rattle.layout.specs.Items.{recordOf, recordBytes, entryBytes, deletionBytes, itemWord}
 use Rattle.layout.specs.Search.{Stop, found, corrupt, tryEntry, scan, searchPages, searchFrom}
-use Rattle.layout.specs.Calls.{Volume, Call, insert, update, delete, lookup, keyIndex, badState, tooShort, isDeleted, tryAt, searchAt, pageFilter}
+use Rattle.layout.specs.Calls.{Volume, Call, insert, update, delete, lookup, keyIndex, badState, tooShort, isDeleted, tryAt, searchAt}
+use Rattle.layout.specs.Calls.{pageFilter}
 use Rattle.layout.specs.FiniteMap.{Map, emptyMap, Reply, accepts, hits, misses, refuses, stepMap, find, without}
 use Rattle.layout.specs.Examples.{sectorsOf, blocksOf}
 
@@ -31,7 +32,8 @@ beforeErase (known s bytes ∷ ps) = suc (beforeErase ps)
 beforeErase (made s bytes ∷ ps) = suc (beforeErase ps)
 beforeErase (wipe b ∷ ps) = 0
 
--- set 3 is built when filter 255 is there, at S = 16, R = 32: 4 sectors of the flush and 32 pages on side B, then L1 and the one block of set 2 on side A
+-- set 3 is built when filter 255 is there, at S = 16, R = 32: 4 sectors of the
+-- flush and 32 pages on side B, then L1 and the one block of set 2 on side A
 abbrev third : List Planned
 third = filterPlan 1 (keyIndex (geometry (sizesOf 16 32 1))) 255 []
 
@@ -48,8 +50,10 @@ abbrev fifth : List Planned
 fifth = filterPlan 1 (keyIndex (geometry (sizesOf 16 64 1))) 511 []
 
 pub full-set : length (sectorsOf fifth) ∷ getD (sectorsOf fifth) 4 0 ∷ blocksOf fifth
-    ≡ (4 + 64 * 4) ∷ ((indexBlock (geometry (sizesOf 16 64 1)) + 9) * 64) ∷ indexBlock (geometry (sizesOf 16 64 1)) ∷ (indexBlock (geometry (sizesOf 16 64 1)) + 1)
-    ∷ (indexBlock (geometry (sizesOf 16 64 1)) + 2) ∷ (indexBlock (geometry (sizesOf 16 64 1)) + 3) ∷ (indexBlock (geometry (sizesOf 16 64 1)) + 4) ∷ []
+    ≡ (4 + 64 * 4) ∷ ((indexBlock (geometry (sizesOf 16 64 1)) + 9) * 64) ∷ indexBlock (geometry (sizesOf 16 64 1))
+    ∷ (indexBlock (geometry (sizesOf 16 64 1)) + 1)
+    ∷ (indexBlock (geometry (sizesOf 16 64 1)) + 2) ∷ (indexBlock (geometry (sizesOf 16 64 1)) + 3)
+    ∷ (indexBlock (geometry (sizesOf 16 64 1)) + 4) ∷ []
 unfolding log2up flushAndBuild
 full-set = refl
 
@@ -92,7 +96,8 @@ pub programmed : apply 1 (program 2 (replicate 16 7)) (flashOf (replicate 64 255
 programmed = refl
 
 -- a set's sector takes its bytes when it is programmed: the second sees what the first left
-pub made-late : planOps 1 (made 0 (λ main. replicate 16 1) ∷ made 1 (λ main. tab 16 (λ y. getD main 0 0 + y)) ∷ []) (flashOf (replicate 64 255) (replicate 4 255))
+pub made-late : planOps 1 (made 0 (λ main. replicate 16 1) ∷ made 1 (λ main. tab 16 (λ y. getD main 0 0 + y)) ∷ [])
+    (flashOf (replicate 64 255) (replicate 4 255))
     ≡ program 0 (replicate 16 1) ∷ program 1 (tab 16 (λ y. 1 + y)) ∷ []
 unfolding write tab tabFrom
 made-late = refl
@@ -123,12 +128,14 @@ search-shut = refl
 
 -- ---- the search by bounds
 
--- nine records, the first eight entries on flash, and a deletion of record 2; key 7 has entries 0, 1, 2 and 6, key 9 has entry 3, numbered 5
+-- nine records, the first eight entries on flash, and a deletion of record
+-- 2; key 7 has entries 0, 1, 2 and 6, key 9 has entry 3, numbered 5
 abbrev nine : Volume
 nine =
     record {
       state = stateOf (sizesOf 16 1 1) 9 1;
-      flash = flashOf (write (replicate 2048 255) 1024 (wordsBytes (7 ∷ 0 ∷ 7 ∷ 1 ∷ 7 ∷ 2 ∷ 9 ∷ 5 ∷ 1 ∷ 4 ∷ 2 ∷ 5 ∷ 7 ∷ 6 ∷ 3 ∷ 7 ∷ []))) [];
+      flash = flashOf (write (replicate 2048 255) 1024
+          (wordsBytes (7 ∷ 0 ∷ 7 ∷ 1 ∷ 7 ∷ 2 ∷ 9 ∷ 5 ∷ 1 ∷ 4 ∷ 2 ∷ 5 ∷ 7 ∷ 6 ∷ 3 ∷ 7 ∷ []))) [];
       ram = write (replicate 320 0) 128 (wordsBytes (2 ∷ []));
     }
 
@@ -150,7 +157,8 @@ abbrev bads : List State → List ℕ
 bads [] = []
 bads (s ∷ ss) = cond (badState s) 1 0 ∷ bads ss
 
-pub states : bads (state 16 1 1 64 64 ∷ state 16 1 1 65 0 ∷ state 16 5 1 320 256 ∷ state 16 5 1 320 257 ∷ state 16 1 1 3 4 ∷ state 24 1 1 0 0 ∷ state 16 0 1 0 0 ∷ state 512 4096 4096 0 0 ∷ state 512 4097 1 0 0 ∷ [])
+pub states : bads (state 16 1 1 64 64 ∷ state 16 1 1 65 0 ∷ state 16 5 1 320 256 ∷ state 16 5 1 320 257 ∷ state 16 1 1 3 4
+    ∷ state 24 1 1 0 0 ∷ state 16 0 1 0 0 ∷ state 512 4096 4096 0 0 ∷ state 512 4097 1 0 0 ∷ [])
     ≡ 0 ∷ 1 ∷ 0 ∷ 1 ∷ 1 ∷ 1 ∷ 1 ∷ 0 ∷ 1 ∷ []
 unfolding badState allowed memb
 states = refl
@@ -169,8 +177,11 @@ says m [] = []
 says m (c ∷ cs) = stepMap 3 1 m c .says ∷ says (stepMap 3 1 m c .next) cs
 
 pub map-run :
-    says emptyMap (lookup 7 ∷ delete 7 ∷ update (recordOf 7 1 0 0) ∷ insert (recordOf 7 1 0 0) ∷ insert (recordOf 7 2 0 0) ∷ update (recordOf 7 3 0 0) ∷ lookup 7 ∷ update (recordOf 7 4 0 0) ∷ insert (recordOf 8 5 0 0) ∷ insert (recordOf 9 6 0 0) ∷ update (recordOf 7 7 0 0) ∷ delete 7 ∷ lookup 8 ∷ [])
-    ≡ misses ∷ refuses 4 ∷ refuses 4 ∷ accepts ∷ refuses 3 ∷ accepts ∷ hits (recordBytes (recordOf 7 3 0 0)) ∷ refuses 6 ∷ accepts ∷ refuses 5 ∷ refuses 5 ∷ refuses 6 ∷ hits (recordBytes (recordOf 8 5 0 0)) ∷ []
+    says emptyMap (lookup 7 ∷ delete 7 ∷ update (recordOf 7 1 0 0) ∷ insert (recordOf 7 1 0 0) ∷ insert (recordOf 7 2 0 0)
+    ∷ update (recordOf 7 3 0 0) ∷ lookup 7 ∷ update (recordOf 7 4 0 0) ∷ insert (recordOf 8 5 0 0) ∷ insert (recordOf 9 6 0 0)
+    ∷ update (recordOf 7 7 0 0) ∷ delete 7 ∷ lookup 8 ∷ [])
+    ≡ misses ∷ refuses 4 ∷ refuses 4 ∷ accepts ∷ refuses 3 ∷ accepts ∷ hits (recordBytes (recordOf 7 3 0 0)) ∷ refuses 6 ∷ accepts
+    ∷ refuses 5 ∷ refuses 5 ∷ refuses 6 ∷ hits (recordBytes (recordOf 8 5 0 0)) ∷ []
 unfolding sameKey find without
 map-run = refl
 

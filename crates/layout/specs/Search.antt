@@ -18,7 +18,8 @@ pub record Found : Type 0 where
 abbrev pub reply : Option Stop → ℕ → Found
 reply s c = record { stop = s; opened = c }
 
--- an entry of key `k′` and number `j` when `k` is looked for among n records: "An entry with the key whose record number is not in DA is live"
+-- an entry of key `k′` and number `j` when `k` is looked for among n
+-- records: "An entry with the key whose record number is not in DA is live"
 abbrev pub tryEntry : ℕ → (ℕ → Bool) → Key → Key → ℕ → Option Stop
 tryEntry n deleted k k′ j =
     cond (sameKey k′ k) (cond (leb n j) (some corrupt) (cond (deleted j) none (some (found j)))) none

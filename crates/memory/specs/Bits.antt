@@ -64,7 +64,8 @@ pub pack-ext : (k : ℕ) (f g : ℕ → Bool) → ((i : ℕ) → i < k → f i �
 unfolding pack
 pack-ext zero f g h = refl
 pack-ext (suc k) f g h =
-    ap₂ (λ (x : ℕ) (y : Bool). x * 2 + num y) (pack-ext k (λ i. f (suc i)) (λ i. g (suc i)) (λ i l. h (suc i) (omega arith))) (h zero (omega arith))
+    ap₂ (λ (x : ℕ) (y : Bool). x * 2 + num y) (pack-ext k (λ i. f (suc i)) (λ i. g (suc i)) (λ i l. h (suc i) (omega arith)))
+    (h zero (omega arith))
 
 -- the lowest digit is settled by its test
 low-eq : (a b : ℕ) → eqb (a % 2) 1 ≡ eqb (b % 2) 1 → a % 2 ≡ b % 2

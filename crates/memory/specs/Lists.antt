@@ -32,7 +32,8 @@ module _ {ℓ} {A : Type ℓ} where
   getD-write-before (x ∷ xs) (suc n) s (suc i) d h = getD-write-before xs n s i d (le-of-suc-le-suc h)
 
   -- the element written at address i
-  pub getD-write-in : (l : List A) (at : ℕ) (s : List A) (i : ℕ) (d : A) → at ≤ i → i < at + length s → i < length l → getD (write l at s) i d ≡ getD s (i - at) d
+  pub getD-write-in : (l : List A) (at : ℕ) (s : List A) (i : ℕ) (d : A) → at ≤ i → i < at + length s → i < length l
+      → getD (write l at s) i d ≡ getD s (i - at) d
   unfolding write
   getD-write-in [] at s i d h k hl = absurd (not-suc-le-zero hl)
   getD-write-in (x ∷ xs) zero [] i d h k hl = absurd (omega arith)
@@ -53,7 +54,8 @@ module _ {ℓ} {A : Type ℓ} where
   getD-write-after (x ∷ xs) (suc n) s (suc i) d h = getD-write-after xs n s i d (omega arith)
 
   -- lists of one length that agree at an address agree there after the same write
-  pub write-same : (l l′ : List A) (at : ℕ) (s : List A) (i : ℕ) (d : A) → length l ≡ length l′ → getD l i d ≡ getD l′ i d → getD (write l at s) i d ≡ getD (write l′ at s) i d
+  pub write-same : (l l′ : List A) (at : ℕ) (s : List A) (i : ℕ) (d : A) → length l ≡ length l′ → getD l i d ≡ getD l′ i d
+      → getD (write l at s) i d ≡ getD (write l′ at s) i d
   unfolding write
   write-same [] [] at s i d n e = e
   write-same [] (y ∷ ys) at s i d n e = absurd (omega arith)
@@ -102,7 +104,8 @@ tab-ext (suc n) f g h =
 
 -- a list is the table of its elements
 pub is-tab : (l : List ℕ) (n : ℕ) (f : ℕ → ℕ) → length l ≡ n → ((i : ℕ) → i < n → getD l i 0 ≡ f i) → l ≡ tab n f
-is-tab l n f e h = ext-getD 0 l (tab n f) (e ∙ sym (length-tab n f)) (λ i k. let b : i < n = omega arith in h i b ∙ sym (getD-tab n f i 0 b))
+is-tab l n f e h =
+    ext-getD 0 l (tab n f) (e ∙ sym (length-tab n f)) (λ i k. let b : i < n = omega arith in h i b ∙ sym (getD-tab n f i 0 b))
 
 -- the n bytes from `at` on
 abbrev pub part : List ℕ → ℕ → ℕ → List ℕ
@@ -121,7 +124,8 @@ done-more f l i v h D e k p =
 
 -- ---- a write as a cut and a paste, for contracts of code that copies
 
-pub write-cut : {A : Type 0} (l : List A) (at : ℕ) (s : List A) → at + length s ≤ length l → write l at s ≡ take at l ++ (s ++ drop (at + length s) l)
+pub write-cut : {A : Type 0} (l : List A) (at : ℕ) (s : List A) → at + length s ≤ length l
+    → write l at s ≡ take at l ++ (s ++ drop (at + length s) l)
 unfolding write
 write-cut [] at [] h = let e : at + 0 ≡ 0 = omega arith in let f : at ≡ 0 = omega arith in rw (e, f)
 write-cut [] at (y ∷ ys) h = absurd (omega arith)
@@ -138,7 +142,8 @@ pub length-part : (l : List ℕ) (at n : ℕ) → at + n ≤ length l → length
 length-part l at n h = simp (length-take, length-drop) (omega arith)
 
 -- the part from element i to element e, lent and come back as s, is a write of s
-pub part-back : (l : List ℕ) (i e : ℕ) (s : List ℕ) → i ≤ e → e ≤ length l → length s ≡ e - i → take i l ++ (s ++ drop (e - i) (drop i l)) ≡ write l i s
+pub part-back : (l : List ℕ) (i e : ℕ) (s : List ℕ) → i ≤ e → e ≤ length l → length s ≡ e - i
+    → take i l ++ (s ++ drop (e - i) (drop i l)) ≡ write l i s
 part-back l i e s order h size = rw (← size, drop-drop, write-cut l i s (omega arith))
 
 -- ---- k pieces of L elements, the j-th from at + j * d on; element y of the j-th is f j y
@@ -150,9 +155,11 @@ pieces L d at (suc k) f l = pieces L d (at + d) k (λ j. f (suc j)) (write l at 
 pub length-pieces : {A : Type 0} (L d at k : ℕ) (f : ℕ → ℕ → A) (l : List A) → length (pieces L d at k f l) ≡ length l
 unfolding pieces
 length-pieces L d at zero f l = refl
-length-pieces L d at (suc k) f l = length-pieces L d (at + d) k (λ j. f (suc j)) (write l at (tab L (f zero))) ∙ length-write l at (tab L (f zero))
+length-pieces L d at (suc k) f l =
+    length-pieces L d (at + d) k (λ j. f (suc j)) (write l at (tab L (f zero))) ∙ length-write l at (tab L (f zero))
 
-pub pieces-out : {A : Type 0} (L d at k : ℕ) (f : ℕ → ℕ → A) (l : List A) (x : ℕ) (z : A) → ((j : ℕ) → j < k → (x < at + j * d) ⊎ (at + j * d + L ≤ x))
+pub pieces-out : {A : Type 0} (L d at k : ℕ) (f : ℕ → ℕ → A) (l : List A) (x : ℕ) (z : A)
+    → ((j : ℕ) → j < k → (x < at + j * d) ⊎ (at + j * d + L ≤ x))
     → getD (pieces L d at k f l) x z ≡ getD l x z
 unfolding pieces
 pieces-out L d at zero f l x z o = refl
@@ -160,9 +167,11 @@ pieces-out L d at (suc k) f l x z o =
     let t = length-tab L (f zero) in
     pieces-out L d (at + d) k (λ j. f (suc j)) (write l at (tab L (f zero))) x z (λ j h.
     let e : at + suc j * d ≡ at + d + j * d = omega arith in rw e at (o (suc j) (omega arith)))
-    ∙ ⊎-elim (λ a. getD-write-before l at (tab L (f zero)) x z (omega arith)) (λ a. getD-write-after l at (tab L (f zero)) x z (omega arith)) (o 0 (omega arith))
+    ∙ ⊎-elim (λ a. getD-write-before l at (tab L (f zero)) x z (omega arith))
+    (λ a. getD-write-after l at (tab L (f zero)) x z (omega arith)) (o 0 (omega arith))
 
-pub pieces-same : {A : Type 0} (L d at k : ℕ) (f : ℕ → ℕ → A) (l l′ : List A) (x : ℕ) (z : A) → length l ≡ length l′ → getD l x z ≡ getD l′ x z
+pub pieces-same : {A : Type 0} (L d at k : ℕ) (f : ℕ → ℕ → A) (l l′ : List A) (x : ℕ) (z : A) → length l ≡ length l′
+    → getD l x z ≡ getD l′ x z
     → getD (pieces L d at k f l) x z ≡ getD (pieces L d at k f l′) x z
 unfolding pieces
 pieces-same L d at zero f l l′ x z n e = e
@@ -170,7 +179,8 @@ pieces-same L d at (suc k) f l l′ x z n e =
     pieces-same L d (at + d) k (λ j. f (suc j)) (write l at (tab L (f zero))) (write l′ at (tab L (f zero))) x z
     (length-write l at (tab L (f zero)) ∙ n ∙ sym (length-write l′ at (tab L (f zero)))) (write-same l l′ at (tab L (f zero)) x z n e)
 
-pub pieces-in : {A : Type 0} (L d at k : ℕ) (f : ℕ → ℕ → A) (l : List A) (j y : ℕ) (z : A) → L ≤ d → at + j * d + L ≤ length l → j < k → y < L
+pub pieces-in : {A : Type 0} (L d at k : ℕ) (f : ℕ → ℕ → A) (l : List A) (j y : ℕ) (z : A) → L ≤ d → at + j * d + L ≤ length l → j < k
+    → y < L
     → getD (pieces L d at k f l) (at + j * d + y) z ≡ f j y
 unfolding pieces
 pieces-in L d at zero f l j y z g h a b = absurd (not-suc-le-zero a)
@@ -183,4 +193,5 @@ pieces-in L d at (suc k) f l zero y z g h a b =
     ∙ ap (λ (n : ℕ). getD (tab L (f zero)) n z) s ∙ getD-tab L (f zero) y z b)
 pieces-in L d at (suc k) f l (suc j) y z g h a b =
     let e : at + suc j * d + y ≡ at + d + j * d + y = omega arith in
-    rw e (pieces-in L d (at + d) k (λ j. f (suc j)) (write l at (tab L (f zero))) j y z g (rw (length-write l at (tab L (f zero))) (omega arith)) (omega arith) b)
+    rw e (pieces-in L d (at + d) k (λ j. f (suc j)) (write l at (tab L (f zero))) j y z g
+    (rw (length-write l at (tab L (f zero))) (omega arith)) (omega arith) b)

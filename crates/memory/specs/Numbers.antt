@@ -28,7 +28,8 @@ div-lt x w n h k = div-lt-iff-lt-mul h .1 k
 -- ---- one more: a digit goes up, or carries
 
 pub carry : (n q : ℕ) → 0 < q
-    → ((n % q + 1 ≡ q) × ((n + 1) / q ≡ n / q + 1) × ((n + 1) % q ≡ 0)) ⊎ ((n % q + 1 ≢ q) × ((n + 1) / q ≡ n / q) × ((n + 1) % q ≡ n % q + 1))
+    → ((n % q + 1 ≡ q) × ((n + 1) / q ≡ n / q + 1) × ((n + 1) % q ≡ 0))
+    ⊎ ((n % q + 1 ≢ q) × ((n + 1) / q ≡ n / q) × ((n + 1) % q ≡ n % q + 1))
 carry n q pq =
     let E = euclid n q pq in
     either (eq? (n % q + 1) q)

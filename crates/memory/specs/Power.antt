@@ -20,7 +20,8 @@ unfolding log2up
 log2up-enough zero = zero-le
 log2up-enough (suc n) =
     let ih : n ≤ 2 ^ log2up n = log2up-enough n in
-    by-lt (λ t. suc n ≤ 2 ^ cond t (log2up n) (suc (log2up n))) n (2 ^ log2up n) (λ h. h) (λ h. let r : suc n ≤ 2 ^ suc (log2up n) = omega (arith, pow-pos (log2up n)) in r)
+    by-lt (λ t. suc n ≤ 2 ^ cond t (log2up n) (suc (log2up n))) n (2 ^ log2up n) (λ h. h)
+    (λ h. let r : suc n ≤ 2 ^ suc (log2up n) = omega (arith, pow-pos (log2up n)) in r)
 
 pub log2up-least : (n c : ℕ) → n ≤ 2 ^ c → log2up n ≤ c
 unfolding log2up
@@ -28,7 +29,8 @@ log2up-least zero c h = zero-le
 log2up-least (suc n) c h =
     let ih : log2up n ≤ c = log2up-least n c (omega arith) in
     by-lt (λ t. cond t (log2up n) (suc (log2up n)) ≤ c) n (2 ^ log2up n) (λ k. ih)
-    (λ k. ⊎-elim (λ p. p .1) (λ p. let e : log2up n ≡ c = omega arith in absurd (omega (arith, ap (λ (x : ℕ). 2 ^ x) e))) (lt? (log2up n) c))
+    (λ k. ⊎-elim (λ p. p .1) (λ p. let e : log2up n ≡ c = omega arith in absurd (omega (arith, ap (λ (x : ℕ). 2 ^ x) e)))
+    (lt? (log2up n) c))
 
 -- the least power of two is less than twice the number
 pub log2up-tight : (n : ℕ) → 0 < n → 2 ^ log2up n < 2 * n
@@ -46,7 +48,8 @@ pub log2up-leading : (i : ℕ) → 0 < i → i ≤ 4294967296 → log2up i ≡ 3
 log2up-leading i h k =
     let l : log2up i ≤ 32 = log2up-least i 32 k in
     let e : 32 - log2up i + log2up i ≡ 32 = omega arith in
-    let r : 32 - log2up i ≡ leadingZeros 32 (i - 1) = leading-unique 32 (i - 1) (32 - log2up i) (log2up i) e (omega (arith, log2up-enough i)) (omega (arith, log2up-tight i h)) in
+    let r : 32 - log2up i ≡ leadingZeros 32 (i - 1)
+    = leading-unique 32 (i - 1) (32 - log2up i) (log2up i) e (omega (arith, log2up-enough i)) (omega (arith, log2up-tight i h)) in
     omega arith
 
 -- where n is at most 4 * 2 ^ e, 16 times its least power of two divides 64 * 2 ^ e

@@ -51,7 +51,8 @@ pub any-at : (f : ℕ → Bool) (n i : ℕ) → i < n → f i ≡ true → any f
 unfolding any
 any-at f zero i h e = absurd (not-suc-le-zero h)
 any-at f (suc n) i h e =
-    ⊎-elim (λ t. cc) (λ t. ⊎-elim (λ l. let a = any-at f n i (l .1) e in cc) (λ l. let q : i ≡ n = omega arith in cc) (lt? i n)) (bool? (f n))
+    ⊎-elim (λ t. cc) (λ t. ⊎-elim (λ l. let a = any-at f n i (l .1) e in cc) (λ l. let q : i ≡ n = omega arith in cc) (lt? i n))
+    (bool? (f n))
 
 pub any-ext : (f g : ℕ → Bool) (n : ℕ) → ((i : ℕ) → i < n → f i ≡ g i) → any f n ≡ any g n
 unfolding any
