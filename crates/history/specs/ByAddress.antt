@@ -2,7 +2,7 @@
 use mathlib.Core.Path.{_≡_, ap, _∙_}
 use mathlib.Core.Bool.{true, false, cond}
 use mathlib.Core.List.{List}
-use Prim.Native.Nat.{ℕ, _+_, _-_, _*_, _/_, _%_, _^_, _<_}
+use Prim.Native.Nat.{ℕ, _+_, _-_, _*_, _/_, _%_, _<_}
 use native.Mathlib.Nat.{mul-le-mul-right}
 use native.Mathlib.Omega.{arith}
 use lib.ListN.{getD}
@@ -20,7 +20,8 @@ use Rattle.layout.specs.Calls.{keyIndex}
 use Rattle.history.specs.Image.{History, recordsIn, deletionsIn, filtersIn, raItem, kaItem, daItem, keyFilter}
 use Rattle.history.specs.Image.{areaByte, areaSpareByte, l1Byte, sideByte, fullByte, indexByte, indexSpareByte, mainImage, spareImage}
 use Rattle.history.specs.Image.{ramImage}
-use Rattle.history.specs.Parts.{Parts, pu}
+use Rattle.history.specs.Parts.{Parts}
+use Rattle.laws.specs.Units.{UnitIs}
 
 -- ---- one cascade of tests for main area and spare area: a block has w bytes in the one, w marks in the other
 
@@ -111,7 +112,7 @@ module _ (g : Geometry) (w : ℕ) (l : List ℕ) (ra ka da index : ℕ → ℕ)
 
 -- ---- the volume of a history
 
-module _ (h : Family) (g : Geometry) (e : ℕ) (pow : g .u ≡ 2 ^ e) (H : History) (C : Flash) (ram : List ℕ)
+module _ (h : Family) (g : Geometry) (e : ℕ) (unit : UnitIs (g .u) e) (H : History) (C : Flash) (ram : List ℕ)
     (P : Parts h g H (recordsIn H) (recordsIn H) (deletionsIn H) (filtersIn g H) C ram)
     (work : (i : ℕ) → i < page (g .u) → getD ram (workRam (g .u) + i) 0 ≡ 0) where
   abbrev N : ℕ
@@ -121,7 +122,7 @@ module _ (h : Family) (g : Geometry) (e : ℕ) (pow : g .u ≡ 2 ^ e) (H : Histo
   index-main : (i : ℕ) → i < (1 + 2 * sideBlocks (g .u) + fullSets g * sideBlocks (g .u)) * block (g .u)
       → getD (C .main) (indexBlock g * block (g .u) + i) 0 ≡ indexByte (g .u) (keyFilter h g H) N i
   index-main =
-      in-index (g .u) (block (g .u)) (omega (arith, pu h g e pow, mul-le-mul-right (g .u) (pu h g e pow))) (keyIndex g) (fullSets g)
+      in-index (g .u) (block (g .u)) (omega (arith, unit .some, mul-le-mul-right (g .u) (unit .some))) (keyIndex g) (fullSets g)
       (inSet (g .u) N) (C .main)
       (l1Byte (g .u) (keyFilter h g H) (inFull (g .u) N * fullFilters (g .u) + filtersPerRound * inSet (g .u) N) (inL1 N))
       (sideByte (g .u) (keyFilter h g H) (inFull (g .u) N * fullFilters (g .u)) (inSet (g .u) N))
@@ -131,7 +132,7 @@ module _ (h : Family) (g : Geometry) (e : ℕ) (pow : g .u ≡ 2 ^ e) (H : Histo
   index-spare : (x : ℕ) → x < (1 + 2 * sideBlocks (g .u) + fullSets g * sideBlocks (g .u)) * sectorsPerBlock
       → getD (C .spare) (indexBlock g * sectorsPerBlock + x) 0 ≡ indexSpareByte (g .u) N x
   index-spare =
-      in-index (g .u) sectorsPerBlock (omega (arith, pu h g e pow)) (keyIndex g) (fullSets g) (inSet (g .u) N) (C .spare)
+      in-index (g .u) sectorsPerBlock (omega (arith, unit .some)) (keyIndex g) (fullSets g) (inSet (g .u) N) (C .spare)
       (λ x. cond (ltb (x % flushesPerRound) (inL1 N)) 0 255)
       (λ x. cond (ltb x (setBlocks (inSet (g .u) N) * sectorsPerBlock)) 0 255)
       (λ k x. cond (ltb k (inFull (g .u) N)) 0 255)

@@ -4,7 +4,7 @@ use mathlib.Core.Path.{_≡_, ap, _∙_}
 use mathlib.Core.Logic.{inl, inr}
 use mathlib.Core.Bool.{cond}
 use mathlib.Core.List.{List, [], _++_}
-use Prim.Native.Nat.{ℕ, _+_, _^_, _<_}
+use Prim.Native.Nat.{ℕ, _+_, _<_}
 use native.Mathlib.Omega.{arith}
 use lib.ListN.{length}
 use Rattle.layout.specs.Geometry.{Geometry, raRam, kaRam, skaRam}
@@ -17,9 +17,9 @@ use Rattle.layout.specs.Calls.{keyIndex, keyFilters, deletionPlan, deletionRam,
 use Rattle.history.specs.Operations.{itemOps, recordRam, entryRam, entered, filteredRam, insertionOps}
 use Rattle.history.specs.PlanLaws.{ops-both, ops-if, item-ops, filter-ops}
 use Rattle.laws.specs.ItemLaws.{length-entry, length-deletion}
-use Rattle.laws.specs.RowLaws.{unit-pos}
 use Rattle.history.specs.RamPages.{SamePage, same-then, put-same, item-plan-same, item-apart, with-filter-same, filter-plan-same}
 use Rattle.history.specs.RamPages.{page-filter-same}
+use Rattle.laws.specs.Units.{UnitIs}
 
 pub deletion-ops : (g : Geometry) (d j : ℕ) (ram : List ℕ) (C : Flash)
     → planOps (g .u) (deletionPlan g d j ram) C ≡ itemOps (g .u) (DA g) d (deletionBytes j) ram
@@ -94,13 +94,13 @@ module _ (h : Family) (g : Geometry) (n : ℕ) (key : Key) where
         unfolding insertionRam
         insertion-ram = rw (new-filter-same ram (recordRam g n bytes ram) ka-kept)
 
-    module _ (e : ℕ) (pow : g .u ≡ 2 ^ e) (size : length bytes ≡ 16) where
+    module _ (e : ℕ) (unit : UnitIs (g .u) e) (size : length bytes ≡ 16) where
       pub insertion-ops : (ram : List ℕ) (C : Flash)
           → planOps (g .u) (insertionPlan h g n key bytes ram) C ≡ insertionOps h g n key bytes ram C
       insertion-ops ram C =
-          ap (λ (ps : List Planned). planOps (g .u) ps C) (insertion-steps (unit-pos (g .u) e pow) size ram)
+          ap (λ (ps : List Planned). planOps (g .u) ps C) (insertion-steps (unit .some) size ram)
           ∙ ops-both (g .u) (itemPlan (g .u) (RA g) n bytes ram) _ _ _ C (item-ops (g .u) (RA g) n bytes ram C)
           (ops-both (g .u) (itemPlan (g .u) (KA g) n (entryBytes key n) (recordRam g n bytes ram)) _ _ _ _
           (item-ops (g .u) (KA g) n (entryBytes key n) (recordRam g n bytes ram) _)
           (ops-if (g .u) (fills (KA g) n) _ _ _
-          (filter-ops (g .u) e pow (keyIndex g) (keyFilters g n) (filteredRam h g n key bytes ram) (entered g n key bytes ram C))))
+          (filter-ops (g .u) e unit (keyIndex g) (keyFilters g n) (filteredRam h g n key bytes ram) (entered g n key bytes ram C))))

@@ -3,7 +3,7 @@ use mathlib.Core.Path.{_≡_, refl, sym, ap, _∙_}
 use mathlib.Core.Logic.{_≢_, _⊎_, inl, inr}
 use mathlib.Core.Bool.{Bool, true, false, cond}
 use mathlib.Core.List.{List, [], _∷_, _++_}
-use Prim.Native.Nat.{ℕ, _+_, _*_, _/_, _%_, _^_, _≤_, _<_}
+use Prim.Native.Nat.{ℕ, _+_, _*_, _/_, _%_, _≤_, _<_}
 use native.Mathlib.Nat.{mul-le-mul-right}
 use native.Mathlib.Omega.{arith}
 use lib.ListN.{length, getD, List·getD-append}
@@ -31,6 +31,7 @@ use Rattle.history.specs.Parts as parts
 use Rattle.history.specs.Frames.{Did, Beyond, beyond-then, frame-beyond}
 use Rattle.history.specs.Parts.{Parts}
 use Rattle.laws.specs.RowLaws.{places-suffice}
+use Rattle.laws.specs.Units.{UnitIs}
 
 -- what an insertion leaves behind: n records, d deletions
 pub record Changed (h : Family) (g : Geometry) (H : History) (n d : ℕ) (C : Flash) (ram : List ℕ) (ops : List Op)
@@ -43,12 +44,12 @@ pub record Changed (h : Family) (g : Geometry) (H : History) (n d : ℕ) (C : Fl
       → ((x : ℕ) → x < spareSize g → (x < DA g .first * 64) ⊎ ((DA g .first + g .D) * 64 ≤ x) → getD spare x 0 ≡ getD (C .spare) x 0)
       → allFresh spare ops ≡ true
 
-module _ (h : Family) (g : Geometry) (e : ℕ) (pow : g .u ≡ 2 ^ e) where
+module _ (h : Family) (g : Geometry) (e : ℕ) (unit : UnitIs (g .u) e) where
   abbrev u : ℕ
   u = g .u
 
   pu : 0 < g .u
-  pu = parts.pu h g e pow
+  pu = unit .some
 
   -- ---- a deletion
 
@@ -82,7 +83,7 @@ module _ (h : Family) (g : Geometry) (e : ℕ) (pow : g .u ≡ 2 ^ e) where
     unfolding deletionRam
     deletion-did =
         rw (deletion-ops g (length (H .deleted)) j ram C)
-        (parts.da-did h g e pow (withDeletion H j) nr nk (length (H .deleted)) N C ram longer (deletionBytes j)
+        (parts.da-did h g e unit (withDeletion H j) nr nk (length (H .deleted)) N C ram longer (deletionBytes j)
         (length-deletion j) new room)
 
     pub deletion-parts : Parts h g (withDeletion H j) nr nk (length (H .deleted) + 1) N
@@ -90,7 +91,7 @@ module _ (h : Family) (g : Geometry) (e : ℕ) (pow : g .u ≡ 2 ^ e) where
     unfolding deletionRam
     deletion-parts =
         rw (deletion-ops g (length (H .deleted)) j ram C)
-        (parts.da-parts h g e pow (withDeletion H j) nr nk (length (H .deleted)) N C ram longer (deletionBytes j)
+        (parts.da-parts h g e unit (withDeletion H j) nr nk (length (H .deleted)) N C ram longer (deletionBytes j)
         (length-deletion j) new room)
 
   -- ---- an insertion
@@ -136,7 +137,7 @@ module _ (h : Family) (g : Geometry) (e : ℕ) (pow : g .u ≡ 2 ^ e) where
           (C .main) (C .spare) ram
           (λ j b l m. ap (λ (o : Record). getD (entryBytes (o .key) j) b 0) (old j l)) (P .ka);
       da = P .da;
-      filters = index-ext (g .u) e pow (keyIndex g) (fullSets g) (keyFilter h g H) (keyFilter h g (withRecord H r)) N (C .main)
+      filters = index-ext (g .u) e unit (keyIndex g) (fullSets g) (keyFilter h g H) (keyFilter h g (withRecord H r)) N (C .main)
           (C .spare) ram filter-old sets-fit (P .filters);
       main-fits = P .main-fits;
       spare-fits = P .spare-fits;
@@ -176,16 +177,16 @@ module _ (h : Family) (g : Geometry) (e : ℕ) (pow : g .u ≡ 2 ^ e) where
     entry-new b l = ap (λ (o : Record). getD (entryBytes (o .key) (length (H .records))) b 0) last
 
     did₁ : Did (g .u) (RA g .first) (RA g .first + g .R) (RA g .ram) C ram ram₁ raOps
-    did₁ = parts.ra-did h g e pow H′ n n d N C ram longer-record (recordBytes r) bytes-size record-new room
+    did₁ = parts.ra-did h g e unit H′ n n d N C ram longer-record (recordBytes r) bytes-size record-new room
 
     parts₁ : Parts h g H′ (n + 1) n d N C₁ ram₁
-    parts₁ = parts.ra-parts h g e pow H′ n n d N C ram longer-record (recordBytes r) bytes-size record-new room
+    parts₁ = parts.ra-parts h g e unit H′ n n d N C ram longer-record (recordBytes r) bytes-size record-new room
 
     did₂ : Did (g .u) (KA g .first) (KA g .first + kaBlocks g) (KA g .ram) C₁ ram₁ ram₂ kaOps
-    did₂ = parts.ka-did h g e pow H′ (n + 1) n d N C₁ ram₁ parts₁ entry (length-entry (r .key) n) entry-new room
+    did₂ = parts.ka-did h g e unit H′ (n + 1) n d N C₁ ram₁ parts₁ entry (length-entry (r .key) n) entry-new room
 
     parts₂ : Parts h g H′ (n + 1) (n + 1) d N C₂ ram₂
-    parts₂ = parts.ka-parts h g e pow H′ (n + 1) n d N C₁ ram₁ parts₁ entry (length-entry (r .key) n) entry-new room
+    parts₂ = parts.ka-parts h g e unit H′ (n + 1) n d N C₁ ram₁ parts₁ entry (length-entry (r .key) n) entry-new room
 
     -- ---- the filter of a page that is full now
 
@@ -208,7 +209,7 @@ module _ (h : Family) (g : Geometry) (e : ℕ) (pow : g .u ≡ 2 ^ e) where
           rw at at
           (put-word (g .u) pu (KA g) (kaBlocks g) (omega arith) (omega (arith, pu)) (omega arith) (kaItem H′) n entry C₁ ram₁ (parts₁ .ka)
           (length-entry (r .key) n) entry-new
-          (parts.ka-room h g e pow H′ (n + 1) n d N C₁ ram₁ parts₁ entry (length-entry (r .key) n) entry-new room)
+          (parts.ka-room h g e unit H′ (n + 1) n d N C₁ ram₁ parts₁ entry (length-entry (r .key) n) entry-new room)
           (omega (arith, parts₁ .main-fits)) (omega (arith, parts₁ .spare-fits)) (omega (arith, parts₁ .ram-fits))
           i 0 k (omega arith) (omega arith) (words′ (length (H .records) / (8 * g .u) * (8 * g .u) + i) (omega arith))
           (λ b m. entry-key k (length (H .records) / (8 * g .u) * (8 * g .u) + i) b m))
@@ -228,11 +229,11 @@ module _ (h : Family) (g : Geometry) (e : ℕ) (pow : g .u ≡ 2 ^ e) where
 
       did₃ : Did (g .u) (indexBlock g) (fullBlock (g .u) (keyIndex g) (fullSets g)) (keyIndex g .ska) C₂ ram₂
           (filterRam (g .u) (keyIndex g) N filterIn) (filterOps (g .u) (keyIndex g) C₂ N filterIn)
-      did₃ = parts.index-did h g e pow H′ (n + 1) (n + 1) d N C₂ ram₂ parts₂ (pageFilter h g keys) same sets-fit′
+      did₃ = parts.index-did h g e unit H′ (n + 1) (n + 1) d N C₂ ram₂ parts₂ (pageFilter h g keys) same sets-fit′
 
       parts₃ : Parts h g H′ (n + 1) (n + 1) d (N + 1) (applyAll (g .u) (filterOps (g .u) (keyIndex g) C₂ N filterIn) C₂)
           (filterRam (g .u) (keyIndex g) N filterIn)
-      parts₃ = parts.index-parts h g e pow H′ (n + 1) (n + 1) d N C₂ ram₂ parts₂ (pageFilter h g keys) same sets-fit′
+      parts₃ = parts.index-parts h g e unit H′ (n + 1) (n + 1) d N C₂ ram₂ parts₂ (pageFilter h g keys) same sets-fit′
 
     -- ---- all of it
 
@@ -304,7 +305,7 @@ module _ (h : Family) (g : Geometry) (e : ℕ) (pow : g .u ≡ 2 ^ e) where
         (insertionRam h g n (r .key) (recordBytes r) ram)
     insertion-changes =
         rw (
-          insertion-ops h g n (r .key) (recordBytes r) e pow bytes-size ram C,
+          insertion-ops h g n (r .key) (recordBytes r) e unit bytes-size ram C,
           insertion-ram h g n (r .key) (recordBytes r) pu bytes-size ram,
         )
         (by-page (fills (KA g) n) _ _ (λ q. changed-full (eqb-true _ _ q)) (λ q. changed-part (eqb-false _ _ q)))

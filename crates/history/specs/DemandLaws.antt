@@ -115,9 +115,9 @@ module _ (h : Family) (v : Volume) (sizes : Sizes) (calls : List Call) (can : al
 
   image : ImageOf h g H v end
   image = record {
-    main = main-by-address h g (ok .e) (units.pow sizes ok) H (end .flash) (end .ram) (ran .holds .parts) (ran .holds .work);
-    spare = spare-by-address h g (ok .e) (units.pow sizes ok) H (end .flash) (end .ram) (ran .holds .parts) (ran .holds .work);
-    ram = ram-by-address h g (ok .e) (units.pow sizes ok) H (end .flash) (end .ram) (ran .holds .parts) (ran .holds .work);
+    main = main-by-address h g (ok .e) (units.unit sizes ok) H (end .flash) (end .ram) (ran .holds .parts) (ran .holds .work);
+    spare = spare-by-address h g (ok .e) (units.unit sizes ok) H (end .flash) (end .ram) (ran .holds .parts) (ran .holds .work);
+    ram = ram-by-address h g (ok .e) (units.unit sizes ok) H (end .flash) (end .ram) (ran .holds .parts) (ran .holds .work);
     main-past = past .main;
     spare-past = past .spare;
     ram-past = past .ram;

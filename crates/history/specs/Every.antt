@@ -246,14 +246,14 @@ module _ (h : Family) (sizes : Sizes) (ok : Sound sizes) where
 
     insertion-bounded : Bounded g ram (planOps u (insertionPlan h g n key bytes ram) C) (insertionRam h g n key bytes ram)
     insertion-bounded = record {
-      inside = rw (insertion-ops h g n key bytes (ok .e) (units.pow sizes ok) size ram C)
+      inside = rw (insertion-ops h g n key bytes (ok .e) (units.unit sizes ok) size ram C)
           (inside-append u (blocks g) _ _
           (inside-item u (blocks g) (RA g) (sizes .raBlocks) n bytes ram (omega arith)
           (div-lt n (4 * u) ((sizes .raBlocks) * 16) (omega (arith, pu)) (omega arith)))
           (inside-append u (blocks g) (entryOps g n key bytes ram) _
           (inside-item u (blocks g) (KA g) (kaBlocks g) n (entryBytes key n) (recordRam g n bytes ram) (omega arith) (ka-room n room))
           (inside-if (fills (KA g) n) _ (λ a.
-          inside-filter u (ok .e) (units.pow sizes ok) (blocks g) (keyIndex g) (fullSets g) (omega arith) (keyFilters g n)
+          inside-filter u (ok .e) (units.unit sizes ok) (blocks g) (keyIndex g) (fullSets g) (omega arith) (keyFilters g n)
           (entered g n key bytes ram C) _ (sets-room n room (eqb-true (n % (8 * u) + 1) (8 * u) a))))));
       past = rw (insertion-ram h g n key bytes pu size ram)
           (past-if (fills (KA g) n) _ _

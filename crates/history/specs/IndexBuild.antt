@@ -21,9 +21,10 @@ use Rattle.history.specs.FlashLaws.{fresh-append, fresh-programs, fresh-
 use Rattle.history.specs.FlashLaws.{apply-main-length, apply-spare-length, programs-main-in, programs-spare-in, programs-spare-out}
 use Rattle.history.specs.FlashLaws.{programs-allowed, range-out, erases-allowed, erases-main-in, erases-main-out, erases-spare-in}
 use Rattle.history.specs.FlashLaws.{erases-spare-out}
-use Rattle.laws.specs.RowLaws.{row-ext, unit-pos, set-whole, width-pos, blocks-fit, full-blocks, full-width, blocks-some, blocks-le}
+use Rattle.laws.specs.RowLaws.{row-ext, set-whole, width-pos, blocks-fit, full-blocks, full-width, blocks-some, blocks-le}
 use Rattle.laws.specs.RowLaws.{side-range}
 use Rattle.history.specs.IndexRead.{read-flash}
+use Rattle.laws.specs.Units.{UnitIs}
 
 -- ---- the sectors of some blocks are programmed, then L1's block and the old set's blocks erased
 
@@ -225,7 +226,7 @@ module _ (u : ℕ) (ix : Index) where
   same-side : (c d : ℕ) → c % 2 ≡ d % 2 → sideBlock u ix c ≡ sideBlock u ix d
   same-side c d e = rw e
 
-module _ (u e : ℕ) (pow : u ≡ 2 ^ e) (ix : Index) (Z : ℕ) (F : ℕ → ℕ → Bool) (z c : ℕ) (C : Flash)
+module _ (u e : ℕ) (unit : UnitIs u e) (ix : Index) (Z : ℕ) (F : ℕ → ℕ → Bool) (z c : ℕ) (C : Flash)
     (I : IndexMain u ix Z F z c 16 (C .main)) (M : IndexSpare u ix Z z c 16 (C .spare)) (hc : c < 4 * u) (hz : z ≤ Z)
     (main-fits : fullBlock u ix Z * block u ≤ length (C .main)) (spare-fits : fullBlock u ix Z * 64 ≤ length (C .spare)) where
   -- the bits as they stand are those of the filters
@@ -234,11 +235,12 @@ module _ (u e : ℕ) (pow : u ≡ 2 ^ e) (ix : Index) (Z : ℕ) (F : ℕ → ℕ
       (p * setWidth u (c + 1)) y
       ≡ rowByte (λ g. F (z * fullFilters u + g)) (128 * (c + 1)) (setWidth u (c + 1)) (p * setWidth u (c + 1)) y
   row-is p y h =
-      let W = set-whole u e pow (c + 1) (omega arith) in
+      let W = set-whole u e (unit .power) (c + 1) (omega arith) in
       row-ext (λ g x. bitAt (C .main) [] (flashPlace u ix z c (z * fullFilters u + g) x)) (λ g. F (z * fullFilters u + g)) (128 * (c + 1))
       (setWidth u (c + 1)) (p * setWidth u (c + 1)) y
-      (width-pos u e pow (c + 1) (omega arith))
-      (λ g r hg hr. read-flash u e pow ix Z F z c 16 (C .main) I hc hz (omega arith) [] (z * fullFilters u + g) (p * setWidth u (c + 1) + r)
+      (width-pos u e (unit .power) (c + 1) (omega arith))
+      (λ g r hg hr. read-flash u e unit ix Z F z c 16 (C .main) I hc hz (omega arith) [] (z * fullFilters u + g)
+      (p * setWidth u (c + 1) + r)
       (omega arith)
       (omega (arith, mul-le-mul-right (setWidth u (c + 1)) h)))
 
@@ -248,7 +250,7 @@ module _ (u e : ℕ) (pow : u ≡ 2 ^ e) (ix : Index) (Z : ℕ) (F : ℕ → ℕ
       ≡ partitionByte u F (z * fullFilters u) (128 * (c + 1)) (setWidth u (c + 1)) i
   unfolding setByte
   set-byte i h =
-      let pu = unit-pos u e pow in
+      let pu = unit .some in
       let E = euclid i (16 * u) (omega arith) in
       let four : (i / (16 * u) / 4 * 4 + i / (16 * u) % 4) * (16 * u) ≡ i / (16 * u) * (16 * u)
       = ap (λ (n : ℕ). n * (16 * u)) (omega arith) in
@@ -265,10 +267,10 @@ module _ (u e : ℕ) (pow : u ≡ 2 ^ e) (ix : Index) (Z : ℕ) (F : ℕ → ℕ
   module _ (dest : ℕ) (after : ix .first + 1 ≤ dest) (apart : (dest + 4 * u ≤ sideBlock u ix c) ⊎ (sideBlock u ix c + 4 * u ≤ dest))
       (dest-in : dest + 4 * u ≤ fullBlock u ix Z) where
     new-fit : 2 ^ log2up (c + 1) ≤ 4 * u
-    new-fit = blocks-fit u e pow (c + 1) (omega arith)
+    new-fit = blocks-fit u e (unit .power) (c + 1) (omega arith)
 
     old-fit : setBlocks c ≤ 4 * u
-    old-fit = blocks-le u c (4 * u) (blocks-fit u e pow c (omega arith))
+    old-fit = blocks-le u c (4 * u) (blocks-fit u e (unit .power) c (omega arith))
 
     old-after : ix .first + 1 ≤ sideBlock u ix c
     old-after = side-range u ix c .0
@@ -299,20 +301,20 @@ module _ (u e : ℕ) (pow : u ≡ 2 ^ e) (ix : Index) (Z : ℕ) (F : ℕ → ℕ
     to-new : (i : ℕ) → i < 2 ^ log2up (c + 1) * block u
         → getD (applyAll u buildTo C .main) (dest * block u + i) 0
         ≡ partitionByte u F (z * fullFilters u) (128 * (c + 1)) (setWidth u (c + 1)) i
-    to-new i h = main-new u (unit-pos u e pow) plan (setByte u ix (C .main) z c) C main-fits i h ∙ set-byte i h
+    to-new i h = main-new u (unit .some) plan (setByte u ix (C .main) z c) C main-fits i h ∙ set-byte i h
 
     to-l1 : (i : ℕ) → i < block u → getD (applyAll u buildTo C .main) (ix .first * block u + i) 0 ≡ 255
-    to-l1 = main-first u (unit-pos u e pow) plan (setByte u ix (C .main) z c) C main-fits
+    to-l1 = main-first u (unit .some) plan (setByte u ix (C .main) z c) C main-fits
 
     to-same : (x : ℕ) → (x < dest * block u) ⊎ ((dest + 2 ^ log2up (c + 1)) * block u ≤ x) → (ix .first + 1) * block u ≤ x
         → (x < sideBlock u ix c * block u) ⊎ ((sideBlock u ix c + setBlocks c) * block u ≤ x)
         → getD (applyAll u buildTo C .main) x 0 ≡ getD (C .main) x 0
-    to-same x a b d = main-same u (unit-pos u e pow) plan (setByte u ix (C .main) z c) C x a (inr b) d
+    to-same x a b d = main-same u (unit .some) plan (setByte u ix (C .main) z c) C x a (inr b) d
 
     to-old : (i : ℕ) → i < sideBlocks u * block u → getD (applyAll u buildTo C .main) (sideBlock u ix c * block u + i) 0 ≡ 255
     to-old i h =
         either (lt? i (setBlocks c * block u))
-        (λ a. main-old u (unit-pos u e pow) plan (setByte u ix (C .main) z c) C main-fits i (a .1))
+        (λ a. main-old u (unit .some) plan (setByte u ix (C .main) z c) C main-fits i (a .1))
         (λ a.
         to-same (sideBlock u ix c * block u + i)
         (either apart (λ b. inr (omega (arith, mul-le-mul-right (1024 * u) b, mul-le-mul-right (1024 * u) new-fit)))
@@ -322,20 +324,20 @@ module _ (u e : ℕ) (pow : u ≡ 2 ^ e) (ix : Index) (Z : ℕ) (F : ℕ → ℕ
 
     -- the same of the spare area
     to-spare-new : (x : ℕ) → x < 2 ^ log2up (c + 1) * 64 → getD (applyAll u buildTo C .spare) (dest * 64 + x) 0 ≡ 0
-    to-spare-new = spare-new u (unit-pos u e pow) plan (setByte u ix (C .main) z c) C spare-fits
+    to-spare-new = spare-new u (unit .some) plan (setByte u ix (C .main) z c) C spare-fits
 
     to-spare-l1 : (x : ℕ) → x < 64 → getD (applyAll u buildTo C .spare) (ix .first * 64 + x) 0 ≡ 255
-    to-spare-l1 = spare-first u (unit-pos u e pow) plan (setByte u ix (C .main) z c) C spare-fits
+    to-spare-l1 = spare-first u (unit .some) plan (setByte u ix (C .main) z c) C spare-fits
 
     to-spare-same : (x : ℕ) → (x < dest * 64) ⊎ ((dest + 2 ^ log2up (c + 1)) * 64 ≤ x) → (ix .first + 1) * 64 ≤ x
         → (x < sideBlock u ix c * 64) ⊎ ((sideBlock u ix c + setBlocks c) * 64 ≤ x)
         → getD (applyAll u buildTo C .spare) x 0 ≡ getD (C .spare) x 0
-    to-spare-same x a b d = spare-same u (unit-pos u e pow) plan (setByte u ix (C .main) z c) C x a (inr b) d
+    to-spare-same x a b d = spare-same u (unit .some) plan (setByte u ix (C .main) z c) C x a (inr b) d
 
     to-spare-old : (x : ℕ) → x < sideBlocks u * 64 → getD (applyAll u buildTo C .spare) (sideBlock u ix c * 64 + x) 0 ≡ 255
     to-spare-old x h =
         either (lt? x (setBlocks c * 64))
-        (λ a. spare-old u (unit-pos u e pow) plan (setByte u ix (C .main) z c) C spare-fits x (a .1))
+        (λ a. spare-old u (unit .some) plan (setByte u ix (C .main) z c) C spare-fits x (a .1))
         (λ a.
         to-spare-same (sideBlock u ix c * 64 + x)
         (either apart (λ b. inr (omega (arith, new-fit))) (λ b. inl (omega arith)))
@@ -351,12 +353,12 @@ module _ (u e : ℕ) (pow : u ≡ 2 ^ e) (ix : Index) (Z : ℕ) (F : ℕ → ℕ
       on-main = I′;
       on-spare = M′;
       may =
-          rebuild-allowed u (unit-pos u e pow) plan (setByte u ix (C .main) z c) C spare-fits (λ x h. free x (omega (arith, new-fit)));
+          rebuild-allowed u (unit .some) plan (setByte u ix (C .main) z c) C spare-fits (λ x h. free x (omega (arith, new-fit)));
       free = λ spare same.
-          rebuild-fresh u (unit-pos u e pow) plan (setByte u ix (C .main) z c) C spare
+          rebuild-fresh u (unit .some) plan (setByte u ix (C .main) z c) C spare
           (λ x h. same (dest * 64 + x) (omega arith) (omega (arith, new-fit)) ∙ free x (omega (arith, new-fit)));
-      main-out = main-outside u (unit-pos u e pow) plan (setByte u ix (C .main) z c) C;
-      spare-out = spare-outside u (unit-pos u e pow) plan (setByte u ix (C .main) z c) C;
+      main-out = main-outside u (unit .some) plan (setByte u ix (C .main) z c) C;
+      spare-out = spare-outside u (unit .some) plan (setByte u ix (C .main) z c) C;
     }
 
   -- ---- a set that is not full goes to the other side
@@ -466,14 +468,14 @@ module _ (u e : ℕ) (pow : u ≡ 2 ^ e) (ix : Index) (Z : ℕ) (F : ℕ → ℕ
     placed = buildTo place place-after place-apart place-in
 
     new-is : 2 ^ log2up (c + 1) ≡ 4 * u
-    new-is = rw last (full-blocks u e pow)
+    new-is = rw last (full-blocks u e (unit .power))
 
     -- it has a bit of each filter to a page
     whole-byte : (i : ℕ) → partitionByte u F (z * fullFilters u) (128 * (c + 1)) (setWidth u (c + 1)) i
         ≡ partitionByte u F (z * fullFilters u) (fullFilters u) 1 i
     whole-byte i =
         ap (λ (n : ℕ). partitionByte u F (z * fullFilters u) (128 * n) (setWidth u n) i) last
-        ∙ ap (λ (w : ℕ). partitionByte u F (z * fullFilters u) (fullFilters u) w i) (full-width u e pow)
+        ∙ ap (λ (w : ℕ). partitionByte u F (z * fullFilters u) (fullFilters u) w i) (full-width u e (unit .power))
 
     -- side B is that of set 1 and of the full set, and it is erased; side A held the old set
     side-b : sideBlock u ix 0 ≡ sideBlock u ix (c + 1)

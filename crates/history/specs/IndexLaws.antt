@@ -3,7 +3,7 @@ use mathlib.Core.Path.{_≡_, refl, sym, ap, _∙_}
 use mathlib.Core.Logic.{_≢_, _⊎_, inl, inr}
 use mathlib.Core.Bool.{Bool}
 use mathlib.Core.List.{List, [], _++_}
-use Prim.Native.Nat.{ℕ, _+_, _-_, _*_, _/_, _%_, _^_, _≤_, _<_}
+use Prim.Native.Nat.{ℕ, _+_, _-_, _*_, _/_, _%_, _≤_, _<_}
 use native.Mathlib.Nat.{mod-lt}
 use native.Mathlib.Omega.{arith}
 use lib.ListN.{length, getD, replicate}
@@ -19,19 +19,19 @@ use Rattle.history.specs.Operations.{flushOps, buildOps, flushAndBuildOp
 use Rattle.history.specs.Image.{IndexMain, IndexSpare, IndexIs}
 use Rattle.history.specs.Frames.{IndexGrown}
 use Rattle.history.specs.FlashLaws.{fresh-append, apply-append, allowed-append, apply-main-length, apply-spare-length}
-use Rattle.laws.specs.RowLaws.{unit-pos}
 use Rattle.history.specs.IndexRead.{SkaIs, onFlash, read-ska, read-flash, ska-ext, main-ext, main-kept, spare-kept, main-erased}
 use Rattle.history.specs.IndexRead.{spare-erased}
 use Rattle.history.specs.IndexFlush.{ska-add, ska-zero, ska-sector, flush-main, flush-main-out, flush-spare, flush-spare-out}
 use Rattle.history.specs.IndexFlush.{flush-allowed, flush-fresh}
 use Rattle.history.specs.IndexBuild.{IndexAfter, build-side, build-full}
 use Rattle.history.specs.SkaLaws.{filter-out, filter-length, zero-in, zero-out}
+use Rattle.laws.specs.Units.{UnitIs}
 
-module _ (u e : ℕ) (pow : u ≡ 2 ^ e) (ix : Index) (Z : ℕ) where
+module _ (u e : ℕ) (unit : UnitIs u e) (ix : Index) (Z : ℕ) where
   -- ---- reading
 
   four-pos : 0 < 4 * u
-  four-pos = omega (arith, unit-pos u e pow)
+  four-pos = omega (arith, unit .some)
 
   -- all filters but those of the SKA page are on flash
   flash-count : (N : ℕ) → onFlash u (inFull u N) (inSet u N) (inL1 N) ≡ 8 * (N / 8)
@@ -44,20 +44,20 @@ module _ (u e : ℕ) (pow : u ≡ 2 ^ e) (ix : Index) (Z : ℕ) where
   read-filter F N main spare ram I full f x hf hx =
       either (lt? f (N / 8 * 8))
       (λ a. rw (a .0)
-      (read-flash u e pow ix Z F (inFull u N) (inSet u N) (inL1 N) main (I .on-main) (mod-lt (N / 8 / 16) four-pos) full
+      (read-flash u e unit ix Z F (inFull u N) (inSet u N) (inL1 N) main (I .on-main) (mod-lt (N / 8 / 16) four-pos) full
       (omega arith) ram f x (omega (arith, flash-count N)) hx))
       (λ a.
       let back : 8 * (N / 8) + (f - N / 8 * 8) ≡ f = omega arith in
-      rw (a .0) (read-ska u e pow ix F (N / 8) (inSka N) main ram (omega arith) (I .on-ram) (f - N / 8 * 8) x (omega arith) hx ∙ rw back))
+      rw (a .0) (read-ska u e unit ix F (N / 8) (inSka N) main ram (omega arith) (I .on-ram) (f - N / 8 * 8) x (omega arith) hx ∙ rw back))
 
   -- only the filters that are there decide
   pub index-ext : (F G : ℕ → ℕ → Bool) (N : ℕ) (main spare ram : List ℕ) → ((f x : ℕ) → f < N → x < filterBits u → F f x ≡ G f x)
       → inFull u N ≤ Z → IndexIs u ix Z F N main spare ram → IndexIs u ix Z G N main spare ram
   index-ext F G N main spare ram same full I = record {
-    on-main = main-ext u e pow ix F G Z (inFull u N) (inSet u N) (inL1 N) main (mod-lt (N / 8 / 16) four-pos)
+    on-main = main-ext u e unit ix F G Z (inFull u N) (inSet u N) (inL1 N) main (mod-lt (N / 8 / 16) four-pos)
         (λ f x a b. same f x (omega (arith, flash-count N)) b) (I .on-main);
     on-spare = I .on-spare;
-    on-ram = ska-ext u e pow ix F G (N / 8) (inSka N) ram (λ f x a b. same f x (omega arith) b) (I .on-ram);
+    on-ram = ska-ext u e unit ix F G (N / 8) (inSka N) ram (λ f x a b. same f x (omega arith) b) (I .on-ram);
   }
 
   -- an index whose bytes are kept is kept
@@ -84,7 +84,7 @@ module _ (u e : ℕ) (pow : u ≡ 2 ^ e) (ix : Index) (Z : ℕ) where
       record {
         on-main = rw (q, p) (main-erased u ix Z F main m);
         on-spare = rw (q, p) (spare-erased u ix Z spare s);
-        on-ram = ska-zero u (unit-pos u e pow) ix F 0 ram r;
+        on-ram = ska-zero u (unit .some) ix F 0 ram r;
       }
 
   -- ---- a flush, and what may follow it
@@ -116,7 +116,7 @@ module _ (u e : ℕ) (pow : u ≡ 2 ^ e) (ix : Index) (Z : ℕ) where
         → getD ram (ix .ska + (i * sector u + y)) 0
         ≡ rowByte (λ g. F (z * fullFilters u + 128 * c + 8 * t + g)) 8 (sector u) (i * sector u) y
     bytes i y hi hy =
-        ska-sector u (unit-pos u e pow) ix F flushes ram full i y hi hy
+        ska-sector u (unit .some) ix F flushes ram full i y hi hy
         ∙ ap (λ (n : ℕ). rowByte (λ g. F (n + g)) 8 (sector u) (i * sector u) y) (sym count)
 
     abbrev sectors : ℕ → ℕ → ℕ
@@ -124,19 +124,19 @@ module _ (u e : ℕ) (pow : u ≡ 2 ^ e) (ix : Index) (Z : ℕ) where
 
     after-flush : IndexAfter u ix Z F (ix .first) z c (t + 1) (flushOps u ix t ram) C
     after-flush = record {
-      on-main = flush-main u (unit-pos u e pow) ix Z z c t C sectors ht F I main-fits bytes;
-      on-spare = flush-spare u (unit-pos u e pow) ix Z z c t C sectors ht M spare-fits;
-      may = flush-allowed u (unit-pos u e pow) ix Z z c t C sectors ht M spare-fits;
-      free = flush-fresh u (unit-pos u e pow) ix Z z c t C sectors ht M spare-fits;
-      main-out = λ x o. flush-main-out u (unit-pos u e pow) ix Z z c t C sectors ht x (either o (λ a. inl a) (λ a. inr (omega arith)));
-      spare-out = λ x o. flush-spare-out u (unit-pos u e pow) ix Z z c t C sectors ht x (either o (λ a. inl a) (λ a. inr (omega arith)));
+      on-main = flush-main u (unit .some) ix Z z c t C sectors ht F I main-fits bytes;
+      on-spare = flush-spare u (unit .some) ix Z z c t C sectors ht M spare-fits;
+      may = flush-allowed u (unit .some) ix Z z c t C sectors ht M spare-fits;
+      free = flush-fresh u (unit .some) ix Z z c t C sectors ht M spare-fits;
+      main-out = λ x o. flush-main-out u (unit .some) ix Z z c t C sectors ht x (either o (λ a. inl a) (λ a. inr (omega arith)));
+      spare-out = λ x o. flush-spare-out u (unit .some) ix Z z c t C sectors ht x (either o (λ a. inl a) (λ a. inr (omega arith)));
     }
 
     abbrev flushed : Flash
     flushed = applyAll u (flushOps u ix t ram) C
 
     past-l1 : (x : ℕ) → (ix .first + 1) * 64 ≤ x → getD (flushed .spare) x 0 ≡ getD (C .spare) x 0
-    past-l1 x h = flush-spare-out u (unit-pos u e pow) ix Z z c t C sectors ht x (inr h)
+    past-l1 x h = flush-spare-out u (unit .some) ix Z z c t C sectors ht x (inr h)
 
     -- after the sixteenth
     module _ (sixteen : t + 1 ≡ 16) where
@@ -149,14 +149,14 @@ module _ (u e : ℕ) (pow : u ≡ 2 ^ e) (ix : Index) (Z : ℕ) where
       after-side : c + 1 < 4 * u → IndexAfter u ix Z F (ix .first) z (c + 1) 0 (flushOps u ix t ram ++ buildOps u ix (flushed .main) z c) C
       after-side more =
           after-append F z c (t + 1) z (c + 1) 0 (flushOps u ix t ram) (buildOps u ix (flushed .main) z c) C after-flush past-l1
-          (build-side u e pow ix Z F z c flushed main-16 spare-16 hc hz (rw (apply-main-length u (flushOps u ix t ram) C) main-fits)
+          (build-side u e unit ix Z F z c flushed main-16 spare-16 hc hz (rw (apply-main-length u (flushOps u ix t ram) C) main-fits)
           (rw (apply-spare-length u (flushOps u ix t ram) C) spare-fits) more)
 
       after-full : c + 1 ≡ 4 * u → z < Z
           → IndexAfter u ix Z F (ix .first) (z + 1) 0 0 (flushOps u ix t ram ++ buildOps u ix (flushed .main) z c) C
       after-full last room =
           after-append F z c (t + 1) (z + 1) 0 0 (flushOps u ix t ram) (buildOps u ix (flushed .main) z c) C after-flush past-l1
-          (build-full u e pow ix Z F z c flushed main-16 spare-16 hc hz (rw (apply-main-length u (flushOps u ix t ram) C) main-fits)
+          (build-full u e unit ix Z F z c flushed main-16 spare-16 hc hz (rw (apply-main-length u (flushOps u ix t ram) C) main-fits)
           (rw (apply-spare-length u (flushOps u ix t ram) C) spare-fits) last room)
 
   -- ---- one more filter
@@ -174,7 +174,7 @@ module _ (u e : ℕ) (pow : u ≡ 2 ^ e) (ix : Index) (Z : ℕ) where
 
     ska-one : SkaIs u ix F (N / 8) (N % 8 + 1) ram₁
     ska-one =
-        ska-add u (unit-pos u e pow) ix F new (N / 8) (N % 8) ram (omega arith) ram-fits
+        ska-add u (unit .some) ix F new (N / 8) (N % 8) ram (omega arith) ram-fits
         (λ x h. let n : 8 * (N / 8) + N % 8 ≡ N = omega arith in rw n (same x h)) (I .on-ram)
 
     -- the page is full
@@ -257,24 +257,24 @@ module _ (u e : ℕ) (pow : u ≡ 2 ^ e) (ix : Index) (Z : ℕ) where
     -- the SKA page after the call
     ska-after : SkaIs u ix F ((N + 1) / 8) (inSka (N + 1)) (filterRam u ix N ram₁)
     ska-after =
-        let l : length ram₁ ≡ length ram = filter-length u (unit-pos u e pow) ix new (N % 8) ram in
+        let l : length ram₁ ≡ length ram = filter-length u (unit .some) ix new (N % 8) ram in
         either (carry N 8 (omega arith))
         (λ a. rw (eq-eqb (N % 8 + 1) 8 (a .0), a .2)
-        (ska-zero u (unit-pos u e pow) ix F ((N + 1) / 8) (zeroPage u (ix .ska) ram₁)
-        (λ x lo hi. zero-in u (unit-pos u e pow) ix ram₁ x (rw l ram-fits) lo hi)))
+        (ska-zero u (unit .some) ix F ((N + 1) / 8) (zeroPage u (ix .ska) ram₁)
+        (λ x lo hi. zero-in u (unit .some) ix ram₁ x (rw l ram-fits) lo hi)))
         (λ a. rw (ne-eqb (N % 8 + 1) 8 (a .0), a .1, a .2) ska-one)
 
     -- the RAM outside the SKA page is kept
     index-ram-out : (x : ℕ) → (x < ix .ska) ⊎ (ix .ska + page u ≤ x) → getD (filterRam u ix N ram₁) x 0 ≡ getD ram x 0
     index-ram-out x o =
-        let kept = filter-out u (unit-pos u e pow) ix new (N % 8) ram x (omega arith) o in
+        let kept = filter-out u (unit .some) ix new (N % 8) ram x (omega arith) o in
         either (eq? (N % 8 + 1) 8)
-        (λ a. rw (a .0) (zero-out u (unit-pos u e pow) ix ram₁ x o ∙ kept))
+        (λ a. rw (a .0) (zero-out u (unit .some) ix ram₁ x o ∙ kept))
         (λ a. rw (a .0) kept)
 
     index-ram-length : length (filterRam u ix N ram₁) ≡ length ram
     index-ram-length =
-        let kept = filter-length u (unit-pos u e pow) ix new (N % 8) ram in
+        let kept = filter-length u (unit .some) ix new (N % 8) ram in
         either (eq? (N % 8 + 1) 8)
         (λ a. rw (a .0) (length-write ram₁ (ix .ska) (replicate (64 * u) 0) ∙ kept))
         (λ a. rw (a .0) kept)

@@ -16,7 +16,8 @@ use Rattle.layout.specs.Geometry.{page, block, sideBlocks}
 use Rattle.layout.specs.Index.{Index, bitAt, setPages, setWidth, setBlocks, fullFilters, sideBlock, fullBlock, skaPlace, l1Place, setPlace}
 use Rattle.layout.specs.Index.{flashPlace}
 use Rattle.history.specs.Image.{skaByte, l1Byte, partitionByte, sideByte, fullByte, IndexMain, IndexSpare}
-use Rattle.laws.specs.RowLaws.{read-row, row-ext, unit-pos, set-whole, width-pos, blocks-fit, blocks-some, side-range}
+use Rattle.laws.specs.RowLaws.{read-row, row-ext, set-whole, width-pos, blocks-fit, blocks-some, side-range}
+use Rattle.laws.specs.Units.{UnitIs}
 
 -- the SKA page holds s filters after `flushes` flushes
 abbrev pub SkaIs : ℕ → Index → (ℕ → ℕ → Bool) → ℕ → ℕ → List ℕ → Type 0
@@ -26,12 +27,12 @@ SkaIs u ix F flushes s ram = (i : ℕ) → i < page u → getD ram (ix .ska + i)
 abbrev pub onFlash : ℕ → ℕ → ℕ → ℕ → ℕ
 onFlash u z c t = z * fullFilters u + 128 * c + 8 * t
 
-module _ (u e : ℕ) (pow : u ≡ 2 ^ e) (ix : Index) where
+module _ (u e : ℕ) (unit : UnitIs u e) (ix : Index) where
   pub read-ska : (F : ℕ → ℕ → Bool) (flushes s : ℕ) (main ram : List ℕ) → s ≤ 8 → SkaIs u ix F flushes s ram
       → (g x : ℕ) → g < s → x < 64 * u → bitAt main ram (skaPlace u ix g x) ≡ F (8 * flushes + g) x
   unfolding bitAt
   read-ska F flushes s main ram hs I g x hg hx =
-      let pu = unit-pos u e pow in
+      let pu = unit .some in
       let E = euclid x (16 * u) (omega arith) in
       let i4 : x / (16 * u) < 4 = div-lt x (16 * u) 4 (omega arith) (omega arith) in
       let g8 : g < 8 = omega arith in
@@ -49,7 +50,7 @@ module _ (u e : ℕ) (pow : u ≡ 2 ^ e) (ix : Index) where
       → (f x : ℕ) → f < 8 * t → x < 64 * u → bitAt main ram (l1Place u ix f x) ≡ F (base + f) x
   unfolding bitAt
   read-l1 F base t main ram ht I f x hf hx =
-      let pu = unit-pos u e pow in
+      let pu = unit .some in
       let E = euclid x (16 * u) (omega arith) in
       let i4 : x / (16 * u) < 4 = div-lt x (16 * u) 4 (omega arith) (omega arith) in
       let y-lt : (f % 8 * (16 * u) + x % (16 * u)) / 8 < 16 * u
@@ -116,9 +117,10 @@ module _ (u e : ℕ) (pow : u ≡ 2 ^ e) (ix : Index) where
         → bitAt main ram (setPlace u (sideBlock u ix c) (setWidth u c) g x) ≡ F (z * fullFilters u + g) x
     read-side ram g x hg hx =
         let pc : 0 < c = omega arith in
-        let fit = blocks-fit u e pow c (omega arith) in
-        read-set F (z * fullFilters u) (128 * c) (setPages c) (setWidth u c) (sideBlock u ix c) main ram (width-pos u e pow c (omega arith))
-        (set-whole u e pow c (omega arith))
+        let fit = blocks-fit u e (unit .power) c (omega arith) in
+        read-set F (z * fullFilters u) (128 * c) (setPages c) (setWidth u c) (sideBlock u ix c) main ram
+        (width-pos u e (unit .power) c (omega arith))
+        (set-whole u e (unit .power) c (omega arith))
         (omega (arith, log2up-enough c))
         (λ i h.
         let b-is : setBlocks c ≡ 2 ^ log2up c = blocks-some u c pc in
@@ -143,7 +145,7 @@ module _ (u e : ℕ) (pow : u ≡ 2 ^ e) (ix : Index) where
   pub ska-ext : (F G : ℕ → ℕ → Bool) (flushes s : ℕ) (ram : List ℕ) → ((f x : ℕ) → f < 8 * flushes + s → x < 64 * u → F f x ≡ G f x)
       → SkaIs u ix F flushes s ram → SkaIs u ix G flushes s ram
   ska-ext F G flushes s ram same I i h =
-      let pu = unit-pos u e pow in
+      let pu = unit .some in
       let q4 : i / (16 * u) < 4 = div-lt i (16 * u) 4 (omega arith) (omega arith) in
       I i h
       ∙ row-ext (λ g. F (8 * flushes + g)) (λ g. G (8 * flushes + g)) s (16 * u) (i / (16 * u) * (16 * u)) (i % (16 * u)) (omega arith)
@@ -153,7 +155,7 @@ module _ (u e : ℕ) (pow : u ≡ 2 ^ e) (ix : Index) where
     l1-ext : (base t i : ℕ) → ((f x : ℕ) → f < base + 8 * t → x < 64 * u → F f x ≡ G f x) → i < block u
         → l1Byte u F base t i ≡ l1Byte u G base t i
     l1-ext base t i same h =
-        let pu = unit-pos u e pow in
+        let pu = unit .some in
         let q64 : i / (16 * u) < 64 = div-lt i (16 * u) 64 (omega arith) (omega arith) in
         let q4 : i / (16 * u) / 16 < 4 = omega arith in
         either (lt? (i / (16 * u) % 16) t)
@@ -166,7 +168,7 @@ module _ (u e : ℕ) (pow : u ≡ 2 ^ e) (ix : Index) where
     partition-ext : (base N P w i : ℕ) → 0 < w → P * w ≡ 64 * u → ((f x : ℕ) → f < base + N → x < 64 * u → F f x ≡ G f x) → i < P * page u
         → partitionByte u F base N w i ≡ partitionByte u G base N w i
     partition-ext base N P w i pw Pw same h =
-        let pu = unit-pos u e pow in
+        let pu = unit .some in
         let p-lt : i / (64 * u) < P = div-lt i (64 * u) P (omega arith) h in
         row-ext (λ g. F (base + g)) (λ g. G (base + g)) N w (i / (64 * u) * w) (i % (64 * u)) pw
         (λ g r hg hr. same (base + g) (i / (64 * u) * w + r) (omega arith) (omega (arith, mul-le-mul-right w p-lt)))
@@ -179,8 +181,8 @@ module _ (u e : ℕ) (pow : u ≡ 2 ^ e) (ix : Index) where
         (λ p.
         let b-is : setBlocks c ≡ 2 ^ log2up c = blocks-some u c (p .1) in
         let b-by : setBlocks c * (1024 * u) ≡ 2 ^ log2up c * (1024 * u) = ap (λ (n : ℕ). n * (1024 * u)) b-is in
-        partition-ext base (128 * c) (setPages c) (setWidth u c) i (width-pos u e pow c (omega arith))
-        (set-whole u e pow c (omega arith)) same (omega arith))
+        partition-ext base (128 * c) (setPages c) (setWidth u c) i (width-pos u e (unit .power) c (omega arith))
+        (set-whole u e (unit .power) c (omega arith)) same (omega arith))
         (λ p. absurd (none c (omega arith) (a .1)))))
         (λ a. rw (a .0))
       where

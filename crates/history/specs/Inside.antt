@@ -3,7 +3,7 @@ use mathlib.Core.Path.{_≡_, refl, _∙_}
 use mathlib.Core.Logic.{inr}
 use mathlib.Core.Bool.{Bool}
 use mathlib.Core.List.{List, [], _∷_, _++_}
-use Prim.Native.Nat.{ℕ, zero, suc, _+_, _*_, _/_, _%_, _^_, _≤_, _<_}
+use Prim.Native.Nat.{ℕ, zero, suc, _+_, _*_, _/_, _%_, _≤_, _<_}
 use native.Mathlib.Nat.{mul-le-mul-right, mod-lt}
 use native.Mathlib.Omega.{arith}
 use lib.ListN.{length, getD, replicate, length-replicate}
@@ -17,8 +17,9 @@ use Rattle.layout.specs.Items.{Area, put, fills, itemRam, zeroPage}
 use Rattle.layout.specs.Index.{Index, inSka, inL1, inSet, inFull, setPages, setBlocks, sideBlock, fullBlock, setBlock, withFilter}
 use Rattle.layout.specs.Index.{filterRam}
 use Rattle.history.specs.Operations.{programs, itemOps, flushOps, buildOps, flushAndBuildOps, filterOps}
-use Rattle.laws.specs.RowLaws.{unit-pos, blocks-fit, side-range}
+use Rattle.laws.specs.RowLaws.{blocks-fit, side-range}
 use Rattle.history.specs.SkaLaws.{filter-out, filter-length}
+use Rattle.laws.specs.Units.{UnitIs}
 
 -- ---- operations
 
@@ -88,9 +89,9 @@ module _ (u B : ℕ) where
 
 -- ---- one more filter of an index with Z places for full sets
 
-module _ (u e : ℕ) (pow : u ≡ 2 ^ e) (B : ℕ) (ix : Index) (Z : ℕ) (end : fullBlock u ix Z ≤ B) where
+module _ (u e : ℕ) (unit : UnitIs u e) (B : ℕ) (ix : Index) (Z : ℕ) (end : fullBlock u ix Z ≤ B) where
   four-pos : 0 < 4 * u
-  four-pos = omega (arith, unit-pos u e pow)
+  four-pos = omega (arith, unit .some)
 
   inside-flush : (t : ℕ) (ram : List ℕ) → t < 16 → Inside u B (flushOps u ix t ram)
   inside-flush t ram h =
@@ -99,14 +100,14 @@ module _ (u e : ℕ) (pow : u ≡ 2 ^ e) (B : ℕ) (ix : Index) (Z : ℕ) (end :
   -- the set of c + 1 rounds at its place, and that of c rounds on its side
   new-inside : (z c : ℕ) → c < 4 * u → (c + 1 ≡ 4 * u → z < Z) → setBlock u ix z c * 64 + setPages (c + 1) * 4 ≤ B * 64
   new-inside z c hc hz =
-      let b = blocks-fit u e pow (c + 1) (omega (arith, hc)) in
+      let b = blocks-fit u e (unit .power) (c + 1) (omega (arith, hc)) in
       either (eq? (c + 1) (4 * u))
       (λ a. rw (a .0) (omega (arith, b, end, mul-le-mul-right (4 * u) (hz (a .1)))))
       (λ a. rw (a .0) (omega (arith, b, end, side-range u ix (c + 1) .1)))
 
   old-inside : (c : ℕ) → c < 4 * u → sideBlock u ix c + setBlocks c ≤ B
   old-inside zero h = omega (arith, end, side-range u ix zero .1)
-  old-inside (suc c) h = omega (arith, end, side-range u ix (suc c) .1, blocks-fit u e pow (suc c) (omega arith))
+  old-inside (suc c) h = omega (arith, end, side-range u ix (suc c) .1, blocks-fit u e (unit .power) (suc c) (omega arith))
 
   inside-build : (main : List ℕ) (z c : ℕ) → c < 4 * u → (c + 1 ≡ 4 * u → z < Z) → Inside u B (buildOps u ix main z c)
   inside-build main z c hc hz =

@@ -3,11 +3,10 @@ use mathlib.Core.Path.{_≡_}
 use mathlib.Core.Logic.{_⊎_, inl, inr}
 use mathlib.Core.Bool.{Bool}
 use mathlib.Core.List.{List}
-use Prim.Native.Nat.{ℕ, _+_, _*_, _/_, _^_, _≤_, _<_}
+use Prim.Native.Nat.{ℕ, _+_, _*_, _/_, _≤_, _<_}
 use native.Mathlib.Nat.{mul-le-mul-right}
 use native.Mathlib.Omega.{arith}
 use lib.ListN.{length, getD}
-use lib.Pow.{pow-pos}
 use Rattle.memory.specs.Cases.{either}
 use Rattle.memory.specs.Numbers.{div-lt}
 use Rattle.layout.specs.Geometry.{Geometry, page, block, filterBits, kaBlocks, blocks, indexBlock, fullSets, recordCapacity}
@@ -22,6 +21,7 @@ use Rattle.history.specs.Image.{History, raItem, kaItem, daItem, keyFilt
 use Rattle.history.specs.Frames.{Frame, Did, AreaGrown, IndexGrown}
 use Rattle.history.specs.AreaLaws as area
 use Rattle.history.specs.IndexLaws as index
+use Rattle.laws.specs.Units.{UnitIs}
 
 module _ (u lo hi p : ℕ) (C C′ : Flash) (r r′ : List ℕ) (W : Frame u lo hi p C C′ r r′) where
   -- blocks below lo, or from hi on
@@ -44,11 +44,11 @@ module _ (u lo hi p : ℕ) (C C′ : Flash) (r r′ : List ℕ) (W : Frame u lo 
       (λ x l m. W .spare x (spare-apart (a .first) (a .first + blocks) x o l m))
       (λ x l m. W .ram x (ram-apart (a .ram) x q l m))
 
-  pub frame-index : (e : ℕ) (pow : u ≡ 2 ^ e) (ix : Index) (Z : ℕ) (F : ℕ → ℕ → Bool) (N : ℕ)
+  pub frame-index : (e : ℕ) (unit : UnitIs u e) (ix : Index) (Z : ℕ) (F : ℕ → ℕ → Bool) (N : ℕ)
       → (fullBlock u ix Z ≤ lo) ⊎ (hi ≤ ix .first) → (ix .ska + page u ≤ p) ⊎ (p + page u ≤ ix .ska)
       → IndexIs u ix Z F N (C .main) (C .spare) r → IndexIs u ix Z F N (C′ .main) (C′ .spare) r′
-  frame-index e pow ix Z F N o q I =
-      index.index-kept u e pow ix Z F N (C .main) (C .spare) r (C′ .main) (C′ .spare) r′ I
+  frame-index e unit ix Z F N o q I =
+      index.index-kept u e unit ix Z F N (C .main) (C .spare) r (C′ .main) (C′ .spare) r′ I
       (λ x l m. W .main x (main-apart (ix .first) (fullBlock u ix Z) x o l m))
       (λ x l m. W .spare x (spare-apart (ix .first) (fullBlock u ix Z) x o l m))
       (λ x l m. W .ram x (ram-apart (ix .ska) x q l m))
@@ -64,9 +64,9 @@ module _ (h : Family) (g : Geometry) where
     pub spare-fits : spareSize g ≤ length (C .spare)
     pub ram-fits : ramSize g ≤ length ram
 
-module _ (h : Family) (g : Geometry) (e : ℕ) (pow : g .u ≡ 2 ^ e) where
-  pub pu : 0 < g .u
-  pu = rw pow (pow-pos e)
+module _ (h : Family) (g : Geometry) (e : ℕ) (unit : UnitIs (g .u) e) where
+  abbrev pu : 0 < g .u
+  pu = unit .some
 
   -- ---- one more item, or filter, of the history: the part that grows, and the others that are kept
 
@@ -97,7 +97,8 @@ module _ (h : Family) (g : Geometry) (e : ℕ) (pow : g .u ≡ 2 ^ e) where
       keep-filters : hi ≤ indexBlock g → p + page (g .u) ≤ keyIndex g .ska
           → IndexIs (g .u) (keyIndex g) (fullSets g) (keyFilter h g H) N (C′ .main) (C′ .spare) r′
       keep-filters o q =
-          frame-index (g .u) lo hi p C C′ ram r′ (W .frame) e pow (keyIndex g) (fullSets g) (keyFilter h g H) N (inr o) (inr q) (P .filters)
+          frame-index (g .u) lo hi p C C′ ram r′ (W .frame) e unit (keyIndex g) (fullSets g) (keyFilter h g H) N (inr o) (inr q)
+          (P .filters)
 
       fits : (dataSize g ≤ length (C′ .main)) × (spareSize g ≤ length (C′ .spare)) × (ramSize g ≤ length r′)
       fits =
@@ -198,7 +199,7 @@ module _ (h : Family) (g : Geometry) (e : ℕ) (pow : g .u ≡ 2 ^ e) where
 
       index-grown : IndexGrown (g .u) (keyIndex g) (fullSets g) (keyFilter h g H) N new C ram
       index-grown =
-          index.index-grown (g .u) e pow (keyIndex g) (fullSets g) (keyFilter h g H) N new C ram (P .filters) same room
+          index.index-grown (g .u) e unit (keyIndex g) (fullSets g) (keyFilter h g H) N new C ram (P .filters) same room
           (omega (arith, P .main-fits)) (omega (arith, P .spare-fits)) (omega (arith, P .ram-fits))
 
       pub index-did : Did (g .u) (indexBlock g) (fullBlock (g .u) (keyIndex g) (fullSets g)) (keyIndex g .ska) C ram

@@ -4,7 +4,7 @@ use mathlib.Core.Path.{_≡_, refl, ap, _∙_}
 use mathlib.Core.Logic.{_⊎_}
 use mathlib.Core.Bool.{Bool, true, false, cond}
 use mathlib.Core.List.{List, [], _∷_, _++_}
-use Prim.Native.Nat.{ℕ, zero, suc, _+_, _*_, _/_, _^_, _≤_, _<_}
+use Prim.Native.Nat.{ℕ, zero, suc, _+_, _*_, _/_, _≤_, _<_}
 use native.Mathlib.Nat.{mod-lt}
 use native.Mathlib.Omega.{arith}
 use lib.ListN.{getD}
@@ -18,8 +18,8 @@ use Rattle.layout.specs.Index.{Index, inSka, inL1, inSet, inFull, setPages, set
 use Rattle.layout.specs.Index.{buildPlan, flushAndBuild, filterPlan}
 use Rattle.history.specs.Operations.{programs, itemOps, flushOps, buildOps, flushAndBuildOps, filterOps}
 use Rattle.history.specs.FlashLaws.{programs-ext}
-use Rattle.laws.specs.RowLaws.{unit-pos}
 use Rattle.laws.specs.Apart.{set-byte-same}
+use Rattle.laws.specs.Units.{UnitIs}
 
 -- the same planned operations, counted from one later
 pub planned-later : (f : ℕ → Planned) (i k : ℕ) → plannedFrom f (suc i) k ≡ plannedFrom (λ j. f (suc j)) i k
@@ -107,7 +107,7 @@ module _ (u : ℕ) where
 
 -- ---- one more filter
 
-module _ (u e : ℕ) (pow : u ≡ 2 ^ e) (ix : Index) where
+module _ (u e : ℕ) (unit : UnitIs u e) (ix : Index) where
   -- the next set lies apart from what it is made of
   pub set-ops : (z c : ℕ) → c < 4 * u → (C : Flash)
       → planOps u (plannedFrom (setSector u ix z c) 0 (setPages (c + 1) * 4)) C
@@ -116,7 +116,7 @@ module _ (u e : ℕ) (pow : u ≡ 2 ^ e) (ix : Index) where
       made-ops u (setBlock u ix z c * (1024 * u)) (setBlock u ix z c * (1024 * u) + setPages (c + 1) * (64 * u)) (setBlock u ix z c * 64)
       (setPages (c + 1) * 4)
       (λ j. setBlock u ix z c * 64 + j) (λ main. setByte u ix main z c) (λ j. refl) (omega arith) (omega arith)
-      (set-byte-same u e pow ix z c hc)
+      (set-byte-same u e (unit .power) ix z c hc)
 
   pub build-ops : (z c : ℕ) → c < 4 * u → (C : Flash) → planOps u (buildPlan u ix z c) C ≡ buildOps u ix (C .main) z c
   build-ops z c hc C =
@@ -137,7 +137,7 @@ module _ (u e : ℕ) (pow : u ≡ 2 ^ e) (ix : Index) where
       ops-both u (plannedFrom (flushSector u ix (inL1 F) ram) 0 4) (cond (eqb (inL1 F + 1) 16) (buildPlan u ix (inFull u F) (inSet u F)) [])
       (flushOps u ix (inL1 F) ram) _ C (flush-ops (inL1 F) ram C)
       (ops-if u (eqb (inL1 F + 1) 16) _ _ _
-      (build-ops (inFull u F) (inSet u F) (mod-lt (F / 8 / 16) (omega (arith, unit-pos u e pow)))
+      (build-ops (inFull u F) (inSet u F) (mod-lt (F / 8 / 16) (omega (arith, unit .some)))
       (applyAll u (flushOps u ix (inL1 F) ram) C)))
 
   pub filter-ops : (F : ℕ) (ram : List ℕ) (C : Flash) → planOps u (filterPlan u ix F ram) C ≡ filterOps u ix C F ram

@@ -167,7 +167,7 @@ module _ (h : Family) (sizes : Sizes) (ok : Sound sizes) (can : allowed sizes 鈮
           (C .main) (C .spare) ram
           (位 x l m. main-erased x (omega arith)) (位 x l m. spare-erased x (omega arith)) (位 x l m. ram-zero x (omega arith));
       filters =
-          index-start (unitOf sizes) (ok .e) (units.pow sizes ok) (keyIndex g) (fullSets g) (keyFilter h g emptyHistory) (C .main)
+          index-start (unitOf sizes) (ok .e) (units.unit sizes ok) (keyIndex g) (fullSets g) (keyFilter h g emptyHistory) (C .main)
           (C .spare) ram
           (位 x l m. main-erased x (omega arith)) (位 x l m. spare-erased x (omega arith)) (位 x l m. ram-zero x (omega arith));
       main-fits = rw (apply-main-length (unitOf sizes) (erases 0 (blocks g)) (v .flash)) (enough .0);

@@ -86,7 +86,7 @@ module _ (h : Family) (sizes : Sizes) (ok : Sound sizes) (can : allowed sizes �
           (omega (arith, pu)) (omega arith) (inr (omega arith)) (inl (omega arith)) (P .ka);
       da = frame-area (unitOf sizes) 0 0 (workRam (unitOf sizes)) C C ram ram′ work-frame (DA g) (sizes .daBlocks) (daItem H) d pu
           (omega arith) (omega (arith, pu)) (omega arith) (inr (omega arith)) (inl (omega arith)) (P .da);
-      filters = frame-index (unitOf sizes) 0 0 (workRam (unitOf sizes)) C C ram ram′ work-frame (ok .e) (units.pow sizes ok) (keyIndex g)
+      filters = frame-index (unitOf sizes) 0 0 (workRam (unitOf sizes)) C C ram ram′ work-frame (ok .e) (units.unit sizes ok) (keyIndex g)
           (fullSets g) (keyFilter h g H) N (inr (omega arith)) (inl (omega arith)) (P .filters);
       main-fits = P .main-fits;
       spare-fits = P .spare-fits;
@@ -201,7 +201,7 @@ module _ (h : Family) (sizes : Sizes) (ok : Sound sizes) (can : allowed sizes �
           let room : length (H .records) < recordCapacity g = leb-false (recordCapacity g) (length (H .records)) c in
           let X : Changed h g (withRecord H r) (n + 1) d C ram (planOps (unitOf sizes) (insertionPlan h g n (r .key) (recordBytes r) ram) C)
           (insertionRam h g n (r .key) (recordBytes r) ram)
-          = insertion-changes h g (ok .e) (units.pow sizes ok) H r d C ram (I .parts) room word (I .keys) in
+          = insertion-changes h g (ok .e) (units.unit sizes ok) H r d C ram (I .parts) room word (I .keys) in
           commit-done (withRecord H r) (n + 1) d (insertionPlan h g n (r .key) (recordBytes r) ram) _
           (insertionRam h g n (r .key) (recordBytes r) ram) refl (length-record r) refl
           (X .grown) (X .allowed) (X .beyond) (X .fresh (C .spare) (λ x l o. refl))
@@ -234,10 +234,10 @@ module _ (h : Family) (sizes : Sizes) (ok : Sound sizes) (can : allowed sizes �
       ram₁ = deletionRam g d j ram
 
       did : Did (unitOf sizes) (DA g .first) (DA g .first + (sizes .daBlocks)) (DA g .ram) C ram ram₁ ops
-      did = deletion-did h g (ok .e) (units.pow sizes ok) H n n (keyFilters g n) j C ram (I .parts) room-d
+      did = deletion-did h g (ok .e) (units.unit sizes ok) H n n (keyFilters g n) j C ram (I .parts) room-d
 
       less-one : Parts h g (withDeletion H j) n n (d + 1) (keyFilters g n) C₁ ram₁
-      less-one = deletion-parts h g (ok .e) (units.pow sizes ok) H n n (keyFilters g n) j C ram (I .parts) room-d
+      less-one = deletion-parts h g (ok .e) (units.unit sizes ok) H n n (keyFilters g n) j C ram (I .parts) room-d
 
       past : Beyond g C C₁ ram ram₁
       past =
@@ -268,7 +268,7 @@ module _ (h : Family) (sizes : Sizes) (ok : Sound sizes) (can : allowed sizes �
           let more : List Op = planOps (unitOf sizes) (insertionPlan h g n (r .key) (recordBytes r) ram₁) C₁ in
           let X : Changed h g (withRecord (withDeletion H j) r) (n + 1) (d + 1) C₁ ram₁
           (planOps (unitOf sizes) (insertionPlan h g n (r .key) (recordBytes r) ram₁) C₁) (insertionRam h g n (r .key) (recordBytes r) ram₁)
-          = insertion-changes h g (ok .e) (units.pow sizes ok) (withDeletion H j) r (d + 1) C₁ ram₁ less-one room word (I .keys) in
+          = insertion-changes h g (ok .e) (units.unit sizes ok) (withDeletion H j) r (d + 1) C₁ ram₁ less-one room word (I .keys) in
           let both : planOps (unitOf sizes) (deletionPlan g d j ram ++ insertionPlan h g n (r .key) (recordBytes r) ram) C ≡ ops
           ++ planOps (unitOf sizes) (insertionPlan h g n (r .key) (recordBytes r) ram₁) C₁
           = ops-append (unitOf sizes) (deletionPlan g d j ram) (insertionPlan h g n (r .key) (recordBytes r) ram) C

@@ -55,9 +55,6 @@ module _ (h : Family) (sizes : Sizes) (ok : Sound sizes) where
   abbrev g : Geometry
   g = geometry sizes
 
-  abbrev pow : unitOf sizes ≡ 2 ^ ok .e
-  pow = units.pow sizes ok
-
   abbrev pu : 0 < unitOf sizes
   pu = units.pu sizes ok
 
@@ -105,7 +102,8 @@ module _ (h : Family) (sizes : Sizes) (ok : Sound sizes) where
     pub filter-is : (f x : ℕ) → f < length (H .records) / (8 * (unitOf sizes)) → x < filterBits (unitOf sizes)
         → filterBit (unitOf sizes) (keyIndex g) (C .main) ram (keyFilters g n) f x ≡ keyFilter h g H f x
     filter-is f x l m =
-        read-filter (unitOf sizes) (ok .e) pow (keyIndex g) (fullSets g) (keyFilter h g H) (keyFilters g n) (C .main) (C .spare) ram
+        read-filter (unitOf sizes) (ok .e) (units.unit sizes ok) (keyIndex g) (fullSets g) (keyFilter h g H) (keyFilters g n) (C .main)
+        (C .spare) ram
         (I .parts .filters)
         (places-suffice (unitOf sizes) (sizes .raBlocks) (length (H .records)) pu (I .n-cap)) f x l m
 

@@ -52,9 +52,6 @@ module _ (sizes : Sizes) (ok : Sound sizes) where
   pub unit : UnitIs (unitOf sizes) (ok .e)
   unit = unit-is (unitOf sizes) (ok .e) (ok .e-lt) (omega (arith, ok .size))
 
-  pub pow : unitOf sizes ≡ 2 ^ ok .e
-  pow = unit .power
-
   pub pu : 0 < unitOf sizes
   pu = unit .some
 
