@@ -14,7 +14,7 @@ use Rattle.geometry.specs.Shape.{shape, Sound, area, AreaSound}
 use Rattle.geometry.specs.Indexes.{indexOf, indexFor}
 use Rattle.geometry.specs.declared.sets.Index.{Index}
 use Rattle.plan.specs.Plans.{recordIn, entryIn}
-use Rattle.planning.specs.Computed.{then-is, else-is}
+use Rattle.memory.specs.Booleans.{cond-pos, cond-neg}
 use Rattle.kept.specs.Kept.{filterKept, entered, recordKept}
 
 module _ (g : Geometry) (S : Sound g) (a : Area) (b : items.Area) (a-is : area a ≡ b) (s : AreaSound a) (ram k : ℕ) where
@@ -56,7 +56,7 @@ module _ (g : layout.Geometry) (n : ℕ) (new bits ram : List ℕ) where
     pub kept-open : (n % q + 1 ≡ q → ⊥) → y ≡ recordKept g n new bits ram
     kept-open h =
         let f : items.fills (items.KA g) n ≡ false = ne-eqb _ _ (rw q-is at h) in
-        y-is ∙ sym (else-is (items.fills (items.KA g) n) _ (entered g n new ram) f)
+        y-is ∙ sym (cond-neg (items.fills (items.KA g) n) _ (entered g n new ram) f)
 
     pub kept-full : (ix : Index) (z : List ℕ) → n % q + 1 ≡ q → ix ≡ indexFor g → z ≡ filterKept (g .u) (indexOf ix) (n / q) bits y
         → z ≡ recordKept g n new bits ram
@@ -66,4 +66,4 @@ module _ (g : layout.Geometry) (n : ℕ) (new bits ram : List ℕ) where
         = ap (λ (i : Index). filterKept (g .u) (indexOf i) (n / q) bits y) ix-is
         ∙ ap (λ (x : ℕ). filterKept (g .u) (keyIndex g) (n / x) bits y) q-is in
         ez ∙ e ∙ ap (filterKept (g .u) (keyIndex g) (keyFilters g n) bits) y-is
-        ∙ sym (then-is (items.fills (items.KA g) n) (filterKept (g .u) (keyIndex g) (keyFilters g n) bits (entered g n new ram)) _ f)
+        ∙ sym (cond-pos (items.fills (items.KA g) n) (filterKept (g .u) (keyIndex g) (keyFilters g n) bits (entered g n new ram)) _ f)

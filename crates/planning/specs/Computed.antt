@@ -1,17 +1,18 @@
 -- The plans out of the numbers that code computes.
 use mathlib.Core.Path.{_≡_, refl, sym, ap, _∙_}
-use mathlib.Core.Bool.{Bool, true, false, cond}
+use mathlib.Core.Bool.{Bool, true, false, not, cond}
 use Prim.Native.Nat.{ℕ, _+_, _*_, _/_, _%_, _^_, _≤_, _<_}
 use native.Mathlib.Nat.{mul-le-mul-left}
 use native.Mathlib.Omega.{arith}
 use lib.Dec.{eqb}
 use borrow.Author.Tests.{eq-eqb, ne-eqb}
+use Rattle.memory.specs.Booleans.{cond-pos, cond-neg}
 use Rattle.memory.specs.Cases.{either, bool?}
 use Rattle.memory.specs.Numbers.{euclid, div-lt}
 use Rattle.memory.specs.Power.{log2up}
 use Rattle.layout.specs.Geometry.{Geometry, sectorsPerPage, sectorsPerBlock, sideBlocks, entriesPerPage, indexBlock}
 use Rattle.layout.specs.Items.{Area, RA, KA, fills}
-use Rattle.layout.specs.Index.{inFull, setBlock, sideBlock, setBlocks}
+use Rattle.layout.specs.Index.{filtersPerFlush, inSka, inFull, setBlock, sideBlock, setBlocks}
 use Rattle.layout.specs.Calls.{keyFilters}
 use Rattle.geometry.specs.Shape.{chipOf}
 use Rattle.geometry.specs.declared.chip.Chip.{Chip}
@@ -34,13 +35,21 @@ full-le u R n q e pos h l =
 
 -- ---- segments
 
-module _ (a : Area) (n s : ℕ) (e : s ≡ a .first * sectorsPerBlock) where
-  pub page-open : (n % a .perPage + 1 ≡ a .perPage → ⊥)
-      → _≡_ {A = Segment} (record { first = s + n / a .perPage * 4; count = 0 }) (pageOf a n)
-  page-open h = rw (e, ne-eqb (n % a .perPage + 1) (a .perPage) h)
+-- a test that code negates
+pub not-taken : (b : Bool) → not b ≡ true → b ≡ false
+not-taken true e = cc
+not-taken false e = refl
 
-  pub page-full : n % a .perPage + 1 ≡ a .perPage → _≡_ {A = Segment} (record { first = s + n / a .perPage * 4; count = 4 }) (pageOf a n)
-  page-full h = rw (e, eq-eqb (n % a .perPage + 1) (a .perPage) h)
+pub not-left : (b : Bool) → not b ≡ false → b ≡ true
+not-left true e = refl
+not-left false e = cc
+
+module _ (a : Area) (n s t : ℕ) (e : s ≡ a .first * sectorsPerBlock) (d : t ≡ n / a .perPage * sectorsPerPage) where
+  pub page-open : fills a n ≡ false → _≡_ {A = Segment} (record { first = s + t; count = 0 }) (pageOf a n)
+  page-open h = rw (e, d, h)
+
+  pub page-full : fills a n ≡ true → _≡_ {A = Segment} (record { first = s + t; count = sectorsPerPage }) (pageOf a n)
+  page-full h = rw (e, d, h)
 
 -- ---- plans
 
@@ -58,10 +67,10 @@ pub start-is : (g : Geometry) (da z : Segment) (chip : Chip) (ix : Index) → z 
     }) (startPlan g da)
 start-is g da z chip ix e d h = rw (e, d, h)
 
--- `side`, `b`, `s`, `k`, `o` and `m` are what code computes
-pub set-is : (g : Geometry) (F : ℕ) (p : Plan) (ix : Index) (side b s k o m : ℕ) → ix ≡ indexFor g → side ≡ sideBlocks (g .u)
+-- `side`, `b`, `s`, `k`, `t`, `o` and `m` are what code computes
+pub set-is : (g : Geometry) (F : ℕ) (p : Plan) (ix : Index) (side b s k t o m : ℕ) → ix ≡ indexFor g → side ≡ sideBlocks (g .u)
     → b ≡ setBlock (g .u) (indexOf ix) (F / 8 / 16 / side) (F / 8 / 16 % side) → s ≡ b * sectorsPerBlock
-    → k ≡ 16 * 2 ^ log2up (F / 8 / 16 % side + 1) → o ≡ sideBlock (g .u) (indexOf ix) (F / 8 / 16 % side)
+    → k ≡ 16 * 2 ^ log2up (F / 8 / 16 % side + 1) → t ≡ k * sectorsPerPage → o ≡ sideBlock (g .u) (indexOf ix) (F / 8 / 16 % side)
     → m ≡ setBlocks (F / 8 / 16 % side)
     → _≡_ {A = Plan} (record {
       chip = p .chip;
@@ -69,12 +78,12 @@ pub set-is : (g : Geometry) (F : ℕ) (p : Plan) (ix : Index) (side b s k o m : 
       ra = p .ra;
       ka = p .ka;
       flush = p .flush;
-      set = record { first = s; count = k * 4 };
+      set = record { first = s; count = t };
       l1 = record { first = ix .first; count = 1 };
       old = record { first = o; count = m };
       next = record { index = ix; «full_sets» = F / 8 / 16 / side; rounds = F / 8 / 16 % side };
     }) (addSet g F p)
-set-is g F p ix side b s k o m ix-is side-is b-is s-is k-is o-is m-is = rw (s-is, b-is, k-is, o-is, m-is, ix-is, side-is)
+set-is g F p ix side b s k t o m ix-is side-is b-is s-is k-is t-is o-is m-is = rw (s-is, b-is, t-is, k-is, o-is, m-is, ix-is, side-is)
 
 pub flush-is : (g : Geometry) (F : ℕ) (p : Plan) (b s : ℕ) → b ≡ indexBlock g → s ≡ b * sectorsPerBlock
     → _≡_ {A = Plan} (record {
@@ -107,25 +116,19 @@ pages-are g n p ra ka a b a-is b-is e d = rw (e, d, a-is, b-is)
 -- ---- what filter F adds
 
 module _ (g : Geometry) (F : ℕ) (p : Plan) where
-  pub no-flush : (F % 8 + 1 ≡ 8 → ⊥) → p ≡ addFilter g F p
+  pub no-flush : eqb (inSka F + 1) filtersPerFlush ≡ false → p ≡ addFilter g F p
   unfolding addFilter
-  no-flush h = rw (ne-eqb (F % 8 + 1) 8 h)
+  no-flush h = rw h
 
-  pub a-flush : F % 8 + 1 ≡ 8 → (F / 8 % 16 + 1 ≡ 16 → ⊥) → addFlush g F p ≡ addFilter g F p
+  pub a-flush : eqb (inSka F + 1) filtersPerFlush ≡ true → (F / 8 % 16 + 1 ≡ 16 → ⊥) → addFlush g F p ≡ addFilter g F p
   unfolding addFilter
-  a-flush e h = rw (eq-eqb (F % 8 + 1) 8 e, ne-eqb (F / 8 % 16 + 1) 16 h)
+  a-flush e h = rw (e, ne-eqb (F / 8 % 16 + 1) 16 h)
 
-  pub a-set : F % 8 + 1 ≡ 8 → F / 8 % 16 + 1 ≡ 16 → addSet g F (addFlush g F p) ≡ addFilter g F p
+  pub a-set : eqb (inSka F + 1) filtersPerFlush ≡ true → F / 8 % 16 + 1 ≡ 16 → addSet g F (addFlush g F p) ≡ addFilter g F p
   unfolding addFilter
-  a-set e h = rw (eq-eqb (F % 8 + 1) 8 e, eq-eqb (F / 8 % 16 + 1) 16 h)
+  a-set e h = rw (e, eq-eqb (F / 8 % 16 + 1) 16 h)
 
 -- ---- record n after a deletion's page; `q` is what code computes
-
-pub then-is : {A : Type 0} (b : Bool) (x y : A) → b ≡ true → cond b x y ≡ x
-then-is b x y e = rw e
-
-pub else-is : {A : Type 0} (b : Bool) (x y : A) → b ≡ false → cond b x y ≡ y
-else-is b x y e = rw e
 
 module _ (g : Geometry) (da : Segment) (n : ℕ) (o : Plan) (o-is : o ≡ addPages g n (startPlan g da)) where
   abbrev p : Plan
@@ -139,8 +142,8 @@ module _ (g : Geometry) (da : Segment) (n : ℕ) (o : Plan) (o-is : o ≡ addPag
   unfolding addRecord
   no-filter h =
       either (bool? (fills (KA g) n))
-      (λ f. absurd (let z : 4 ≡ 0 = sym (count-is ∙ then-is (fills (KA g) n) 4 0 f) ∙ h in omega arith))
-      (λ f. o-is ∙ sym (else-is (fills (KA g) n) (addFilter g (keyFilters g n) p) p f))
+      (λ f. absurd (let z : 4 ≡ 0 = sym (count-is ∙ cond-pos (fills (KA g) n) 4 0 f) ∙ h in omega arith))
+      (λ f. o-is ∙ sym (cond-neg (fills (KA g) n) (addFilter g (keyFilters g n) p) p f))
 
   pub a-filter : (q : ℕ) → q ≡ entriesPerPage (g .u) → (o .ka .count ≡ 0 → ⊥) → addFilter g (n / q) o ≡ addRecord g da n
   unfolding addRecord
@@ -148,5 +151,5 @@ module _ (g : Geometry) (da : Segment) (n : ℕ) (o : Plan) (o-is : o ≡ addPag
       either (bool? (fills (KA g) n))
       (λ f.
       ap (addFilter g (n / q)) o-is ∙ ap (λ (x : ℕ). addFilter g (n / x) p) q-is
-      ∙ sym (then-is (fills (KA g) n) (addFilter g (keyFilters g n) p) p f))
-      (λ f. absurd (h (count-is ∙ else-is (fills (KA g) n) 4 0 f)))
+      ∙ sym (cond-pos (fills (KA g) n) (addFilter g (keyFilters g n) p) p f))
+      (λ f. absurd (h (count-is ∙ cond-neg (fills (KA g) n) 4 0 f)))

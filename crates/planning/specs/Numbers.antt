@@ -59,7 +59,7 @@ module _ (g : Geometry) where
     da = p .da;
     ra = p .ra;
     ka = p .ka;
-    flush = record { first = keyIndex g .first * sectorsPerBlock + inL1 F; count = 4 };
+    flush = record { first = keyIndex g .first * sectorsPerBlock + inL1 F; count = sectorsPerPage };
     set = p .set;
     l1 = p .l1;
     old = p .old;

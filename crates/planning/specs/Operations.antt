@@ -23,7 +23,7 @@ use Rattle.plan.specs.declared.Segment.{Segment}
 use Rattle.plan.specs.Segments.{pageFrom, withItem, withEighth, filledPage, flushFrom, flushed}
 use Rattle.plan.specs.Plans.{deletionIn, recordIn, entryIn, flushPage, buildOf, planned}
 use Rattle.planning.specs.Numbers.{none, pageOf, addRecord, by-record, deletionNumbers, insertionNumbers, updateNumbers}
-use Rattle.planning.specs.Computed.{then-is, else-is}
+use Rattle.memory.specs.Booleans.{cond-pos, cond-neg}
 
 -- ---- a page that item n fills
 
@@ -103,24 +103,24 @@ module _ (h : Family) (g : Geometry) (n key : ℕ) (bytes new bits ram : List �
       → filter-plan ≡ flush-plan ++ cond (eqb (inL1 F + 1) 16) set-plan []
   unfolding flushAndBuild
   full-plan full eight =
-      then-is (fills (KA g) n) (filterPlan u (keyIndex g) F (summarized h g n key ram ram)) [] full
-      ∙ then-is (eqb (inSka F + 1) 8) (flushAndBuild u (keyIndex g) F (summarized h g n key ram ram)) [] eight
+      cond-pos (fills (KA g) n) (filterPlan u (keyIndex g) F (summarized h g n key ram ram)) [] full
+      ∙ cond-pos (eqb (inSka F + 1) 8) (flushAndBuild u (keyIndex g) F (summarized h g n key ram ram)) [] eight
 
   tail-planned : (da : Segment) → IsFilter → tail (addRecord g da n) ≡ filter-plan
   tail-planned da is =
       by-record g (λ p. tail p ≡ filter-plan) da n
-      (λ full. sym (else-is (fills (KA g) n) (filterPlan u (keyIndex g) F (summarized h g n key ram ram)) [] full))
+      (λ full. sym (cond-neg (fills (KA g) n) (filterPlan u (keyIndex g) F (summarized h g n key ram ram)) [] full))
       (λ full eight.
-      sym (then-is (fills (KA g) n) (filterPlan u (keyIndex g) F (summarized h g n key ram ram)) [] full
-      ∙ else-is (eqb (inSka F + 1) 8) (flushAndBuild u (keyIndex g) F (summarized h g n key ram ram)) [] eight))
+      sym (cond-pos (fills (KA g) n) (filterPlan u (keyIndex g) F (summarized h g n key ram ram)) [] full
+      ∙ cond-neg (eqb (inSka F + 1) 8) (flushAndBuild u (keyIndex g) F (summarized h g n key ram ram)) [] eight))
       (λ full eight last.
       ap (λ (l : List Planned). l ++ []) (flush-planned is full eight)
       ∙ sym (full-plan full eight
-      ∙ ap (λ (l : List Planned). flush-plan ++ l) (else-is (eqb (inL1 F + 1) 16) set-plan [] last)))
+      ∙ ap (λ (l : List Planned). flush-plan ++ l) (cond-neg (eqb (inL1 F + 1) 16) set-plan [] last)))
       (λ full eight last.
       ap (λ (l : List Planned). l ++ set-plan) (flush-planned is full eight)
       ∙ sym (full-plan full eight
-      ∙ ap (λ (l : List Planned). flush-plan ++ l) (then-is (eqb (inL1 F + 1) 16) set-plan [] last)))
+      ∙ ap (λ (l : List Planned). flush-plan ++ l) (cond-pos (eqb (inL1 F + 1) 16) set-plan [] last)))
 
   -- the page of a deletion, whatever it holds
   abbrev deletion-page : Segment → List Planned

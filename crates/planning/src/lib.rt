@@ -30,9 +30,8 @@ fn page(a: Area, n: usize) -> Segment
     requires { ⌜ AreaSound a × (n < 4294967296) ⌝ }
     ensures { λ r. ⌜ r ≡ pageOf (area a) n ⌝ }
 {
-    let q = a.per_page;
-    let first = Chip::first_sector(a.first) + n / q * Chip::SECTORS_PER_PAGE;
-    if n % q + 1 != q {
+    let first = Chip::first_sector(a.first) + Chip::page_sectors(n / a.per_page);
+    if !a.fills(n) {
         return Segment { first, count: 0 };
     }
     Segment {
@@ -68,7 +67,7 @@ fn start(g: Geometry, da: Segment) -> Plan
 }
 
 // The set that filter number `filters` completes, and the erases after it.
-fn add_set(p: Plan, g: Geometry, filters: usize) -> Plan
+fn add_set(g: Geometry, p: Plan, filters: usize) -> Plan
     requires { ⌜ Sound g × (inFull (g .chip .unit) filters ≤ 1024) ⌝ }
     ensures { λ r. ⌜ r ≡ addSet (shape g) filters p ⌝ }
 {
@@ -85,7 +84,7 @@ fn add_set(p: Plan, g: Geometry, filters: usize) -> Plan
     };
     let set = Segment {
         first: Chip::first_sector(sets::set_block(g.chip, next)),
-        count: sets::set_pages(c + 1) * Chip::SECTORS_PER_PAGE,
+        count: Chip::page_sectors(sets::set_pages(c + 1)),
     };
     let l1 = Segment {
         first: index.first,
@@ -103,11 +102,11 @@ fn add_set(p: Plan, g: Geometry, filters: usize) -> Plan
 }
 
 // What filter number `filters` adds: the flush where it is an eighth, and the set where that ends a round.
-fn add_filter(p: Plan, g: Geometry, filters: usize) -> Plan
+fn add_filter(g: Geometry, p: Plan, filters: usize) -> Plan
     requires { ⌜ Sound g × (inFull (g .chip .unit) filters ≤ 1024) ⌝ }
     ensures { λ r. ⌜ r ≡ addFilter (shape g) filters p ⌝ }
 {
-    if filters % sets::FILTERS_PER_FLUSH + 1 != sets::FILTERS_PER_FLUSH {
+    if !sets::fills_ska(filters) {
         return p;
     }
     let mut o = p;
@@ -120,7 +119,7 @@ fn add_filter(p: Plan, g: Geometry, filters: usize) -> Plan
     if number + 1 != sets::FLUSHES_PER_ROUND {
         return o;
     }
-    add_set(o, g, filters)
+    add_set(g, o, filters)
 }
 
 // Record n and its entry after the page of a deletion.
@@ -136,13 +135,13 @@ fn add_record(g: Geometry, da: Segment, n: usize) -> Plan
     if ka.count == 0 {
         return p;
     }
-    add_filter(p, g, n / g.entries_per_page())
+    add_filter(g, p, n / g.entries_per_page())
 }
 
 // ---- plans
 
 // Deletion d.
-pub fn deletion(g: Geometry, d: usize) -> Plan
+fn deletion(g: Geometry, d: usize) -> Plan
     requires { ⌜ Sound g × (d < deletionCapacity (shape g)) ⌝ }
     ensures { λ r. ⌜ r ≡ deletionNumbers (shape g) d ⌝ }
 {
@@ -150,7 +149,7 @@ pub fn deletion(g: Geometry, d: usize) -> Plan
 }
 
 // Record n and its entry.
-pub fn insertion(g: Geometry, n: usize) -> Plan
+fn insertion(g: Geometry, n: usize) -> Plan
     requires { ⌜ Sound g × (n < recordCapacity (shape g)) ⌝ }
     ensures { λ r. ⌜ r ≡ insertionNumbers (shape g) n ⌝ }
 {
@@ -158,7 +157,7 @@ pub fn insertion(g: Geometry, n: usize) -> Plan
 }
 
 // Deletion d, then record n and its entry.
-pub fn update(g: Geometry, d: usize, n: usize) -> Plan
+fn update(g: Geometry, d: usize, n: usize) -> Plan
     requires { ⌜ Sound g × (d < deletionCapacity (shape g)) × (n < recordCapacity (shape g)) ⌝ }
     ensures { λ r. ⌜ r ≡ updateNumbers (shape g) d n ⌝ }
 {
@@ -185,27 +184,18 @@ pub fn of(g: Geometry, e: Slots) -> Plan
     }
 }
 
-// Does item n fill its page.
-fn fills(a: Area, n: usize) -> bool
-    requires { ⌜ AreaSound a ⌝ }
-    ensures { λ r. ⌜ r ≡ layout.fills (area a) n ⌝ }
-{
-    let q = a.per_page;
-    n % q + 1 == q
-}
-
 fn deletion_fills(g: Geometry, d: usize) -> bool
     requires { ⌜ Sound g ⌝ }
     ensures { λ r. ⌜ r ≡ layout.fills (DA (shape g)) d ⌝ }
 {
-    fills(geometry::deletion_area(g), d)
+    geometry::deletion_area(g).fills(d)
 }
 
 fn record_fills(g: Geometry, n: usize) -> bool
     requires { ⌜ Sound g ⌝ }
     ensures { λ r. ⌜ r ≡ layout.fills (RA (shape g)) n ⌝ }
 {
-    fills(geometry::record_area(g), n)
+    geometry::record_area(g).fills(n)
 }
 
 // Does a change program anything: an entry fills no page where its record fills none.

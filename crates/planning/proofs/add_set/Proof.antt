@@ -58,27 +58,27 @@ set-pages-requires c κs =
     let c-lt : rounds % side .result < sideBlocks (x .g .chip .unit) = rw (side .ensures) (mod-lt rounds (omega (arith, P .0 .unit .1 .some))) in
     omega (arith, c-lt, P .0 .unit .1 .most)
 
-mul-t18 : tie.Need-mul-t18
-mul-t18 c = search needs
+page-sectors-requires : tie.Need-page-sectors-requires
+page-sectors-requires c κs = search needs
 
 side-block-requires : tie.Need-side-block-requires
 side-block-requires c κs =
-    let x = c .before .before .before .before .before .args in
-    let P = c .before .before .before .before .before .pre in
-    let side = c .before .before .before .side-blocks in
+    let x = c .before .before .before .before .before .before .args in
+    let P = c .before .before .before .before .before .before .pre in
+    let side = c .before .before .before .before .side-blocks in
     let rounds = x .filters / 8 / 16 in
-    let ix = c .before .before .before .before .key-index in
+    let ix = c .before .before .before .before .before .key-index in
     let near : ix .result .first ≤ 10240 = rw (ix .ensures) (index-le (x .g) (P .0)) in
     let c-lt : rounds % side .result < sideBlocks (x .g .chip .unit) = rw (side .ensures) (mod-lt rounds (omega (arith, P .0 .unit .1 .some))) in
     (P .0 .unit .1 .most, omega (arith, near))
 
 set-blocks-requires : tie.Need-set-blocks-requires
 set-blocks-requires c κs =
-    let x = c .before .before .before .before .before .before .args in
-    let P = c .before .before .before .before .before .before .pre in
-    let side = c .before .before .before .before .side-blocks in
+    let x = c .before .before .before .before .before .before .before .args in
+    let P = c .before .before .before .before .before .before .before .pre in
+    let side = c .before .before .before .before .before .side-blocks in
     let rounds = x .filters / 8 / 16 in
-    let ix = c .before .before .before .before .before .key-index in
+    let ix = c .before .before .before .before .before .before .key-index in
     let near : ix .result .first ≤ 10240 = rw (ix .ensures) (index-le (x .g) (P .0)) in
     let c-lt : rounds % side .result < sideBlocks (x .g .chip .unit) = rw (side .ensures) (mod-lt rounds (omega (arith, P .0 .unit .1 .some))) in
     omega (arith, c-lt, P .0 .unit .1 .most)
@@ -92,11 +92,12 @@ returns c =
     let b5 = b4 .before in
     let b6 = b5 .before in
     let b7 = b6 .before in
-    let x = b7 .args in
-    set-is (shape (x .g)) (x .filters) (x .p) (b6 .key-index .result) (b5 .side-blocks .result) (b4 .set-block .result)
-    (b3 .first-sector .result) (b2 .set-pages .result) (b1 .side-block .result) (c .set-blocks .result)
-    (b6 .key-index .ensures) (b5 .side-blocks .ensures) (b4 .set-block .ensures .0) (b3 .first-sector .ensures)
-    (b2 .set-pages .ensures .0) (b1 .side-block .ensures .0) (c .set-blocks .ensures)
+    let b8 = b7 .before in
+    let x = b8 .args in
+    set-is (shape (x .g)) (x .filters) (x .p) (b7 .key-index .result) (b6 .side-blocks .result) (b5 .set-block .result)
+    (b4 .first-sector .result) (b3 .set-pages .result) (b2 .page-sectors .result) (b1 .side-block .result) (c .set-blocks .result)
+    (b7 .key-index .ensures) (b6 .side-blocks .ensures) (b5 .set-block .ensures .0) (b4 .first-sector .ensures)
+    (b3 .set-pages .ensures .0) (b2 .page-sectors .ensures) (b1 .side-block .ensures .0) (c .set-blocks .ensures)
 
 pub add-set-spec : {M : Type 1} → statement M
 add-set-spec =
@@ -110,7 +111,7 @@ add-set-spec =
     first-sector-requires
     add-set-pages
     set-pages-requires
-    mul-t18
+    page-sectors-requires
     side-block-requires
     set-blocks-requires
     returns)
