@@ -4,7 +4,6 @@ use mathlib.Core.List.{List}
 use mathlib.Core.Bool.{true, false}
 use Prim.Native.Nat.{ℕ, _+_, _*_, _/_, _%_, _≤_, _<_}
 use native.Mathlib.Omega.{arith}
-use borrow.Author.Tests.{eq-eqb, ne-eqb}
 use Rattle.layout.specs.Geometry as layout
 use Rattle.layout.specs.Items as items
 use Rattle.layout.specs.Calls.{keyIndex, keyFilters}
@@ -41,7 +40,7 @@ filter-fits g S ix ix-is bits ram size long =
     let s : ix .ska ≡ layout.skaRam (g .chip .unit) = ap (λ (i : Index). i .ska) ix-is in
     (S .unit .1 .some, S .unit .1 .most, size, rw s (omega (arith, long)))
 
--- ---- record n, its entry, its filter; the areas, `q` and `ix` are what code computes
+-- ---- record n, its entry, its filter; the areas and `ix` are what code computes
 
 module _ (g : layout.Geometry) (n : ℕ) (new bits ram : List ℕ) where
   pub record-entered : (a b : Area) (x y : List ℕ) → area a ≡ items.RA g → area b ≡ items.KA g
@@ -52,18 +51,18 @@ module _ (g : layout.Geometry) (n : ℕ) (new bits ram : List ℕ) where
       ∙ ap (λ (l : List ℕ). items.itemRam (g .u) (items.KA g) n (entryIn new) l)
       (ex ∙ item-kept g a (items.RA g) n (recordIn new) ram a-is)
 
-  module _ (y : List ℕ) (y-is : y ≡ entered g n new ram) (q : ℕ) (q-is : q ≡ layout.entriesPerPage (g .u)) where
-    pub kept-open : (n % q + 1 ≡ q → ⊥) → y ≡ recordKept g n new bits ram
+  module _ (y : List ℕ) (y-is : y ≡ entered g n new ram) (b : Area) (b-is : area b ≡ items.KA g) where
+    pub kept-open : items.fills (area b) n ≡ false → y ≡ recordKept g n new bits ram
     kept-open h =
-        let f : items.fills (items.KA g) n ≡ false = ne-eqb _ _ (rw q-is at h) in
+        let f : items.fills (items.KA g) n ≡ false = sym (ap (λ (x : items.Area). items.fills x n) b-is) ∙ h in
         y-is ∙ sym (cond-neg (items.fills (items.KA g) n) _ (entered g n new ram) f)
 
-    pub kept-full : (ix : Index) (z : List ℕ) → n % q + 1 ≡ q → ix ≡ indexFor g → z ≡ filterKept (g .u) (indexOf ix) (n / q) bits y
+    pub kept-full : (ix : Index) (z : List ℕ) → items.fills (area b) n ≡ true → ix ≡ indexFor g → z ≡ filterKept (g .u) (indexOf ix) (n / b .«per_page») bits y
         → z ≡ recordKept g n new bits ram
     kept-full ix z h ix-is ez =
-        let f : items.fills (items.KA g) n ≡ true = eq-eqb _ _ (rw q-is at h) in
-        let e : filterKept (g .u) (indexOf ix) (n / q) bits y ≡ filterKept (g .u) (keyIndex g) (keyFilters g n) bits y
-        = ap (λ (i : Index). filterKept (g .u) (indexOf i) (n / q) bits y) ix-is
-        ∙ ap (λ (x : ℕ). filterKept (g .u) (keyIndex g) (n / x) bits y) q-is in
+        let f : items.fills (items.KA g) n ≡ true = sym (ap (λ (x : items.Area). items.fills x n) b-is) ∙ h in
+        let e : filterKept (g .u) (indexOf ix) (n / b .«per_page») bits y ≡ filterKept (g .u) (keyIndex g) (keyFilters g n) bits y
+        = ap (λ (i : Index). filterKept (g .u) (indexOf i) (n / b .«per_page») bits y) ix-is
+        ∙ ap (λ (x : items.Area). filterKept (g .u) (keyIndex g) (n / x .perPage) bits y) b-is in
         ez ∙ e ∙ ap (filterKept (g .u) (keyIndex g) (keyFilters g n) bits) y-is
         ∙ sym (cond-pos (items.fills (items.KA g) n) (filterKept (g .u) (keyIndex g) (keyFilters g n) bits (entered g n new ram)) _ f)

@@ -1,7 +1,7 @@
 -- A filter in the SKA page, fourth after fourth.
 use mathlib.Core.Path.{_≡_, refl, sym, ap, _∙_}
 use mathlib.Core.List.{List}
-use Prim.Native.Nat.{ℕ, zero, suc, _+_, _-_, _*_, _/_, _%_, _≤_, _<_}
+use Prim.Native.Nat.{ℕ, zero, suc, _+_, _-_, _*_, _%_, _≤_, _<_}
 use native.Mathlib.Nat.{mul-le-mul-right}
 use native.Mathlib.Omega.{arith}
 use lib.ListN.{length, getD, take, drop, replicate}
@@ -38,47 +38,41 @@ none-yet size piece at bits ram = refl
 pub zero-at : (u place at size : ℕ) (ram : List ℕ) → at ≡ place → size ≡ page u → write ram at (replicate size 0) ≡ zeroPage u place ram
 zero-at u place at size ram e d = rw (e, d)
 
--- `size` and `piece` are what code computes
-module _ (u size piece : ℕ) (e : size ≡ sector u) (p : piece ≡ size / 8) where
-  piece-is : piece ≡ 2 * u
-  piece-is = omega (arith, e, p)
-
+-- `piece` and `off` are what code computes
+module _ (u piece : ℕ) (piece-is : piece ≡ fourthSize u) where
   pub in-bits : (i : ℕ) → i < 4 → u ≤ 32 → i * piece + piece ≤ 256
   in-bits i h small = rw piece-is (omega (arith, mul-le-mul-right (2 * u) h, small))
 
-  pub in-page : (at i ram : ℕ) → i < 4 → at + 3 * sector u + 2 * u ≤ ram → at + i * size + piece ≤ ram
+  pub in-page : (at i ram : ℕ) → i < 4 → at + 3 * sector u + 2 * u ≤ ram → at + i * sector u + piece ≤ ram
   in-page at i ram h fits =
       let l : i ≤ 3 = omega arith in
-      rw (piece-is, e) (omega (arith, mul-le-mul-right (sector u) l, fits))
+      rw piece-is (omega (arith, mul-le-mul-right (sector u) l, fits))
 
   -- one turn
-  pub more-pieces : (at i : ℕ) (bits ram₀ ram ram′ : List ℕ) → ((k : ℕ) → getD bits k 0 < 256) → length bits ≡ 256 → u ≤ 32 → i < 4
-      → ram ≡ piecesOf size piece at i bits ram₀
-      → ram′ ≡ write ram (at + i * size) (take (i * piece + piece - i * piece) (drop (i * piece) bits))
-      → ram′ ≡ piecesOf size piece at (i + 1) bits ram₀
-  more-pieces at i bits ram₀ ram ram′ bytes len small h a b =
+  pub more-pieces : (at i off : ℕ) → off ≡ i * sector u → (bits ram₀ ram ram′ : List ℕ) → ((k : ℕ) → getD bits k 0 < 256) → length bits ≡ 256 → u ≤ 32 → i < 4
+      → ram ≡ piecesOf (sector u) piece at i bits ram₀
+      → ram′ ≡ write ram (at + off) (take (i * piece + piece - i * piece) (drop (i * piece) bits))
+      → ram′ ≡ piecesOf (sector u) piece at (i + 1) bits ram₀
+  more-pieces at i off o bits ram₀ ram ram′ bytes len small h a b =
       let s : i + 1 ≡ suc i = omega arith in
       let l = mul-le-mul-right (2 * u) h in
       let t = piece-of u i (i * (2 * u)) (i * (2 * u) + 2 * u) bits bytes refl refl (omega (arith, l, len, small)) in
       let f : ℕ → ℕ → ℕ = λ i y. pack 8 (λ b. arrayBit bits (i * sector u + (y * 8 + b))) in
-      let a′ : ram ≡ pieces (2 * u) (sector u) at i f ram₀ = rw (piece-is, e) at a in
-      let b′ : ram′ ≡ write ram (at + i * sector u) (tab (2 * u) (f i)) = rw (piece-is, e, t) at b in
-      rw (s, piece-is, e)
+      let a′ : ram ≡ pieces (2 * u) (sector u) at i f ram₀ = rw piece-is at a in
+      let b′ : ram′ ≡ write ram (at + i * sector u) (tab (2 * u) (f i)) = rw (piece-is, o, t) at b in
+      rw (s, piece-is)
       (b′ ∙ ap (λ (l : List ℕ). write l (at + i * sector u) (tab (2 * u) (f i))) a′ ∙ sym (pieces-more (2 * u) (sector u) at i f ram₀))
 
-  pub all-pieces : (at k : ℕ) (bits ram₀ ram : List ℕ) → k ≡ 4 → ram ≡ piecesOf size piece at k bits ram₀ → ram ≡ fourths u at bits ram₀
-  all-pieces at k bits ram₀ ram h a = rw (h, piece-is, e) at a
+  pub all-pieces : (at k : ℕ) (bits ram₀ ram : List ℕ) → k ≡ 4 → ram ≡ piecesOf (sector u) piece at k bits ram₀ → ram ≡ fourths u at bits ram₀
+  all-pieces at k bits ram₀ ram h a = rw (h, piece-is) at a
 
--- filter F in the SKA page; `size` is what code computes
-module _ (u size : ℕ) (e : size ≡ sector u) (F : ℕ) where
-  eighth-is : size / 8 ≡ 2 * u
-  eighth-is = omega (arith, e)
-
-  pub slot-fits : (ska ram : ℕ) → ska + page u ≤ ram → ska + F % 8 * (size / 8) + 3 * sector u + 2 * u ≤ ram
+-- filter F in the SKA page; `piece` is what code computes
+module _ (u piece : ℕ) (piece-is : piece ≡ fourthSize u) (F : ℕ) where
+  pub slot-fits : (ska ram : ℕ) → ska + page u ≤ ram → ska + F % 8 * piece + 3 * sector u + 2 * u ≤ ram
   slot-fits ska ram h =
       let l : F % 8 + 1 ≤ 8 = omega arith in
-      rw eighth-is (omega (arith, mul-le-mul-right (2 * u) l, h))
+      rw piece-is (omega (arith, mul-le-mul-right (2 * u) l, h))
 
   pub filter-put : (ix : Index) (bits ram : List ℕ)
-      → fourths u (ix .ska + F % 8 * (size / 8)) bits ram ≡ withFilter u ix (inSka F) (arrayBit bits) ram
-  filter-put ix bits ram = rw eighth-is
+      → fourths u (ix .ska + F % 8 * piece) bits ram ≡ withFilter u ix (inSka F) (arrayBit bits) ram
+  filter-put ix bits ram = rw piece-is

@@ -18,15 +18,14 @@ use geometry::sets::Index;
 use planning::Slots;
 
 // Item n: to its place, or, where it fills its page, the page zeroed.
-pub fn keep_item(chip: Chip, a: Area, n: usize, item: &[u8], ram: &mut [u8])
+fn keep_item(chip: Chip, a: Area, n: usize, item: &[u8], ram: &mut [u8])
     requires { ⌜ AreaSound a × (chip .unit ≤ 32) × (a .«per_page» * a .size ≡ page (chip .unit)) ⌝ }
     requires { ⌜ (length (now item) ≡ a .size) × (a .ram + page (chip .unit) ≤ length (now ram)) ⌝ }
     ensures { λ _. ⌜ after ram ≡ itemRam (chip .unit) (area a) n (before item) (before ram) ⌝ }
 {
-    let q = a.per_page;
-    let i = n % q;
+    let i = n % a.per_page;
     words::copy_at(ram, a.ram + i * a.size, item);
-    if i + 1 != q {
+    if !a.fills(n) {
         return;
     }
     words::fill_at(ram, a.ram, chip.page_size(), 0);
@@ -38,27 +37,26 @@ fn put_fourths(chip: Chip, at: usize, bits: &[u8], ram: &mut [u8])
     requires { ⌜ at + 3 * sector (chip .unit) + fourthSize (chip .unit) ≤ length (now ram) ⌝ }
     ensures { λ _. ⌜ after ram ≡ fourths (chip .unit) at (before bits) (before ram) ⌝ }
 {
-    let size = chip.sector_size();
-    let piece = size / sets::FILTERS_PER_FLUSH;
+    let piece = chip.fourth_size();
     let mut i = 0;
     while i < Chip::SECTORS_PER_PAGE {
         let lo = i * piece;
         let hi = lo + piece;
-        words::copy_at(ram, at + i * size, &bits[lo..hi]);
+        words::copy_at(ram, at + chip.sector_address(i), &bits[lo..hi]);
         i += 1;
     }
 }
 
 // Filter number `filters`: to its place in the SKA page, or, where it fills that page, the page zeroed.
-pub fn keep_filter(chip: Chip, ix: Index, filters: usize, bits: &[u8], ram: &mut [u8])
+fn keep_filter(chip: Chip, ix: Index, filters: usize, bits: &[u8], ram: &mut [u8])
     requires { ⌜ (0 < chip .unit) × (chip .unit ≤ 32) × (length (now bits) ≡ 256)
         × (ix .ska + page (chip .unit) ≤ length (now ram)) ⌝ }
     ensures { λ _. ⌜ after ram ≡ filterKept (chip .unit) (indexOf ix) filters (before bits) (before ram) ⌝ }
 {
     let slot = filters % sets::FILTERS_PER_FLUSH;
-    let piece = chip.sector_size() / sets::FILTERS_PER_FLUSH;
+    let piece = chip.fourth_size();
     put_fourths(chip, ix.ska + slot * piece, bits, ram);
-    if slot + 1 != sets::FILTERS_PER_FLUSH {
+    if !sets::fills_ska(filters) {
         return;
     }
     words::fill_at(ram, ix.ska, chip.page_size(), 0);
@@ -70,7 +68,13 @@ fn keep_deletion(g: Geometry, d: usize, new: &[u8], ram: &mut [u8])
     requires { ⌜ Sound g × (length (now new) ≡ newLength) × (ramSize (shape g) ≤ length (now ram)) ⌝ }
     ensures { λ _. ⌜ after ram ≡ deletionKept (shape g) d (before new) (before ram) ⌝ }
 {
-    keep_item(g.chip, geometry::deletion_area(g), d, &new[0..4], ram);
+    keep_item(
+        g.chip,
+        geometry::deletion_area(g),
+        d,
+        &new[0..plan::RECORD_AT],
+        ram,
+    );
 }
 
 // Record n and its entry, and the filter of the page that the entry fills.
@@ -79,16 +83,28 @@ fn keep_record(g: Geometry, n: usize, new: &[u8], bits: &[u8], ram: &mut [u8])
         × (ramSize (shape g) ≤ length (now ram)) ⌝ }
     ensures { λ _. ⌜ after ram ≡ recordKept (shape g) n (before new) (before bits) (before ram) ⌝ }
 {
-    let q = g.entries_per_page();
-    keep_item(g.chip, geometry::record_area(g), n, &new[4..20], ram);
-    keep_item(g.chip, geometry::entry_area(g), n, &new[20..28], ram);
-    if n % q + 1 != q {
+    let entries = geometry::entry_area(g);
+    keep_item(
+        g.chip,
+        geometry::record_area(g),
+        n,
+        &new[plan::RECORD_AT..plan::ENTRY_AT],
+        ram,
+    );
+    keep_item(
+        g.chip,
+        entries,
+        n,
+        &new[plan::ENTRY_AT..plan::NEW_SIZE],
+        ram,
+    );
+    if !entries.fills(n) {
         return;
     }
-    keep_filter(g.chip, sets::key_index(g), n / q, bits, ram);
+    keep_filter(g.chip, sets::key_index(g), n / entries.per_page, bits, ram);
 }
 
-// The work page.
+// The work page is zeroed.
 fn clear_work(g: Geometry, ram: &mut [u8])
     requires { ⌜ Sound g × (ramSize (shape g) ≤ length (now ram)) ⌝ }
     ensures { λ _. ⌜ after ram ≡ zeroPage (g .chip .unit) (workRam (g .chip .unit)) (before ram) ⌝ }

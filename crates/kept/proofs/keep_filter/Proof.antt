@@ -1,23 +1,23 @@
 use native.Mathlib.Omega.{arith}
-use mathlib.Core.Path.{refl, ap, _∙_}
+use mathlib.Core.Path.{refl, sym, ap, _∙_}
 use mathlib.Core.List.{List}
 use Prim.Native.Nat.{ℕ}
-use borrow.Author.Tests.{eq-eqb, ne-eqb}
 use Rattle.layout.specs.Items.{zeroPage}
 use Rattle.geometry.specs.Indexes.{indexOf}
+use Rattle.planning.specs.Computed.{not-taken, not-left}
 use Rattle.kept.specs.Pieces.{zero-at, slot-fits, filter-put}
 use borrow.Author.Needs.{needs}
 use Rattle.kept.proofs.keep_filter.Statement.{statement}
 use Rattle.kept.proofs.keep_filter.Tie as tie
 
-sector-size-requires : tie.Need-sector-size-requires
-sector-size-requires c κs = search needs
+fourth-size-requires : tie.Need-fourth-size-requires
+fourth-size-requires c κs = search needs
 
 mul-put-fourths : tie.Need-mul-put-fourths
 mul-put-fourths c =
     let x = c .before .before .before .args in
     let P = c .before .before .before .pre in
-    let z = c .sector-size in
+    let z = c .fourth-size in
     let s = slot-fits (x .chip .unit) (z .result) (z .ensures) (x .filters) (x .ix .ska) _ (P .3) in
     omega (arith, s)
 
@@ -25,7 +25,7 @@ add-put-fourths : tie.Need-add-put-fourths
 add-put-fourths c =
     let x = c .before .before .before .before .args in
     let P = c .before .before .before .before .pre in
-    let z = c .before .sector-size in
+    let z = c .before .fourth-size in
     let s = slot-fits (x .chip .unit) (z .result) (z .ensures) (x .filters) (x .ix .ska) _ (P .3) in
     omega (arith, s)
 
@@ -33,23 +33,26 @@ put-fourths-requires : tie.Need-put-fourths-requires
 put-fourths-requires c κs =
     let x = c .before .before .before .before .before .args in
     let P = c .before .before .before .before .before .pre in
-    let z = c .before .before .sector-size in
+    let z = c .before .before .fourth-size in
     let s = slot-fits (x .chip .unit) (z .result) (z .ensures) (x .filters) (x .ix .ska) _ (P .3) in
     ((P .0, P .1, P .2), s)
 
-add-if1 : tie.Need-add-if1
-add-if1 c = search needs
+fills-ska-requires : tie.Need-fills-ska-requires
+fills-ska-requires c κs = search needs
 
 same-length : tie.Need-same-length
 same-length c = search needs
 
 returns : tie.Need-returns
 returns c =
-    let x = c .before .before .before .before .before .before .before .before .before .args in
-    let z = c .before .before .before .before .before .before .sector-size in
-    let p = c .before .before .before .put-fourths .ensures
+    let b1 = c .before in
+    let b2 = b1 .before .before .before in
+    let b3 = b2 .before .before .before in
+    let x = b3 .before .before .before .args in
+    let z = b3 .fourth-size in
+    let p = b2 .put-fourths .ensures
     ∙ filter-put (x .chip .unit) (z .result) (z .ensures) (x .filters) (indexOf (x .ix)) (x .bits .now) (x .ram .now) in
-    rw (ne-eqb _ _ (c .if1 .taken)) p
+    rw (sym (b1 .fills-ska .ensures) ∙ not-taken _ (c .if1 .taken)) p
 
 page-size-requires : tie.Need-page-size-requires
 page-size-requires c κs = search needs
@@ -65,14 +68,15 @@ returns-2 c =
     let b1 = c .before .before in
     let b2 = b1 .before in
     let b3 = b2 .before .before in
-    let b4 = b3 .before .before .before in
+    let f = b3 .before in
+    let b4 = f .before .before .before in
     let b5 = b4 .before .before .before in
     let b6 = b5 .before .before .before in
     let x = b6 .args in
-    let z = b5 .sector-size in
+    let z = b5 .fourth-size in
     let p = b4 .put-fourths .ensures
     ∙ filter-put (x .chip .unit) (z .result) (z .ensures) (x .filters) (indexOf (x .ix)) (x .bits .now) (x .ram .now) in
-    rw (eq-eqb _ _ (b3 .if1 .left))
+    rw (sym (f .fills-ska .ensures) ∙ not-left _ (b3 .if1 .left))
     (b1 .fill-at .ensures ∙ zero-at (x .chip .unit) (x .ix .ska) (x .ix .ska) (b2 .page-size .result) _ refl (b2 .page-size .ensures)
     ∙ ap (λ (r : List ℕ). zeroPage (x .chip .unit) (x .ix .ska) r) p)
 
@@ -80,11 +84,11 @@ pub keep-filter-spec : {M : Type 1} → statement M
 keep-filter-spec =
     tie.close
     (tie.spec
-    sector-size-requires
+    fourth-size-requires
     mul-put-fourths
     add-put-fourths
     put-fourths-requires
-    add-if1
+    fills-ska-requires
     same-length
     returns
     page-size-requires

@@ -1,65 +1,67 @@
 use borrow.Author.Needs.{needs}
+use native.Mathlib.Nat.{mul-le-mul}
 use native.Mathlib.Omega.{arith}
-use Prim.Native.Nat.{ℕ, _-_, _*_, _/_, _≤_}
+use Prim.Native.Nat.{_-_, _*_, _≤_}
 use mathlib.Core.Path.{_≡_, refl}
 use lib.ListN.{length}
 use Rattle.memory.specs.Lists.{length-part}
+use Rattle.layout.specs.Geometry.{sector}
 use Rattle.kept.specs.Pieces.{piecesOf, none-yet, in-bits, in-page, more-pieces, all-pieces}
 use Rattle.kept.proofs.put_fourths.Statement.{statement}
 use Rattle.kept.proofs.put_fourths.Tie as tie
 
 abbrev Inv-loop : tie.InvT-loop
-Inv-loop at bits ram₀ size piece i₀ ram i =
-    (i ≤ 4) × (length ram ≡ length ram₀) × (ram ≡ piecesOf size piece at i bits ram₀)
+Inv-loop chip at bits ram₀ piece i₀ ram i =
+    (i ≤ 4) × (length ram ≡ length ram₀) × (ram ≡ piecesOf (sector (chip .unit)) piece at i bits ram₀)
 
 abbrev μ-loop : tie.MeasureT-loop
-μ-loop at bits ram₀ size piece i₀ ram i = 4 - i
+μ-loop chip at bits ram₀ piece i₀ ram i = 4 - i
 
-sector-size-requires : tie.Need-sector-size-requires Inv-loop μ-loop
-sector-size-requires c κs = search needs
+fourth-size-requires : tie.Need-fourth-size-requires Inv-loop μ-loop
+fourth-size-requires c κs = search needs
 
 loop-holds : tie.Need-loop-holds Inv-loop μ-loop
 loop-holds c = (omega arith, refl, none-yet _ _ _ _ _)
 
 mul-lo : tie.Need-mul-lo Inv-loop μ-loop
 mul-lo c =
-    let x = c .before .before .before .before .before .args in
-    let P = c .before .before .before .before .before .pre in
-    let z = c .before .before .sector-size in
-    let l = c .before .loop in
-    omega (arith, in-bits (x .chip .unit) (z .result) (z .result / 8) (z .ensures) refl (l .i) (c .loop-test .taken) (P .0 .1), P .0 .2)
+    let b1 = c in
+    let b2 = b1 .before in
+    let z = b2 .before .fourth-size in
+    let b3 = b2 .before .before .before .before in
+    let x = b3 .args in
+    let P = b3 .pre in
+    omega (arith, in-bits (x .chip .unit) (z .result) (z .ensures) (b2 .loop .i) (b1 .loop-test .taken) (P .0 .1), P .0 .2)
 
 add-hi : tie.Need-add-hi Inv-loop μ-loop
 add-hi c =
-    let x = c .before .before .before .before .before .args in
-    let P = c .before .before .before .before .before .pre in
-    let z = c .before .before .sector-size in
-    let l = c .before .loop in
-    omega (arith, in-bits (x .chip .unit) (z .result) (z .result / 8) (z .ensures) refl (l .i) (c .loop-test .taken) (P .0 .1), P .0 .2)
-
-mul-copy-at : tie.Need-mul-copy-at Inv-loop μ-loop
-mul-copy-at c =
-    let b1 = c .before in
+    let b1 = c in
     let b2 = b1 .before in
-    let b3 = b2 .before in
-    let b4 = b3 .before .before .before in
-    let x = b4 .args in
-    let P = b4 .pre in
-    let z = b3 .sector-size in
-    let l = b2 .loop in
-    omega (arith, in-page (x .chip .unit) (z .result) (z .result / 8) (z .ensures) refl (x .at) (l .i) _ (b1 .loop-test .taken) (P .1))
+    let z = b2 .before .fourth-size in
+    let b3 = b2 .before .before .before .before in
+    let x = b3 .args in
+    let P = b3 .pre in
+    omega (arith, in-bits (x .chip .unit) (z .result) (z .ensures) (b2 .loop .i) (b1 .loop-test .taken) (P .0 .1), P .0 .2)
+
+sector-address-requires : tie.Need-sector-address-requires Inv-loop μ-loop
+sector-address-requires c κs =
+    let b1 = c .before in
+    let P = b1 .before .before .before .before .before .pre in
+    (P .0 .1, omega (arith, mul-le-mul (b1 .loop-test .taken) (P .0 .1)))
 
 add-copy-at : tie.Need-add-copy-at Inv-loop μ-loop
 add-copy-at c =
-    let b1 = c .before in
+    let b1 = c .before .before in
     let b2 = b1 .before in
-    let b3 = b2 .before in
-    let b4 = b3 .before .before .before in
-    let x = b4 .args in
-    let P = b4 .pre in
-    let z = b3 .sector-size in
-    let l = b2 .loop in
-    omega (arith, in-page (x .chip .unit) (z .result) (z .result / 8) (z .ensures) refl (x .at) (l .i) _ (b1 .loop-test .taken) (P .1))
+    let z = b2 .before .fourth-size in
+    let b3 = b2 .before .before .before .before in
+    let x = b3 .args in
+    let P = b3 .pre in
+    omega (
+      arith,
+      in-page (x .chip .unit) (z .result) (z .ensures) (x .at) (b2 .loop .i) _ (b1 .loop-test .taken) (P .1),
+      c .sector-address .ensures,
+    )
 
 sub-copy-at : tie.Need-sub-copy-at Inv-loop μ-loop
 sub-copy-at c = omega arith
@@ -69,30 +71,27 @@ part-copy-at-start c = omega arith
 
 part-copy-at-end : tie.Need-part-copy-at-end Inv-loop μ-loop
 part-copy-at-end c =
-    let b1 = c .before in
+    let b1 = c .before .before in
     let b2 = b1 .before in
-    let b3 = b2 .before in
-    let b4 = b3 .before .before .before in
-    let x = b4 .args in
-    let P = b4 .pre in
-    let z = b3 .sector-size in
-    let l = b2 .loop in
-    omega (arith, in-bits (x .chip .unit) (z .result) (z .result / 8) (z .ensures) refl (l .i) (b1 .loop-test .taken) (P .0 .1), P .0 .2)
+    let z = b2 .before .fourth-size in
+    let b3 = b2 .before .before .before .before in
+    let x = b3 .args in
+    let P = b3 .pre in
+    omega (arith, in-bits (x .chip .unit) (z .result) (z .ensures) (b2 .loop .i) (b1 .loop-test .taken) (P .0 .1), P .0 .2)
 
 copy-at-requires : tie.Need-copy-at-requires Inv-loop μ-loop
 copy-at-requires c κs =
-    let b1 = c .before .before in
+    let b1 = c .before .before .before in
     let b2 = b1 .before in
-    let b3 = b2 .before in
-    let b4 = b3 .before .before .before in
-    let x = b4 .args in
-    let P = b4 .pre in
-    let z = b3 .sector-size in
+    let z = b2 .before .fourth-size in
     let l = b2 .loop in
-    let b = in-bits (x .chip .unit) (z .result) (z .result / 8) (z .ensures) refl (l .i) (b1 .loop-test .taken) (P .0 .1) in
-    let k = length-part (x .bits .now) (l .i * (z .result / 8)) (z .result / 8) (omega (arith, b, P .0 .2)) in
-    let p = in-page (x .chip .unit) (z .result) (z .result / 8) (z .ensures) refl (x .at) (l .i) _ (b1 .loop-test .taken) (P .1) in
-    omega (arith, p, k, l .inv .1)
+    let b3 = b2 .before .before .before .before in
+    let x = b3 .args in
+    let P = b3 .pre in
+    let b = in-bits (x .chip .unit) (z .result) (z .ensures) (l .i) (b1 .loop-test .taken) (P .0 .1) in
+    let k = length-part (x .bits .now) (l .i * z .result) (z .result) (omega (arith, b, P .0 .2)) in
+    let p = in-page (x .chip .unit) (z .result) (z .ensures) (x .at) (l .i) _ (b1 .loop-test .taken) (P .1) in
+    omega (arith, p, k, l .inv .1, c .before .sector-address .ensures)
 
 add-i : tie.Need-add-i Inv-loop μ-loop
 add-i c = omega arith
@@ -103,21 +102,22 @@ loop-less c = omega arith
 loop-again : tie.Need-loop-again Inv-loop μ-loop
 loop-again c =
     let b1 = c .before .before in
-    let b2 = b1 .before .before .before in
-    let b3 = b2 .before in
+    let b2 = b1 .before .before in
+    let b3 = b2 .before .before in
     let b4 = b3 .before in
-    let b5 = b4 .before .before in
-    let b6 = b5 .before in
-    let x = b6 .args in
-    let P = b6 .pre in
-    let z = b4 .sector-size in
-    let l = b3 .loop in
-    let r = b1 .copy-at in (
+    let b5 = b4 .before in
+    let b6 = b5 .before .before in
+    let b7 = b6 .before in
+    let x = b7 .args in
+    let P = b7 .pre in
+    let z = b5 .fourth-size in
+    let l = b4 .loop in
+    let a = b2 .sector-address in (
       omega arith,
       omega arith,
-      more-pieces (x .chip .unit) (z .result) (z .result / 8) (z .ensures) refl (x .at) (l .i) (x .bits .now)
-          (x .ram .now) (l .ram) _ (λ k. omega (arith, b5 .shared-slice-known .given k)) (P .0 .2) (P .0 .1)
-          (b2 .loop-test .taken) (l .inv .2) (r .ensures),
+      more-pieces (x .chip .unit) (z .result) (z .ensures) (x .at) (l .i) (a .result) (a .ensures) (x .bits .now)
+          (x .ram .now) (l .ram) _ (λ k. omega (arith, b6 .shared-slice-known .given k)) (P .0 .2) (P .0 .1)
+          (b3 .loop-test .taken) (l .inv .2) (b1 .copy-at .ensures),
     )
 
 same-length : tie.Need-same-length Inv-loop μ-loop
@@ -126,10 +126,9 @@ same-length c = omega arith
 returns : tie.Need-returns Inv-loop μ-loop
 returns c =
     let x = c .before .before .before .before .before .args in
-    let P = c .before .before .before .before .before .pre in
-    let z = c .before .before .sector-size in
+    let z = c .before .before .fourth-size in
     let l = c .before .loop in
-    all-pieces (x .chip .unit) (z .result) (z .result / 8) (z .ensures) refl (x .at) (l .i)
+    all-pieces (x .chip .unit) (z .result) (z .ensures) (x .at) (l .i)
     (x .bits .now) (x .ram .now) (l .ram) (omega arith) (l .inv .2)
 
 pub put-fourths-spec : {M : Type 1} → statement M
@@ -138,11 +137,11 @@ put-fourths-spec =
     (tie.spec
     Inv-loop
     μ-loop
-    sector-size-requires
+    fourth-size-requires
     loop-holds
     mul-lo
     add-hi
-    mul-copy-at
+    sector-address-requires
     add-copy-at
     sub-copy-at
     part-copy-at-start
