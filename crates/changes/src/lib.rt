@@ -8,7 +8,7 @@ ghost use Rattle.layout.specs.Hash.{fnvFamily};
 ghost use Rattle.layout.specs.Calls.{more, change};
 ghost use Rattle.laws.specs.LentFlash.{flashBefore, flashAfter};
 ghost use Rattle.geometry.specs.Shape.{shape, Sound};
-ghost use Rattle.state.specs.Contract.{stateIs, recordIs, volume, given, seen, leftBy};
+ghost use Rattle.state.specs.Contract.{recordIs, volume, given, seen, leftBy};
 ghost use Rattle.state.specs.Judge.{Long, Fits};
 ghost use Rattle.planning.specs.New.{newBytes};
 ghost use Rattle.planning.specs.Edits.{Room};
@@ -79,7 +79,7 @@ fn record_refusal(g: Geometry, n: u32) -> u32
     if g.record_capacity() <= n as usize {
         return state::FULL;
     }
-    0
+    state::ACCEPTED
 }
 
 // 6 if there is none for one more deletion.
@@ -90,10 +90,10 @@ fn deletion_refusal(g: Geometry, d: u32) -> u32
     if g.deletion_capacity() <= d as usize {
         return state::DELETIONS_FULL;
     }
-    0
+    state::ACCEPTED
 }
 
-// 5, then 6, of what the edit adds; 0 where there is room for it.
+// 5, then 6, of what the edit adds; accepted where there is room for it.
 fn room_refusal(g: Geometry, s: State, e: Edit) -> u32
     requires { ⌜ Sound g ⌝ }
     ensures { λ r. ⌜ r ≡ roomRefusal (shape g) (s .records) (s .deletions) (editIs e) ⌝ }
@@ -103,7 +103,7 @@ fn room_refusal(g: Geometry, s: State, e: Edit) -> u32
         Edit::Delete(_) => deletion_refusal(g, s.deletions),
         Edit::Replace(_, _) => {
             let i = record_refusal(g, s.records);
-            if i != 0 {
+            if i != state::ACCEPTED {
                 return i;
             }
             deletion_refusal(g, s.deletions)
@@ -125,18 +125,27 @@ fn record_number(g: Geometry, e: Slots) -> u32
     }
 }
 
+// Where the words of the new bytes lie behind the record's key and the entry's.
+const MOVES_AT: usize = plan::RECORD_AT + 4;
+
+const GOAL_AT: usize = MOVES_AT + 4;
+
+const FREE_AT: usize = GOAL_AT + 4;
+
+const NUMBER_AT: usize = plan::ENTRY_AT + 4;
+
 // The deletion of record `old`, then record n and its entry.
-fn new_bytes(old: u32, record: Record, n: u32) -> [u8; 28]
+fn new_bytes(old: u32, record: Record, n: u32) -> [u8; plan::NEW_SIZE]
     ensures { λ r. ⌜ r ≡ newBytes old (recordIs «record») n ⌝ }
 {
-    let mut b = [0u8; 28];
+    let mut b = [0u8; plan::NEW_SIZE];
     words::put32(&mut b, 0, old);
-    words::put32(&mut b, 4, record.key);
-    words::put32(&mut b, 8, record.moves);
-    words::put32(&mut b, 12, record.goal);
-    words::put32(&mut b, 16, record.free);
-    words::put32(&mut b, 20, record.key);
-    words::put32(&mut b, 24, n);
+    words::put32(&mut b, plan::RECORD_AT, record.key);
+    words::put32(&mut b, MOVES_AT, record.moves);
+    words::put32(&mut b, GOAL_AT, record.goal);
+    words::put32(&mut b, FREE_AT, record.free);
+    words::put32(&mut b, plan::ENTRY_AT, record.key);
+    words::put32(&mut b, NUMBER_AT, n);
     b
 }
 
@@ -145,14 +154,13 @@ fn entry_bits(g: Geometry, n: usize, key: u32, ram: &[u8]) -> [u8; 256]
     requires { ⌜ Sound g × (ramSize (shape g) ≤ length (now ram)) ⌝ }
     ensures { λ r. ⌜ FilterOf (shape g) n key (before ram) r ⌝ }
 {
-    let q = g.entries_per_page();
-    if n % q + 1 != q {
+    if !geometry::entry_area(g).fills(n) {
         return [0u8; 256];
     }
     filter::new_filter(g.chip, g.ka_ram(), key, ram)
 }
 
-// That of the entry that takes a place.
+// The filter of the entry that takes a place; no bits where none does.
 fn new_bits(g: Geometry, e: Slots, key: u32, ram: &[u8]) -> [u8; 256]
     requires { ⌜ Sound g × (ramSize (shape g) ≤ length (now ram)) ⌝ }
     ensures { λ r. ⌜ BitsOf (shape g) key (before ram) r e ⌝ }
@@ -234,7 +242,7 @@ pub fn apply(
     ensures { λ r. ⌜ leftBy r main spare ram ≡ seen (change fnvFamily (shape g) (given s main spare ram) (editIs e)) ⌝ }
 {
     let i = room_refusal(g, s, e);
-    if i != 0 {
+    if i != state::ACCEPTED {
         return state::refuse(s, i);
     }
     if !commit(
@@ -249,7 +257,7 @@ pub fn apply(
         return state::refuse(s, state::NOT_FRESH);
     }
     Change {
-        refusal: 0,
+        refusal: state::ACCEPTED,
         state: counted_state(s, e),
     }
 }

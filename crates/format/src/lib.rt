@@ -42,7 +42,7 @@ pub fn format(old: State, sizes: Sizes, main: &mut [u8], spare: &mut [u8], ram: 
                 deletions: 0,
             };
             return Change {
-                refusal: 0,
+                refusal: state::ACCEPTED,
                 state: s,
             };
         }

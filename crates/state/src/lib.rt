@@ -32,14 +32,16 @@ pub struct Record {
     pub free: u32,
 }
 
-// The answer of a changing call: a refusal's number, 0 for accepted, and the state after it.
+// The answer of a changing call: a refusal's number or `ACCEPTED`, and the state after it.
 #[repr(C)]
 pub struct Change {
     pub refusal: u32,
     pub state: State,
 }
 
-// ---- the refusals by name
+// ---- the answers by name
+
+pub const ACCEPTED: u32 = 0;
 
 pub const BAD_STATE: u32 = 1;
 
@@ -103,7 +105,7 @@ fn too_short(g: Geometry, main: &[u8], spare: &[u8], ram: &[u8]) -> bool
     ram.len() < g.ram_size()
 }
 
-// Of a state that is handed in.
+// Judges a state that is handed in.
 pub fn judge(s: State, main: &[u8], spare: &[u8], ram: &[u8]) -> Judged
     ensures equal { λ r. ⌜ r ≡ judgedOf (given s main spare ram) ⌝ }
     ensures fits { λ r. ⌜ GoodFits (given s main spare ram) r ⌝ }
@@ -124,7 +126,7 @@ pub fn judge(s: State, main: &[u8], spare: &[u8], ram: &[u8]) -> Judged
     }
 }
 
-// Of a format.
+// Judges the sizes of a format.
 pub fn judge_new(sizes: Sizes, main: &[u8], spare: &[u8], ram: &[u8]) -> Judged
     ensures equal { λ r. ⌜ r ≡ judgedNew (sizesIs sizes) (flashBefore main spare) (before ram) ⌝ }
     ensures fits { λ r. ⌜ NewFits (sizesIs sizes) (flashBefore main spare) (before ram) r ⌝ }
