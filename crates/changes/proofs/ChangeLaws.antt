@@ -7,7 +7,7 @@ use native.Mathlib.Omega.{arith}
 use lib.Dec.{leb}
 use borrow.Author.Tests.{leb-false}
 use Rattle.layout.specs.Geometry as layout
-use Rattle.layout.specs.Flash.{Flash, Op, Planned, planOps, allFresh}
+use Rattle.layout.specs.Flash.{Flash, Planned, planOps, allFresh}
 use Rattle.layout.specs.Hash.{fnvFamily}
 use Rattle.layout.specs.Items.{recordBytes}
 use Rattle.layout.specs.Refusals as refusal
@@ -21,7 +21,7 @@ use Rattle.planning.specs.Edits.{Room, planOf, ramOf}
 use Rattle.changes.specs.declared.Edit.{Edit}
 use Rattle.changes.specs.declared.Edit.the-variants.{Insert, Delete, Replace}
 use Rattle.changes.specs.Edits.{editIs, oldNumber, newRecord, slotsOf, roomRefusal}
-use Rattle.changes.specs.Commit.{Committed, opsOf, ramAfter}
+use Rattle.changes.specs.Commit.{Committed, opsOf}
 
 -- what a call leaves
 abbrev pub leftWith : layout.State → ℕ → Flash → List ℕ → Left

@@ -1,12 +1,12 @@
 -- A change in its places, by the steps of the code.
-use Prim.{Unit, tt}
+use Prim.{tt}
 use mathlib.Core.Path.{_≡_, refl, sym, ap, _∙_}
-use mathlib.Core.Bool.{Bool, true, false, _||_, cond, false≢true}
+use mathlib.Core.Bool.{Bool, true, false, _||_, false≢true}
 use mathlib.Core.List.{List, []}
 use Prim.Native.Nat.{ℕ, _≤_, _<_}
 use lib.ListN.{length}
 use Rattle.layout.specs.Geometry as layout
-use Rattle.layout.specs.Flash.{Flash, applyAll, Planned, planOps, allFresh}
+use Rattle.layout.specs.Flash.{Flash, Planned, planOps, allFresh}
 use Rattle.layout.specs.Hash.{fnvFamily}
 use Rattle.layout.specs.Items.{Record, RA, DA, fills, recordBytes, zeroPage}
 use Rattle.laws.specs.ItemLaws.{length-record}
@@ -20,7 +20,7 @@ use Rattle.planning.specs.declared.Slots.{Slots}
 use Rattle.planning.specs.declared.Slots.the-variants.{Delete, Insert, Update}
 use Rattle.planning.specs.Numbers.{none, pageOf, addRecord, by-record}
 use Rattle.planning.specs.New.{newBytes, deletion-part, record-part, entry-part}
-use Rattle.planning.specs.Edits.{numbersOf, programsIn, planOf, ramOf, Given, edit-planned, entry-then-record, nothing-planned}
+use Rattle.planning.specs.Edits.{numbersOf, programsIn, planOf, Given, edit-planned, entry-then-record, nothing-planned}
 use Rattle.kept.specs.Kept.{kept}
 use Rattle.kept.specs.Ram.{kept-is}
 use Rattle.changes.specs.Edits.{recordNumber}

@@ -1,5 +1,5 @@
 -- The code's edit as the layout's: its parts, the places that it takes, and whether there is room for it.
-use mathlib.Core.Bool.{Bool, cond, _&&_}
+use mathlib.Core.Bool.{cond, _&&_}
 use mathlib.Core.Option.{none, some}
 use Prim.Native.Nat.{ℕ}
 use lib.Dec.{leb}

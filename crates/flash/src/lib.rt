@@ -18,7 +18,7 @@ const ERASED: u8 = 255;
 const PROGRAMMED: u8 = 0;
 
 // Is the mark fresh.
-pub fn is_fresh(mark: u8) -> bool
+fn is_fresh(mark: u8) -> bool
     ensures { λ r. ⌜ r ≡ fresh mark ⌝ }
 {
     mark == ERASED
@@ -48,7 +48,7 @@ pub fn program_joined(chip: Chip, s: usize, a: &[u8], b: &[u8], main: &mut [u8],
 }
 
 // One block operation.
-pub fn erase_block(chip: Chip, b: usize, main: &mut [u8], spare: &mut [u8])
+fn erase_block(chip: Chip, b: usize, main: &mut [u8], spare: &mut [u8])
     requires { ⌜ (chip .unit ≤ 32) × (b * block (chip .unit) + block (chip .unit) ≤ length (now main)) ⌝ }
     requires { ⌜ b * sectorsPerBlock + sectorsPerBlock ≤ length (now spare) ⌝ }
     ensures { λ _. ⌜ flashAfter main spare ≡ apply (chip .unit) (erase b) (flashBefore main spare) ⌝ }

@@ -6,7 +6,7 @@ use native.Mathlib.Nat.{mul-le-mul-right}
 use native.Mathlib.Omega.{arith}
 use lib.ListN.{length, getD, take, drop, replicate}
 use Rattle.memory.specs.Bits.{pack}
-use Rattle.memory.specs.Lists.{pieces, tab, write, length-pieces}
+use Rattle.memory.specs.Lists.{pieces, tab, write}
 use Rattle.layout.specs.Geometry.{sectorsPerPage, sector, page, fourthSize}
 use Rattle.layout.specs.Items.{zeroPage}
 use Rattle.layout.specs.Index.{Index, inSka, withFilter}

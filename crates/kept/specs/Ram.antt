@@ -2,8 +2,7 @@
 use mathlib.Core.Path.{_≡_, refl, sym, ap, _∙_}
 use mathlib.Core.Bool.{Bool, true, false, cond}
 use mathlib.Core.List.{List}
-use Prim.Native.Nat.{ℕ, _+_, _-_, _*_, _%_, _≤_, _<_}
-use native.Mathlib.Nat.{mod-lt, mul-le-mul-right}
+use Prim.Native.Nat.{ℕ, _+_, _*_, _%_, _≤_, _<_}
 use native.Mathlib.Omega.{arith}
 use lib.ListN.{length, getD, replicate}
 use Rattle.memory.specs.Cases.{either, lt?, bool?}
@@ -13,15 +12,15 @@ use Rattle.memory.specs.Words.{word}
 use Rattle.layout.specs.Geometry.{Geometry, page, kaRam, ramSize}
 use Rattle.layout.specs.Hash.{Family}
 use Rattle.layout.specs.Items.{RA, KA, DA, fills, put, itemRam, deletionBytes, entryBytes}
-use Rattle.layout.specs.Index.{inSka, withFilter, filterRam}
+use Rattle.layout.specs.Index.{inSka, filterRam}
 use Rattle.layout.specs.Calls.{keyIndex, keyFilters, keyPositions, pageFilter, newFilter, summarized, deletionRam, insertionRam}
 use Rattle.filter.specs.Filter.{arrayBit}
 use Rattle.filter.specs.Pieces.{with-filter-ext}
-use Rattle.plan.specs.Plans.{deletionIn, recordIn, entryIn}
+use Rattle.plan.specs.Plans.{entryIn}
 use Rattle.planning.specs.declared.Slots.{Slots}
 use Rattle.planning.specs.declared.Slots.the-variants.{Delete, Insert, Update}
 use Rattle.planning.specs.Edits.{RecordGiven, Given, ramOf}
-use Rattle.kept.specs.Kept.{filterKept, entered, deletionKept, recordKept, kept}
+use Rattle.kept.specs.Kept.{filterKept, entered, recordKept, kept}
 
 -- ---- a record, its entry and its filter
 

@@ -1,5 +1,5 @@
 -- The operations that a plan stands for, in order, and where it fits.
-use mathlib.Core.Path.{_≡_, refl, sym, ap, _∙_}
+use mathlib.Core.Path.{_≡_, sym, ap}
 use mathlib.Core.List.{List, _++_}
 use Prim.Native.Nat.{ℕ, _+_, _*_, _^_, _≤_, _<_}
 use native.Mathlib.Omega.{arith}
@@ -10,7 +10,6 @@ use Rattle.layout.specs.Index.{flushesPerRound}
 use Rattle.laws.specs.RowLaws.{blocks-fit}
 use Rattle.plan.specs.declared.Page.{Page}
 use Rattle.plan.specs.declared.Plan.{Plan}
-use Rattle.plan.specs.declared.Segment.{Segment}
 use Rattle.plan.specs.declared.Span.{Span}
 use Rattle.plan.specs.Runs.{done}
 use Rattle.plan.specs.Spans.{span, among, behind, runOf, span-all, span-none, length-planned, first-run, last-run, both-run}

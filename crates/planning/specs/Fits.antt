@@ -1,5 +1,5 @@
 -- The plans of a sound geometry fit in lent slices that hold its volume.
-use mathlib.Core.Path.{_≡_, refl}
+use mathlib.Core.Path.{_≡_}
 use mathlib.Core.Bool.{true}
 use mathlib.Core.List.{List}
 use Prim.Native.Nat.{ℕ, zero, suc, _+_, _*_, _/_, _%_, _^_, _≤_, _<_}
@@ -8,7 +8,7 @@ use native.Mathlib.Omega.{arith}
 use lib.Dec.{eqb}
 use lib.ListN.{length}
 use borrow.Author.Tests.{eqb-true}
-use Rattle.memory.specs.Cases.{either, eq?, lt?, bool?}
+use Rattle.memory.specs.Cases.{either, eq?, bool?}
 use Rattle.memory.specs.Numbers.{div-lt, carry}
 use Rattle.layout.specs.Geometry as layout
 use Rattle.layout.specs.Items.{Area, RA, KA, DA, fills}

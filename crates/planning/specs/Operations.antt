@@ -2,7 +2,7 @@
 use mathlib.Core.Path.{_≡_, refl, sym, ap, _∙_}
 use mathlib.Core.Bool.{Bool, true, false, cond}
 use mathlib.Core.List.{List, [], _++_, append-nil, append-assoc}
-use Prim.Native.Nat.{ℕ, _+_, _-_, _*_, _/_, _%_, _≤_, _<_}
+use Prim.Native.Nat.{ℕ, _+_, _-_, _*_, _%_, _<_}
 use native.Mathlib.Omega.{arith}
 use lib.Dec.{eqb}
 use lib.ListN.{length}
@@ -17,7 +17,6 @@ use Rattle.layout.specs.Calls.{keyIndex, keyFilters, deletionPlan, newFilter, s
 use Rattle.laws.specs.ItemLaws.{length-entry, length-deletion}
 use Rattle.filter.specs.Filter.{arrayBit}
 use Rattle.filter.specs.Pieces.{with-filter-ext}
-use Rattle.plan.specs.declared.Page.{Page}
 use Rattle.plan.specs.declared.Plan.{Plan}
 use Rattle.plan.specs.declared.Segment.{Segment}
 use Rattle.plan.specs.Segments.{pageFrom, withItem, withEighth, filledPage, flushFrom, flushed}

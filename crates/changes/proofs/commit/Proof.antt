@@ -1,13 +1,11 @@
-use mathlib.Core.Path.{_≡_, sym, ap, _∙_}
-use Prim.Native.Nat.{_<_, _^_}
+use mathlib.Core.Path.{sym, ap, _∙_}
 use native.Mathlib.Omega.{arith}
 use borrow.Author.Tests.{not-true, not-false}
-use lib.ListN.{length}
 use Rattle.layout.specs.Flash.{flashOf}
 use Rattle.geometry.specs.Shape.{shape}
 use Rattle.state.specs.Contract.{recordIs}
 use Rattle.plan.specs.Plans.{spare-fits, count-fits}
-use Rattle.planning.specs.New.{newBytes, new-length}
+use Rattle.planning.specs.New.{newBytes}
 use Rattle.planning.specs.Edits.{edit-fits}
 use Rattle.changes.proofs.CommitLaws.{no-bits, nothing-done, nothing-fresh, all-done}
 use borrow.Author.Needs.{needs}
