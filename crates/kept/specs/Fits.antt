@@ -57,7 +57,8 @@ module _ (g : layout.Geometry) (n : ℕ) (new bits ram : List ℕ) where
         let f : items.fills (items.KA g) n ≡ false = sym (ap (λ (x : items.Area). items.fills x n) b-is) ∙ h in
         y-is ∙ sym (cond-neg (items.fills (items.KA g) n) _ (entered g n new ram) f)
 
-    pub kept-full : (ix : Index) (z : List ℕ) → items.fills (area b) n ≡ true → ix ≡ indexFor g → z ≡ filterKept (g .u) (indexOf ix) (n / b .«per_page») bits y
+    pub kept-full : (ix : Index) (z : List ℕ) → items.fills (area b) n ≡ true → ix ≡ indexFor g
+        → z ≡ filterKept (g .u) (indexOf ix) (n / b .«per_page») bits y
         → z ≡ recordKept g n new bits ram
     kept-full ix z h ix-is ez =
         let f : items.fills (items.KA g) n ≡ true = sym (ap (λ (x : items.Area). items.fills x n) b-is) ∙ h in

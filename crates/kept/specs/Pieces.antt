@@ -49,7 +49,8 @@ module _ (u piece : ℕ) (piece-is : piece ≡ fourthSize u) where
       rw piece-is (omega (arith, mul-le-mul-right (sector u) l, fits))
 
   -- one turn
-  pub more-pieces : (at i off : ℕ) → off ≡ i * sector u → (bits ram₀ ram ram′ : List ℕ) → ((k : ℕ) → getD bits k 0 < 256) → length bits ≡ 256 → u ≤ 32 → i < 4
+  pub more-pieces : (at i off : ℕ) → off ≡ i * sector u → (bits ram₀ ram ram′ : List ℕ)
+      → ((k : ℕ) → getD bits k 0 < 256) → length bits ≡ 256 → u ≤ 32 → i < 4
       → ram ≡ piecesOf (sector u) piece at i bits ram₀
       → ram′ ≡ write ram (at + off) (take (i * piece + piece - i * piece) (drop (i * piece) bits))
       → ram′ ≡ piecesOf (sector u) piece at (i + 1) bits ram₀
@@ -63,7 +64,8 @@ module _ (u piece : ℕ) (piece-is : piece ≡ fourthSize u) where
       rw (s, piece-is)
       (b′ ∙ ap (λ (l : List ℕ). write l (at + i * sector u) (tab (2 * u) (f i))) a′ ∙ sym (pieces-more (2 * u) (sector u) at i f ram₀))
 
-  pub all-pieces : (at k : ℕ) (bits ram₀ ram : List ℕ) → k ≡ 4 → ram ≡ piecesOf (sector u) piece at k bits ram₀ → ram ≡ fourths u at bits ram₀
+  pub all-pieces : (at k : ℕ) (bits ram₀ ram : List ℕ) → k ≡ 4
+      → ram ≡ piecesOf (sector u) piece at k bits ram₀ → ram ≡ fourths u at bits ram₀
   all-pieces at k bits ram₀ ram h a = rw (h, piece-is) at a
 
 -- filter F in the SKA page; `piece` is what code computes

@@ -12,7 +12,8 @@ use Rattle.memory.specs.Cases.{lt?, either}
 use Rattle.memory.specs.Numbers.{euclid, div-of, mod-of, div-lt}
 use Rattle.memory.specs.Bits.{bit, bitIn, pack, pack-ext}
 use Rattle.layout.specs.Geometry.{sector, page, block}
-use Rattle.layout.specs.Index.{Index, filtersPerRound, pagesPerFourth, rowBit, rowByte, bitAt, setWidth, fullFilters, sideBlock, flashPlace, setByte}
+use Rattle.layout.specs.Index.{Index, filtersPerRound, pagesPerFourth, rowBit, rowByte, bitAt}
+use Rattle.layout.specs.Index.{setWidth, fullFilters, sideBlock, flashPlace, setByte}
 use Rattle.laws.specs.RowLaws.{unit-pos, width-pos}
 use Rattle.laws.specs.Apart.{place-old, place-new}
 use Rattle.fields.specs.declared.Source.{Source}
