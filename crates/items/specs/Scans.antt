@@ -1,8 +1,8 @@
 -- Scans of a slice from a byte on: a number among words of four bytes, and the newest entry of eight bytes with a key. Assumes nothing.
-use mathlib.Core.Path.{_≡_, refl, sym, _∙_}
+use mathlib.Core.Path.{_≡_, refl, sym, ap, _∙_}
 use mathlib.Core.Bool.{Bool, true, false, _||_}
 use mathlib.Core.List.{List}
-use Prim.Native.Nat.{ℕ, zero, suc, _+_, _-_, _*_, _<_}
+use Prim.Native.Nat.{ℕ, zero, suc, _+_, _-_, _*_, _≤_, _<_}
 use native.Mathlib.Numerals.{add-one}
 use native.Mathlib.Omega.{arith}
 use borrow.Author.Tests.{eq-eqb, ne-eqb}
@@ -10,7 +10,7 @@ use lib.Dec.{eqb}
 use Rattle.memory.specs.Words.{word}
 use Rattle.memory.specs.Cases.{bool?, either}
 use Rattle.memory.specs.Ranges.{any}
-use Rattle.memory.specs.Candidate.{candidate, candidate-open, candidate-shut}
+use Rattle.memory.specs.Candidate.{candidate, candidate-open, candidate-shut, candidate-low, candidate-ext}
 
 -- is word i from byte `at` on the number j
 unfoldable pub isWord : List ℕ → ℕ → ℕ → ℕ → Bool
@@ -123,3 +123,40 @@ unfolding hasKey
 key-later s at key m i =
     let e : at + (m + i) * 8 ≡ at + m * 8 + i * 8 = omega arith in
     rw e
+
+-- ---- words in blocks
+
+shifted : (s : List ℕ) (at j m k : ℕ) → any (λ i. isWord s at j (m + i)) k ≡ hasWord s (at + m * 4) k j
+unfolding any isWord
+shifted s at j m zero = refl
+shifted s at j m (suc k) =
+    let e : at + (m + k) * 4 ≡ at + m * 4 + k * 4 = omega arith in
+    rw (e, shifted s at j m k)
+
+-- m words, and k behind them
+pub words-sum : (s : List ℕ) (at j m k : ℕ) → hasWord s at (m + k) j ≡ (hasWord s (at + m * 4) k j || hasWord s at m j)
+words-sum s at j m k = any-sum (isWord s at j) m k ∙ ap (λ (t : Bool). t || hasWord s at m j) (shifted s at j m k)
+
+or-true : (t : Bool) → (t || true) ≡ true
+or-true true = refl
+or-true false = refl
+
+-- a block that has the number, n words in all
+pub block-yes : (s : List ℕ) (at j m k n : ℕ) → hasWord s (at + m * 4) k j ≡ true → m + k ≤ n → hasWord s at n j ≡ true
+block-yes s at j m k n e h =
+    let z : m + k + (n - (m + k)) ≡ n = omega arith in
+    let f : hasWord s at (m + k) j ≡ true = words-sum s at j m k ∙ rw e in
+    ap (λ (t : ℕ). hasWord s at t j) (sym z) ∙ (words-sum s at j (m + k) (n - (m + k)) ∙ rw f (or-true (hasWord s (at + (m + k) * 4) (n - (m + k)) j)))
+
+-- a block that has not, behind words that have not
+pub block-no : (s : List ℕ) (at j m k : ℕ) → hasWord s (at + m * 4) k j ≡ false → hasWord s at m j ≡ false → hasWord s at (m + k) j ≡ false
+block-no s at j m k e f = words-sum s at j m k ∙ rw (e, f)
+
+-- ---- entries in blocks
+
+-- m entries, and k behind them among whose words the key is not
+pub entries-no : (s : List ℕ) (at key m k : ℕ) → hasWord s (at + m * 8) (k * 2) key ≡ false → lastEntry s at (m + k) key ≡ lastEntry s at m key
+entries-no s at key m k t =
+    candidate-low (hasKey s at key) m k
+    (candidate-ext (λ g. hasKey s at key (m + g)) (hasKey s (at + m * 8) key) k (λ g l. key-later s at key m g)
+    ∙ newest-none (hasKey s (at + m * 8) key) k (no-word s (at + m * 8) key k t))

@@ -1,26 +1,68 @@
 // Words and entries in a row of bytes: is a number among the words, which entry has a key. Document 01, "Calls".
 ghost use mathlib.Core.Path.{_≡_};
-ghost use Prim.Native.Nat.{_+_, _*_, _≤_};
+ghost use mathlib.Core.Bool.{false};
+ghost use Prim.Native.Nat.{_+_, _*_, _≤_, _<_};
 ghost use lib.ListN.{length};
 ghost use Rattle.memory.specs.Lent.{before};
+ghost use Rattle.layout.specs.Geometry.{page, entriesPerPage};
+ghost use Rattle.laws.specs.Units.{UnitSound};
 ghost use Rattle.items.specs.Scans.{hasWord, lastEntry};
+use geometry::Chip;
 use geometry::areas;
 
 // Bytes of a number.
 const WORD: usize = 4;
+
+// Words that are compared at once: in a page of one unit, and in larger ones.
+const FEW: usize = 16;
+
+const MANY: usize = 64;
 
 // Entries that are looked through at once.
 const RUN: usize = 64;
 
 // ---- words
 
-// Is one of the n words from byte `at` on the number j. No exit before the end, so that many words are compared at once.
-pub fn has_word(at: usize, n: usize, j: u32, s: &[u8]) -> bool
-    requires { ⌜ at + n * 4 ≤ length (now s) ⌝ }
-    ensures { λ r. ⌜ r ≡ hasWord (before s) at n j ⌝ }
+// Is one of the 16 words from byte `at` on the number j. No exit before the end, so that many words are compared at once; the count is a
+// constant, so that no loop is left.
+fn few_have(at: usize, j: u32, s: &[u8]) -> bool
+    requires { ⌜ at + 64 ≤ length (now s) ⌝ }
+    ensures { λ r. ⌜ r ≡ hasWord (before s) at 16 j ⌝ }
 {
     let mut found = false;
     let mut i = 0;
+    while i < FEW {
+        if words::get32(s, at + i * WORD) == j {
+            found = true;
+        }
+        i += 1;
+    }
+    found
+}
+
+// The same of 64 words.
+fn many_have(at: usize, j: u32, s: &[u8]) -> bool
+    requires { ⌜ at + 256 ≤ length (now s) ⌝ }
+    ensures { λ r. ⌜ r ≡ hasWord (before s) at 64 j ⌝ }
+{
+    let mut found = false;
+    let mut i = 0;
+    while i < MANY {
+        if words::get32(s, at + i * WORD) == j {
+            found = true;
+        }
+        i += 1;
+    }
+    found
+}
+
+// Those behind the first m of n words, a word at a time.
+fn rest_have(at: usize, m: usize, n: usize, j: u32, s: &[u8]) -> bool
+    requires { ⌜ (m ≤ n) × (at + n * 4 ≤ length (now s)) × (hasWord (now s) at m j ≡ false) ⌝ }
+    ensures { λ r. ⌜ r ≡ hasWord (before s) at n j ⌝ }
+{
+    let mut found = false;
+    let mut i = m;
     while i < n {
         if words::get32(s, at + i * WORD) == j {
             found = true;
@@ -28,6 +70,22 @@ pub fn has_word(at: usize, n: usize, j: u32, s: &[u8]) -> bool
         i += 1;
     }
     found
+}
+
+// Is one of the n words from byte `at` on the number j.
+pub fn has_word(at: usize, n: usize, j: u32, s: &[u8]) -> bool
+    requires { ⌜ at + n * 4 ≤ length (now s) ⌝ }
+    ensures { λ r. ⌜ r ≡ hasWord (before s) at n j ⌝ }
+{
+    let blocks = n / MANY;
+    let mut b = 0;
+    while b < blocks {
+        if many_have(at + b * 256, j, s) {
+            return true;
+        }
+        b += 1;
+    }
+    rest_have(at, blocks * MANY, n, j, s)
 }
 
 // ---- entries with a key
@@ -76,4 +134,44 @@ pub fn find_entry(at: usize, count: usize, key: u32, s: &[u8]) -> usize
         k = lo;
     }
     find_few(at, k, key, s)
+}
+
+// ---- full pages
+
+// Is one of the words of a page of one unit or two the number j.
+fn small_has(chip: Chip, at: usize, j: u32, s: &[u8]) -> bool
+    requires { ⌜ (0 < chip .unit) × (chip .unit < 3) × (at + page (chip .unit) ≤ length (now s)) ⌝ }
+    ensures { λ r. ⌜ r ≡ hasWord (before s) at (16 * chip .unit) j ⌝ }
+{
+    if few_have(at, j, s) {
+        return true;
+    }
+    if chip.unit == 1 {
+        return false;
+    }
+    few_have(at + 64, j, s)
+}
+
+// The newest entry of a full page with the key, plus one; 0 if there is none. It is looked for from the newest 64 words on that have the
+// key.
+pub fn find_in_page(chip: Chip, at: usize, key: u32, s: &[u8]) -> usize
+    requires { ⌜ UnitSound (chip .unit) × (at + page (chip .unit) ≤ length (now s)) ⌝ }
+    ensures { λ r. ⌜ r ≡ lastEntry (before s) at (entriesPerPage (chip .unit)) key ⌝ }
+{
+    let unit = chip.unit;
+    if unit < 4 {
+        if small_has(chip, at, key, s) {
+            return last_key(at, unit * 8, key, s);
+        }
+        return 0;
+    }
+    let mut b = unit / 4;
+    while b > 0 {
+        let c = b - 1;
+        if many_have(at + c * 256, key, s) {
+            return last_key(at, b * 32, key, s);
+        }
+        b = c;
+    }
+    0
 }

@@ -1,0 +1,114 @@
+-- From the newest 64 words on: those that have not the key have no entry with it.
+use native.Mathlib.Omega.{arith}
+use Prim.Native.Nat.{ℕ, zero, suc, _+_, _*_, _-_, _/_, _%_, _^_, _≤_, _<_}
+use mathlib.Core.Path.{_≡_, refl, sym, ap, _∙_}
+use lib.Pow.{pow-pos}
+use borrow.Author.Needs.{needs}
+use Rattle.memory.specs.Candidate.{candidate}
+use Rattle.laws.specs.Units.{UnitSound}
+use Rattle.items.specs.Scans.{hasKey, lastEntry, newest-end, newest-none, no-word, entries-no}
+use Rattle.items.proofs.find_in_page.Statement.{statement}
+use Rattle.items.proofs.find_in_page.Tie as tie
+
+-- a power of two: 1, 2, or a multiple of 4
+fours : (e u : ℕ) → u ≡ 2 ^ e → (u < 4 → u < 3) × (4 ≤ u → u % 4 ≡ 0)
+fours zero u p = (λ h. omega arith, λ h. absurd (omega arith))
+fours (suc zero) u p = (λ h. omega arith, λ h. absurd (omega arith))
+fours (suc (suc e)) u p = (λ h. absurd (omega (arith, pow-pos e)), λ h. omega arith)
+
+abbrev Inv-loop : tie.InvT-loop
+Inv-loop at key s unit b₀ b = (b ≤ unit / 4) × (lastEntry s at (8 * unit) key ≡ lastEntry s at (b * 32) key)
+
+abbrev μ-loop : tie.MeasureT-loop
+μ-loop at key s unit b₀ b = b
+
+small-has-requires : tie.Need-small-has-requires Inv-loop μ-loop
+small-has-requires c κs = (c .before .before .pre .0 .1 .some, fours (c .before .before .pre .0 .0) (c .before .before .args .chip .unit) (c .before .before .pre .0 .1 .power) .0 (c .if1 .taken), c .before .before .pre .1)
+
+mul-last-key : tie.Need-mul-last-key Inv-loop μ-loop
+mul-last-key c = omega (arith, c .before .before .before .before .pre .0 .1 .most)
+
+last-key-requires : tie.Need-last-key-requires Inv-loop μ-loop
+last-key-requires c κs = omega (arith, c .before .before .before .before .pre .1)
+
+returns : tie.Need-returns Inv-loop μ-loop
+returns c =
+    let x = c .before .before .before .before .before .args in
+    let e : x .chip .unit * 8 ≡ 8 * x .chip .unit = omega arith in
+    c .last-key .ensures ∙ ap (λ (n : ℕ). lastEntry (x .s .now) (x .at) n (x .key)) e
+
+returns-2 : tie.Need-returns-2 Inv-loop μ-loop
+returns-2 c =
+    let x = c .before .before .before .before .args in
+    let e : 16 * x .chip .unit ≡ 8 * x .chip .unit * 2 = omega arith in
+    let none = rw e at (sym (c .before .small-has .ensures) ∙ c .if2 .left) in
+    sym (newest-none (hasKey (x .s .now) (x .at) (x .key)) (8 * x .chip .unit) (no-word (x .s .now) (x .at) (x .key) (8 * x .chip .unit) none))
+
+loop-holds : tie.Need-loop-holds Inv-loop μ-loop
+loop-holds c =
+    let x = c .before .before .args in
+    let e : 8 * x .chip .unit ≡ x .chip .unit / 4 * 32 = omega (arith, fours (c .before .before .pre .0 .0) (c .before .before .args .chip .unit) (c .before .before .pre .0 .1 .power) .1 (c .if1 .left)) in
+    (omega arith, ap (λ (n : ℕ). lastEntry (x .s .now) (x .at) n (x .key)) e)
+
+sub-c : tie.Need-sub-c Inv-loop μ-loop
+sub-c c = omega arith
+
+mul-many-have : tie.Need-mul-many-have Inv-loop μ-loop
+mul-many-have c = omega (arith, c .before .before .before .before .pre .0 .1 .most, c .before .loop .inv .0)
+
+add-many-have : tie.Need-add-many-have Inv-loop μ-loop
+add-many-have c = omega (arith, c .before .before .before .before .pre .1, c .before .loop .inv .0)
+
+many-have-requires : tie.Need-many-have-requires Inv-loop μ-loop
+many-have-requires c κs = omega (arith, c .before .before .before .before .pre .1, c .before .loop .inv .0)
+
+mul-last-key-2 : tie.Need-mul-last-key-2 Inv-loop μ-loop
+mul-last-key-2 c = omega (arith, c .before .before .before .before .before .before .pre .0 .1 .most, c .before .before .before .loop .inv .0)
+
+last-key-requires-2 : tie.Need-last-key-requires-2 Inv-loop μ-loop
+last-key-requires-2 c κs = omega (arith, c .before .before .before .before .before .before .pre .1, c .before .before .before .loop .inv .0)
+
+returns-3 : tie.Need-returns-3 Inv-loop μ-loop
+returns-3 c = c .last-key2 .ensures ∙ sym (c .before .before .before .before .loop .inv .1)
+
+loop-less : tie.Need-loop-less Inv-loop μ-loop
+loop-less c = omega arith
+
+loop-again : tie.Need-loop-again Inv-loop μ-loop
+loop-again c =
+    let l = c .before .before .before .loop in
+    let x = c .before .before .before .before .before .before .args in
+    let a : x .at + (l .b - 1) * 256 ≡ x .at + (l .b - 1) * 32 * 8 = omega arith in
+    let e : (l .b - 1) * 32 + 32 ≡ l .b * 32 = omega arith in
+    let none = rw a at (sym (c .before .many-have .ensures) ∙ c .if3 .left) in
+    (omega (arith, l .inv .0), l .inv .1 ∙ rw e at (entries-no (x .s .now) (x .at) (x .key) ((l .b - 1) * 32) 32 none))
+
+returns-4 : tie.Need-returns-4 Inv-loop μ-loop
+returns-4 c =
+    let l = c .before .loop in
+    let x = c .before .before .before .before .args in
+    let e : l .b * 32 ≡ 0 = omega arith in
+    sym (l .inv .1 ∙ (ap (λ (n : ℕ). lastEntry (x .s .now) (x .at) n (x .key)) e ∙ newest-end (hasKey (x .s .now) (x .at) (x .key))))
+
+pub find-in-page-spec : {M : Type 1} → statement M
+find-in-page-spec =
+    tie.close
+    (tie.spec
+    Inv-loop
+    μ-loop
+    small-has-requires
+    mul-last-key
+    last-key-requires
+    returns
+    returns-2
+    loop-holds
+    sub-c
+    mul-many-have
+    add-many-have
+    many-have-requires
+    mul-last-key-2
+    last-key-requires-2
+    returns-3
+    loop-less
+    loop-again
+    returns-4)
