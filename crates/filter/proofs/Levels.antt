@@ -1,6 +1,6 @@
 -- Each level has the filters from its start on, where the layout puts their bits.
-use mathlib.Core.Path.{_≡_, ap, _∙_}
-use mathlib.Core.Bool.{cond}
+use mathlib.Core.Path.{_≡_, sym, ap, _∙_}
+use mathlib.Core.Bool.{true, false, cond, false≢true}
 use mathlib.Core.List.{List}
 use Prim.Native.Nat.{ℕ, _+_, _*_, _-_, _/_, _%_, _^_, _≤_, _<_}
 use native.Mathlib.Nat.{mul-le-mul-right, div-one}
@@ -8,7 +8,7 @@ use native.Mathlib.Omega.{arith}
 use borrow.Author.Tests.{lt-ltb, le-ltb}
 use lib.ListN.{length}
 use lib.Pow.{pow-pos, pow-lt, pow-mono, pow-add}
-use Rattle.memory.specs.Cases.{bool?, either, lt?, by-lt}
+use Rattle.memory.specs.Cases.{either, lt?, by-lt}
 use Rattle.memory.specs.Numbers.{Euclid, euclid, div-of, mod-of, div-lt}
 use Rattle.memory.specs.Power.{log2up, log2up-enough, log2up-least, width}
 use Rattle.layout.specs.Index.{Index, bitAt, filterBit, inFull, inSet}
@@ -16,7 +16,7 @@ use Rattle.memory.specs.Bits.{bitIn}
 use Rattle.laws.specs.RowLaws.{width-is, side-range}
 use Rattle.laws.specs.Units.{UnitIs, UnitSound}
 use Rattle.filter.specs.Filter.{Fits}
-use Rattle.filter.specs.Groups.{stageOf, skaLevel, l1Level, setLevel, fullLevel, levelInSets, levelOnFlash, levelBelow}
+use Rattle.filter.specs.Groups.{stageOf, skaLevel, l1Level, setLevel, fullLevel, levelInSets, levelOnFlash, levelBelow, rowAt}
 use Rattle.filter.specs.declared.groups.Level.{Level}
 
 -- ---- what a level must be
@@ -25,22 +25,17 @@ use Rattle.filter.specs.declared.groups.Level.{Level}
 abbrev pub levelBytes : Level → List ℕ → List ℕ → List ℕ
 levelBytes l main ram = cond (l .«in_ram») ram main
 
--- first byte of the row of position x
-abbrev pub rowAt : Level → ℕ → ℕ
-rowAt l x = l .base + x / 2 ^ l .exponent * l .stride
-
 -- the level has the filters from its start to `below` - 1, of F
 pub record LevelAt (u : ℕ) (ix : Index) (main ram : List ℕ) (F below : ℕ) (l : Level) : Type 0 where
   pub start-lt : l .start < below
   pub narrow : l .exponent < 10
+  pub whole : l .«in_ram» ≡ true → 3 ≤ l .exponent
   pub small : (below - l .start) * 2 ^ l .exponent < 2 ^ 60
-  pub reach : (x : ℕ) → x < 64 * u → rowAt l x + ((below - l .start) * 2 ^ l .exponent + 63) / 64 * 8 ≤ length (levelBytes l main ram)
+  pub eights : (x : ℕ) → x < 64 * u → rowAt l x + (below - l .start + 7) / 8 * 2 ^ l .exponent ≤ length (levelBytes l main ram)
+  pub blocks : l .«in_ram» ≡ false → (x : ℕ) → x < 64 * u
+      → rowAt l x + ((below - l .start) * 2 ^ l .exponent + 511) / 512 * 64 ≤ length (levelBytes l main ram)
   pub bit-is : (f x : ℕ) → l .start ≤ f → f < below
       → filterBit u ix main ram F f x ≡ bitIn (levelBytes l main ram) (rowAt l x) ((f - l .start) * 2 ^ l .exponent + x % 2 ^ l .exponent)
-
--- their addresses are numbers of the machine
-pub bytes-few : (l : Level) (main ram : List ℕ) → length main < 2 ^ 63 → length ram < 2 ^ 63 → length (levelBytes l main ram) < 2 ^ 63
-bytes-few l main ram m r = either (bool? (l .«in_ram»)) (λ t. rw t r) (λ t. rw t m)
 
 -- ---- powers
 
@@ -93,14 +88,17 @@ module _ (u e : ℕ) (S : UnitIs u e) (ix : Index) (main ram : List ℕ) (F belo
   ska-at fits h =
       let p : 2 ^ (e + 4) ≡ 16 * u = power-4 u e S in
       let n : below - F / 8 * 8 ≤ 8 = omega arith in
+      let k : (below - F / 8 * 8 + 7) / 8 ≤ 1 = omega arith in
       let m = mul-le-mul-right (16 * u) n in
       record {
         start-lt = h;
         narrow = omega (arith, S .small);
+        whole = λ t. omega arith;
         small = rw p (omega (arith, S .most));
-        reach = rw p (λ x l.
+        eights = rw p (λ x l.
             let q : x / (16 * u) < 4 = div-lt x (16 * u) 4 (omega (arith, S .some)) (omega arith) in
-            omega (arith, mul-le-mul-right (16 * u) q));
+            omega (arith, mul-le-mul-right (16 * u) q, mul-le-mul-right (16 * u) k));
+        blocks = λ t x l. absurd (false≢true (sym t));
         bit-is = rw p (λ f x a b. rw (le-ltb f (F / 8 * 8) a));
       }
 
@@ -123,12 +121,17 @@ module _ (u e : ℕ) (S : UnitIs u e) (ix : Index) (main ram : List ℕ) (F belo
         let start : ℕ = inFull u F * (128 * (4 * u)) + 128 * inSet u F in
         let p : 2 ^ (e + 4) ≡ 16 * u = power-4 u e S in
         let n : below - start ≤ 128 = omega arith in
+        let k : (below - start + 7) / 8 ≤ 16 = omega arith in
         let m = mul-le-mul-right (16 * u) n in
         record {
           start-lt = h;
           narrow = omega (arith, S .small);
+          whole = λ t. omega arith;
           small = rw p (omega (arith, S .most));
-          reach = rw p (λ x l.
+          eights = rw p (λ x l.
+              let q : x / (16 * u) < 4 = div-lt x (16 * u) 4 (omega (arith, S .some)) (omega arith) in
+              omega (arith, mul-le-mul-right (4 * (64 * u)) q, mul-le-mul-right (16 * u) k));
+          blocks = rw p (λ t x l.
               let q : x / (16 * u) < 4 = div-lt x (16 * u) 4 (omega (arith, S .some)) (omega arith) in
               omega (arith, mul-le-mul-right (4 * (64 * u)) q));
           bit-is = rw p (λ f x a b.
@@ -151,13 +154,18 @@ module _ (u e : ℕ) (S : UnitIs u e) (ix : Index) (main ram : List ℕ) (F belo
         let w : ℕ = 2 ^ (e + 2 - log2up (inSet u F)) in
         let Q = set-of u e S (inSet u F) few in
         let n : below - start ≤ 128 * inSet u F = omega arith in
+        let k : (below - start + 7) / 8 ≤ 16 * inSet u F = omega arith in
         let m = mul-le-mul-right w n in
         let c = mul-le-mul-right w (Q .enough) in
         record {
           start-lt = h;
           narrow = omega (arith, S .small);
+          whole = λ t. absurd (false≢true t);
           small = omega (arith, S .most, Q .whole);
-          reach = λ x b.
+          eights = λ x b.
+              let r : x / w < 16 * 2 ^ log2up (inSet u F) = div-lt x w (16 * 2 ^ log2up (inSet u F)) (Q .some) (omega (arith, Q .whole)) in
+              omega (arith, Q .whole, mul-le-mul-right w k, mul-le-mul-right (64 * u) r, mul-le-mul-right (1024 * u) (side-range u ix (inSet u F) .1), mul-le-mul-right (1024 * u) (Q .side));
+          blocks = λ t x b.
               let r : x / w < 16 * 2 ^ log2up (inSet u F) = div-lt x w (16 * 2 ^ log2up (inSet u F)) (Q .some) (omega (arith, Q .whole)) in
               omega (arith, Q .whole, mul-le-mul-right (64 * u) r, mul-le-mul-right (1024 * u) (side-range u ix (inSet u F) .1), mul-le-mul-right (1024 * u) (Q .side));
           bit-is = λ f x a b.
@@ -175,8 +183,12 @@ module _ (u e : ℕ) (S : UnitIs u e) (ix : Index) (main ram : List ℕ) (F belo
       record {
         start-lt = lo;
         narrow = omega arith;
+        whole = λ t. absurd (false≢true t);
         small = omega (arith, S .most);
-        reach = λ x b.
+        eights = λ x b.
+            let d : x / 1 ≡ x = div-one x in
+            rw d (omega (arith, mul-le-mul-right (4 * u * (1024 * u)) j, mul-le-mul-right (64 * u) b));
+        blocks = λ t x b.
             let d : x / 1 ≡ x = div-one x in
             rw d (omega (arith, mul-le-mul-right (4 * u * (1024 * u)) j, mul-le-mul-right (64 * u) b));
         bit-is = λ f x a b.

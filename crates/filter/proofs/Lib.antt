@@ -1,4 +1,4 @@
 pub mod Levels
 pub mod Rows
+pub mod Bytes
 pub mod Setting
-pub mod Three

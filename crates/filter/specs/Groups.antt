@@ -1,18 +1,14 @@
 -- Groups of filters whose bits lie in the same rows: the SKA page, L1, the current set, and each full set.
-use mathlib.Core.Path.{_≡_}
 use mathlib.Core.Bool.{Bool, true, false, cond}
 use mathlib.Core.List.{List}
-use Prim.Native.Nat.{ℕ, _+_, _-_, _*_, _/_, _%_, _^_, _≤_, _<_}
+use Prim.Native.Nat.{ℕ, _+_, _-_, _*_, _/_, _%_, _^_}
 use lib.Dec.{ltb}
-use lib.ListN.{length, getD}
+use Rattle.memory.specs.Bits.{bitIn}
 use Rattle.memory.specs.Power.{log2up}
 use Rattle.memory.specs.Ranges.{allOf}
 use Rattle.layout.specs.Geometry.{sector, page, block}
 use Rattle.layout.specs.Index.{Index, filtersPerFlush, filtersPerRound, pagesPerFourth}
-use Rattle.layout.specs.Index.{sideBlock, fullBlock, fullFilters, inSet, inFull, filterBit}
-use Rattle.kernels.specs.declared.Rows.{Rows}
-use Rattle.kernels.specs.Rows.{allIn, Within}
-use Rattle.filter.specs.declared.groups.Group.{Group}
+use Rattle.layout.specs.Index.{sideBlock, fullBlock, fullFilters, inSet, inFull}
 use Rattle.filter.specs.declared.groups.Level.{Level}
 use Rattle.filter.specs.declared.groups.Stage.{Stage}
 
@@ -57,25 +53,12 @@ module _ (u e : ℕ) (ix : Index) (st : Stage) (below : ℕ) where
   abbrev pub levelBelow : Level
   levelBelow = cond (ltb (st .flash) below) (skaLevel u e ix (st .flash)) levelOnFlash
 
--- ---- groups
+-- ---- what a level has
 
--- position x lies in the row `x / w` strides after the level's first byte, as bit `x % w` of the w bits that a filter has in it
-pub record RowsAt (l : Level) (ps : List ℕ) (count : ℕ) (k : Rows) : Type 0 where
-  pub count-is : k .count ≡ count
-  pub w-is : k .w ≡ 2 ^ l .exponent
-  pub at-is : (i : ℕ) → i < count → getD (k .at) i 0 ≡ l .base + getD ps i 0 / 2 ^ l .exponent * l .stride
-  pub low-is : (i : ℕ) → i < count → getD (k .low) i 0 ≡ getD ps i 0 % 2 ^ l .exponent
+-- first byte of the row of position x
+abbrev pub rowAt : Level → ℕ → ℕ
+rowAt l x = l .base + x / 2 ^ l .exponent * l .stride
 
--- the bytes that a group lies in
-abbrev pub bytesOf : Group → List ℕ → List ℕ → List ℕ
-bytesOf g main ram = cond (g .«in_ram») ram main
-
--- has filter f of a group all bits of its positions
-abbrev pub groupHas : Group → List ℕ → List ℕ → ℕ → Bool
-groupHas g main ram = allIn (bytesOf g main ram) (g .rows .at) (g .rows .low) (g .rows .w) (g .rows .count)
-
--- the group has the filters from its start to `below` - 1, of F: which of them have all bits of the positions is read from its rows
-pub record GroupAt (u : ℕ) (ix : Index) (main ram : List ℕ) (F below : ℕ) (ps : List ℕ) (g : Group) : Type 0 where
-  pub start-lt : g .start < below
-  pub within : Within (g .rows) (below - g .start) (length (bytesOf g main ram))
-  pub all-is : (f : ℕ) → g .start ≤ f → f < below → allOf (filterBit u ix main ram F f) ps ≡ groupHas g main ram (f - g .start)
+-- has filter g of a level, counted from its first, all of the positions: position x is bit `x % w` of the w bits that a filter has in its row
+abbrev pub levelHas : Level → List ℕ → List ℕ → ℕ → Bool
+levelHas l bytes ps g = allOf (λ x. bitIn bytes (rowAt l x) (g * 2 ^ l .exponent + x % 2 ^ l .exponent)) ps

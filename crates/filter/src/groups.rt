@@ -1,25 +1,24 @@
 // Groups of filters whose bits lie in the same rows, wherever they are: in the SKA page, in L1, in the current set or in a full one.
-// Document 01, "Filters". A `Stage` says how many filters each of these has, a `Level` where one of them lies, a `Group` which of its rows
-// a key's positions pick.
+// Document 01, "Filters". A `Stage` says how many filters each of these has, a `Level` where one of them lies, a `Block` which of up to 512
+// of its filters have all bits of some positions.
 ghost use mathlib.Core.Path.{_≡_};
-ghost use Prim.Native.Nat.{ℕ, _+_, _*_, _/_, _^_, _<_, _≤_};
+ghost use mathlib.Core.Bool.{false};
+ghost use Prim.Native.Nat.{ℕ, _+_, _-_, _*_, _/_, _%_, _^_, _<_, _≤_};
 ghost use lib.ListN.{length, getD, take};
+ghost use Rattle.memory.specs.Bits.{bit, bitIn};
 ghost use Rattle.memory.specs.Power.{log2up};
 ghost use Rattle.memory.specs.Lent.{before};
 ghost use Rattle.layout.specs.Geometry.{filterBits, sideBlocks};
 ghost use Rattle.layout.specs.Index.{filtersPerRound, inFull};
 ghost use Rattle.laws.specs.Units.{UnitIs};
 ghost use Rattle.geometry.specs.Indexes.{indexOf};
-ghost use Rattle.memory.specs.Candidate.{candidate};
-ghost use Rattle.kernels.specs.Rows.{Within, allIn};
+ghost use Rattle.kernels.specs.Blocks.{Shows};
 ghost use Rattle.filter.specs.Filter.{Fits};
-ghost use Rattle.filter.specs.Groups.{stageOf, skaLevel, l1Level, setLevel, fullLevel, levelBelow};
-ghost use Rattle.filter.specs.Groups.{RowsAt, bytesOf, groupHas, GroupAt};
+ghost use Rattle.filter.specs.Groups.{stageOf, skaLevel, l1Level, setLevel, fullLevel, levelBelow, rowAt, levelHas};
+ghost use Rattle.filter.specs.Blocks.{EightsIn, BlocksIn, BlockOf, BlockAt};
 use geometry::Chip;
 use geometry::sets;
 use geometry::sets::Index;
-use kernels::Rows;
-use triples::Triple;
 
 // The filters of an index on a chip: so many.
 pub struct Filters {
@@ -28,11 +27,10 @@ pub struct Filters {
     pub count: usize,
 }
 
-// A group of filters whose bits lie in the same rows: its first filter, whether it lies in RAM, and its rows.
-pub struct Group {
+// Up to 512 filters of an index: the first of them, and which of them have all bits of some positions, 64 to a word.
+pub struct Block {
     pub start: usize,
-    pub in_ram: bool,
-    pub rows: Rows,
+    pub words: [u64; 8],
 }
 
 // Where a group lies: its first filter, in RAM or on flash, the first byte of its first row; a filter has 2 ^ exponent bits in a row, and
@@ -179,80 +177,106 @@ fn level_below(chip: Chip, e: usize, ix: Index, st: Stage, below: usize) -> Leve
     full_level(chip, ix, shifted(below - 1, e + 9))
 }
 
-// ---- groups
+// ---- filters of whole bytes: eight of them at a time
 
-// The rows of `count` positions at a level.
-fn rows_of(l: Level, ps: [u32; 8], count: usize) -> Rows
-    requires { ⌜ (count ≤ 8) × (l .exponent < 10) × ((i : ℕ) → i < count → l .base + getD ps i 0 / 2 ^ l .exponent * l .stride < 2 ^ 63) ⌝ }
-    ensures { λ r. ⌜ RowsAt l ps count r ⌝ }
+// Which filters of a level have position p: those from `first` on, n times eight.
+fn position_bits(l: Level, p: u32, first: usize, n: usize, bytes: &[u8]) -> u64
+    requires { ⌜ (n ≤ 8) × EightsIn l p (first + n * 8) (length (now bytes)) ⌝ }
+    ensures { λ r. ⌜ ((i : ℕ) → i < n * 8 → bit r i ≡ bitIn (before bytes) (rowAt l p) ((first + i) * 2 ^ l .exponent + p % 2 ^ l .exponent)) ⌝ }
+{
+    let e = l.exponent;
+    let x = wide(p);
+    let w = power(e);
+    let step = w / 8;
+    let low = x % w;
+    let row = l.base + shifted(x, e) * l.stride;
+    kernels::row_bits(row + first * step + low / 8, low, step, n, bytes)
+}
+
+// Which of them have all of the first `count` positions.
+fn eights(l: Level, ps: [u32; 8], count: usize, first: usize, n: usize, bytes: &[u8]) -> u64
+    requires { ⌜ (1 ≤ count) × (count ≤ 8) × (n ≤ 8) × ((i : ℕ) → i < count → EightsIn l (getD ps i 0) (first + n * 8) (length (now bytes))) ⌝ }
+    ensures { λ r. ⌜ Shows (levelHas l (before bytes) (take count ps)) first (n * 8) r ⌝ }
+{
+    let mut r = position_bits(l, ps[0], first, n, bytes);
+    let mut i = 1;
+    while i < count {
+        let y = position_bits(l, ps[i], first, n, bytes);
+        r = r & y;
+        i += 1;
+    }
+    r
+}
+
+// The newest 64 of the level's filters below `below`, or as many as there are: one word.
+fn block_by_eights(l: Level, below: usize, ps: [u32; 8], count: usize, bytes: &[u8]) -> Block
+    requires { ⌜ (1 ≤ count) × (count ≤ 8) × (l .start < below) ⌝ }
+    requires { ⌜ ((i : ℕ) → i < count → EightsIn l (getD ps i 0) (below - l .start) (length (now bytes))) ⌝ }
+    ensures { λ r. ⌜ BlockOf l (before bytes) below (take count ps) r ⌝ }
+{
+    let all = below - l.start;
+    let first = (all - 1) / 64 * 64;
+    let n = all - first;
+    let r = eights(l, ps, count, first, (n + 7) / 8, bytes);
+    Block {
+        start: l.start + first,
+        words: [kernels::lowest(r, n), 0, 0, 0, 0, 0, 0, 0],
+    }
+}
+
+// ---- filters of a few bits, side by side in words
+
+// The newest 512 of the level's filters below `below`, or as many as there are from a multiple of 512 on.
+fn block_by_words(l: Level, below: usize, ps: [u32; 8], count: usize, bytes: &[u8]) -> Block
+    requires { ⌜ (1 ≤ count) × (count ≤ 8) × (l .exponent < 7) × (l .start < below) ⌝ }
+    requires { ⌜ ((i : ℕ) → i < count → BlocksIn l (getD ps i 0) (below - l .start) (length (now bytes))) ⌝ }
+    ensures { λ r. ⌜ BlockOf l (before bytes) below (take count ps) r ⌝ }
 {
     let base = l.base;
     let stride = l.stride;
-    let w = power(l.exponent);
+    let e = l.exponent;
+    let w = power(e);
     let mut at = [0usize; 8];
     let mut low = [0usize; 8];
     let mut i = 0;
     while i < count {
         let x = wide(ps[i]);
-        at[i] = base + x / w * stride;
+        at[i] = base + shifted(x, e) * stride;
         low[i] = x % w;
         i += 1;
     }
-    Rows { at, low, count, w }
+    let n = below - l.start;
+    let first = (n - 1) / 512 * 512;
+    Block {
+        start: l.start + first,
+        words: kernels::block(w, first, n - first, count, &at, &low, bytes),
+    }
 }
 
-// The group that has filter `below` - 1, for the first `count` positions.
-pub fn group_below(
+// ---- blocks
+
+// The newest filters below `below`, for the first `count` positions: which of them have all of these.
+pub fn block_below(
     fs: Filters,
     below: usize,
     ps: [u32; 8],
     count: usize,
     main: &[u8],
     ram: &[u8],
-) -> Group
+) -> Block
     requires { ⌜ ((Z : ℕ) × (inFull (fs .chip .unit) (fs .count) ≤ Z) × Fits (fs .chip .unit) (indexOf (fs .index)) Z (now main) (now ram))
         × (fs .count ≤ 2 ^ 20) × (0 < below) × (below ≤ fs .count) ⌝ }
     requires { ⌜ (1 ≤ count) × (count ≤ 8) × ((i : ℕ) → i < count → getD ps i 0 < filterBits (fs .chip .unit)) ⌝ }
-    ensures { λ r. ⌜ GroupAt (fs .chip .unit) (indexOf (fs .index)) (before main) (before ram) (fs .count) below (take count ps) r ⌝ }
+    ensures { λ r. ⌜ BlockAt (fs .chip .unit) (indexOf (fs .index)) (before main) (before ram) (fs .count) below (take count ps) r ⌝ }
 {
     let chip = fs.chip;
     let e = exponent(chip.unit);
     let l = level_below(chip, e, fs.index, stage_of(chip, e, fs.count), below);
-    Group {
-        start: l.start,
-        in_ram: l.in_ram,
-        rows: rows_of(l, ps, count),
+    if l.in_ram {
+        return block_by_eights(l, below, ps, count, ram);
     }
-}
-
-// The newest of n filters that has all bits of its rows, plus one; 0 if none has. Three rows, as a key's positions have, go by plain
-// numbers.
-fn newest_of(k: Rows, n: usize, bytes: &[u8]) -> usize
-    requires { ⌜ Within k n (length (now bytes)) ⌝ }
-    ensures { λ r. ⌜ r ≡ candidate (allIn (before bytes) (k .at) (k .low) (k .w) (k .count)) n ⌝ }
-{
-    if k.count != 3 {
-        return kernels::newest(bytes, k, n);
+    if l.exponent > 6 {
+        return block_by_eights(l, below, ps, count, main);
     }
-    let t = Triple {
-        a: k.at[0],
-        b: k.at[1],
-        c: k.at[2],
-        la: k.low[0],
-        lb: k.low[1],
-        lc: k.low[2],
-        w: k.w,
-    };
-    triples::newest(bytes, t, n)
-}
-
-// The newest of the group's first n filters that has all positions' bits, plus one; 0 if none has.
-pub fn newest_in(g: Group, n: usize, main: &[u8], ram: &[u8]) -> usize
-    requires { ⌜ Within (g .rows) n (length (bytesOf g (now main) (now ram))) ⌝ }
-    ensures { λ r. ⌜ r ≡ candidate (groupHas g (before main) (before ram)) n ⌝ }
-{
-    if g.in_ram {
-        return newest_of(g.rows, n, ram);
-    }
-    newest_of(g.rows, n, main)
+    block_by_words(l, below, ps, count, main)
 }

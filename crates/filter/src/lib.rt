@@ -1,9 +1,8 @@
-// Bloom filters of an index: that of a page, and groups of them whose bits lie in the same rows. Document 01, "Filters".
+// Bloom filters of an index: that of a page, and blocks of them out of groups whose bits lie in the same rows. Document 01, "Filters".
 pub mod groups;
 pub mod page;
 
+pub use groups::Block;
 pub use groups::Filters;
-pub use groups::Group;
-pub use groups::group_below;
-pub use groups::newest_in;
+pub use groups::block_below;
 pub use page::new_filter;

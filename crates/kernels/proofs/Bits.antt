@@ -1,10 +1,10 @@
 -- Bits of shifts to the left, of a conjunction and of a little-endian number.
 use mathlib.Core.Path.{_≡_, refl, sym, ap, _∙_}
-use mathlib.Core.Bool.{true, false, _&&_, false≢true}
+use mathlib.Core.Bool.{true, false, _&&_, _||_, false≢true}
 use mathlib.Core.List.{List}
-use Prim.Native.Nat.{ℕ, zero, suc, _+_, _*_, _-_, _/_, _%_, _^_, _≤_, _<_, min}
+use Prim.Native.Nat.{ℕ, zero, suc, _+_, _*_, _-_, _/_, _%_, _^_, _≤_, _<_, min, max}
 use native.Mathlib.Omega.{arith}
-use lib.Bits.{bitAnd, and-step}
+use lib.Bits.{bitAnd, bitOr, and-step, or-step}
 use lib.Count.{leadingZeros, leading-top}
 use lib.Dec.{eqb}
 use lib.ListN.{getD}
@@ -41,63 +41,27 @@ bit-top j y l h =
     let f : j ≡ j + 0 = omega arith in
     ap (λ (z : ℕ). bit y z) f ∙ (ap (λ (z : ℕ). bit z (j + 0)) e ∙ bit-high j 1 (y - 2 ^ j) 0 (omega arith))
 
--- ---- a conjunction
+-- ---- a disjunction
 
-min-and : (a b : ℕ) → a < 2 → b < 2 → eqb (min a b) 1 ≡ (eqb a 1 && eqb b 1)
-min-and zero zero h l = refl
-min-and zero (suc zero) h l = refl
-min-and zero (suc (suc b)) h l = absurd (omega arith)
-min-and (suc zero) zero h l = refl
-min-and (suc zero) (suc zero) h l = refl
-min-and (suc zero) (suc (suc b)) h l = absurd (omega arith)
-min-and (suc (suc a)) b h l = absurd (omega arith)
+max-or : (a b : ℕ) → a < 2 → b < 2 → eqb (max a b) 1 ≡ (eqb a 1 || eqb b 1)
+max-or zero zero h l = refl
+max-or zero (suc zero) h l = refl
+max-or zero (suc (suc b)) h l = absurd (omega arith)
+max-or (suc zero) zero h l = refl
+max-or (suc zero) (suc zero) h l = refl
+max-or (suc zero) (suc (suc b)) h l = absurd (omega arith)
+max-or (suc (suc a)) b h l = absurd (omega arith)
 
-pub bit-and : (a b i : ℕ) → bit (bitAnd a b) i ≡ (bit a i && bit b i)
+pub bit-or : (a b i : ℕ) → bit (bitOr a b) i ≡ (bit a i || bit b i)
 unfolding bit
-bit-and a b zero =
-    let s = and-step a b in
-    let e : bitAnd a b % 2 ≡ min (a % 2) (b % 2) = omega arith in
-    ap (λ (y : ℕ). eqb y 1) e ∙ min-and (a % 2) (b % 2) (omega arith) (omega arith)
-bit-and a b (suc i) =
-    let s = and-step a b in
-    let e : bitAnd a b / 2 ≡ bitAnd (a / 2) (b / 2) = omega arith in
-    ap (λ (y : ℕ). bit y i) e ∙ bit-and (a / 2) (b / 2) i
-
--- ---- the lowest b bits of a word, shifted up so that all above falls off: the highest that is set has z zeros above it
-
-pub record Top (x b z : ℕ) : Type 0 where
-  pub within : z < b
-  pub is-set : bit x (b - 1 - z) ≡ true
-  pub clear : (i : ℕ) → b - 1 - z < i → i < b → bit x i ≡ false
-
-module _ (x b : ℕ) (bb : b ≤ 64) where
-  abbrev raised : ℕ
-  raised = (x * 2 ^ (64 - b)) % 2 ^ 64
-
-  seen : (i : ℕ) → i < b → bit x i ≡ bit raised (64 - b + i)
-  seen i h = sym (bit-shl x (64 - b) 64 i (omega arith))
-
-  pub raised-none : raised ≡ 0 → (i : ℕ) → i < b → bit x i ≡ false
-  raised-none e i h = seen i h ∙ (ap (λ (y : ℕ). bit y (64 - b + i)) e ∙ bit-zero (64 - b + i))
-
-  high : (j : ℕ) → j < 64 → bit raised j ≡ true → 64 - b ≤ j
-  high j l e =
-      either (lt? j (64 - b))
-      (λ h. absurd (false≢true (sym (bit-shl-low x (64 - b) 64 j (h .1) l) ∙ e)))
-      (λ h. h .1)
-
-  pub raised-top : 0 < raised → raised < 2 ^ 64 → Top x b (leadingZeros 64 raised)
-  raised-top p l =
-      let T = leading-top 64 raised p l in
-      let j = T .0 in
-      let set = bit-top j raised (T .2) (T .3) in
-      let h = high j (omega arith) set in
-      let e : 64 - b + (b - 1 - leadingZeros 64 raised) ≡ j = omega (arith, T .1) in
-      record {
-        within = omega (arith, T .1);
-        is-set = seen (b - 1 - leadingZeros 64 raised) (omega (arith, T .1)) ∙ rw e set;
-        clear = λ i a c. seen i c ∙ bit-over (suc j) raised (64 - b + i) (T .3) (omega (arith, T .1));
-      }
+bit-or a b zero =
+    let s = or-step a b in
+    let e : bitOr a b % 2 ≡ max (a % 2) (b % 2) = omega arith in
+    ap (λ (y : ℕ). eqb y 1) e ∙ max-or (a % 2) (b % 2) (omega arith) (omega arith)
+bit-or a b (suc i) =
+    let s = or-step a b in
+    let e : bitOr a b / 2 ≡ bitOr (a / 2) (b / 2) = omega arith in
+    ap (λ (y : ℕ). bit y i) e ∙ bit-or (a / 2) (b / 2) i
 
 -- ---- eight bytes, lowest first, as a number
 

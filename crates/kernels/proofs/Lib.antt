@@ -1,5 +1,10 @@
 pub mod Bits
 pub mod Filters
-pub mod Turns
 pub mod Widths
-pub mod Fields
+pub mod Joins
+pub mod Eights
+pub mod Folds
+pub mod Flips
+pub mod Choices
+pub mod Uptos
+pub mod Gather

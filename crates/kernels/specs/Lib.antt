@@ -1,2 +1,3 @@
 pub mod Rows
-pub mod Width
+pub mod Blocks
+pub mod Conjunction

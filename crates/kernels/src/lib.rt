@@ -1,23 +1,15 @@
-// Fast passes over rows of bits: the newest filter that has all of its bits.
+// Fast passes over rows of bits: which filters have all of their bits, as the bits of words.
 ghost use mathlib.Core.Path.{_≡_};
-ghost use mathlib.Core.List.{[]};
-ghost use Prim.Native.Nat.{ℕ, _+_, _*_, _/_, _%_, _^_, _≤_, _<_};
+ghost use mathlib.Core.Bool.{true, false, _&&_, not};
+ghost use Prim.Native.Nat.{ℕ, _+_, _-_, _*_, _/_, _%_, _^_, _≤_, _<_, min};
+ghost use lib.Bits.{bitAnd, bitOr};
 ghost use lib.Count.{leadingZeros};
+ghost use lib.Dec.{ltb, eqb};
 ghost use lib.ListN.{length, getD};
 ghost use Rattle.memory.specs.Bits.{bit, bitIn};
 ghost use Rattle.memory.specs.Lent.{before};
-ghost use Rattle.memory.specs.Candidate.{candidate};
-ghost use Rattle.kernels.specs.Rows.{allIn, Word, Words, Within, WordIn, BytesIn};
-ghost use Rattle.kernels.specs.Width.{IsWidth};
-
-// Rows of bits, one for each position: its first byte, and the bit among the w that a filter has in
-// the row.
-pub struct Rows {
-    pub at: [usize; 8],
-    pub low: [usize; 8],
-    pub count: usize,
-    pub w: usize,
-}
+ghost use Rattle.kernels.specs.Rows.{allIn, Word, Words};
+ghost use Rattle.kernels.specs.Blocks.{Shows, Open, Upto, OpenBlock, Squeezed, BlockIn, GroupIn};
 
 // ---- words of 64 bits
 
@@ -28,7 +20,7 @@ fn wide(x: u32) -> u64
 }
 
 // The eight bytes from `at` on, the lowest first: one load.
-pub fn get64(s: &[u8], at: usize) -> u64
+fn get64(at: usize, s: &[u8]) -> u64
     requires { ⌜ at + 8 ≤ length (now s) ⌝ }
     ensures { λ r. ⌜ Word (before s) at r ⌝ }
 {
@@ -36,153 +28,37 @@ pub fn get64(s: &[u8], at: usize) -> u64
 }
 
 // The zero bits above the highest set bit.
-pub fn zeros(y: u64) -> usize
+fn zeros(y: u64) -> usize
     ensures { λ r. ⌜ r ≡ leadingZeros 64 y ⌝ }
 {
     u64::leading_zeros(y) as usize
 }
 
-// Word q of all rows.
-fn and_words(bytes: &[u8], at: [usize; 8], count: usize, q: usize) -> u64
-    requires { ⌜ WordIn at count q (length (now bytes)) ⌝ }
-    ensures { λ r. ⌜ Words (before bytes) at [] count q r ⌝ }
+// The lowest m bits.
+pub fn lowest(x: u64, m: usize) -> u64
+    requires { ⌜ (0 < m) × (m ≤ 64) ⌝ }
+    ensures { λ r. ⌜ ((i : ℕ) → i < 64 → bit r i ≡ (ltb i m && bit x i)) ⌝ }
 {
-    let o = q * 8;
-    let mut r = get64(bytes, at[0] + o);
-    let mut i = 1;
-    while i < count {
-        r = r & get64(bytes, at[i] + o);
-        i += 1;
-    }
-    r
+    (x << (64 - m)) >> (64 - m)
 }
 
-// ---- one bit for a filter in each row: 64 filters a turn
-
-// `newest` at w = 1. What lies past the bound in the last word is shifted out at the top.
-fn last_and(bytes: &[u8], at: [usize; 8], count: usize, n: usize) -> usize
-    requires { ⌜ (0 < count) × (count ≤ 8) × ((i : ℕ) → i < count → getD at i 0 + (n + 63) / 64 * 8 ≤ length (now bytes)) ⌝ }
-    ensures { λ r. ⌜ r ≡ candidate (allIn (before bytes) at [] 1 count) n ⌝ }
+// The highest bit that is set.
+pub fn top(bits: u64) -> usize
+    requires { ⌜ 0 < bits ⌝ }
+    ensures { λ r. ⌜ (r < 64) × (bit bits r ≡ true) × ((i : ℕ) → r < i → i < 64 → bit bits i ≡ false) ⌝ }
 {
-    let mut k = n;
-    while k > 0 {
-        let q = (k - 1) / 64;
-        let y = and_words(bytes, at, count, q) << (64 - (k - q * 64));
-        if y != 0 {
-            return k - zeros(y);
-        }
-        k = q * 64;
-    }
-    0
+    63 - zeros(bits)
 }
 
-// ---- two to sixteen bits for a filter in each row: 32 to 4 filters a turn
-
-// A filter has w = 2^lw bits in a row; a word has the bits of per = 2^lp filters, and `mask` the
-// lowest bit of each.
-pub struct Width {
-    pub lw: u32,
-    pub lp: u32,
-    pub w: usize,
-    pub per: usize,
-    pub mask: u64,
-}
-
-pub fn width_of(w: usize) -> Width
-    requires { ⌜ ((e : ℕ) × (0 < e) × (e < 5) × (w ≡ 2 ^ e)) ⌝ }
-    ensures { λ r. ⌜ IsWidth r × (r .w ≡ w) ⌝ }
+// The bits without bit f.
+pub fn without(bits: u64, f: usize) -> u64
+    requires { ⌜ f < 64 ⌝ }
+    ensures { λ r. ⌜ ((i : ℕ) → i < 64 → bit r i ≡ (not (eqb i f) && bit bits i)) ⌝ }
 {
-    if w == 2 {
-        return Width {
-            lw: 1,
-            lp: 5,
-            w: 2,
-            per: 32,
-            mask: 0x5555_5555_5555_5555,
-        };
-    }
-    if w == 4 {
-        return Width {
-            lw: 2,
-            lp: 4,
-            w: 4,
-            per: 16,
-            mask: 0x1111_1111_1111_1111,
-        };
-    }
-    if w == 8 {
-        return Width {
-            lw: 3,
-            lp: 3,
-            w: 8,
-            per: 8,
-            mask: 0x0101_0101_0101_0101,
-        };
-    }
-    Width {
-        lw: 4,
-        lp: 2,
-        w: 16,
-        per: 4,
-        mask: 0x0001_0001_0001_0001,
-    }
+    bits & (0xffff_ffff_ffff_ffff ^ (1 << f))
 }
 
-// x / w by a shift.
-pub fn down(x: usize, l: u32, w: usize) -> usize
-    requires { ⌜ (l ≤ 6) × (w ≡ 2 ^ l) ⌝ }
-    ensures { λ r. ⌜ r ≡ x / w ⌝ }
-{
-    x >> l
-}
-
-// Word q of all rows, each moved down by its `low`.
-fn field_words(bytes: &[u8], at: [usize; 8], low: [usize; 8], count: usize, q: usize) -> u64
-    requires { ⌜ WordIn at count q (length (now bytes)) × ((i : ℕ) → i < count → getD low i 0 < 64) ⌝ }
-    ensures { λ r. ⌜ Words (before bytes) at low count q r ⌝ }
-{
-    let o = q * 8;
-    let mut r = get64(bytes, at[0] + o) >> low[0];
-    let mut i = 1;
-    while i < count {
-        r = r & (get64(bytes, at[i] + o) >> low[i]);
-        i += 1;
-    }
-    r
-}
-
-// `newest` at these widths.
-fn last_field(
-    bytes: &[u8],
-    at: [usize; 8],
-    low: [usize; 8],
-    count: usize,
-    f: Width,
-    n: usize,
-) -> usize
-    requires { ⌜ IsWidth f × (0 < count) × (count ≤ 8) × (n < 2 ^ 60) ⌝ }
-    requires { ⌜ ((i : ℕ) → i < count → (getD low i 0 < f .w) × (getD at i 0 + (n * f .w + 63) / 64 * 8 ≤ length (now bytes))) ⌝ }
-    ensures { λ r. ⌜ r ≡ candidate (allIn (before bytes) at low (f .w) count) n ⌝ }
-{
-    let lw = f.lw;
-    let lp = f.lp;
-    let w = f.w;
-    let per = f.per;
-    let mask = f.mask;
-    let mut k = n;
-    while k > 0 {
-        let q = down(k - 1, lp, per);
-        let base = q * per;
-        let y = (field_words(bytes, at, low, count, q) & mask) << (64 - (k - base) * w);
-        if y != 0 {
-            return k - down(zeros(y), lw, w);
-        }
-        k = base;
-    }
-    0
-}
-
-// ---- whole bytes for a filter in each row: a filter a turn
+// ---- filters of whole bytes: a bit out of each
 
 // Which bit of its byte bit x of a row is.
 fn bit_place(x: usize) -> usize
@@ -191,69 +67,290 @@ fn bit_place(x: usize) -> usize
     x % 8
 }
 
-// The byte that has bit x of the row from byte `row` on, moved down so that this bit is its lowest.
-pub fn byte_of(bytes: &[u8], row: usize, x: usize) -> u8
-    requires { ⌜ row + x / 8 < length (now bytes) ⌝ }
-    ensures { λ r. ⌜ (r ≡ getD (before bytes) (row + x / 8) 0 / 2 ^ (x % 8)) × (bit r 0 ≡ bitIn (before bytes) row x) ⌝ }
+// The bit of a byte that the mask has, in its place.
+fn masked(at: usize, mask: u64, bytes: &[u8]) -> u64
+    requires { ⌜ at < length (now bytes) ⌝ }
+    ensures { λ r. ⌜ (r ≡ bitAnd (getD (before bytes) at 0) mask) × (r < 256) ⌝ }
 {
-    bytes[row + x / 8] >> bit_place(x)
+    bytes[at] as u64 & mask
 }
 
-// Has the filter whose bits begin o bytes after each row all of its bits?
-fn all_at(bytes: &[u8], at: [usize; 8], low: [usize; 8], count: usize, o: usize) -> bool
-    requires { ⌜ BytesIn at low count o (length (now bytes)) ⌝ }
-    ensures { λ r. ⌜ r ≡ allIn (before bytes) at low 1 count (o * 8) ⌝ }
+// Bit `low` of a byte out of each of eight, `step` bytes from one to the next.
+fn eight_bits(at: usize, low: usize, step: usize, bytes: &[u8]) -> u64
+    requires { ⌜ at + 7 * step < length (now bytes) ⌝ }
+    ensures { λ r. ⌜ (r < 256) × ((i : ℕ) → i < 8 → bit r i ≡ bit (getD (before bytes) (at + i * step) 0) (low % 8)) ⌝ }
 {
-    let mut r = byte_of(bytes, at[0] + o, low[0]);
+    let s = bit_place(low);
+    let mask: u64 = 1 << s;
+    let h = masked(at + 7 * step, mask, bytes);
+    let g = masked(at + 6 * step, mask, bytes);
+    let f = masked(at + 5 * step, mask, bytes);
+    let e = masked(at + 4 * step, mask, bytes);
+    let d = masked(at + 3 * step, mask, bytes);
+    let c = masked(at + 2 * step, mask, bytes);
+    let b = masked(at + step, mask, bytes);
+    let a = masked(at, mask, bytes);
+    (((((((h * 2 + g) * 2 + f) * 2 + e) * 2 + d) * 2 + c) * 2 + b) * 2 + a) >> s
+}
+
+// The same of n times eight bytes.
+pub fn row_bits(at: usize, low: usize, step: usize, n: usize, bytes: &[u8]) -> u64
+    requires { ⌜ (n ≤ 8) × ((i : ℕ) → i < n * 8 → at + i * step < length (now bytes)) ⌝ }
+    ensures { λ r. ⌜ ((i : ℕ) → i < n * 8 → bit r i ≡ bit (getD (before bytes) (at + i * step) 0) (low % 8)) ⌝ }
+{
+    let mut r: u64 = 0;
+    let mut j = n;
+    while j > 0 {
+        j -= 1;
+        let b = eight_bits(at + j * 8 * step, low, step, bytes);
+        r = (r << 8) | b;
+    }
+    r
+}
+
+// ---- filters of a bit and more, side by side in words
+
+// Fields of bits in a word come together by two: what lies s bits further up is moved down beside the lower one, and `m` has the places of
+// both.
+fn join(y: u64, s: usize, m: u64) -> u64
+    requires { ⌜ s < 64 ⌝ }
+    ensures { λ r. ⌜ r ≡ bitAnd (bitOr y (y / 2 ^ s)) m ⌝ }
+{
+    (y | (y >> s)) & m
+}
+
+// Every w-th bit of a word, side by side.
+fn squeeze(x: u64, w: usize) -> u64
+    requires { ⌜ ((e : ℕ) × (0 < e) × (e < 7) × (w ≡ 2 ^ e)) ⌝ }
+    ensures { λ r. ⌜ Squeezed w x r ⌝ }
+{
+    if w == 2 {
+        let a = join(x & 0x5555_5555_5555_5555, 1, 0x3333_3333_3333_3333);
+        let b = join(a, 2, 0x0f0f_0f0f_0f0f_0f0f);
+        let c = join(b, 4, 0x00ff_00ff_00ff_00ff);
+        let d = join(c, 8, 0x0000_ffff_0000_ffff);
+        return join(d, 16, 0x0000_0000_ffff_ffff);
+    }
+    if w == 4 {
+        let a = join(x & 0x1111_1111_1111_1111, 3, 0x0303_0303_0303_0303);
+        let b = join(a, 6, 0x000f_000f_000f_000f);
+        let c = join(b, 12, 0x0000_00ff_0000_00ff);
+        return join(c, 24, 0x0000_0000_0000_ffff);
+    }
+    if w == 8 {
+        let a = join(x & 0x0101_0101_0101_0101, 7, 0x0003_0003_0003_0003);
+        let b = join(a, 14, 0x0000_000f_0000_000f);
+        return join(b, 28, 0x0000_0000_0000_00ff);
+    }
+    if w == 16 {
+        let a = join(x & 0x0001_0001_0001_0001, 15, 0x0000_0003_0000_0003);
+        return join(a, 30, 0x0000_0000_0000_000f);
+    }
+    if w == 32 {
+        return join(x & 0x0000_0001_0000_0001, 31, 0x0000_0000_0000_0003);
+    }
+    x & 1
+}
+
+// A row's word, moved down by `low`.
+fn field_at(at: usize, low: usize, bytes: &[u8]) -> u64
+    requires { ⌜ (at + 8 ≤ length (now bytes)) × (low < 64) ⌝ }
+    ensures { λ r. ⌜ ((i : ℕ) → low + i < 64 → bit r i ≡ bitIn (before bytes) at (low + i)) ⌝ }
+{
+    get64(at, bytes) >> low
+}
+
+// Eight words of a row.
+fn row_block(at: usize, low: usize, bytes: &[u8]) -> [u64; 8]
+    requires { ⌜ (at + 64 ≤ length (now bytes)) × (low < 64) ⌝ }
+    ensures { λ r. ⌜ (length r ≡ 8)
+        × ((j : ℕ) → j < 8 → (i : ℕ) → low + i < 64 → bit (getD r j 0) i ≡ bitIn (before bytes) (at + j * 8) (low + i)) ⌝ }
+{
+    let a = field_at(at, low, bytes);
+    let b = field_at(at + 8, low, bytes);
+    let c = field_at(at + 16, low, bytes);
+    let d = field_at(at + 24, low, bytes);
+    let e = field_at(at + 32, low, bytes);
+    let f = field_at(at + 40, low, bytes);
+    let g = field_at(at + 48, low, bytes);
+    let h = field_at(at + 56, low, bytes);
+    [a, b, c, d, e, f, g, h]
+}
+
+// Eight conjunctions.
+fn and_eight(x: [u64; 8], y: [u64; 8]) -> [u64; 8]
+    ensures { λ r. ⌜ ((j : ℕ) → j < 8 → getD r j 0 ≡ bitAnd (getD x j 0) (getD y j 0)) ⌝ }
+{
+    let a = x[0] & y[0];
+    let b = x[1] & y[1];
+    let c = x[2] & y[2];
+    let d = x[3] & y[3];
+    let e = x[4] & y[4];
+    let f = x[5] & y[5];
+    let g = x[6] & y[6];
+    let h = x[7] & y[7];
+    [a, b, c, d, e, f, g, h]
+}
+
+// Words q to q + 7 of all rows, each moved down by its `low`. The loop over the rows is the outer one, so that the words stay in registers.
+fn field_block(q: usize, count: usize, at: &[usize], low: &[usize], bytes: &[u8]) -> [u64; 8]
+    requires { ⌜ BlockIn (now at) (now low) count q (length (now bytes)) ⌝ }
+    ensures { λ r. ⌜ ((j : ℕ) → j < 8 → Words (before bytes) (before at) (before low) count (q + j) (getD r j 0)) ⌝ }
+{
+    let o = q * 8;
+    let mut r = row_block(at[0] + o, low[0], bytes);
     let mut i = 1;
     while i < count {
-        r = r & byte_of(bytes, at[i] + o, low[i]);
+        let y = row_block(at[i] + o, low[i], bytes);
+        let z = and_eight(r, y);
+        r = z;
         i += 1;
     }
-    r % 2 == 1
+    r
 }
 
-// `newest` at these widths.
-fn last_plain(
-    bytes: &[u8],
-    at: [usize; 8],
-    low: [usize; 8],
-    count: usize,
+// Filters of w = 2 or 4 bits in each row: those of the w words from word q on, which lie in one block.
+fn few_words(w: usize, q: usize, count: usize, at: &[usize], low: &[usize], bytes: &[u8]) -> u64
+    requires { ⌜ ((e : ℕ) × (0 < e) × (e < 7) × (w ≡ 2 ^ e)) × (64 / w * w ≡ 64) × (q % 8 + w ≤ 8) ⌝ }
+    requires { ⌜ BlockIn (now at) (now low) count (q - q % 8) (length (now bytes)) × ((i : ℕ) → i < count → getD (now low) i 0 < w) ⌝ }
+    ensures { λ r. ⌜ Shows (allIn (before bytes) (before at) (before low) w count) (q * (64 / w)) (w * (64 / w)) r ⌝ }
+{
+    let per = 64 / w;
+    let j = q % 8;
+    let f = field_block(q - j, count, at, low, bytes);
+    let mut r: u64 = 0;
+    let mut t = w;
+    while t > 0 {
+        t -= 1;
+        let s = squeeze(f[j + t], w);
+        r = (r << per) | s;
+    }
+    r
+}
+
+// Filters of w = 8 to 64 bits in each row: those of the n blocks from word q on.
+fn more_words(
     w: usize,
+    q: usize,
     n: usize,
-) -> usize
-    requires { ⌜ (0 < count) × (count ≤ 8) × (w % 8 ≡ 0) × (n * w < 2 ^ 60) ⌝ }
-    requires { ⌜ ((i : ℕ) → i < count → (getD low i 0 < w) × (getD at i 0 + (n * w + 63) / 64 * 8 ≤ length (now bytes))) ⌝ }
-    ensures { λ r. ⌜ r ≡ candidate (allIn (before bytes) at low w count) n ⌝ }
+    count: usize,
+    at: &[usize],
+    low: &[usize],
+    bytes: &[u8],
+) -> u64
+    requires { ⌜ ((e : ℕ) × (0 < e) × (e < 7) × (w ≡ 2 ^ e)) × (64 / w * w ≡ 64) × (n * 8 * (64 / w) ≤ 64) × (n ≤ 8) × (q < 2 ^ 60) ⌝ }
+    requires { ⌜ ((b : ℕ) → b < n → BlockIn (now at) (now low) count (q + b * 8) (length (now bytes)))
+        × ((i : ℕ) → i < count → getD (now low) i 0 < w) ⌝ }
+    ensures { λ r. ⌜ Shows (allIn (before bytes) (before at) (before low) w count) (q * (64 / w)) (n * 8 * (64 / w)) r ⌝ }
 {
-    let step = w / 8;
-    let mut g = n;
-    while g > 0 {
-        let o = (g - 1) * step;
-        if all_at(bytes, at, low, count, o) {
-            return g;
+    let per = 64 / w;
+    let mut r: u64 = 0;
+    let mut b = n;
+    while b > 0 {
+        b -= 1;
+        let f = field_block(q + b * 8, count, at, low, bytes);
+        let mut j = 8;
+        while j > 0 {
+            j -= 1;
+            let s = squeeze(f[j], w);
+            r = (r << per) | s;
         }
-        g -= 1;
     }
-    0
+    r
 }
 
-// ---- any width
-
-// The newest of n filters that has all its bits, plus one; 0 if none has.
-pub fn newest(bytes: &[u8], k: Rows, n: usize) -> usize
-    requires { ⌜ Within k n (length (now bytes)) ⌝ }
-    ensures { λ r. ⌜ r ≡ candidate (allIn (before bytes) (k .at) (k .low) (k .w) (k .count)) n ⌝ }
+// Which of the filters `from` to `from` + m - 1 have all bits, at w = 2 and more; `from` is a multiple of 64.
+fn passed(
+    w: usize,
+    from: usize,
+    m: usize,
+    count: usize,
+    at: &[usize],
+    low: &[usize],
+    bytes: &[u8],
+) -> u64
+    requires { ⌜ (1 < w) × (0 < m) × (m ≤ 64) × (from % 64 ≡ 0) × GroupIn (now at) (now low) count w (from + m) (length (now bytes)) ⌝ }
+    ensures { λ r. ⌜ Open (allIn (before bytes) (before at) (before low) w count) from m r ⌝ }
 {
-    let at = k.at;
-    let count = k.count;
-    if k.w == 1 {
-        return last_and(bytes, at, count, n);
+    if w < 8 {
+        let a = few_words(w, from / 64 * w, count, at, low, bytes);
+        return lowest(a, m);
     }
-    let low = k.low;
-    let w = k.w;
-    if w < 32 {
-        return last_field(bytes, at, low, count, width_of(w), n);
+    let n = (m * w + 511) / 512;
+    let a = more_words(w, from / 64 * w, n, count, at, low, bytes);
+    lowest(a, m)
+}
+
+// The lesser of two numbers.
+fn lesser(a: usize, b: usize) -> usize
+    ensures { λ r. ⌜ r ≡ min a b ⌝ }
+{
+    if a < b {
+        return a;
     }
-    last_plain(bytes, at, low, count, w, n)
+    b
+}
+
+// Eight words: n filters from `first` on, at w = 2 and more, 64 of them to a word.
+fn wide_block(
+    w: usize,
+    first: usize,
+    n: usize,
+    count: usize,
+    at: &[usize],
+    low: &[usize],
+    bytes: &[u8],
+) -> [u64; 8]
+    requires { ⌜ (1 < w) × (n ≤ 512) × (first % 64 ≡ 0) × GroupIn (now at) (now low) count w (first + n) (length (now bytes)) ⌝ }
+    ensures { λ r. ⌜ OpenBlock (allIn (before bytes) (before at) (before low) w count) first n r ⌝ }
+{
+    let mut r = [0u64; 8];
+    let mut j = 0;
+    while j < (n + 63) / 64 {
+        let m = lesser(64, n - j * 64);
+        let y = passed(w, first + j * 64, m, count, at, low, bytes);
+        r[j] = y;
+        j += 1;
+    }
+    r
+}
+
+// The first n bits of eight words.
+fn part(f: [u64; 8], n: usize) -> [u64; 8]
+    requires { ⌜ n ≤ 512 ⌝ }
+    ensures { λ r. ⌜ Upto (λ j i. bit (getD f j 0) i) n r ⌝ }
+{
+    let mut r = [0u64; 8];
+    let mut j = 0;
+    while j < (n + 63) / 64 {
+        let m = lesser(64, n - j * 64);
+        let y = lowest(f[j], m);
+        r[j] = y;
+        j += 1;
+    }
+    r
+}
+
+// Which of the n filters from `first` on, 512 at the most, have all bits of their `count` rows, 64 to a word. A row has w bits of each
+// filter, 64 at the most, of which `low` counts, and is read in whole blocks of 64 bytes; `first` is a multiple of 512.
+pub fn block(
+    w: usize,
+    first: usize,
+    n: usize,
+    count: usize,
+    at: &[usize],
+    low: &[usize],
+    bytes: &[u8],
+) -> [u64; 8]
+    requires { ⌜ (0 < n) × (n ≤ 512) × (first % 512 ≡ 0) × GroupIn (now at) (now low) count w (first + n) (length (now bytes)) ⌝ }
+    ensures { λ r. ⌜ OpenBlock (allIn (before bytes) (before at) (before low) w count) first n r ⌝ }
+{
+    if w > 1 {
+        return wide_block(w, first, n, count, at, low, bytes);
+    }
+    let f = field_block(first / 64, count, at, low, bytes);
+    if n == 512 {
+        return f;
+    }
+    part(f, n)
 }
