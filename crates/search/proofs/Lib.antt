@@ -1,3 +1,4 @@
 pub mod Entries
 pub mod Pages
+pub mod Bits
 pub mod Volume

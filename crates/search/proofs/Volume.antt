@@ -1,4 +1,4 @@
--- Entries and deletions of a view on flash and in RAM, its gates by groups of filters, and parts of a ready volume.
+-- Entries and deletions of a view on flash and in RAM, its gates by blocks of filters, and parts of a ready volume.
 use mathlib.Core.Path.{_≡_, refl, sym, ap, _∙_}
 use mathlib.Core.Bool.{Bool, _||_}
 use mathlib.Core.Option.{Option}
@@ -26,11 +26,10 @@ use Rattle.geometry.specs.declared.areas.Area as items
 use Rattle.items.specs.Fits as fits
 use Rattle.items.specs.Scans.{isWord, hasWord, any-sum}
 use Rattle.items.specs.Reading.{word-on-flash, page-word, ram-word}
-use Rattle.kernels.specs.Rows.{Within}
-use Rattle.kernels.specs.declared.Rows.{Rows}
+use Rattle.kernels.specs.Blocks.{OpenBlock}
 use Rattle.filter.specs.Filter.{Fits}
-use Rattle.filter.specs.Groups.{groupHas, GroupAt}
-use Rattle.filter.specs.declared.groups.Group.{Group}
+use Rattle.filter.specs.Blocks.{BlockAt}
+use Rattle.filter.specs.declared.groups.Block.{Block}
 use Rattle.search.specs.declared.View.{View}
 use Rattle.search.specs.Find.{viewed, Ready, tryOf, tryIn, pagesBelow}
 use Rattle.search.proofs.Entries.{Same, scan-same}
@@ -93,13 +92,12 @@ module _ (v : View) (main ram : List ℕ) (key : Key) where
   scan-bytes bytes from count lo S =
       scan-same (tryIn v main ram key bytes from) (tryOf v main ram key) 0 lo count (λ k l. same-bytes bytes from count .entry k l ∙ sym (S .entry k l))
 
-  -- the rows of a group open the gates of its pages
-  pub group-same : (below : ℕ) (ps : List ℕ) (grp : Group) → GroupAt (v .g .chip .unit) (keyIndex (shape (v .g))) main ram (pages v) below ps grp
-      → (i : ℕ) → i < below - grp .start → maybeIn (shape (v .g)) (viewed v main ram) ps (grp .start + i) ≡ groupHas grp main ram i
+  -- a block shows the gates of its pages
+  pub block-shows : (below : ℕ) (ps : List ℕ) (b : Block)
+      → BlockAt (v .g .chip .unit) (keyIndex (shape (v .g))) main ram (pages v) below ps b
+      → OpenBlock (maybeIn (shape (v .g)) (viewed v main ram) ps) (b .start) (below - b .start) (b .words)
   unfolding maybeIn
-  group-same below ps grp G i h =
-      let e : grp .start + i - grp .start ≡ i = omega arith in
-      rw e at (G .all-is (grp .start + i) (omega arith) (omega arith))
+  block-shows below ps b B = B .shown
 
   -- the entries past the last full page first
   pub search-is : (s : Option Stop) → s ≡ scan (tryOf v main ram key) (pagesThen v * perPage v) (v .n0 % perPage v)
@@ -156,19 +154,6 @@ module _ (u : ℕ) (a : items.Area) (d d₀ main ram : ℕ) (F : fits.Fits u a d
       omega (arith, h, E .whole, E .small)
 
 -- ---- a ready volume
-
--- fewer filters lie within reach too
-pub within-fewer : (k : Rows) (n m len : ℕ) → Within k n len → m ≤ n → Within k m len
-within-fewer k n m len W h =
-    let p = mul-le-mul-right (k .w) h in
-    record {
-      some = W .some;
-      few = W .few;
-      power = W .power;
-      low-lt = W .low-lt;
-      at-in = λ i l. omega (arith, W .at-in i l, p);
-      small = omega (arith, W .small, p);
-    }
 
 module _ (v : View) (main ram : List ℕ) (R : Ready v main ram) where
   -- eight full pages to a block of records

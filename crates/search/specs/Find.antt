@@ -9,7 +9,7 @@ use Rattle.memory.specs.Words.{word}
 use Rattle.layout.specs.Keys.{Key, keyAt, numberIn}
 use Rattle.layout.specs.Geometry as layout
 use Rattle.layout.specs.Flash.{flashOf}
-use Rattle.layout.specs.Hash.{Family, positionCount}
+use Rattle.layout.specs.Hash.{Family}
 use Rattle.layout.specs.Search as find
 use Rattle.layout.specs.Calls.{Volume, isDeleted, tryAt, maybeIn, searchAt, search}
 use Rattle.geometry.specs.declared.Geometry.{Geometry}
@@ -95,9 +95,11 @@ abbrev pub onward : Option find.Stop → ℕ → find.Found → find.Found
 onward none k older = find.reply (older .stop) (k + older .opened)
 onward (some r) k older = find.reply (some r) k
 
--- positions lie within a filter
-abbrev pub Low : Geometry → List ℕ → Type 0
-Low g ps = (i : ℕ) → i < positionCount → getD ps i 0 < layout.filterBits (g .chip .unit)
+-- there are 1 to 8 positions, and they lie within a filter
+pub record Low (g : Geometry) (count : ℕ) (ps : List ℕ) : Type 0 where
+  pub some : 1 ≤ count
+  pub few : count ≤ 8
+  pub within : (i : ℕ) → i < count → getD ps i 0 < layout.filterBits (g .chip .unit)
 
 -- the filters of its entries, all of them
 abbrev pub filtersOf : View → Filters

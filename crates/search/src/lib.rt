@@ -157,47 +157,59 @@ fn key_filters(v: View) -> Filters
     }
 }
 
-// What was found in a group of pages: where the search ended in it, the pages opened, and the group's first page.
+// What was found in a block of pages: where the search ended in it, the pages opened, and the block's first page.
 struct Walk {
     end: End,
     opened: u32,
     start: usize,
 }
 
-// The full pages below page `below` whose filters are of one group, newest first, and the entries of each that is
-// opened, newest first.
-fn in_group(v: View, key: u32, ps: [u32; 8], below: usize, main: &[u8], ram: &[u8]) -> Walk
-    requires { ⌜ Ready v (now main) (now ram) × Low (v .g) ps ⌝ }
+// The full pages below page `below` whose filters are of one block, newest first, and the entries of each that is
+// opened, newest first. A word of the block has 64 filters; words past the last filter are not looked at.
+fn in_block(
+    v: View,
+    key: u32,
+    ps: [u32; 8],
+    count: usize,
+    below: usize,
+    main: &[u8],
+    ram: &[u8],
+) -> Walk
+    requires { ⌜ Ready v (now main) (now ram) × Low (v .g) count ps ⌝ }
     requires { ⌜ (0 < below) × (below ≤ v .n0 / entriesPerPage (v .g .chip .unit)) ⌝ }
     ensures start { λ r. ⌜ r .start < below ⌝ }
-    ensures found { λ r. ⌜ pagesBelow v (before main) (before ram) key (take positionCount ps) below
-        ≡ onward (stopOf (r .end)) (r .opened) (pagesBelow v (before main) (before ram) key (take positionCount ps) (r .start)) ⌝ }
+    ensures found { λ r. ⌜ pagesBelow v (before main) (before ram) key (take count ps) below
+        ≡ onward (stopOf (r .end)) (r .opened) (pagesBelow v (before main) (before ram) key (take count ps) (r .start)) ⌝ }
 {
-    let per_page = v.g.entries_per_page();
-    let grp = filter::group_below(key_filters(v), below, ps, 3, main, ram);
-    let first = grp.start;
+    let b = filter::block_below(key_filters(v), below, ps, count, main, ram);
+    let first = b.start;
     let mut end = End::Nothing;
     let mut opened: u32 = 0;
-    let mut c = filter::newest_in(grp, below - first, main, ram);
-    'filters: while c > 0 {
-        let f = c - 1;
-        opened += 1;
-        let start = page_start(v.g, first + f);
-        let mut e = items::find_entry(start, per_page, key, main);
-        'entries: while e > 0 {
-            let k = e - 1;
-            let j = number_at(start, k, main);
-            if wide(j) >= v.n0 {
-                end = End::Corrupt;
-                break 'filters;
+    let mut w = (below - first + 63) / 64;
+    'filters: while w > 0 {
+        w -= 1;
+        let from = first + w * 64;
+        let mut bits = b.words[w];
+        'bits: while bits != 0 {
+            let f = kernels::top(bits);
+            bits = kernels::without(bits, f);
+            opened += 1;
+            let start = page_start(v.g, from + f);
+            let mut e = items::find_in_page(v.g.chip, start, key, main);
+            'entries: while e > 0 {
+                let k = e - 1;
+                let j = number_at(start, k, main);
+                if wide(j) >= v.n0 {
+                    end = End::Corrupt;
+                    break 'filters;
+                }
+                if !deleted(v, j, main, ram) {
+                    end = End::Live(j);
+                    break 'filters;
+                }
+                e = items::find_entry(start, k, key, main);
             }
-            if !deleted(v, j, main, ram) {
-                end = End::Live(j);
-                break 'filters;
-            }
-            e = items::find_entry(start, k, key, main);
         }
-        c = filter::newest_in(grp, f, main, ram);
     }
     Walk {
         end,
@@ -206,16 +218,16 @@ fn in_group(v: View, key: u32, ps: [u32; 8], below: usize, main: &[u8], ram: &[u
     }
 }
 
-// Full pages, a group of filters after another, the newest first, for any positions.
-fn in_pages(v: View, key: u32, ps: [u32; 8], main: &[u8], ram: &[u8]) -> Found
-    requires { ⌜ Ready v (now main) (now ram) × Low (v .g) ps ⌝ }
+// Full pages, a block of filters after another, the newest first, for any `count` positions, 1 to 8.
+fn in_pages(v: View, key: u32, ps: [u32; 8], count: usize, main: &[u8], ram: &[u8]) -> Found
+    requires { ⌜ Ready v (now main) (now ram) × Low (v .g) count ps ⌝ }
     ensures { λ r. ⌜ foundOf r
-        ≡ pagesBelow v (before main) (before ram) key (take positionCount ps) (v .n0 / entriesPerPage (v .g .chip .unit)) ⌝ }
+        ≡ pagesBelow v (before main) (before ram) key (take count ps) (v .n0 / entriesPerPage (v .g .chip .unit)) ⌝ }
 {
     let mut opened: u32 = 0;
     let mut below = v.n0 / v.g.entries_per_page();
     while below > 0 {
-        let w = in_group(v, key, ps, below, main, ram);
+        let w = in_block(v, key, ps, count, below, main, ram);
         opened += w.opened;
         let end = w.end;
         match end {
@@ -246,7 +258,7 @@ fn in_pages(v: View, key: u32, ps: [u32; 8], main: &[u8], ram: &[u8]) -> Found
 // The positions of a key, as the filters take them.
 fn positions_of(g: Geometry, key: u32) -> [u32; 8]
     requires { ⌜ Sound g ⌝ }
-    ensures { λ r. ⌜ (take positionCount r ≡ positions fnvFamily positionCount (g .chip .unit) (keyBytes key)) × Low g r ⌝ }
+    ensures { λ r. ⌜ (take positionCount r ≡ positions fnvFamily positionCount (g .chip .unit) (keyBytes key)) × Low g positionCount r ⌝ }
 {
     let p = fnv::positions(g.chip, key);
     [p[0], p[1], p[2], 0, 0, 0, 0, 0]
@@ -259,7 +271,7 @@ pub fn search(v: View, key: u32, main: &[u8], ram: &[u8]) -> Found
     let end = in_open(v, key, main, ram);
     match end {
         End::Nothing => {
-            return in_pages(v, key, positions_of(v.g, key), main, ram);
+            return in_pages(v, key, positions_of(v.g, key), 3, main, ram);
         }
         End::Live(j) => {
             return Found {

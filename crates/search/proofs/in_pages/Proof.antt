@@ -1,4 +1,4 @@
--- What is left of the search at each group of filters.
+-- What is left of the search at each block of filters.
 use borrow.Author.Needs.{needs}
 use native.Mathlib.Omega.{arith}
 use mathlib.Core.Path.{sym}
@@ -6,22 +6,21 @@ use mathlib.Core.Bool.{Bool}
 use mathlib.Core.Option.{Option}
 use Prim.Native.Nat.{ℕ}
 use lib.ListN.{take}
-use Rattle.layout.specs.Hash.{positionCount}
 use Rattle.layout.specs.Search.{Stop, found, corrupt}
 use Rattle.layout.specs.Calls.{maybeIn}
 use Rattle.geometry.specs.Shape.{shape}
 use Rattle.search.specs.Find.{stopOf, viewed, tryOf}
-use Rattle.search.proofs.Pages.{Groups, groups-first, groups-none, groups-some, groups-next, groups-few}
+use Rattle.search.proofs.Pages.{Pages, pages-first, pages-none, blocks-some, blocks-next, blocks-few}
 use Rattle.search.proofs.Volume.{perPage, pagesThen, pages-few, pages-then}
 use Rattle.search.proofs.in_pages.Statement.{statement}
 use Rattle.search.proofs.in_pages.Tie as tie
 
 abbrev Inv-loop : tie.InvT-loop
-Inv-loop v key ps main ram opened₀ below₀ opened below =
-    Groups (maybeIn (shape (v .g)) (viewed v main ram) (take positionCount ps)) (tryOf v main ram key) (perPage v) (pagesThen v) opened below
+Inv-loop v key ps count main ram opened₀ below₀ opened below =
+    Pages (maybeIn (shape (v .g)) (viewed v main ram) (take count ps)) (tryOf v main ram key) (perPage v) (pagesThen v) opened below
 
 abbrev μ-loop : tie.MeasureT-loop
-μ-loop v key ps main ram opened₀ below₀ opened below = below
+μ-loop v key ps count main ram opened₀ below₀ opened below = below
 
 -- ---- the search at hand
 
@@ -29,7 +28,8 @@ abbrev Start : Type 0
 Start = tie.Start Inv-loop μ-loop
 
 abbrev gate-at : Start → ℕ → Bool
-gate-at b = maybeIn (shape (b .args .v .g)) (viewed (b .args .v) (b .args .main .now) (b .args .ram .now)) (take positionCount (b .args .ps))
+gate-at b =
+    maybeIn (shape (b .args .v .g)) (viewed (b .args .v) (b .args .main .now) (b .args .ram .now)) (take (b .args .count) (b .args .ps))
 
 abbrev try-at : Start → ℕ → Option Stop
 try-at b = tryOf (b .args .v) (b .args .main .now) (b .args .ram .now) (b .args .key)
@@ -49,14 +49,14 @@ loop-holds : tie.Need-loop-holds Inv-loop μ-loop
 loop-holds c =
     let E = c .before in
     let b = E .before .before .before in
-    rw (E .entries-per-page .ensures) (groups-first (gate-at b) (try-at b) (perPage (b .args .v)) (pagesThen (b .args .v)))
+    rw (E .entries-per-page .ensures) (pages-first (gate-at b) (try-at b) (perPage (b .args .v)) (pagesThen (b .args .v)))
 
-in-group-requires : tie.Need-in-group-requires Inv-loop μ-loop
-in-group-requires c κs =
+in-block-requires : tie.Need-in-block-requires Inv-loop μ-loop
+in-block-requires c κs =
     let l = c .before in
     (start-of l .pre, (omega arith, l .loop .inv .low))
 
--- ---- after a group
+-- ---- after a block
 
 add-opened : tie.Need-add-opened Inv-loop μ-loop
 add-opened c =
@@ -66,7 +66,7 @@ add-opened c =
     let x = b .args in
     omega (
       arith,
-      groups-few (gate-at b) (try-at b) (perPage (x .v)) (pagesThen (x .v)) (l .loop .opened) (l .loop .below) (l .loop .inv) (r .in-group .result .start) (r .in-group .result .opened) (stopOf (r .in-group .result .end)) (r .in-group .ensures .1),
+      blocks-few (gate-at b) (try-at b) (perPage (x .v)) (pagesThen (x .v)) (l .loop .opened) (l .loop .below) (l .loop .inv) (r .in-block .result .start) (r .in-block .result .opened) (stopOf (r .in-block .result .end)) (r .in-block .ensures .1),
       pages-then (x .v) (x .main .now) (x .ram .now) (b .pre .0),
       pages-few (x .v) (x .main .now) (x .ram .now) (b .pre .0),
     )
@@ -83,8 +83,8 @@ returns c =
     let l = r .before .before in
     let b = start-of l in
     let x = b .args in
-    let e = rw (c .before .end .given .1) at (r .in-group .ensures .1) in
-    sym (groups-some (gate-at b) (try-at b) (perPage (x .v)) (pagesThen (x .v)) (l .loop .opened) (l .loop .below) (l .loop .inv) (r .in-group .result .start) (r .in-group .result .opened) (found (c .before .end .given .0 .0)) e)
+    let e = rw (c .before .end .given .1) at (r .in-block .ensures .1) in
+    sym (blocks-some (gate-at b) (try-at b) (perPage (x .v)) (pagesThen (x .v)) (l .loop .opened) (l .loop .below) (l .loop .inv) (r .in-block .result .start) (r .in-block .result .opened) (found (c .before .end .given .0 .0)) e)
 
 enum-told-2 : tie.Need-enum-told-2 Inv-loop μ-loop
 enum-told-2 c = search needs
@@ -95,11 +95,11 @@ returns-2 c =
     let l = r .before .before in
     let b = start-of l in
     let x = b .args in
-    let e = rw (c .enum-told2 .given .1) at (r .in-group .ensures .1) in
-    sym (groups-some (gate-at b) (try-at b) (perPage (x .v)) (pagesThen (x .v)) (l .loop .opened) (l .loop .below) (l .loop .inv) (r .in-group .result .start) (r .in-group .result .opened) corrupt e)
+    let e = rw (c .enum-told2 .given .1) at (r .in-block .ensures .1) in
+    sym (blocks-some (gate-at b) (try-at b) (perPage (x .v)) (pagesThen (x .v)) (l .loop .opened) (l .loop .below) (l .loop .inv) (r .in-block .result .start) (r .in-block .result .opened) corrupt e)
 
 loop-less : tie.Need-loop-less Inv-loop μ-loop
-loop-less c = c .before .before .before .in-group .ensures .0
+loop-less c = c .before .before .before .in-block .ensures .0
 
 loop-again : tie.Need-loop-again Inv-loop μ-loop
 loop-again c =
@@ -107,15 +107,15 @@ loop-again c =
     let l = r .before .before in
     let b = start-of l in
     let x = b .args in
-    let e = rw (c .enum-told .given .1) at (r .in-group .ensures .1) in
-    groups-next (gate-at b) (try-at b) (perPage (x .v)) (pagesThen (x .v)) (l .loop .opened) (l .loop .below) (l .loop .inv) (r .in-group .result .start) (r .in-group .result .opened) e (r .in-group .ensures .0)
+    let e = rw (c .enum-told .given .1) at (r .in-block .ensures .1) in
+    blocks-next (gate-at b) (try-at b) (perPage (x .v)) (pagesThen (x .v)) (l .loop .opened) (l .loop .below) (l .loop .inv) (r .in-block .result .start) (r .in-block .result .opened) e (r .in-block .ensures .0)
 
 returns-3 : tie.Need-returns-3 Inv-loop μ-loop
 returns-3 c =
     let l = c .before in
     let b = start-of l in
     let x = b .args in
-    sym (groups-none (gate-at b) (try-at b) (perPage (x .v)) (pagesThen (x .v)) (l .loop .opened) (l .loop .below) (l .loop .inv) (omega arith))
+    sym (pages-none (gate-at b) (try-at b) (perPage (x .v)) (pagesThen (x .v)) (l .loop .opened) (l .loop .below) (l .loop .inv) (omega arith))
 
 pub in-pages-spec : {M : Type 1} → statement M
 in-pages-spec =
@@ -126,7 +126,7 @@ in-pages-spec =
     entries-per-page-requires
     div-below
     loop-holds
-    in-group-requires
+    in-block-requires
     add-opened
     enum-told
     enum-known-end

@@ -39,8 +39,14 @@ array-read-t13 c = search needs
 returns : tie.Need-returns
 returns c =
     let p = c .positions in
-    let low = p .ensures .1 in
-    (three-of (p .result) (three c) ∙ p .ensures .0, below-all (c .before .args .g .chip .unit) _ _ _ (low .0) (low .1) (low .2))
+    let low = p .ensures .1 in (
+      three-of (p .result) (three c) ∙ p .ensures .0,
+      record {
+        some = omega arith;
+        few = omega arith;
+        within = below-all (c .before .args .g .chip .unit) _ _ _ (low .0) (low .1) (low .2);
+      },
+    )
 
 pub positions-of-spec : {M : Type 1} → statement M
 positions-of-spec =
