@@ -39,3 +39,20 @@ step-bit bytes row low first step i y e =
     let d : row + ((first + i) * (step * 8) + low) / 8 ≡ row + first * step + low / 8 + i * step = omega arith in
     let m : ((first + i) * (step * 8) + low) % 8 ≡ low % 8 = omega arith in
     rw (d, m) e
+
+-- ---- one filter
+
+pub one-in : (row w step g low len : ℕ) → step * 8 ≡ w → row + (g + 1 + 7) / 8 * w ≤ len → low < w → row + g * step + low / 8 < len
+one-in row w step g low len e reach h =
+    let k : g + 1 ≤ (g + 1 + 7) / 8 * 8 = omega arith in
+    let t = mul-le-mul-right step k in
+    let z : (g + 1 + 7) / 8 * w ≡ (g + 1 + 7) / 8 * 8 * step = omega (arith, ap (λ (y : ℕ). (g + 1 + 7) / 8 * y) e) in
+    let q : low / 8 < step = omega arith in
+    omega (arith, t, z, reach)
+
+pub one-bit : (bytes : List ℕ) (row low g step y : ℕ) → bit y 0 ≡ bit (getD bytes (row + g * step + low / 8) 0) (low % 8)
+    → bit y 0 ≡ bitIn bytes row (g * (step * 8) + low)
+one-bit bytes row low g step y e =
+    let d : row + (g * (step * 8) + low) / 8 ≡ row + g * step + low / 8 = omega arith in
+    let m : (g * (step * 8) + low) % 8 ≡ low % 8 = omega arith in
+    rw (d, m) e

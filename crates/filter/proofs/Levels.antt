@@ -30,6 +30,7 @@ pub record LevelAt (u : ℕ) (ix : Index) (main ram : List ℕ) (F below : ℕ) 
   pub start-lt : l .start < below
   pub narrow : l .exponent < 10
   pub whole : l .«in_ram» ≡ true → 3 ≤ l .exponent
+  pub few : l .«in_ram» ≡ true → below ≤ l .start + 8
   pub small : (below - l .start) * 2 ^ l .exponent < 2 ^ 60
   pub eights : (x : ℕ) → x < 64 * u → rowAt l x + (below - l .start + 7) / 8 * 2 ^ l .exponent ≤ length (levelBytes l main ram)
   pub blocks : l .«in_ram» ≡ false → (x : ℕ) → x < 64 * u
@@ -94,6 +95,7 @@ module _ (u e : ℕ) (S : UnitIs u e) (ix : Index) (main ram : List ℕ) (F belo
         start-lt = h;
         narrow = omega (arith, S .small);
         whole = λ t. omega arith;
+        few = λ t. omega arith;
         small = rw p (omega (arith, S .most));
         eights = rw p (λ x l.
             let q : x / (16 * u) < 4 = div-lt x (16 * u) 4 (omega (arith, S .some)) (omega arith) in
@@ -127,6 +129,7 @@ module _ (u e : ℕ) (S : UnitIs u e) (ix : Index) (main ram : List ℕ) (F belo
           start-lt = h;
           narrow = omega (arith, S .small);
           whole = λ t. omega arith;
+          few = λ t. absurd (false≢true t);
           small = rw p (omega (arith, S .most));
           eights = rw p (λ x l.
               let q : x / (16 * u) < 4 = div-lt x (16 * u) 4 (omega (arith, S .some)) (omega arith) in
@@ -161,6 +164,7 @@ module _ (u e : ℕ) (S : UnitIs u e) (ix : Index) (main ram : List ℕ) (F belo
           start-lt = h;
           narrow = omega (arith, S .small);
           whole = λ t. absurd (false≢true t);
+          few = λ t. absurd (false≢true t);
           small = omega (arith, S .most, Q .whole);
           eights = λ x b.
               let r : x / w < 16 * 2 ^ log2up (inSet u F) = div-lt x w (16 * 2 ^ log2up (inSet u F)) (Q .some) (omega (arith, Q .whole)) in
@@ -184,6 +188,7 @@ module _ (u e : ℕ) (S : UnitIs u e) (ix : Index) (main ram : List ℕ) (F belo
         start-lt = lo;
         narrow = omega arith;
         whole = λ t. absurd (false≢true t);
+        few = λ t. absurd (false≢true t);
         small = omega (arith, S .most);
         eights = λ x b.
             let d : x / 1 ≡ x = div-one x in

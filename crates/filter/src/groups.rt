@@ -177,6 +177,56 @@ fn level_below(chip: Chip, e: usize, ix: Index, st: Stage, below: usize) -> Leve
     full_level(chip, ix, shifted(below - 1, e + 9))
 }
 
+// ---- filters of whole bytes, a filter at a time
+
+// Bit 0: has filter g of a level position p?
+fn position_bit(l: Level, p: u32, g: usize, bytes: &[u8]) -> u64
+    requires { ⌜ EightsIn l p (g + 1) (length (now bytes)) ⌝ }
+    ensures { λ r. ⌜ bit r 0 ≡ bitIn (before bytes) (rowAt l p) (g * 2 ^ l .exponent + p % 2 ^ l .exponent) ⌝ }
+{
+    let e = l.exponent;
+    let x = wide(p);
+    let w = power(e);
+    let low = x % w;
+    let row = l.base + shifted(x, e) * l.stride;
+    kernels::bit_at(row + g * (w / 8) + low / 8, low, bytes)
+}
+
+// Has it all of the first `count` positions: 1 or 0.
+fn has_all(l: Level, ps: [u32; 8], count: usize, g: usize, bytes: &[u8]) -> u64
+    requires { ⌜ (1 ≤ count) × (count ≤ 8) × ((i : ℕ) → i < count → EightsIn l (getD ps i 0) (g + 1) (length (now bytes))) ⌝ }
+    ensures { λ r. ⌜ (r < 2) × (bit r 0 ≡ levelHas l (before bytes) (take count ps) g) ⌝ }
+{
+    let mut r = position_bit(l, ps[0], g, bytes);
+    let mut i = 1;
+    while i < count {
+        let y = position_bit(l, ps[i], g, bytes);
+        r = r & y;
+        i += 1;
+    }
+    r & 1
+}
+
+// The level's filters below `below`, eight at the most: one word.
+fn block_of_few(l: Level, below: usize, ps: [u32; 8], count: usize, bytes: &[u8]) -> Block
+    requires { ⌜ (1 ≤ count) × (count ≤ 8) × (l .start < below) × (below ≤ l .start + 8) ⌝ }
+    requires { ⌜ ((i : ℕ) → i < count → EightsIn l (getD ps i 0) (below - l .start) (length (now bytes))) ⌝ }
+    ensures { λ r. ⌜ BlockOf l (before bytes) below (take count ps) r ⌝ }
+{
+    let n = below - l.start;
+    let mut r: u64 = 0;
+    let mut j = n;
+    while j > 0 {
+        j -= 1;
+        let b = has_all(l, ps, count, j, bytes);
+        r = r * 2 + b;
+    }
+    Block {
+        start: l.start,
+        words: [r, 0, 0, 0, 0, 0, 0, 0],
+    }
+}
+
 // ---- filters of whole bytes: eight of them at a time
 
 // Which filters of a level have position p: those from `first` on, n times eight.
@@ -273,7 +323,7 @@ pub fn block_below(
     let e = exponent(chip.unit);
     let l = level_below(chip, e, fs.index, stage_of(chip, e, fs.count), below);
     if l.in_ram {
-        return block_by_eights(l, below, ps, count, ram);
+        return block_of_few(l, below, ps, count, ram);
     }
     if l.exponent > 6 {
         return block_by_eights(l, below, ps, count, main);

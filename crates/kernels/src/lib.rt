@@ -67,6 +67,14 @@ fn bit_place(x: usize) -> usize
     x % 8
 }
 
+// A byte, moved down so that its bit `low` is the lowest.
+pub fn bit_at(at: usize, low: usize, bytes: &[u8]) -> u64
+    requires { ⌜ at < length (now bytes) ⌝ }
+    ensures { λ r. ⌜ bit r 0 ≡ bit (getD (before bytes) at 0) (low % 8) ⌝ }
+{
+    bytes[at] as u64 >> bit_place(low)
+}
+
 // The bit of a byte that the mask has, in its place.
 fn masked(at: usize, mask: u64, bytes: &[u8]) -> u64
     requires { ⌜ at < length (now bytes) ⌝ }

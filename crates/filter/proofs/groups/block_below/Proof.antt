@@ -46,22 +46,22 @@ level-below-requires c κs =
     let E = euclid (x .fs .count / 8 / 16) (4 * x .fs .chip .unit) (omega (arith, U .some)) in
     ((U, p .0 .2 .near, rw (c .stage-of .ensures) (E .small)), (rw (c .stage-of .ensures), p .2, omega (arith, p .1, p .3)))
 
-block-by-eights-requires : tie.Need-block-by-eights-requires
-block-by-eights-requires c κs =
+block-of-few-requires : tie.Need-block-of-few-requires
+block-of-few-requires c κs =
     let b = c .before .before .before .before .before .before .before in
     let x = b .args in
     let p = b .pre in
     let L = level-of (c .before) in
-    ((p .1 .0, p .1 .1, L .start-lt), λ i h. record { some = L .whole (c .if1 .taken); few = L .narrow; reach = rw (c .if1 .taken) at (L .eights (getD (x .ps) i 0) (p .1 .2 i h)) })
+    ((p .1 .0, p .1 .1, L .start-lt, L .few (c .if1 .taken)), λ i h. record { some = L .whole (c .if1 .taken); few = L .narrow; reach = rw (c .if1 .taken) at (L .eights (getD (x .ps) i 0) (p .1 .2 i h)) })
 
 returns : tie.Need-returns
 returns c =
     let x = c .before .before .before .before .before .before .before .before .args in
-    block-at (x .fs .chip .unit) (indexOf (x .fs .index)) (x .main .now) (x .ram .now) (x .fs .count) (x .below) (c .before .before .level-below .result) (take (x .count) (x .ps)) (c .block-by-eights .result) (x .ram .now)
-    (level-of (c .before .before)) (ap (λ (t : Bool). cond t (x .ram .now) (x .main .now)) (c .before .if1 .taken)) (c .block-by-eights .ensures)
+    block-at (x .fs .chip .unit) (indexOf (x .fs .index)) (x .main .now) (x .ram .now) (x .fs .count) (x .below) (c .before .before .level-below .result) (take (x .count) (x .ps)) (c .block-of-few .result) (x .ram .now)
+    (level-of (c .before .before)) (ap (λ (t : Bool). cond t (x .ram .now) (x .main .now)) (c .before .if1 .taken)) (c .block-of-few .ensures)
 
-block-by-eights-requires-2 : tie.Need-block-by-eights-requires-2
-block-by-eights-requires-2 c κs =
+block-by-eights-requires : tie.Need-block-by-eights-requires
+block-by-eights-requires c κs =
     let b = c .before .before .before .before .before .before .before .before .before in
     let x = b .args in
     let p = b .pre in
@@ -71,8 +71,8 @@ block-by-eights-requires-2 c κs =
 returns-2 : tie.Need-returns-2
 returns-2 c =
     let x = c .before .before .before .before .before .before .before .before .before .before .args in
-    block-at (x .fs .chip .unit) (indexOf (x .fs .index)) (x .main .now) (x .ram .now) (x .fs .count) (x .below) (c .before .before .before .before .level-below .result) (take (x .count) (x .ps)) (c .block-by-eights2 .result) (x .main .now)
-    (level-of (c .before .before .before .before)) (ap (λ (t : Bool). cond t (x .ram .now) (x .main .now)) (c .before .before .before .if1 .left)) (c .block-by-eights2 .ensures)
+    block-at (x .fs .chip .unit) (indexOf (x .fs .index)) (x .main .now) (x .ram .now) (x .fs .count) (x .below) (c .before .before .before .before .level-below .result) (take (x .count) (x .ps)) (c .block-by-eights .result) (x .main .now)
+    (level-of (c .before .before .before .before)) (ap (λ (t : Bool). cond t (x .ram .now) (x .main .now)) (c .before .before .before .if1 .left)) (c .block-by-eights .ensures)
 
 block-by-words-requires : tie.Need-block-by-words-requires
 block-by-words-requires c κs =
@@ -95,9 +95,9 @@ block-below-spec =
     exponent-requires
     stage-of-requires
     level-below-requires
-    block-by-eights-requires
+    block-of-few-requires
     returns
-    block-by-eights-requires-2
+    block-by-eights-requires
     returns-2
     block-by-words-requires
     returns-3)
