@@ -21,7 +21,8 @@ module _ (u e : ℕ) (ix : Index) where
 
   -- L1: four pages for each fourth, flush after flush
   abbrev pub l1Level : ℕ → Level
-  l1Level start = record { start = start; «in_ram» = false; base = ix .first * block u; exponent = e + 4; stride = pagesPerFourth * page u }
+  l1Level start =
+      record { start = start; «in_ram» = false; base = ix .first * block u; exponent = e + 4; stride = pagesPerFourth * page u }
 
   -- the current set after c rounds
   abbrev pub setLevel : ℕ → ℕ → Level
@@ -59,6 +60,7 @@ module _ (u e : ℕ) (ix : Index) (st : Stage) (below : ℕ) where
 abbrev pub rowAt : Level → ℕ → ℕ
 rowAt l x = l .base + x / 2 ^ l .exponent * l .stride
 
--- has filter g of a level, counted from its first, all of the positions: position x is bit `x % w` of the w bits that a filter has in its row
+-- has filter g of a level, counted from its first, all of the positions: position x is bit `x % w` of the w bits that a filter has in its
+-- row
 abbrev pub levelHas : Level → List ℕ → List ℕ → ℕ → Bool
 levelHas l bytes ps g = allOf (λ x. bitIn bytes (rowAt l x) (g * 2 ^ l .exponent + x % 2 ^ l .exponent)) ps

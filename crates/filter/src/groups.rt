@@ -232,7 +232,8 @@ fn block_of_few(l: Level, below: usize, ps: [u32; 8], count: usize, bytes: &[u8]
 // Which filters of a level have position p: those from `first` on, n times eight.
 fn position_bits(l: Level, p: u32, first: usize, n: usize, bytes: &[u8]) -> u64
     requires { ⌜ (n ≤ 8) × EightsIn l p (first + n * 8) (length (now bytes)) ⌝ }
-    ensures { λ r. ⌜ ((i : ℕ) → i < n * 8 → bit r i ≡ bitIn (before bytes) (rowAt l p) ((first + i) * 2 ^ l .exponent + p % 2 ^ l .exponent)) ⌝ }
+    ensures { λ r. ⌜ ((i : ℕ) → i < n * 8
+        → bit r i ≡ bitIn (before bytes) (rowAt l p) ((first + i) * 2 ^ l .exponent + p % 2 ^ l .exponent)) ⌝ }
 {
     let e = l.exponent;
     let x = wide(p);
@@ -245,7 +246,8 @@ fn position_bits(l: Level, p: u32, first: usize, n: usize, bytes: &[u8]) -> u64
 
 // Which of them have all of the first `count` positions.
 fn eights(l: Level, ps: [u32; 8], count: usize, first: usize, n: usize, bytes: &[u8]) -> u64
-    requires { ⌜ (1 ≤ count) × (count ≤ 8) × (n ≤ 8) × ((i : ℕ) → i < count → EightsIn l (getD ps i 0) (first + n * 8) (length (now bytes))) ⌝ }
+    requires { ⌜ (1 ≤ count) × (count ≤ 8) × (n ≤ 8)
+        × ((i : ℕ) → i < count → EightsIn l (getD ps i 0) (first + n * 8) (length (now bytes))) ⌝ }
     ensures { λ r. ⌜ Shows (levelHas l (before bytes) (take count ps)) first (n * 8) r ⌝ }
 {
     let mut r = position_bits(l, ps[0], first, n, bytes);

@@ -146,16 +146,19 @@ pub block-yes : (s : List ℕ) (at j m k n : ℕ) → hasWord s (at + m * 4) k j
 block-yes s at j m k n e h =
     let z : m + k + (n - (m + k)) ≡ n = omega arith in
     let f : hasWord s at (m + k) j ≡ true = words-sum s at j m k ∙ rw e in
-    ap (λ (t : ℕ). hasWord s at t j) (sym z) ∙ (words-sum s at j (m + k) (n - (m + k)) ∙ rw f (or-true (hasWord s (at + (m + k) * 4) (n - (m + k)) j)))
+    ap (λ (t : ℕ). hasWord s at t j) (sym z)
+    ∙ (words-sum s at j (m + k) (n - (m + k)) ∙ rw f (or-true (hasWord s (at + (m + k) * 4) (n - (m + k)) j)))
 
 -- a block that has not, behind words that have not
-pub block-no : (s : List ℕ) (at j m k : ℕ) → hasWord s (at + m * 4) k j ≡ false → hasWord s at m j ≡ false → hasWord s at (m + k) j ≡ false
+pub block-no : (s : List ℕ) (at j m k : ℕ) → hasWord s (at + m * 4) k j ≡ false → hasWord s at m j ≡ false
+    → hasWord s at (m + k) j ≡ false
 block-no s at j m k e f = words-sum s at j m k ∙ rw (e, f)
 
 -- ---- entries in blocks
 
 -- m entries, and k behind them among whose words the key is not
-pub entries-no : (s : List ℕ) (at key m k : ℕ) → hasWord s (at + m * 8) (k * 2) key ≡ false → lastEntry s at (m + k) key ≡ lastEntry s at m key
+pub entries-no : (s : List ℕ) (at key m k : ℕ) → hasWord s (at + m * 8) (k * 2) key ≡ false
+    → lastEntry s at (m + k) key ≡ lastEntry s at m key
 entries-no s at key m k t =
     candidate-low (hasKey s at key) m k
     (candidate-ext (λ g. hasKey s at key (m + g)) (hasKey s (at + m * 8) key) k (λ g l. key-later s at key m g)
