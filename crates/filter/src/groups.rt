@@ -327,7 +327,7 @@ pub fn block_below(
     if l.in_ram {
         return block_of_few(l, below, ps, count, ram);
     }
-    if l.exponent > 6 {
+    if l.exponent > 5 {
         return block_by_eights(l, below, ps, count, main);
     }
     block_by_words(l, below, ps, count, main)
