@@ -1,7 +1,7 @@
 -- Entries and deletions of a view on flash and in RAM, its gates by blocks of filters, and parts of a ready volume.
 use mathlib.Core.Path.{_≡_, refl, sym, ap, _∙_}
 use mathlib.Core.Bool.{Bool, _||_}
-use mathlib.Core.Option.{Option}
+use mathlib.Core.Option.{Option, none}
 use mathlib.Core.List.{List}
 use Prim.Native.Nat.{ℕ, _+_, _-_, _*_, _/_, _%_, _^_, _≤_, _<_}
 use native.Mathlib.Nat.{mul-le-mul-right}
@@ -17,7 +17,7 @@ use Rattle.layout.specs.Geometry as layout
 use Rattle.layout.specs.Hash.{fnvFamily}
 use Rattle.layout.specs.Items.{Area, KA, itemWord}
 use Rattle.layout.specs.Index.{inFull}
-use Rattle.layout.specs.Search.{Stop, ramFirst, scan, tryEntry}
+use Rattle.layout.specs.Search.{Stop, reply, ramFirst, scan, searchPages, tryEntry}
 use Rattle.layout.specs.Calls.{keyIndex, keyPositions, isDeleted, entryWord, tryAt, maybeIn, searchAt}
 use Rattle.geometry.specs.declared.Geometry.{Geometry}
 use Rattle.geometry.specs.Shape.{shape}
@@ -105,6 +105,14 @@ module _ (v : View) (main ram : List ℕ) (key : Key) where
       ≡ searchAt fnvFamily (shape (v .g)) (viewed v main ram) (v .n0) (v .d0) key
   unfolding searchAt
   search-is s e = ap (λ (o : Option Stop). ramFirst o (pagesBelow v main ram key (keyPositions fnvFamily (shape (v .g)) key) (pagesThen v))) e
+
+  -- without a full page there is nothing more
+  pub search-open : 0 < perPage v → v .n0 < perPage v → none ≡ scan (tryOf v main ram key) (pagesThen v * perPage v) (v .n0 % perPage v)
+      → reply none 0 ≡ searchAt fnvFamily (shape (v .g)) (viewed v main ram) (v .n0) (v .d0) key
+  unfolding searchPages
+  search-open pos few e =
+      let z : 0 ≡ pagesThen v = omega (arith, div-lt (v .n0) (perPage v) 1 pos (omega (arith, few))) in
+      ap (pagesBelow v main ram key (keyPositions fnvFamily (shape (v .g)) key)) z ∙ search-is none e
 
 -- ---- the first d₀ of d items of one word: in a row on flash, then in RAM
 

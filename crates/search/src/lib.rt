@@ -255,7 +255,10 @@ fn in_pages(v: View, key: u32, ps: [u32; 8], count: usize, main: &[u8], ram: &[u
 
 // ---- all of it
 
-// The positions of a key, as the filters take them.
+// Positions of a key.
+const POSITIONS: usize = 3;
+
+// They, as the filters take them.
 fn positions_of(g: Geometry, key: u32) -> [u32; 8]
     requires { ⌜ Sound g ⌝ }
     ensures { λ r. ⌜ (take positionCount r ≡ positions fnvFamily positionCount (g .chip .unit) (keyBytes key)) × Low g positionCount r ⌝ }
@@ -271,7 +274,13 @@ pub fn search(v: View, key: u32, main: &[u8], ram: &[u8]) -> Found
     let end = in_open(v, key, main, ram);
     match end {
         End::Nothing => {
-            return in_pages(v, key, positions_of(v.g, key), 3, main, ram);
+            if v.n0 < v.g.entries_per_page() {
+                return Found {
+                    end: End::Nothing,
+                    opened: 0,
+                }; // without a full page there is no filter, and the key is not hashed
+            }
+            return in_pages(v, key, positions_of(v.g, key), POSITIONS, main, ram);
         }
         End::Live(j) => {
             return Found {
