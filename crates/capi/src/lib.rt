@@ -54,7 +54,7 @@ pub extern "C" fn level_store_insert(
         goal,
         free: word,
     };
-    insert::insert(state, record, data, spare, ram)
+    calls::insert(state, record, data, spare, ram)
 }
 
 #[no_mangle]
@@ -77,7 +77,7 @@ pub extern "C" fn level_store_update(
         goal,
         free: word,
     };
-    update::update(state, record, data, spare, ram)
+    calls::update(state, record, data, spare, ram)
 }
 
 #[no_mangle]
@@ -90,7 +90,7 @@ pub extern "C" fn level_store_delete(
 ) -> Change
     ensures { λ r. ⌜ leftBy r «data» spare ram ≡ seen (call fnvFamily (given state «data» spare ram) (delete key)) ⌝ }
 {
-    delete::delete(state, key, data, spare, ram)
+    calls::delete(state, key, data, spare, ram)
 }
 
 #[no_mangle]

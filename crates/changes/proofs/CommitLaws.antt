@@ -22,6 +22,7 @@ use Rattle.planning.specs.Numbers.{none, pageOf, addRecord, by-record}
 use Rattle.planning.specs.New.{newBytes, deletion-part, record-part, entry-part}
 use Rattle.planning.specs.Edits.{numbersOf, programsIn, planOf, Given, edit-planned, entry-then-record, nothing-planned}
 use Rattle.kept.specs.Kept.{kept}
+use Rattle.kept.specs.Appended.{appended, kept-appended}
 use Rattle.kept.specs.Ram.{kept-is}
 use Rattle.changes.specs.Edits.{recordNumber}
 use Rattle.changes.specs.Commit.{BitsOf, opsOf, ramAfter, Committed}
@@ -41,7 +42,7 @@ unit-of g (Insert n) = record-unit g none n
 unit-of g (Update d n) = record-unit g (pageOf (DA g) d) n
 
 -- where nothing is programmed, no entry fills its page
-pub no-bits : (g : layout.Geometry) (key : ℕ) (ram bits : List ℕ) (e : Slots) → 0 < g .u → programsIn g e ≡ false → BitsOf g key ram bits e
+no-bits : (g : layout.Geometry) (key : ℕ) (ram bits : List ℕ) (e : Slots) → 0 < g .u → programsIn g e ≡ false → BitsOf g key ram bits e
 no-bits g key ram bits (Delete d) pos t = tt
 no-bits g key ram bits (Insert n) pos t = λ full x l. absurd (false≢true (sym t ∙ entry-then-record g n pos full))
 no-bits g key ram bits (Update d n) pos t = λ full x l.
@@ -69,14 +70,6 @@ module _ (g : layout.Geometry) (e : Slots) (j : ℕ) (r : Record) (flash : Flash
     ram-is long ram′ k =
         k ∙ ap (λ (l : List ℕ). zeroPage (g .u) (layout.workRam (g .u)) (kept g l bits ram e)) new-is
         ∙ ap (zeroPage (g .u) (layout.workRam (g .u))) (kept-is fnvFamily g j (r .key) (recordBytes r) (newBytes j r (recordNumber e)) bits ram long e (given-of e b))
-
-    -- no operation, and the RAM
-    pub nothing-done : 0 < g .u → layout.ramSize g ≤ length ram → programsIn g e ≡ false → (ram′ : List ℕ)
-        → ram′ ≡ zeroPage (g .u) (layout.workRam (g .u)) (kept g new bits ram e) → Committed g e j r flash ram true flash ram′
-    unfolding allFresh
-    nothing-done pos long t ram′ k =
-        let p : planOf g fnvFamily j (r .key) (recordBytes r) ram e ≡ [] = nothing-planned fnvFamily g pos j (r .key) (recordBytes r) ram e t in
-        record { fresh = rw p; flash-is = rw p; ram-is = ram-is long ram′ k }
 
     -- what the plan asks for is what the layout's operations do
     fresh-is : (p : Plan) (f : Bool) → p ≡ numbersOf g e
@@ -107,3 +100,12 @@ module _ (g : layout.Geometry) (e : Slots) (j : ℕ) (r : Record) (flash : Flash
           ∙ ap (λ (l : List Planned). done (g .u) l flash) plan-is;
       ram-is = ram-is long ram′ k;
     }
+
+  -- no operation, and the RAM
+  pub nothing-done : 0 < g .u → layout.ramSize g ≤ length ram → programsIn g e ≡ false → (ram′ : List ℕ)
+      → ram′ ≡ zeroPage (g .u) (layout.workRam (g .u)) (appended g new ram e) → Committed g e j r flash ram true flash ram′
+  unfolding allFresh
+  nothing-done pos long t ram′ k =
+      let p : planOf g fnvFamily j (r .key) (recordBytes r) ram e ≡ [] = nothing-planned fnvFamily g pos j (r .key) (recordBytes r) ram e t in
+      let k′ = k ∙ ap (zeroPage (g .u) (layout.workRam (g .u))) (kept-appended g pos new bits ram e t) in
+      record { fresh = rw p; flash-is = rw p; ram-is = ram-is (no-bits g (r .key) ram bits e pos t) long ram′ k′ }

@@ -174,8 +174,8 @@ fn new_bits(g: Geometry, e: Slots, key: u32, ram: &[u8]) -> [u8; 256]
 
 // ---- the change
 
-// Where the sectors that a change programs are fresh, its operations and then its RAM; else nothing.
-fn commit(
+// Of a change that fills a page: where the sectors that it programs are fresh, its operations and then its RAM; else nothing.
+fn program(
     g: Geometry,
     e: Slots,
     old: u32,
@@ -189,11 +189,6 @@ fn commit(
         r (flashAfter main spare) (after ram) ⌝ }
 {
     let new = new_bytes(old, record, record_number(g, e));
-    if !planning::programs(g, e) {
-        let none = [0u8; 256];
-        kept::finish(g, e, &new, &none, ram);
-        return true;
-    }
     let p = planning::of(g, e);
     let bits = new_bits(g, e, record.key, ram);
     if !plan::fresh(p, spare) {
@@ -201,6 +196,28 @@ fn commit(
     }
     plan::run(p, plan::whole(p), &new, &bits, main, spare, ram);
     kept::finish(g, e, &new, &bits, ram);
+    true
+}
+
+// The same of any change; one that fills no page makes no plan.
+fn commit(
+    g: Geometry,
+    e: Slots,
+    old: u32,
+    record: Record,
+    main: &mut [u8],
+    spare: &mut [u8],
+    ram: &mut [u8],
+) -> bool
+    requires { ⌜ Sound g × Room (shape g) e × Long g (now main) (now spare) (now ram) ⌝ }
+    ensures { λ r. ⌜ Committed (shape g) e old (recordIs «record») (flashBefore main spare) (before ram)
+        r (flashAfter main spare) (after ram) ⌝ }
+{
+    if planning::programs(g, e) {
+        return program(g, e, old, record, main, spare, ram);
+    }
+    let new = new_bytes(old, record, record_number(g, e));
+    kept::append(g, e, &new, ram);
     true
 }
 

@@ -1,4 +1,5 @@
-pub mod Pieces
-pub mod Kept
+pub mod Appended
 pub mod Fits
+pub mod Kept
+pub mod Pieces
 pub mod Ram

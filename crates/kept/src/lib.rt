@@ -1,15 +1,16 @@
 // The RAM after a change: written once, after the chip. Nothing here touches the flash.
 ghost use mathlib.Core.Path.{_≡_};
-ghost use Prim.Native.Nat.{_+_, _*_, _<_, _≤_};
+ghost use Prim.Native.Nat.{_+_, _*_, _%_, _<_, _≤_};
 ghost use lib.ListN.{length};
 ghost use Rattle.memory.specs.Lent.{before, after};
 ghost use Rattle.layout.specs.Geometry.{sector, page, fourthSize, ramSize, workRam};
-ghost use Rattle.layout.specs.Items.{itemRam, zeroPage};
+ghost use Rattle.layout.specs.Items.{put, itemRam, zeroPage};
 ghost use Rattle.geometry.specs.Shape.{shape, Sound, area, AreaSound};
 ghost use Rattle.geometry.specs.Indexes.{indexOf};
 ghost use Rattle.plan.specs.Plans.{newLength};
 ghost use Rattle.kept.specs.Pieces.{fourths};
 ghost use Rattle.kept.specs.Kept.{filterKept, deletionKept, recordKept, kept};
+ghost use Rattle.kept.specs.Appended.{deletionAppended, recordAppended, appended};
 use geometry::Area;
 use geometry::Chip;
 use geometry::Geometry;
@@ -104,6 +105,65 @@ fn keep_record(g: Geometry, n: usize, new: &[u8], bits: &[u8], ram: &mut [u8])
     keep_filter(g.chip, sets::key_index(g), n / entries.per_page, bits, ram);
 }
 
+// ---- a change that fills no page
+
+// dst becomes src, a word at a time: the compiler makes four bytes one.
+fn copy_words(dst: &mut [u8], src: &[u8])
+    requires { ⌜ (length (now dst) ≡ length (now src)) × (length (now src) % 4 ≡ 0) ⌝ }
+    ensures { λ _. ⌜ after dst ≡ before src ⌝ }
+{
+    let mut i = 0;
+    while i < src.len() {
+        let a = src[i];
+        let b = src[i + 1];
+        let c = src[i + 2];
+        let d = src[i + 3];
+        dst[i] = a;
+        dst[i + 1] = b;
+        dst[i + 2] = c;
+        dst[i + 3] = d;
+        i += 4;
+    }
+}
+
+// Item n to its place.
+fn append_item(a: Area, n: usize, item: &[u8], ram: &mut [u8])
+    requires { ⌜ AreaSound a × (length (now item) ≡ a .size) × (a .size % 4 ≡ 0) × (a .ram + a .«per_page» * a .size ≤ length (now ram)) ⌝ }
+    ensures { λ _. ⌜ after ram ≡ put (area a) n (before item) (before ram) ⌝ }
+{
+    let at = a.ram + n % a.per_page * a.size;
+    let end = at + item.len();
+    copy_words(&mut ram[at..end], item);
+}
+
+fn append_deletion(g: Geometry, d: usize, new: &[u8], ram: &mut [u8])
+    requires { ⌜ Sound g × (length (now new) ≡ newLength) × (ramSize (shape g) ≤ length (now ram)) ⌝ }
+    ensures { λ _. ⌜ after ram ≡ deletionAppended (shape g) d (before new) (before ram) ⌝ }
+{
+    append_item(geometry::deletion_area(g), d, &new[0..plan::RECORD_AT], ram);
+}
+
+// Record n, then its entry.
+fn append_record(g: Geometry, n: usize, new: &[u8], ram: &mut [u8])
+    requires { ⌜ Sound g × (length (now new) ≡ newLength) × (ramSize (shape g) ≤ length (now ram)) ⌝ }
+    ensures { λ _. ⌜ after ram ≡ recordAppended (shape g) n (before new) (before ram) ⌝ }
+{
+    append_item(
+        geometry::record_area(g),
+        n,
+        &new[plan::RECORD_AT..plan::ENTRY_AT],
+        ram,
+    );
+    append_item(
+        geometry::entry_area(g),
+        n,
+        &new[plan::ENTRY_AT..plan::NEW_SIZE],
+        ram,
+    );
+}
+
+// ---- the RAM after a change
+
 // The work page is zeroed.
 fn clear_work(g: Geometry, ram: &mut [u8])
     requires { ⌜ Sound g × (ramSize (shape g) ≤ length (now ram)) ⌝ }
@@ -131,6 +191,29 @@ pub fn finish(g: Geometry, e: Slots, new: &[u8], bits: &[u8], ram: &mut [u8])
         Slots::Update(d, n) => {
             keep_deletion(g, d, new, ram);
             keep_record(g, n, new, bits, ram);
+            clear_work(g, ram);
+        }
+    }
+}
+
+// The RAM after a change that fills no page.
+pub fn append(g: Geometry, e: Slots, new: &[u8], ram: &mut [u8])
+    requires { ⌜ Sound g × (length (now new) ≡ newLength) × (ramSize (shape g) ≤ length (now ram)) ⌝ }
+    ensures { λ _. ⌜ after ram
+        ≡ zeroPage (g .chip .unit) (workRam (g .chip .unit)) (appended (shape g) (before new) (before ram) e) ⌝ }
+{
+    match e {
+        Slots::Delete(d) => {
+            append_deletion(g, d, new, ram);
+            clear_work(g, ram);
+        }
+        Slots::Insert(n) => {
+            append_record(g, n, new, ram);
+            clear_work(g, ram);
+        }
+        Slots::Update(d, n) => {
+            append_deletion(g, d, new, ram);
+            append_record(g, n, new, ram);
             clear_work(g, ram);
         }
     }

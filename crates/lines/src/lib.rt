@@ -89,16 +89,16 @@ pub fn perform(s: State, q: Request, main: &mut [u8], spare: &mut [u8], ram: &mu
         }
         Request::Insert(key, moves) => {
             let record = level(key, moves);
-            let c = insert::insert(s, record, main, spare, ram);
+            let c = calls::insert(s, record, main, spare, ram);
             return after_change(c);
         }
         Request::Update(key, moves) => {
             let record = level(key, moves);
-            let c = update::update(s, record, main, spare, ram);
+            let c = calls::update(s, record, main, spare, ram);
             return after_change(c);
         }
         Request::Delete(key) => {
-            let c = delete::delete(s, key, main, spare, ram);
+            let c = calls::delete(s, key, main, spare, ram);
             return after_change(c);
         }
         Request::Lookup(key) => {

@@ -20,7 +20,7 @@ use Rattle.layout.specs.Index.{inFull}
 use Rattle.layout.specs.Search.{Stop, reply, ramFirst, scan, searchPages, tryEntry}
 use Rattle.layout.specs.Calls.{keyIndex, keyPositions, isDeleted, entryWord, tryAt, maybeIn, searchAt}
 use Rattle.geometry.specs.declared.Geometry.{Geometry}
-use Rattle.geometry.specs.Shape.{shape}
+use Rattle.geometry.specs.Shape.{shape, AreaSound}
 use Rattle.geometry.specs.Bounds.{index-le}
 use Rattle.geometry.specs.declared.areas.Area as items
 use Rattle.items.specs.Fits as fits
@@ -31,6 +31,7 @@ use Rattle.filter.specs.Filter.{Fits}
 use Rattle.filter.specs.Blocks.{BlockAt}
 use Rattle.filter.specs.declared.groups.Block.{Block}
 use Rattle.search.specs.declared.View.{View}
+use Rattle.search.specs.Deletions.{deletionsFrom, DeletionsFit, amongFirst}
 use Rattle.search.specs.Find.{viewed, Ready, tryOf, tryIn, pagesBelow}
 use Rattle.search.proofs.Entries.{Same, scan-same}
 
@@ -164,6 +165,28 @@ module _ (u : ℕ) (a : items.Area) (d d₀ main ram : ℕ) (F : fits.Fits u a d
 -- ---- a ready volume
 
 module _ (v : View) (main ram : List ℕ) (R : Ready v main ram) where
+  -- its deletions by their first block
+  pub deletions-fit : (first : ℕ) → first ≡ layout.daBlock (shape (v .g)) → DeletionsFit (v .g .chip .unit) first (v .d) main ram × (v .d0 ≤ v .d)
+  deletions-fit first is = (
+    fits.fits-deletions (v .g) (R .sound) (deletionsFrom (v .g .chip .unit) first) sound (rw is refl) (v .d) (length main) (length ram) (R .d-cap) (R .main-long) (R .ram-long),
+    R .d0-le,
+  )
+    where
+      sound : AreaSound (deletionsFrom (v .g .chip .unit) first)
+      sound = record {
+        size-most = omega arith;
+        some = omega (arith, R .sound .unit .1 .some);
+        most = omega (arith, R .sound .unit .1 .most);
+        first-most = omega (arith, is, R .sound .ra-most);
+        ram-most = omega (arith, R .sound .unit .1 .most);
+      }
+
+  -- what the test of one says of the view's
+  pub deletions-are : (first j : ℕ) (t : Bool) → first ≡ layout.daBlock (shape (v .g))
+      → t ≡ amongFirst (v .g .chip .unit) first (v .d) main ram (v .d0) j → t ≡ deletedOf v main ram j
+  unfolding isDeleted
+  deletions-are first j t is e = rw is at e
+
   -- eight full pages to a block of records
   pages-le : pages v ≤ 8 * v .g .ra
   pages-le =

@@ -1,1 +1,2 @@
+pub mod Deletions
 pub mod Find

@@ -8,11 +8,13 @@ ghost use Rattle.memory.specs.Lent.{before};
 ghost use Rattle.layout.specs.Keys.{keyBytes, numberIn};
 ghost use Rattle.layout.specs.Geometry.{page, block, entriesPerPage, kaBlock};
 ghost use Rattle.layout.specs.Hash.{fnvFamily, positions, positionCount};
-ghost use Rattle.layout.specs.Calls.{isDeleted, searchAt};
+ghost use Rattle.layout.specs.Calls.{searchAt};
 ghost use Rattle.layout.specs.Search.{scan};
 ghost use Rattle.geometry.specs.Shape.{shape, Sound};
 ghost use Rattle.search.specs.Find.{stopOf, foundOf, whole, viewed, Ready, tryOf, tryIn, pagesBelow, onward, Low, filtersOf};
+ghost use Rattle.search.specs.Deletions.{DeletionsFit, amongFirst};
 use filter::Filters;
+use geometry::Chip;
 use geometry::Geometry;
 use geometry::sets;
 
@@ -68,22 +70,22 @@ fn number_at(at: usize, k: usize, s: &[u8]) -> u32
     words::get32(s, at + k * 8 + 4)
 }
 
-// Is record j among the deletions: first those of full pages, in a row on flash, then those in RAM.
-fn deleted(v: View, j: u32, main: &[u8], ram: &[u8]) -> bool
-    requires { ⌜ Ready v (now main) (now ram) ⌝ }
-    ensures { λ r. ⌜ r ≡ isDeleted (shape (v .g)) (viewed v (before main) (before ram)) (v .d0) j ⌝ }
+// Is record j among the first d0 of d deletions, from block `first` on: first those of full pages, in a row on flash, then those in
+// RAM. It takes numbers, for a view would be copied for each page.
+fn deleted(chip: Chip, first: usize, d: usize, d0: usize, j: u32, main: &[u8], ram: &[u8]) -> bool
+    requires { ⌜ DeletionsFit (chip .unit) first d (now main) (now ram) × (d0 ≤ d) ⌝ }
+    ensures { λ r. ⌜ r ≡ amongFirst (chip .unit) first d (before main) (before ram) d0 j ⌝ }
 {
-    let a = geometry::deletion_area(v.g);
-    let start = v.g.chip.block_address(a.first);
-    let per_page = a.per_page;
-    let full = v.d / per_page * per_page;
-    if v.d0 <= full {
-        return items::has_word(start, v.d0, j, main);
+    let start = chip.block_address(first);
+    let per_page = chip.sector_size();
+    let full = d / per_page * per_page;
+    if d0 <= full {
+        return items::has_word(start, d0, j, main);
     }
     if items::has_word(start, full, j, main) {
         return true;
     }
-    items::has_word(a.ram, v.d0 - full, j, ram)
+    items::has_word(chip.page_address(Geometry::DA_PAGE), d0 - full, j, ram)
 }
 
 // ---- entries past the last full page
@@ -108,7 +110,7 @@ fn in_page(
         if wide(j) >= v.n0 {
             return End::Corrupt;
         }
-        if !deleted(v, j, main, ram) {
+        if !deleted(v.g.chip, v.g.da_block(), v.d, v.d0, j, main, ram) {
             return End::Live(j);
         }
         e = items::find_entry(start, k, key, page);
@@ -203,7 +205,7 @@ fn in_block(
                     end = End::Corrupt;
                     break 'filters;
                 }
-                if !deleted(v, j, main, ram) {
+                if !deleted(v.g.chip, v.g.da_block(), v.d, v.d0, j, main, ram) {
                     end = End::Live(j);
                     break 'filters;
                 }

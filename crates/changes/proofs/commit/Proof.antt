@@ -1,63 +1,22 @@
 use mathlib.Core.Path.{sym, ap, _∙_}
-use native.Mathlib.Omega.{arith}
-use borrow.Author.Tests.{not-true, not-false}
+use mathlib.Core.List.{[]}
 use Rattle.layout.specs.Flash.{flashOf}
 use Rattle.geometry.specs.Shape.{shape}
 use Rattle.state.specs.Contract.{recordIs}
-use Rattle.plan.specs.Plans.{spare-fits, count-fits}
 use Rattle.planning.specs.New.{newBytes}
-use Rattle.planning.specs.Edits.{edit-fits}
-use Rattle.changes.proofs.CommitLaws.{no-bits, nothing-done, nothing-fresh, all-done}
+use Rattle.changes.proofs.CommitLaws.{nothing-done}
 use borrow.Author.Needs.{needs}
 use Rattle.changes.proofs.commit.Statement.{statement}
 use Rattle.changes.proofs.commit.Tie as tie
 
-record-number-requires : tie.Need-record-number-requires
-record-number-requires c κs = search needs
-
-new-bytes-requires : tie.Need-new-bytes-requires
-new-bytes-requires c κs = search needs
-
 programs-requires : tie.Need-programs-requires
 programs-requires c κs = search needs
 
-slice-aggregate-finish : tie.Need-slice-aggregate-finish
-slice-aggregate-finish c = search needs
-
-slice-aggregate-finish-2 : tie.Need-slice-aggregate-finish-2
-slice-aggregate-finish-2 c = search needs
-
-finish-requires : tie.Need-finish-requires
-finish-requires c κs = search needs
+program-requires : tie.Need-program-requires
+program-requires c κs = search needs
 
 same-length : tie.Need-same-length
 same-length c = search needs
-
-returns : tie.Need-returns
-returns c =
-    let f = c .before .before in
-    let t = f .before .before .before .before in
-    let n = t .before .before in
-    let s = n .before .before .before .before .before in
-    let x = s .args in
-    let is = not-true _ (t .if1 .taken) in
-    nothing-done (shape (x .g)) (x .e) (x .old) (recordIs (x .«record»)) (flashOf (x .main .now) (x .spare .now)) (x .ram .now) _ (n .new-bytes .result)
-    (n .new-bytes .ensures ∙ ap (newBytes (x .old) (recordIs (x .«record»))) (n .before .record-number .ensures))
-    (no-bits (shape (x .g)) (x .«record» .key) (x .ram .now) _ (x .e) (s .pre .0 .unit .1 .some) (sym (t .before .programs .ensures) ∙ is))
-    (s .pre .0 .unit .1 .some) (s .pre .2 .ram-fits) (sym (t .before .programs .ensures) ∙ is) _ (f .finish .ensures)
-
-of-requires : tie.Need-of-requires
-of-requires c κs = search needs
-
-new-bits-requires : tie.Need-new-bits-requires
-new-bits-requires c κs = search needs
-
-fresh-requires : tie.Need-fresh-requires
-fresh-requires c κs =
-    let s = c .before .before .before .before .before .before .before .before .before .before .before in
-    let x = s .args in
-    rw (c .before .before .before .of .ensures)
-    (spare-fits _ _ _ _ (edit-fits (x .g) (s .pre .0) (x .main .now) (x .spare .now) (x .ram .now) (s .pre .2) (x .e) (s .pre .1)))
 
 same-length-2 : tie.Need-same-length-2
 same-length-2 c = search needs
@@ -65,109 +24,48 @@ same-length-2 c = search needs
 same-length-3 : tie.Need-same-length-3
 same-length-3 c = search needs
 
-returns-2 : tie.Need-returns-2
-returns-2 c =
-    let f = c .before in
-    let b = f .before .before in
-    let p = b .before .before in
-    let n = p .before .before .before in
-    let s = n .before .before .before .before .before in
-    let x = s .args in
-    nothing-fresh (shape (x .g)) (x .e) (x .old) (recordIs (x .«record»)) (flashOf (x .main .now) (x .spare .now)) (x .ram .now) (b .new-bits .result)
-    (n .new-bytes .result) (n .new-bytes .ensures ∙ ap (newBytes (x .old) (recordIs (x .«record»))) (n .before .record-number .ensures))
-    (b .new-bits .ensures) (p .of .result) (f .fresh .result) (p .of .ensures) (not-true _ (c .if2 .taken)) (f .fresh .ensures (n .new-bytes .result) (b .new-bits .result) (x .ram .now) (flashOf (x .main .now) (x .spare .now)))
+returns : tie.Need-returns
+returns c = search needs
 
-whole-requires : tie.Need-whole-requires
-whole-requires c κs =
-    let p = c .before .before .before .before .before in
-    let s = p .before .before .before .before .before .before .before .before in
-    let x = s .args in
-    rw (p .of .ensures)
-    (count-fits _ _ _ _ (edit-fits (x .g) (s .pre .0) (x .main .now) (x .spare .now) (x .ram .now) (s .pre .2) (x .e) (s .pre .1)) (s .good .1 .1 .1 .1 .1 .0 .0))
+record-number-requires : tie.Need-record-number-requires
+record-number-requires c κs = search needs
 
-slice-aggregate-run : tie.Need-slice-aggregate-run
-slice-aggregate-run c = search needs
+new-bytes-requires : tie.Need-new-bytes-requires
+new-bytes-requires c κs = search needs
 
-slice-aggregate-run-2 : tie.Need-slice-aggregate-run-2
-slice-aggregate-run-2 c = search needs
+slice-aggregate-append : tie.Need-slice-aggregate-append
+slice-aggregate-append c = search needs
 
-run-requires : tie.Need-run-requires
-run-requires c κs =
-    let b = c .before .before .before .before .before .before .before .before .before in
-    let p = b .before .before in
-    let n = p .before .before .before in
-    let s = n .before .before .before .before .before in
-    let x = s .args in (
-      rw (p .of .ensures) (edit-fits (x .g) (s .pre .0) (x .main .now) (x .spare .now) (x .ram .now) (s .pre .2) (x .e) (s .pre .1)),
-      (omega (arith, n .new-bytes .ok), omega (arith, b .new-bits .ok)),
-    )
-
-slice-aggregate-finish-3 : tie.Need-slice-aggregate-finish-3
-slice-aggregate-finish-3 c =
-    let n = c .before .before .before .before .before .before .before .before .before .before .before .before .before .before .before .before .before .before .before .before in
-    omega (arith, n .new-bytes .ok)
-
-slice-aggregate-finish-4 : tie.Need-slice-aggregate-finish-4
-slice-aggregate-finish-4 c = search needs
-
-finish-requires-2 : tie.Need-finish-requires-2
-finish-requires-2 c κs =
-    let b = c .before .before .before .before .before .before .before .before .before .before .before .before .before .before .before .before .before in
-    let n = b .before .before .before .before .before in
-    let s = n .before .before .before .before .before in
-    (s .pre .0, omega (arith, n .new-bytes .ok), omega (arith, b .new-bits .ok), s .pre .2 .ram-fits)
+append-requires : tie.Need-append-requires
+append-requires c κs = search needs
 
 same-length-4 : tie.Need-same-length-4
 same-length-4 c = search needs
 
-same-length-5 : tie.Need-same-length-5
-same-length-5 c = search needs
-
-same-length-6 : tie.Need-same-length-6
-same-length-6 c = search needs
-
-returns-3 : tie.Need-returns-3
-returns-3 c =
+returns-2 : tie.Need-returns-2
+returns-2 c =
     let f = c .before .before in
-    let r = f .before .before .before .before .before .before .before .before in
-    let w = r .before .before .before .before .before .before in
-    let t = w .before in
-    let b = t .before .before .before in
-    let p = b .before .before in
-    let n = p .before .before .before in
-    let s = n .before .before .before .before .before in
+    let n = f .before .before .before in
+    let t = n .before .before in
+    let s = t .before .before .before .before .before in
     let x = s .args in
-    all-done (shape (x .g)) (x .e) (x .old) (recordIs (x .«record»)) (flashOf (x .main .now) (x .spare .now)) (x .ram .now) (b .new-bits .result)
-    (n .new-bytes .result) (n .new-bytes .ensures ∙ ap (newBytes (x .old) (recordIs (x .«record»))) (n .before .record-number .ensures))
-    (b .new-bits .ensures) (p .of .result) (w .whole .result) (t .before .fresh .result) _ _ (p .of .ensures) (w .whole .ensures) (not-false _ (t .if2 .left))
-    (t .before .fresh .ensures (n .new-bytes .result) (b .new-bits .result) (x .ram .now) (flashOf (x .main .now) (x .spare .now))) (s .pre .2 .ram-fits) (r .run .ensures) (f .finish2 .ensures)
+    nothing-done (shape (x .g)) (x .e) (x .old) (recordIs (x .«record»)) (flashOf (x .main .now) (x .spare .now)) (x .ram .now) [] (n .new-bytes .result)
+    (n .new-bytes .ensures ∙ ap (newBytes (x .old) (recordIs (x .«record»))) (n .before .record-number .ensures))
+    (s .pre .0 .unit .1 .some) (s .pre .2 .ram-fits) (sym (t .before .programs .ensures) ∙ t .if1 .left) _ (f .append .ensures)
 
 pub commit-spec : {M : Type 1} → statement M
 commit-spec =
     tie.close
     (tie.spec
-    record-number-requires
-    new-bytes-requires
     programs-requires
-    slice-aggregate-finish
-    slice-aggregate-finish-2
-    finish-requires
+    program-requires
     same-length
-    returns
-    of-requires
-    new-bits-requires
-    fresh-requires
     same-length-2
     same-length-3
-    returns-2
-    whole-requires
-    slice-aggregate-run
-    slice-aggregate-run-2
-    run-requires
-    slice-aggregate-finish-3
-    slice-aggregate-finish-4
-    finish-requires-2
+    returns
+    record-number-requires
+    new-bytes-requires
+    slice-aggregate-append
+    append-requires
     same-length-4
-    same-length-5
-    same-length-6
-    returns-3)
+    returns-2)

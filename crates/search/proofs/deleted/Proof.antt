@@ -2,19 +2,16 @@
 use borrow.Author.Needs.{needs}
 use native.Mathlib.Nat.{div-mul-le-self, mul-le-mul}
 use native.Mathlib.Omega.{arith}
-use mathlib.Core.Path.{_≡_, sym, ap, _∙_}
+use mathlib.Core.Path.{_≡_, refl, sym, ap, _∙_}
 use mathlib.Core.Bool.{Bool, true, false, _||_}
-use Prim.Native.Nat.{_*_, _/_, _-_}
+use mathlib.Core.List.{List}
+use Prim.Native.Nat.{ℕ, _+_, _*_, _/_, _-_, _≤_}
 use lib.ListN.{length}
-use lib.Dec.{eqb}
-use Rattle.memory.specs.Ranges.{any}
-use Rattle.layout.specs.Items as layout
-use Rattle.layout.specs.Calls.{isDeleted}
+use Rattle.layout.specs.Geometry as layout
 use Rattle.geometry.specs.Shape.{area}
-use Rattle.geometry.specs.declared.areas.Area.{Area}
-use Rattle.items.specs.Fits.{Fits, fits-deletions}
 use Rattle.items.specs.Scans.{hasWord}
-use Rattle.search.proofs.Volume.{deletedOf, among-flash, among-both, flash-run-in, ram-run-in, rest-few}
+use Rattle.search.specs.Deletions.{deletionsFrom, DeletionsFit, amongFirst}
+use Rattle.search.proofs.Volume.{among-flash, among-both, flash-run-in, ram-run-in, rest-few}
 use Rattle.search.proofs.deleted.Statement.{statement}
 use Rattle.search.proofs.deleted.Tie as tie
 
@@ -27,122 +24,125 @@ or-false : (p a b : Bool) → p ≡ (a || b) → b ≡ false → p ≡ a
 or-false p true b e t = e
 or-false p false b e t = e ∙ t
 
--- the deletions' area
-abbrev area-at : tie.After-deletion-area → Area
-area-at c = c .deletion-area .result
+-- ---- the numbers that code computes: the first byte on flash, the items of a page, those of full pages
 
-size-is : (c : tie.After-deletion-area) → area-at c .size ≡ 4
-size-is c = ap (λ (z : layout.Area). z .size) (c .deletion-area .ensures .0)
+module _ (u first d d₀ j : ℕ) (main ram : List ℕ) (F : DeletionsFit u first d main ram) (start per-page at : ℕ)
+    (start-is : start ≡ first * layout.block u) (per-page-is : per-page ≡ layout.sector u) (at-is : at ≡ 2 * layout.page u) where
+  flash-in : (n : ℕ) → n ≤ d / per-page * per-page → start + n * 4 ≤ length main
+  flash-in n h = rw start-is (flash-run-in u (deletionsFrom u first) d n (length main) (length ram) F refl (rw per-page-is at h))
 
-area-fits : (c : tie.After-deletion-area) → let x = c .before .before .before .args in
-    Fits (x .v .g .chip .unit) (area-at c) (x .v .d) (length (x .main .now)) (length (x .ram .now))
-area-fits c =
-    let b = c .before .before .before in
-    let x = b .args in
-    let R = b .pre in
-    let a = c .deletion-area in
-    fits-deletions (x .v .g) (R .sound) (a .result) (a .ensures .1) (a .ensures .0) (x .v .d) (length (x .main .now)) (length (x .ram .now)) (R .d-cap) (R .main-long) (R .ram-long)
+  ram-in : d₀ ≤ d → at + (d₀ - d / per-page * per-page) * 4 ≤ length ram
+  ram-in h = rw (at-is, per-page-is) (ram-run-in u (deletionsFrom u first) d d₀ (length main) (length ram) F refl h)
 
--- what the test says of the view's deletions
-deleted-by : (c : tie.After-deletion-area) (t : Bool) → let x = c .before .before .before .args in
-    t ≡ any (λ i. eqb (layout.itemWord (x .v .g .chip .unit) (area (area-at c)) (x .v .d) (x .main .now) (x .ram .now) i 0) (x .j)) (x .v .d0)
-    → t ≡ deletedOf (x .v) (x .main .now) (x .ram .now) (x .j)
-unfolding isDeleted
-deleted-by c t e =
-    let x = c .before .before .before .args in
-    e ∙ ap (λ (z : layout.Area). any (λ i. eqb (layout.itemWord (x .v .g .chip .unit) z (x .v .d) (x .main .now) (x .ram .now) i 0) (x .j)) (x .v .d0)) (c .deletion-area .ensures .0)
+  on-flash : d₀ ≤ d / per-page * per-page → amongFirst u first d main ram d₀ j ≡ hasWord main start d₀ j
+  on-flash h = rw start-is (among-flash u (area (deletionsFrom u first)) d main ram refl j d₀ (rw per-page-is at h))
 
-deletion-area-requires : tie.Need-deletion-area-requires
-deletion-area-requires c κs = search needs
+  both : d / per-page * per-page ≤ d₀ → d₀ ≤ d
+      → amongFirst u first d main ram d₀ j ≡ (hasWord ram at (d₀ - d / per-page * per-page) j || hasWord main start (d / per-page * per-page) j)
+  both h le =
+      rw (start-is, at-is, per-page-is)
+      (among-both u (area (deletionsFrom u first)) d main ram refl j d₀ (rw per-page-is at h)
+      (rest-few u (deletionsFrom u first) d d₀ (length main) (length ram) F refl le))
 
 block-address-requires : tie.Need-block-address-requires
 block-address-requires c κs =
-    let b = c .before .before .before in
-    let U = b .pre .sound .unit .1 in
-    (U .most, omega (arith, mul-le-mul (c .deletion-area .ensures .1 .first-most) (U .most)))
+    let F = c .before .before .pre .0 in
+    (F .unit .1 .most, omega (arith, mul-le-mul (F .sound .first-most) (F .unit .1 .most)))
+
+sector-size-requires : tie.Need-sector-size-requires
+sector-size-requires c κs = c .before .before .before .pre .0 .unit .1 .most
 
 div-full : tie.Need-div-full
-div-full c = search needs
+div-full c = omega (arith, c .sector-size .ensures, c .before .before .before .before .pre .0 .unit .1 .some)
 
 mul-full : tie.Need-mul-full
-mul-full c =
-    let A = c .before .before in
-    omega (arith, div-mul-le-self (A .before .before .before .args .v .d) (area-at A .«per_page»))
+mul-full c = omega (arith, div-mul-le-self (c .before .before .before .before .args .d) (c .sector-size .result))
 
 has-word-requires : tie.Need-has-word-requires
 has-word-requires c κs =
-    let B = c .before .before .before in
-    let A = B .before in
-    let x = A .before .before .before .args in
-    omega (arith, B .block-address .ensures, flash-run-in (x .v .g .chip .unit) (area-at A) (x .v .d) (x .v .d0) (length (x .main .now)) (length (x .ram .now)) (area-fits A) (size-is A) (c .if1 .taken))
+    let S = c .before in
+    let B = S .before in
+    let b = B .before .before .before in
+    let x = b .args in
+    flash-in (x .chip .unit) (x .first) (x .d) (x .d0) (x .j) (x .main .now) (x .ram .now) (b .pre .0) (B .block-address .result) (S .sector-size .result)
+    (2 * layout.page (x .chip .unit)) (B .block-address .ensures) (S .sector-size .ensures) refl (x .d0) (c .if1 .taken)
 
 returns : tie.Need-returns
 returns c =
-    let B = c .before .before .before .before in
-    let A = B .before in
-    let x = A .before .before .before .args in
-    deleted-by A (c .has-word .result)
-    ((rw (B .block-address .ensures) at (c .has-word .ensures))
-    ∙ sym (among-flash (x .v .g .chip .unit) (area (area-at A)) (x .v .d) (x .main .now) (x .ram .now) (size-is A) (x .j) (x .v .d0) (c .before .if1 .taken)))
+    let S = c .before .before in
+    let B = S .before in
+    let b = B .before .before .before in
+    let x = b .args in
+    c .has-word .ensures
+    ∙ sym (on-flash (x .chip .unit) (x .first) (x .d) (x .d0) (x .j) (x .main .now) (x .ram .now) (b .pre .0) (B .block-address .result) (S .sector-size .result)
+    (2 * layout.page (x .chip .unit)) (B .block-address .ensures) (S .sector-size .ensures) refl (c .before .if1 .taken))
 
 has-word-requires-2 : tie.Need-has-word-requires-2
 has-word-requires-2 c κs =
-    let B = c .before .before .before in
-    let A = B .before in
-    let x = A .before .before .before .args in
-    omega (arith, B .block-address .ensures, flash-run-in (x .v .g .chip .unit) (area-at A) (x .v .d) (x .v .d / area-at A .«per_page» * area-at A .«per_page») (length (x .main .now)) (length (x .ram .now)) (area-fits A) (size-is A) (omega arith))
-
--- is it in the run in RAM
-abbrev ram-run : tie.After-deletion-area → Bool
-ram-run A =
-    let x = A .before .before .before .args in
-    hasWord (x .ram .now) (area-at A .ram) (x .v .d0 - x .v .d / area-at A .«per_page» * area-at A .«per_page») (x .j)
+    let S = c .before in
+    let B = S .before in
+    let b = B .before .before .before in
+    let x = b .args in
+    flash-in (x .chip .unit) (x .first) (x .d) (x .d0) (x .j) (x .main .now) (x .ram .now) (b .pre .0) (B .block-address .result) (S .sector-size .result)
+    (2 * layout.page (x .chip .unit)) (B .block-address .ensures) (S .sector-size .ensures) refl _ (omega arith)
 
 -- both runs, the one on flash being tested first
-both-runs : (c : tie.After-has-word2) → let A = c .before .before .before .before .before in let x = A .before .before .before .args in
-    any (λ i. eqb (layout.itemWord (x .v .g .chip .unit) (area (area-at A)) (x .v .d) (x .main .now) (x .ram .now) i 0) (x .j)) (x .v .d0) ≡ (ram-run A || c .has-word2 .result)
-both-runs c =
-    let B = c .before .before .before .before in
-    let A = B .before in
-    let b = A .before .before .before in
+both-runs : (c : tie.After-has-word2) (at : ℕ) → let S = c .before .before in let B = S .before in let b = B .before .before .before in let x = b .args in
+    at ≡ 2 * layout.page (x .chip .unit)
+    → amongFirst (x .chip .unit) (x .first) (x .d) (x .main .now) (x .ram .now) (x .d0) (x .j)
+    ≡ (hasWord (x .ram .now) at (x .d0 - x .d / S .sector-size .result * S .sector-size .result) (x .j) || c .has-word2 .result)
+both-runs c at is =
+    let S = c .before .before in
+    let B = S .before in
+    let b = B .before .before .before in
     let x = b .args in
-    among-both (x .v .g .chip .unit) (area (area-at A)) (x .v .d) (x .main .now) (x .ram .now) (size-is A) (x .j) (x .v .d0) (omega (arith, c .before .if1 .left))
-    (rest-few (x .v .g .chip .unit) (area-at A) (x .v .d) (x .v .d0) (length (x .main .now)) (length (x .ram .now)) (area-fits A) (size-is A) (b .pre .d0-le))
-    ∙ ap (λ (t : Bool). ram-run A || t) (sym (rw (B .block-address .ensures) at (c .has-word2 .ensures)))
+    both (x .chip .unit) (x .first) (x .d) (x .d0) (x .j) (x .main .now) (x .ram .now) (b .pre .0) (B .block-address .result) (S .sector-size .result)
+    at (B .block-address .ensures) (S .sector-size .ensures) is (omega (arith, c .before .if1 .left)) (b .pre .1)
+    ∙ ap (λ (t : Bool). hasWord (x .ram .now) at (x .d0 - x .d / S .sector-size .result * S .sector-size .result) (x .j) || t) (sym (c .has-word2 .ensures))
 
 returns-2 : tie.Need-returns-2
 returns-2 c =
-    let A = c .before .before .before .before .before .before in
-    deleted-by A true (sym (or-true _ (ram-run A) (c .before .has-word2 .result) (both-runs (c .before)) (c .if2 .taken)))
+    let S = c .before .before .before in
+    let x = S .before .before .before .before .args in
+    sym (or-true _ (hasWord (x .ram .now) (2 * layout.page (x .chip .unit)) (x .d0 - x .d / S .sector-size .result * S .sector-size .result) (x .j))
+    (c .before .has-word2 .result) (both-runs (c .before) (2 * layout.page (x .chip .unit)) refl) (c .if2 .taken))
+
+page-address-requires : tie.Need-page-address-requires
+page-address-requires c κs =
+    let most = c .before .before .before .before .before .before .before .pre .0 .unit .1 .most in
+    (most, omega (arith, most))
 
 sub-has-word : tie.Need-sub-has-word
 sub-has-word c = search needs
 
 has-word-requires-3 : tie.Need-has-word-requires-3
 has-word-requires-3 c κs =
-    let A = c .before .before .before .before .before .before .before in
-    let b = A .before .before .before in
+    let S = c .before .before .before .before in
+    let B = S .before in
+    let b = B .before .before .before in
     let x = b .args in
-    ram-run-in (x .v .g .chip .unit) (area-at A) (x .v .d) (x .v .d0) (length (x .main .now)) (length (x .ram .now)) (area-fits A) (size-is A) (b .pre .d0-le)
+    ram-in (x .chip .unit) (x .first) (x .d) (x .d0) (x .j) (x .main .now) (x .ram .now) (b .pre .0) (B .block-address .result) (S .sector-size .result)
+    (c .page-address .result) (B .block-address .ensures) (S .sector-size .ensures) (c .page-address .ensures) (b .pre .1)
 
 returns-3 : tie.Need-returns-3
 returns-3 c =
-    let E = c .before .before in
-    let A = E .before .before .before .before .before .before in
-    deleted-by A (c .has-word3 .result) (c .has-word3 .ensures ∙ sym (or-false _ (ram-run A) (E .before .has-word2 .result) (both-runs (E .before)) (E .if2 .left)))
+    let P = c .before in
+    let E = P .before in
+    c .has-word3 .ensures ∙ sym (or-false _ _ (E .before .has-word2 .result) (both-runs (E .before) (P .page-address .result) (P .page-address .ensures)) (E .if2 .left))
 
 pub deleted-spec : {M : Type 1} → statement M
 deleted-spec =
     tie.close
     (tie.spec
-    deletion-area-requires
     block-address-requires
+    sector-size-requires
     div-full
     mul-full
     has-word-requires
     returns
     has-word-requires-2
     returns-2
+    page-address-requires
     sub-has-word
     has-word-requires-3
     returns-3)

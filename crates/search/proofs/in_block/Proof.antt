@@ -17,7 +17,7 @@ use Rattle.search.specs.declared.End.the-variants.{Nothing}
 use Rattle.search.specs.Find.{viewed, Ready, tryOf}
 use Rattle.search.proofs.Bits.{Gates, Words, Word, words-first, words-next, words-end, word-first, word-next, word-lt, word-few, word-ended, cleared-less}
 use Rattle.search.proofs.Entries.{Same, Left, left-none, left-first, left-corrupt, left-found, left-next, left-less}
-use Rattle.search.proofs.Volume.{deletedOf, perPage, pages, same-flash, block-shows, pages-few, pages-then, page-in, sets-le, index-fits}
+use Rattle.search.proofs.Volume.{deletedOf, perPage, pages, same-flash, block-shows, pages-few, pages-then, page-in, sets-le, index-fits, deletions-fit, deletions-are}
 use borrow.Author.Needs.{needs}
 use borrow.Author.Tests.{not-true, not-false}
 use Rattle.search.proofs.in_block.Statement.{statement}
@@ -268,34 +268,49 @@ number-at-requires c κs =
 wide-requires : tie.Need-wide-requires Inv-entries μ-entries Inv-bits μ-bits Inv-filters μ-filters
 wide-requires c κs = search needs
 
+da-block-requires : tie.Need-da-block-requires Inv-entries μ-entries Inv-bits μ-bits Inv-filters μ-filters
+da-block-requires c κs = ready (start-of (known (c .before .before .before .before .before .before .before .before))) .sound
+
 deleted-requires : tie.Need-deleted-requires Inv-entries μ-entries Inv-bits μ-bits Inv-filters μ-filters
-deleted-requires c κs = ready (start-of (known (c .before .before .before .before .before .before .before .before)))
+deleted-requires c κs =
+    let b = start-of (known (c .before .before .before .before .before .before .before .before .before)) in
+    let x = b .args in
+    deletions-fit (x .v) (x .main .now) (x .ram .now) (ready b) (c .da-block .result) (c .da-block .ensures)
+
+-- what the test says of the view's deletions
+told : (c : tie.After-deleted Inv-entries μ-entries Inv-bits μ-bits Inv-filters μ-filters) → let B = c .before in
+    c .deleted .result ≡ deleted-at (start-of (known (B .before .before .before .before .before .before .before .before .before))) (B .before .before .before .before .number-at .result)
+told c =
+    let B = c .before in
+    let b = start-of (known (B .before .before .before .before .before .before .before .before .before)) in
+    let x = b .args in
+    deletions-are (x .v) (x .main .now) (x .ram .now) (ready b) (B .da-block .result) _ (c .deleted .result) (B .da-block .ensures) (c .deleted .ensures)
 
 find-entry-requires : tie.Need-find-entry-requires Inv-entries μ-entries Inv-bits μ-bits Inv-filters μ-filters
 find-entry-requires c κs =
-    let E = c .before .before .before .before .before .before .before in
+    let E = c .before .before .before .before .before .before .before .before in
     omega (arith, E .entries .inv .0 .le, within-at (E .before .before))
 
 entries-less : tie.Need-entries-less Inv-entries μ-entries Inv-bits μ-bits Inv-filters μ-filters
 entries-less c =
-    let W = c .before .before .before .before .before in
+    let W = c .before .before .before .before .before .before in
     let N = W .before in
     let E = N .before .before in
     let P = E .before .before in
     let b = start-of (known (P .before)) in
     let x = b .args in
-    left-less (x .main .now) (P .page-start .result) (perPage (x .v)) (x .v .n0) (x .key) (deleted-at b) (try-at b) (page-of (P .before) * perPage (x .v)) (same-at P) (E .entries .e) (N .number-at .result) (E .entries .inv .0) (omega arith) (N .number-at .ensures) (omega (arith, W .wide .ensures, c .before .before .before .if1 .left)) (c .find-entry .result) (c .find-entry .ensures)
+    left-less (x .main .now) (P .page-start .result) (perPage (x .v)) (x .v .n0) (x .key) (deleted-at b) (try-at b) (page-of (P .before) * perPage (x .v)) (same-at P) (E .entries .e) (N .number-at .result) (E .entries .inv .0) (omega arith) (N .number-at .ensures) (omega (arith, W .wide .ensures, c .before .before .before .before .if1 .left)) (c .find-entry .result) (c .find-entry .ensures)
 
 entries-again : tie.Need-entries-again Inv-entries μ-entries Inv-bits μ-bits Inv-filters μ-filters
 entries-again c =
     let D = c .before .before in
-    let W = D .before .before .before in
+    let W = D .before .before .before .before in
     let N = W .before in
     let E = N .before .before in
     let P = E .before .before in
     let b = start-of (known (P .before)) in
     let x = b .args in
-    (left-next (x .main .now) (P .page-start .result) (perPage (x .v)) (x .v .n0) (x .key) (deleted-at b) (try-at b) (page-of (P .before) * perPage (x .v)) (same-at P) (E .entries .e) (N .number-at .result) (E .entries .inv .0) (omega arith) (N .number-at .ensures) (omega (arith, W .wide .ensures)) (c .find-entry .result) (D .deleted .result) (D .deleted .ensures) (not-false (D .deleted .result) (c .before .if2 .left)) (c .find-entry .ensures), E .entries .inv .1)
+    (left-next (x .main .now) (P .page-start .result) (perPage (x .v)) (x .v .n0) (x .key) (deleted-at b) (try-at b) (page-of (P .before) * perPage (x .v)) (same-at P) (E .entries .e) (N .number-at .result) (E .entries .inv .0) (omega arith) (N .number-at .ensures) (omega (arith, W .wide .ensures)) (c .find-entry .result) (D .deleted .result) (told D) (not-false (D .deleted .result) (c .before .if2 .left)) (c .find-entry .ensures), E .entries .inv .1)
 
 -- ---- the next page
 
@@ -365,7 +380,7 @@ returns-2 c =
 returns-3 : tie.Need-returns-3 Inv-entries μ-entries Inv-bits μ-bits Inv-filters μ-filters
 returns-3 c =
     let D = c .before in
-    let W = D .before .before .before in
+    let W = D .before .before .before .before in
     let N = W .before in
     let E = N .before .before in
     let P = E .before .before in
@@ -374,7 +389,7 @@ returns-3 c =
     let x = b .args in (
       block-at G .start-lt,
       ended P (found (N .number-at .result))
-          (left-found (x .main .now) (P .page-start .result) (perPage (x .v)) (x .v .n0) (x .key) (deleted-at b) (try-at b) (page-of (P .before) * perPage (x .v)) (same-at P) (E .entries .e) (N .number-at .result) (E .entries .inv .0) (omega arith) (N .number-at .ensures) (omega (arith, W .wide .ensures)) (D .deleted .result) (D .deleted .ensures) (not-true (D .deleted .result) (c .if2 .taken))),
+          (left-found (x .main .now) (P .page-start .result) (perPage (x .v)) (x .v .n0) (x .key) (deleted-at b) (try-at b) (page-of (P .before) * perPage (x .v)) (same-at P) (E .entries .e) (N .number-at .result) (E .entries .inv .0) (omega arith) (N .number-at .ensures) (omega (arith, W .wide .ensures)) (D .deleted .result) (told D) (not-true (D .deleted .result) (c .if2 .taken))),
     )
 
 pub in-block-spec : {M : Type 1} → statement M
@@ -412,6 +427,7 @@ in-block-spec =
     sub-k
     number-at-requires
     wide-requires
+    da-block-requires
     deleted-requires
     find-entry-requires
     entries-less

@@ -1,13 +1,13 @@
 -- What is left of the scan of a page's entries, at each with the key.
 use native.Mathlib.Omega.{arith}
-use mathlib.Core.Path.{sym}
+use mathlib.Core.Path.{_≡_, sym}
 use mathlib.Core.Bool.{Bool}
 use mathlib.Core.Option.{Option}
 use Prim.Native.Nat.{ℕ}
 use Rattle.layout.specs.Search.{Stop}
 use Rattle.search.specs.Find.{tryIn}
 use Rattle.search.proofs.Entries.{Same, Left, left-none, left-first, left-corrupt, left-found, left-next, left-less}
-use Rattle.search.proofs.Volume.{deletedOf, same-bytes}
+use Rattle.search.proofs.Volume.{deletedOf, same-bytes, deletions-fit, deletions-are}
 use borrow.Author.Needs.{needs}
 use borrow.Author.Tests.{not-true, not-false}
 use Rattle.search.proofs.in_page.Statement.{statement}
@@ -64,42 +64,57 @@ returns c =
     let x = b .args in
     sym (left-corrupt (x .page .now) (x .start) (x .count) (x .v .n0) (x .key) (deleted-at b) (try-at b) 0 (same-at b) (l .loop .e) (N .number-at .result) (l .loop .inv) (omega arith) (N .number-at .ensures) (omega (arith, c .before .before .wide .ensures)))
 
+da-block-requires : tie.Need-da-block-requires Inv-loop μ-loop
+da-block-requires c κs = search needs
+
 deleted-requires : tie.Need-deleted-requires Inv-loop μ-loop
-deleted-requires c κs = start-of (c .before .before .before .before .before) .pre .0
+deleted-requires c κs =
+    let b = start-of (c .before .before .before .before .before .before) in
+    let x = b .args in
+    deletions-fit (x .v) (x .main .now) (x .ram .now) (b .pre .0) (c .da-block .result) (c .da-block .ensures)
+
+-- what the test says of the view's deletions
+told : (c : tie.After-deleted Inv-loop μ-loop) → let B = c .before in
+    c .deleted .result ≡ deleted-at (start-of (B .before .before .before .before .before .before)) (B .before .before .before .before .number-at .result)
+told c =
+    let B = c .before in
+    let b = start-of (B .before .before .before .before .before .before) in
+    let x = b .args in
+    deletions-are (x .v) (x .main .now) (x .ram .now) (b .pre .0) (B .da-block .result) _ (c .deleted .result) (B .da-block .ensures) (c .deleted .ensures)
 
 returns-2 : tie.Need-returns-2 Inv-loop μ-loop
 returns-2 c =
     let D = c .before in
-    let W = D .before .before .before in
+    let W = D .before .before .before .before in
     let N = W .before in
     let l = N .before .before in
     let b = start-of l in
     let x = b .args in
-    sym (left-found (x .page .now) (x .start) (x .count) (x .v .n0) (x .key) (deleted-at b) (try-at b) 0 (same-at b) (l .loop .e) (N .number-at .result) (l .loop .inv) (omega arith) (N .number-at .ensures) (omega (arith, W .wide .ensures)) (D .deleted .result) (D .deleted .ensures) (not-true (D .deleted .result) (c .if2 .taken)))
+    sym (left-found (x .page .now) (x .start) (x .count) (x .v .n0) (x .key) (deleted-at b) (try-at b) 0 (same-at b) (l .loop .e) (N .number-at .result) (l .loop .inv) (omega arith) (N .number-at .ensures) (omega (arith, W .wide .ensures)) (D .deleted .result) (told D) (not-true (D .deleted .result) (c .if2 .taken)))
 
 find-entry-requires-2 : tie.Need-find-entry-requires-2 Inv-loop μ-loop
 find-entry-requires-2 c κs =
-    let l = c .before .before .before .before .before .before .before in
+    let l = c .before .before .before .before .before .before .before .before in
     omega (arith, start-of l .pre .1, l .loop .inv .le)
 
 loop-less : tie.Need-loop-less Inv-loop μ-loop
 loop-less c =
-    let W = c .before .before .before .before .before in
+    let W = c .before .before .before .before .before .before in
     let N = W .before in
     let l = N .before .before in
     let b = start-of l in
     let x = b .args in
-    left-less (x .page .now) (x .start) (x .count) (x .v .n0) (x .key) (deleted-at b) (try-at b) 0 (same-at b) (l .loop .e) (N .number-at .result) (l .loop .inv) (omega arith) (N .number-at .ensures) (omega (arith, W .wide .ensures)) (c .find-entry2 .result) (c .find-entry2 .ensures)
+    left-less (x .page .now) (x .start) (x .count) (x .v .n0) (x .key) (deleted-at b) (try-at b) 0 (same-at b) (l .loop .e) (N .number-at .result) (l .loop .inv) (omega arith) (N .number-at .ensures) (omega (arith, W .wide .ensures, c .before .before .before .before .if1 .left)) (c .find-entry2 .result) (c .find-entry2 .ensures)
 
 loop-again : tie.Need-loop-again Inv-loop μ-loop
 loop-again c =
     let D = c .before .before in
-    let W = D .before .before .before in
+    let W = D .before .before .before .before in
     let N = W .before in
     let l = N .before .before in
     let b = start-of l in
     let x = b .args in
-    left-next (x .page .now) (x .start) (x .count) (x .v .n0) (x .key) (deleted-at b) (try-at b) 0 (same-at b) (l .loop .e) (N .number-at .result) (l .loop .inv) (omega arith) (N .number-at .ensures) (omega (arith, W .wide .ensures)) (c .find-entry2 .result) (D .deleted .result) (D .deleted .ensures) (not-false (D .deleted .result) (c .before .if2 .left)) (c .find-entry2 .ensures)
+    left-next (x .page .now) (x .start) (x .count) (x .v .n0) (x .key) (deleted-at b) (try-at b) 0 (same-at b) (l .loop .e) (N .number-at .result) (l .loop .inv) (omega arith) (N .number-at .ensures) (omega (arith, W .wide .ensures)) (c .find-entry2 .result) (D .deleted .result) (told D) (not-false (D .deleted .result) (c .before .if2 .left)) (c .find-entry2 .ensures)
 
 returns-3 : tie.Need-returns-3 Inv-loop μ-loop
 returns-3 c =
@@ -120,6 +135,7 @@ in-page-spec =
     number-at-requires
     wide-requires
     returns
+    da-block-requires
     deleted-requires
     returns-2
     find-entry-requires-2

@@ -1,0 +1,40 @@
+-- The changing calls: which key, and what is decided by how that key is resolved.
+use Prim.Native.Nat.{ℕ}
+use Rattle.layout.specs.Refusals as refusal
+use Rattle.layout.specs.Calls as layout
+use Rattle.geometry.specs.declared.Geometry.{Geometry}
+use Rattle.state.specs.Contract.{recordIs}
+use Rattle.changes.specs.declared.Edit.the-variants as edits
+use Rattle.calls.specs.declared.Resolved.{Resolved}
+use Rattle.calls.specs.declared.Resolved.the-variants as resolved
+use Rattle.calls.specs.declared.Request.{Request}
+use Rattle.calls.specs.declared.Request.the-variants.{Insert, Update, Delete}
+use Rattle.calls.specs.declared.Decision.{Decision}
+use Rattle.calls.specs.declared.Decision.the-variants.{Refused, Change}
+
+abbrev pub callOf : Request → layout.Call
+callOf (Insert r) = layout.insert (recordIs r)
+callOf (Update r) = layout.update (recordIs r)
+callOf (Delete key) = layout.delete key
+
+abbrev pub keyOf : Request → ℕ
+keyOf (Insert r) = r .key
+keyOf (Update r) = r .key
+keyOf (Delete key) = key
+
+-- 4, but for an insert
+abbrev pub ofAbsent : Geometry → Request → Decision
+ofAbsent g (Insert r) = Change g (edits.Insert r)
+ofAbsent g (Update r) = Refused refusal.absent
+ofAbsent g (Delete key) = Refused refusal.absent
+
+-- 3 of an insert
+abbrev pub ofLive : Geometry → ℕ → Request → Decision
+ofLive g j (Insert r) = Refused refusal.present
+ofLive g j (Update r) = Change g (edits.Replace j r)
+ofLive g j (Delete key) = Change g (edits.Delete j)
+
+abbrev pub decisionOf : Request → Resolved → Decision
+decisionOf q (resolved.Refused i) = Refused i
+decisionOf q (resolved.Absent g) = ofAbsent g q
+decisionOf q (resolved.Live g j) = ofLive g j q
