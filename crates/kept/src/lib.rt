@@ -148,18 +148,10 @@ fn append_record(g: Geometry, n: usize, new: &[u8], ram: &mut [u8])
     requires { ⌜ Sound g × (length (now new) ≡ newLength) × (ramSize (shape g) ≤ length (now ram)) ⌝ }
     ensures { λ _. ⌜ after ram ≡ recordAppended (shape g) n (before new) (before ram) ⌝ }
 {
-    append_item(
-        geometry::record_area(g),
-        n,
-        &new[plan::RECORD_AT..plan::ENTRY_AT],
-        ram,
-    );
-    append_item(
-        geometry::entry_area(g),
-        n,
-        &new[plan::ENTRY_AT..plan::NEW_SIZE],
-        ram,
-    );
+    let records = geometry::record_area(g);
+    let entries = geometry::entry_area(g);
+    append_item(records, n, &new[plan::RECORD_AT..plan::ENTRY_AT], ram);
+    append_item(entries, n, &new[plan::ENTRY_AT..plan::NEW_SIZE], ram);
 }
 
 // ---- the RAM after a change

@@ -11,6 +11,9 @@ use Rattle.kept.proofs.append_record.Tie as tie
 record-area-requires : tie.Need-record-area-requires
 record-area-requires c κs = search needs
 
+entry-area-requires : tie.Need-entry-area-requires
+entry-area-requires c κs = search needs
+
 sub-append-item : tie.Need-sub-append-item
 sub-append-item c = search needs
 
@@ -22,15 +25,12 @@ part-append-item-end c = search needs
 
 append-item-requires : tie.Need-append-item-requires
 append-item-requires c κs =
-    let a = c .before .before .record-area in
-    let b = c .before .before .before .before .before in
+    let a = c .before .before .before .record-area in
+    let b = c .before .before .before .before .before .before in
     let x = b .args in
     let P = b .pre in
     append-fits (x .g) (P .0) (a .result) (RA (shape (x .g))) (a .ensures .0) (a .ensures .1) _ _
     (length-part (x .new .now) 4 16 (omega (arith, P .1))) refl (omega arith) (omega arith) (P .2)
-
-entry-area-requires : tie.Need-entry-area-requires
-entry-area-requires c κs = search needs
 
 sub-append-item-2 : tie.Need-sub-append-item-2
 sub-append-item-2 c = search needs
@@ -43,9 +43,9 @@ part-append-item-end-2 c = search needs
 
 append-item-requires-2 : tie.Need-append-item-requires-2
 append-item-requires-2 c κs =
-    let a = c .before .before .entry-area in
-    let r = c .before .before .before in
-    let b = r .before .before .before .before .before .before .before .before in
+    let r = c .before .before in
+    let a = r .before .before .before .before .before .entry-area in
+    let b = r .before .before .before .before .before .before .before .before .before in
     let x = b .args in
     let P = b .pre in
     append-fits (x .g) (P .0) (a .result) (KA (shape (x .g))) (a .ensures .0) (a .ensures .1) _ _
@@ -57,9 +57,9 @@ same-length c = search needs
 returns : tie.Need-returns
 returns c =
     let k2 = c .before .before in
-    let a2 = k2 .before .before .before in
-    let k = a2 .before .before .before in
-    let a = k .before .before .before in
+    let k = k2 .before .before .before .before .before in
+    let a2 = k .before .before .before in
+    let a = a2 .before in
     let x = a .before .before .before .args in
     record-put (shape (x .g)) (x .n) (x .new .now) (x .ram .now) (a .record-area .result) (a2 .entry-area .result) _ _
     (a .record-area .ensures .0) (a2 .entry-area .ensures .0) (k .append-item .ensures) (k2 .append-item2 .ensures)
@@ -69,11 +69,11 @@ append-record-spec =
     tie.close
     (tie.spec
     record-area-requires
+    entry-area-requires
     sub-append-item
     part-append-item-start
     part-append-item-end
     append-item-requires
-    entry-area-requires
     sub-append-item-2
     part-append-item-start-2
     part-append-item-end-2
