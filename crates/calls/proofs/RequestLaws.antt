@@ -9,9 +9,9 @@ use Rattle.layout.specs.Search.{Stop, corrupt}
 use Rattle.layout.specs.Calls.{Volume, Result, insertAfter, updateAfter, deleteAfter, change, call}
 use Rattle.geometry.specs.Shape.{shape}
 use Rattle.geometry.specs.declared.Geometry.{Geometry}
-use Rattle.state.specs.Contract.{Left, recordIs, seen}
-use Rattle.state.specs.Judge.{Fits}
-use Rattle.state.proofs.Refusals.{refusedLeft}
+use Rattle.state.specs.Contract.{Effect, recordIs, effectOf}
+use Rattle.state.specs.Judge.{VolumeFits}
+use Rattle.state.proofs.Refusals.{refusedEffect}
 use Rattle.changes.specs.Edits.{editIs}
 use Rattle.changes.specs.declared.Edit.{Edit}
 use Rattle.changes.specs.declared.Edit.the-variants as edits
@@ -52,29 +52,29 @@ module _ (v : Volume) where
 
   -- a refusal
   refused-by : (q : Request) (i : ℕ) (r : Resolved) → ResolvedFits v r → resolvedOf v (keyOf q) ≡ r → decisionOf q r ≡ Refused i
-      → refusedLeft v i ≡ seen (call fnvFamily v (callOf q))
+      → refusedEffect v i ≡ effectOf (call fnvFamily v (callOf q))
   unfolding call
-  refused-by (Insert r) i (resolved.Refused k) f e d = ap (refusedLeft v) (sym (ap number d)) ∙ call-refused v (r .key) (after (Insert r)) refl k e
-  refused-by (Update r) i (resolved.Refused k) f e d = ap (refusedLeft v) (sym (ap number d)) ∙ call-refused v (r .key) (after (Update r)) refl k e
-  refused-by (Delete key) i (resolved.Refused k) f e d = ap (refusedLeft v) (sym (ap number d)) ∙ call-refused v key (after (Delete key)) refl k e
+  refused-by (Insert r) i (resolved.Refused k) f e d = ap (refusedEffect v) (sym (ap number d)) ∙ call-refused v (r .key) (after (Insert r)) refl k e
+  refused-by (Update r) i (resolved.Refused k) f e d = ap (refusedEffect v) (sym (ap number d)) ∙ call-refused v (r .key) (after (Update r)) refl k e
+  refused-by (Delete key) i (resolved.Refused k) f e d = ap (refusedEffect v) (sym (ap number d)) ∙ call-refused v key (after (Delete key)) refl k e
   refused-by (Insert r) i (resolved.Absent g) f e d = absurd (omega (arith, ap kind d))
-  refused-by (Update r) i (resolved.Absent g) f e d = ap (refusedLeft v) (sym (ap number d)) ∙ ap seen (call-absent v (r .key) (after (Update r)) g f e)
-  refused-by (Delete key) i (resolved.Absent g) f e d = ap (refusedLeft v) (sym (ap number d)) ∙ ap seen (call-absent v key (after (Delete key)) g f e)
-  refused-by (Insert r) i (resolved.Live g j) f e d = ap (refusedLeft v) (sym (ap number d)) ∙ ap seen (call-live v (r .key) (after (Insert r)) g f j e)
+  refused-by (Update r) i (resolved.Absent g) f e d = ap (refusedEffect v) (sym (ap number d)) ∙ ap effectOf (call-absent v (r .key) (after (Update r)) g f e)
+  refused-by (Delete key) i (resolved.Absent g) f e d = ap (refusedEffect v) (sym (ap number d)) ∙ ap effectOf (call-absent v key (after (Delete key)) g f e)
+  refused-by (Insert r) i (resolved.Live g j) f e d = ap (refusedEffect v) (sym (ap number d)) ∙ ap effectOf (call-live v (r .key) (after (Insert r)) g f j e)
   refused-by (Update r) i (resolved.Live g j) f e d = absurd (omega (arith, ap kind d))
   refused-by (Delete key) i (resolved.Live g j) f e d = absurd (omega (arith, ap kind d))
 
   pub call-decided : (q : Request) (i : ℕ) (r : Resolved) → r ≡ resolvedOf v (keyOf q) → ResolvedFits v r → decisionOf q r ≡ Refused i
-      → refusedLeft v i ≡ seen (call fnvFamily v (callOf q))
+      → refusedEffect v i ≡ effectOf (call fnvFamily v (callOf q))
   call-decided q i r e f d = refused-by q i r f (sym e) d
 
   -- a change; f says that its geometry is the volume's
-  at-geometry : (q : Request) (g : Geometry) → Fits v g → (e : Edit) → change fnvFamily (layout.geometry (v .state .sizes)) v (editIs e) ≡ call fnvFamily v (callOf q)
-      → Fits v g × (seen (change fnvFamily (shape g) v (editIs e)) ≡ seen (call fnvFamily v (callOf q)))
-  at-geometry q g f e is = (f, ap (λ (h : Geometry). seen (change fnvFamily (shape h) v (editIs e))) (f .is) ∙ ap seen is)
+  at-geometry : (q : Request) (g : Geometry) → VolumeFits v g → (e : Edit) → change fnvFamily (layout.geometry (v .state .sizes)) v (editIs e) ≡ call fnvFamily v (callOf q)
+      → VolumeFits v g × (effectOf (change fnvFamily (shape g) v (editIs e)) ≡ effectOf (call fnvFamily v (callOf q)))
+  at-geometry q g f e is = (f, ap (λ (h : Geometry). effectOf (change fnvFamily (shape h) v (editIs e))) (f .is) ∙ ap effectOf is)
 
   abbrev pub Changes : Request → Geometry → Edit → Type 0
-  Changes q g e = Fits v g × (seen (change fnvFamily (shape g) v (editIs e)) ≡ seen (call fnvFamily v (callOf q)))
+  Changes q g e = VolumeFits v g × (effectOf (change fnvFamily (shape g) v (editIs e)) ≡ effectOf (call fnvFamily v (callOf q)))
 
   same-decision : (q : Request) (g g′ : Geometry) (e e′ : Edit) → Change g′ e′ ≡ Change g e → Changes q g′ e′ → Changes q g e
   same-decision q g g′ e e′ d p =

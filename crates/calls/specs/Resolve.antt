@@ -10,7 +10,7 @@ use Rattle.layout.specs.Search.{Stop, found, corrupt}
 use Rattle.layout.specs.Calls.{Volume, badState, tooShort, search}
 use Rattle.geometry.specs.Shape.{geometryFor}
 use Rattle.geometry.specs.declared.Geometry.{Geometry}
-use Rattle.state.specs.Judge.{Fits}
+use Rattle.state.specs.Judge.{VolumeFits}
 use Rattle.calls.specs.declared.Resolved.{Resolved}
 use Rattle.calls.specs.declared.Resolved.the-variants.{Refused, Absent, Live}
 
@@ -28,5 +28,5 @@ resolvedOf v key =
 
 abbrev pub ResolvedFits : Volume → Resolved → Type 0
 ResolvedFits v (Refused i) = Unit
-ResolvedFits v (Absent g) = Fits v g
-ResolvedFits v (Live g j) = Fits v g
+ResolvedFits v (Absent g) = VolumeFits v g
+ResolvedFits v (Live g j) = VolumeFits v g

@@ -4,14 +4,14 @@ ghost use mathlib.Core.Path.{_≡_};
 ghost use Rattle.layout.specs.Hash.{fnvFamily};
 ghost use Rattle.layout.specs.Calls as layout;
 ghost use Rattle.layout.specs.Calls.{call};
-ghost use Rattle.state.specs.Contract.{recordIs, given, seen, leftBy};
+ghost use Rattle.state.specs.Contract.{recordIs, given, effectOf, effectBy};
 ghost use Rattle.calls.specs.Resolve.{resolvedOf, ResolvedFits};
 ghost use Rattle.calls.specs.Request.{callOf, keyOf, ofAbsent, ofLive, decisionOf};
 use changes::Edit;
 use geometry::Geometry;
 use search::End;
 use state::Change;
-use state::Judged;
+use state::Judgement;
 use state::Record;
 use state::State;
 
@@ -30,10 +30,10 @@ pub fn resolve(s: State, key: u32, main: &[u8], spare: &[u8], ram: &[u8]) -> Res
     ensures fits { λ r. ⌜ ResolvedFits (given s main spare ram) r ⌝ }
 {
     match state::judge(s, main, spare, ram) {
-        Judged::Refused(i) => {
+        Judgement::Refused(i) => {
             return Resolved::Refused(i);
         }
-        Judged::Good(g) => {
+        Judgement::Good(g) => {
             let v = search::all(g, s.records as usize, s.deletions as usize);
             let f = search::search(v, key, main, ram);
             let end = f.end;
@@ -111,7 +111,7 @@ fn decide(q: Request, r: Resolved) -> Decision
 
 // A changing call.
 pub fn perform(s: State, q: Request, main: &mut [u8], spare: &mut [u8], ram: &mut [u8]) -> Change
-    ensures { λ r. ⌜ leftBy r main spare ram ≡ seen (call fnvFamily (given s main spare ram) (callOf q)) ⌝ }
+    ensures { λ r. ⌜ effectBy r main spare ram ≡ effectOf (call fnvFamily (given s main spare ram) (callOf q)) ⌝ }
 {
     match decide(q, resolve(s, key_of(q), main, spare, ram)) {
         Decision::Refused(i) => {
@@ -127,21 +127,21 @@ pub fn perform(s: State, q: Request, main: &mut [u8], spare: &mut [u8], ram: &mu
 
 // A new level.
 pub fn insert(s: State, record: Record, main: &mut [u8], spare: &mut [u8], ram: &mut [u8]) -> Change
-    ensures { λ r. ⌜ leftBy r main spare ram ≡ seen (call fnvFamily (given s main spare ram) (layout.insert (recordIs «record»))) ⌝ }
+    ensures { λ r. ⌜ effectBy r main spare ram ≡ effectOf (call fnvFamily (given s main spare ram) (layout.insert (recordIs «record»))) ⌝ }
 {
     perform(s, Request::Insert(record), main, spare, ram)
 }
 
 // New values for a level that is there: its record is deleted, and another inserted.
 pub fn update(s: State, record: Record, main: &mut [u8], spare: &mut [u8], ram: &mut [u8]) -> Change
-    ensures { λ r. ⌜ leftBy r main spare ram ≡ seen (call fnvFamily (given s main spare ram) (layout.update (recordIs «record»))) ⌝ }
+    ensures { λ r. ⌜ effectBy r main spare ram ≡ effectOf (call fnvFamily (given s main spare ram) (layout.update (recordIs «record»))) ⌝ }
 {
     perform(s, Request::Update(record), main, spare, ram)
 }
 
 // Takes a level out.
 pub fn delete(s: State, key: u32, main: &mut [u8], spare: &mut [u8], ram: &mut [u8]) -> Change
-    ensures { λ r. ⌜ leftBy r main spare ram ≡ seen (call fnvFamily (given s main spare ram) (layout.delete key)) ⌝ }
+    ensures { λ r. ⌜ effectBy r main spare ram ≡ effectOf (call fnvFamily (given s main spare ram) (layout.delete key)) ⌝ }
 {
     perform(s, Request::Delete(key), main, spare, ram)
 }

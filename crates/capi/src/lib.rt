@@ -5,8 +5,8 @@ ghost use Rattle.layout.specs.Geometry.{sizesOf};
 ghost use Rattle.layout.specs.Hash.{fnvFamily};
 ghost use Rattle.layout.specs.Items.{recordOf};
 ghost use Rattle.layout.specs.Calls.{format, insert, update, delete, lookup, call};
-ghost use Rattle.state.specs.Contract.{seen, given, leftBy};
-ghost use Rattle.lookup.specs.Looked.{looked};
+ghost use Rattle.state.specs.Contract.{effectOf, given, effectBy};
+ghost use Rattle.lookup.specs.Results.{lookupOf};
 use geometry::Sizes;
 use lookup::LookupResult;
 use state::Change;
@@ -23,8 +23,8 @@ pub extern "C" fn level_store_format(
     spare: &mut [u8],
     ram: &mut [u8],
 ) -> Change
-    ensures { λ r. ⌜ leftBy r «data» spare ram
-        ≡ seen (format (given old «data» spare ram) (sizesOf «sector_size» «ra_blocks» «da_blocks»)) ⌝ }
+    ensures { λ r. ⌜ effectBy r «data» spare ram
+        ≡ effectOf (format (given old «data» spare ram) (sizesOf «sector_size» «ra_blocks» «da_blocks»)) ⌝ }
 {
     let sizes = Sizes {
         sector_size,
@@ -45,8 +45,8 @@ pub extern "C" fn level_store_insert(
     spare: &mut [u8],
     ram: &mut [u8],
 ) -> Change
-    ensures { λ r. ⌜ leftBy r «data» spare ram
-        ≡ seen (call fnvFamily (given state «data» spare ram) (insert (recordOf key moves goal word))) ⌝ }
+    ensures { λ r. ⌜ effectBy r «data» spare ram
+        ≡ effectOf (call fnvFamily (given state «data» spare ram) (insert (recordOf key moves goal word))) ⌝ }
 {
     let record = Record {
         key,
@@ -68,8 +68,8 @@ pub extern "C" fn level_store_update(
     spare: &mut [u8],
     ram: &mut [u8],
 ) -> Change
-    ensures { λ r. ⌜ leftBy r «data» spare ram
-        ≡ seen (call fnvFamily (given state «data» spare ram) (update (recordOf key moves goal word))) ⌝ }
+    ensures { λ r. ⌜ effectBy r «data» spare ram
+        ≡ effectOf (call fnvFamily (given state «data» spare ram) (update (recordOf key moves goal word))) ⌝ }
 {
     let record = Record {
         key,
@@ -88,7 +88,7 @@ pub extern "C" fn level_store_delete(
     spare: &mut [u8],
     ram: &mut [u8],
 ) -> Change
-    ensures { λ r. ⌜ leftBy r «data» spare ram ≡ seen (call fnvFamily (given state «data» spare ram) (delete key)) ⌝ }
+    ensures { λ r. ⌜ effectBy r «data» spare ram ≡ effectOf (call fnvFamily (given state «data» spare ram) (delete key)) ⌝ }
 {
     calls::delete(state, key, data, spare, ram)
 }
@@ -101,7 +101,7 @@ pub extern "C" fn level_store_lookup(
     spare: &[u8],
     ram: &[u8],
 ) -> LookupResult
-    ensures { λ r. ⌜ r ≡ looked (call fnvFamily (given state «data» spare ram) (lookup key)) ⌝ }
+    ensures { λ r. ⌜ r ≡ lookupOf (call fnvFamily (given state «data» spare ram) (lookup key)) ⌝ }
 {
     lookup::find(state, key, data, spare, ram)
 }

@@ -14,8 +14,8 @@ use Rattle.layout.specs.Refusals as refusal
 use Rattle.layout.specs.Calls as calls
 use Rattle.layout.specs.Calls.{Volume, Result, one, more, noRoom, noDeletion, deletes, ramDeleted, inserts, ramInserted, refuse, commit, change}
 use Rattle.state.specs.declared.Record.{Record}
-use Rattle.state.specs.Contract.{Left, seen, outcomeOf, recordIs}
-use Rattle.state.proofs.Refusals.{refusedLeft, Refusal, refusal-of, refused-seen}
+use Rattle.state.specs.Contract.{Effect, effectOf, outcomeOf, recordIs}
+use Rattle.state.proofs.Refusals.{refusedEffect, Refusal, refusal-of, refused-effect}
 use Rattle.planning.specs.declared.Slots.{Slots}
 use Rattle.planning.specs.Edits.{Room, planOf, ramOf}
 use Rattle.changes.specs.declared.Edit.{Edit}
@@ -24,8 +24,8 @@ use Rattle.changes.specs.Edits.{editIs, oldNumber, newRecord, slotsOf, r
 use Rattle.changes.specs.Commit.{Committed, opsOf}
 
 -- what a call leaves
-abbrev pub leftWith : layout.State → ℕ → Flash → List ℕ → Left
-leftWith s i flash ram = record { outcome = outcomeOf i; count = 0; left = record { state = s; flash = flash; ram = ram } }
+abbrev pub effectWith : layout.State → ℕ → Flash → List ℕ → Effect
+effectWith s i flash ram = record { outcome = outcomeOf i; count = 0; left = record { state = s; flash = flash; ram = ram } }
 
 -- ---- 5 and 6
 
@@ -76,9 +76,9 @@ module _ (g : layout.Geometry) (v : Volume) where
   -- ---- the change
 
   module _ (e : Edit) (i : ℕ) (is : i ≡ roomRefusal g n d (editIs e)) where
-    pub change-full : (i ≡ 0 → ⊥) → refusedLeft v i ≡ seen (change fnvFamily g v (editIs e))
+    pub change-full : (i ≡ 0 → ⊥) → refusedEffect v i ≡ effectOf (change fnvFamily g v (editIs e))
     unfolding change
-    change-full some = refused-seen v i _ (by (one (editIs e .inserts) && noRoom g v) (one (editIs e .deletes) && noDeletion g v) _ is)
+    change-full some = refused-effect v i _ (by (one (editIs e .inserts) && noRoom g v) (one (editIs e .deletes) && noDeletion g v) _ is)
       where
         by : (a b : Bool) (x : Result) → i ≡ cond a refusal.full (cond b refusal.deletionsFull 0)
             → Refusal v i (cond a (refuse v refusal.full) (cond b (refuse v refusal.deletionsFull) x))
@@ -101,7 +101,7 @@ module _ (g : layout.Geometry) (v : Volume) where
       fresh-is : b ≡ allFresh (v .flash .spare) (planOps (g .u) (deletes g v (editIs e .deletes) ++ inserts fnvFamily g v (editIs e .inserts)) (v .flash))
       fresh-is = committed .fresh ∙ ap (allFresh (v .flash .spare)) ops-is
 
-      pub change-stale : b ≡ false → leftWith (v .state) refusal.notFresh flash ram ≡ seen (change fnvFamily g v (editIs e))
+      pub change-stale : b ≡ false → effectWith (v .state) refusal.notFresh flash ram ≡ effectOf (change fnvFamily g v (editIs e))
       unfolding change commit
       change-stale f =
           let c = rw f at (committed .flash-is) in
@@ -109,7 +109,7 @@ module _ (g : layout.Geometry) (v : Volume) where
           rw (tests .0, tests .1, ← fresh-is, f, c, m)
 
       pub change-done : b ≡ true
-          → leftWith (layout.stateOf (v .state .sizes) (more n (editIs e .inserts)) (more d (editIs e .deletes))) 0 flash ram ≡ seen (change fnvFamily g v (editIs e))
+          → effectWith (layout.stateOf (v .state .sizes) (more n (editIs e .inserts)) (more d (editIs e .deletes))) 0 flash ram ≡ effectOf (change fnvFamily g v (editIs e))
       unfolding change commit
       change-done f =
           let c = rw (f, ops-is) at (committed .flash-is) in

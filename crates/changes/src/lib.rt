@@ -6,10 +6,11 @@ ghost use Rattle.memory.specs.Lent.{before, after};
 ghost use Rattle.layout.specs.Geometry.{recordCapacity, deletionCapacity, ramSize};
 ghost use Rattle.layout.specs.Hash.{fnvFamily};
 ghost use Rattle.layout.specs.Calls.{more, change};
+ghost use Rattle.laws.specs.Lengths.{Long};
 ghost use Rattle.laws.specs.LentFlash.{flashBefore, flashAfter};
 ghost use Rattle.geometry.specs.Shape.{shape, Sound};
-ghost use Rattle.state.specs.Contract.{recordIs, volume, given, seen, leftBy};
-ghost use Rattle.state.specs.Judge.{Long, Fits};
+ghost use Rattle.state.specs.Contract.{recordIs, volume, given, effectOf, effectBy};
+ghost use Rattle.state.specs.Judge.{VolumeFits};
 ghost use Rattle.planning.specs.New.{newBytes};
 ghost use Rattle.planning.specs.Edits.{Room};
 ghost use Rattle.changes.specs.Edits.{editIs, slotsOf, oldNumber, newRecord, recordNumber, fullAt, deletionsFullAt, roomRefusal};
@@ -184,7 +185,7 @@ fn program(
     spare: &mut [u8],
     ram: &mut [u8],
 ) -> bool
-    requires { ⌜ Sound g × Room (shape g) e × Long g (now main) (now spare) (now ram) ⌝ }
+    requires { ⌜ Sound g × Room (shape g) e × Long (shape g) (now main) (now spare) (now ram) ⌝ }
     ensures { λ r. ⌜ Committed (shape g) e old (recordIs «record») (flashBefore main spare) (before ram)
         r (flashAfter main spare) (after ram) ⌝ }
 {
@@ -209,7 +210,7 @@ fn commit(
     spare: &mut [u8],
     ram: &mut [u8],
 ) -> bool
-    requires { ⌜ Sound g × Room (shape g) e × Long g (now main) (now spare) (now ram) ⌝ }
+    requires { ⌜ Sound g × Room (shape g) e × Long (shape g) (now main) (now spare) (now ram) ⌝ }
     ensures { λ r. ⌜ Committed (shape g) e old (recordIs «record») (flashBefore main spare) (before ram)
         r (flashAfter main spare) (after ram) ⌝ }
 {
@@ -255,8 +256,8 @@ pub fn apply(
     spare: &mut [u8],
     ram: &mut [u8],
 ) -> Change
-    requires { ⌜ Fits (volume s (now main) (now spare) (now ram)) g ⌝ }
-    ensures { λ r. ⌜ leftBy r main spare ram ≡ seen (change fnvFamily (shape g) (given s main spare ram) (editIs e)) ⌝ }
+    requires { ⌜ VolumeFits (volume s (now main) (now spare) (now ram)) g ⌝ }
+    ensures { λ r. ⌜ effectBy r main spare ram ≡ effectOf (change fnvFamily (shape g) (given s main spare ram) (editIs e)) ⌝ }
 {
     let i = room_refusal(g, s, e);
     if i != state::ACCEPTED {

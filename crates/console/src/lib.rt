@@ -63,8 +63,8 @@ fn chunks_left(left: u64, continues: bool) -> u64
 
 // After a chunk with which nothing failed: the state and the bytes of an unfinished line; nothing is left to be written.
 fn succeed(state: State, fill: usize, continues: bool) -> ChunkResult
-    ensures { λ r. ⌜ (r .continues ≡ continues) × (r .progress .state ≡ state) × (r .progress .fill ≡ fill) × (r .progress .printed ≡ 0)
-        × (r .ok ≡ true) ⌝ }
+    ensures { λ r. ⌜ (r .continues ≡ continues) × (r .progress .state ≡ state) × (r .progress .fill ≡ fill)
+        × (r .progress .printed ≡ 0) × (r .ok ≡ true) ⌝ }
 {
     let progress = Progress {
         state,
@@ -80,8 +80,8 @@ fn succeed(state: State, fill: usize, continues: bool) -> ChunkResult
 
 // After a byte could not be read or written: the reason is told, and an unfinished line is not answered.
 fn fail(state: State, reason: &[u8]) -> ChunkResult
-    ensures { λ r. ⌜ (r .continues ≡ false) × (r .progress .state ≡ state) × (r .progress .fill ≡ 0) × (r .progress .printed ≡ 0)
-        × (r .ok ≡ false) ⌝ }
+    ensures { λ r. ⌜ (r .continues ≡ false) × (r .progress .state ≡ state) × (r .progress .fill ≡ 0)
+        × (r .progress .printed ≡ 0) × (r .ok ≡ false) ⌝ }
 {
     io::write_all(STDERR_FILENO, reason);
     let progress = Progress {
@@ -99,8 +99,8 @@ fn fail(state: State, reason: &[u8]) -> ChunkResult
 // Answers are written: those of a chunk, or the last.
 fn write_answers(q: Progress, out: &[u8]) -> ChunkResult
     requires { ⌜ q .printed ≤ length (now out) ⌝ }
-    ensures { λ r. ⌜ (r .progress .state ≡ q .state) × (r .progress .fill ≡ cond (r .continues) (q .fill) 0) × (r .progress .printed ≡ 0)
-        × (r .ok ≡ r .continues) ⌝ }
+    ensures { λ r. ⌜ (r .progress .state ≡ q .state) × (r .progress .fill ≡ cond (r .continues) (q .fill) 0)
+        × (r .progress .printed ≡ 0) × (r .ok ≡ r .continues) ⌝ }
 {
     let printed = q.printed;
     let state = q.state;

@@ -26,7 +26,8 @@ module _ (l ys : List ℕ) (i e : ℕ) (order : i ≤ e) (h : e ≤ length l) (s
   pub part-length : length (take i l ++ (ys ++ drop (e - i) (drop i l))) ≡ length l
   part-length = rw (part-back l i e ys order h size) (length-write l i ys)
 
-  pub part-more : (f : ℕ → ℕ) → Done f l i → ((j : ℕ) → j < e - i → getD ys j 0 ≡ f (i + j)) → Done f (take i l ++ (ys ++ drop (e - i) (drop i l))) e
+  pub part-more : (f : ℕ → ℕ) → Done f l i → ((j : ℕ) → j < e - i → getD ys j 0 ≡ f (i + j))
+      → Done f (take i l ++ (ys ++ drop (e - i) (drop i l))) e
   part-more f D P k p =
       rw (part-back l i e ys order h size)
       (either (lt? k i)
@@ -46,7 +47,8 @@ module _ (l ys : List ℕ) (i e : ℕ) (g : ℕ → ℕ) (order : i ≤ e) (h : 
   pub table-length : length (take i l ++ (ys ++ drop (e - i) (drop i l))) ≡ length l
   table-length = part-length l ys i e order h (ap length table ∙ length-tab (e - i) g)
 
-  pub table-more : (f : ℕ → ℕ) → Done f l i → ((j : ℕ) → j < e - i → g j ≡ f (i + j)) → Done f (take i l ++ (ys ++ drop (e - i) (drop i l))) e
+  pub table-more : (f : ℕ → ℕ) → Done f l i → ((j : ℕ) → j < e - i → g j ≡ f (i + j))
+      → Done f (take i l ++ (ys ++ drop (e - i) (drop i l))) e
   table-more f D P =
       part-more l ys i e order h (ap length table ∙ length-tab (e - i) g) f D
       (λ j b. ap (λ (v : List ℕ). getD v j 0) table ∙ getD-tab (e - i) g j 0 b ∙ P j b)

@@ -5,7 +5,6 @@ use Prim.Native.Nat.{ℕ, zero, suc, _+_, _*_, _/_, _%_, _^_, _≤_, _<_}
 use native.Mathlib.Nat.{mul-le-mul-right}
 use native.Mathlib.Omega.{arith}
 use lib.ListN.{getD}
-use lib.Pow.{pow-pos}
 use Rattle.memory.specs.Bits.{bit, bitIn}
 
 pub eighth : (e w : ℕ) → w ≡ 2 ^ e → 3 ≤ e → w / 8 * 8 ≡ w

@@ -13,9 +13,9 @@ use Rattle.memory.specs.Numbers.{Euclid, euclid, div-of, mod-of, div-lt}
 use Rattle.memory.specs.Power.{log2up, log2up-enough, log2up-least, width}
 use Rattle.layout.specs.Index.{Index, bitAt, filterBit, inFull, inSet}
 use Rattle.memory.specs.Bits.{bitIn}
-use Rattle.laws.specs.RowLaws.{width-is, side-range}
+use Rattle.laws.specs.SetLaws.{width-is, side-range}
 use Rattle.laws.specs.Units.{UnitIs, UnitSound}
-use Rattle.filter.specs.Filter.{Fits}
+use Rattle.filter.specs.Filter.{IndexFits}
 use Rattle.filter.specs.Groups.{stageOf, skaLevel, l1Level, setLevel, fullLevel, levelInSets, levelOnFlash, levelBelow, rowAt}
 use Rattle.filter.specs.declared.groups.Level.{Level}
 
@@ -209,7 +209,7 @@ module _ (u e : ℕ) (S : UnitIs u e) (ix : Index) (main ram : List ℕ) (F belo
 
 -- ---- the level that has filter `below` - 1
 
-module _ (u e F below Z : ℕ) (ix : Index) (main ram : List ℕ) (S : UnitIs u e) (I : Fits u ix Z main ram) (z : inFull u F ≤ Z) (pos : 0 < below) (le : below ≤ F) where
+module _ (u e F below Z : ℕ) (ix : Index) (main ram : List ℕ) (S : UnitIs u e) (I : IndexFits u ix Z main ram) (z : inFull u F ≤ Z) (pos : 0 < below) (le : below ≤ F) where
   long : (ix .first + 1 + 2 * (4 * u) + inFull u F * (4 * u)) * (1024 * u) ≤ length main
   long = omega (arith, I .on-flash, mul-le-mul-right (4 * u * (1024 * u)) z)
 

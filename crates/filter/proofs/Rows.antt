@@ -129,10 +129,6 @@ upto-one G n y h Y (suc j) l i k =
     ap (λ (z : ℕ). bit z i) (none j) ∙ (bit-zero i ∙ sym (ap (λ (b : Bool). b && G (suc j) i) (le-ltb (suc j * 64 + i) n (omega arith))))
 
 module _ (l : Level) (bytes : List ℕ) (below : ℕ) (ps : List ℕ) where
-  -- the filter that is counted from the level's first
-  here : (first j i : ℕ) → l .start + first + (j * 64 + i) - l .start ≡ first + (j * 64 + i)
-  here first j i = omega arith
-
   -- one word: the lowest n bits of one that shows as many or more
   pub word-block : (first n m r y : ℕ) → below - l .start ≡ first + n → l .start < below → 0 < n → n ≤ 64 → n ≤ m
       → Shows (levelHas l bytes ps) first m r → ((i : ℕ) → i < 64 → bit y i ≡ (ltb i n && bit r i))

@@ -3,17 +3,16 @@ use mathlib.Core.Path.{_≡_, refl, sym, ap, _∙_}
 use mathlib.Core.Logic.{_≢_}
 use mathlib.Core.Bool.{Bool, true, false, _||_, or-comm}
 use mathlib.Core.List.{List, [], _∷_}
-use Prim.Native.Nat.{ℕ, zero, suc, _+_, _*_, _/_, _%_, _^_, _<_, max}
-use native.Mathlib.Nat.{not-suc-le-zero, le-of-suc-le-suc}
+use Prim.Native.Nat.{ℕ, zero, suc, _+_, _*_, _/_, _%_, _^_, _<_}
 use native.Mathlib.Numerals.{add-one}
 use native.Mathlib.Omega.{arith}
-use lib.Bits.{bitOr, or-step}
+use lib.Bits.{bitOr}
 use lib.Dec.{eqb, eqb·suc-suc}
 use lib.ListN.{length, getD, set, replicate, getD-replicate}
 use lib.Pow.{pow-lt}
 use lib.Seq.{getD-set-same, getD-set-other}
 use borrow.Author.Tests.{eq-eqb, ne-eqb}
-use Rattle.memory.specs.Bits.{bit, bit-zero}
+use Rattle.memory.specs.Bits.{bit, bit-zero, bit-or}
 use Rattle.memory.specs.Cases.{either, eq?}
 use Rattle.memory.specs.Ranges.{memb, any}
 use Rattle.filter.specs.Filter.{arrayBit}
@@ -25,27 +24,6 @@ bit-power zero zero = refl
 bit-power zero (suc i) = bit-zero i ∙ sym (ne-eqb 0 (suc i) (λ e. omega arith))
 bit-power (suc k) zero = let e : 2 ^ suc k % 2 ≡ 0 = omega arith in rw e (sym (ne-eqb (suc k) 0 (λ e. omega arith)))
 bit-power (suc k) (suc i) = let e : 2 ^ suc k / 2 ≡ 2 ^ k = omega arith in rw e (bit-power k i ∙ sym (eqb·suc-suc k i))
-
-max-or : (a b : ℕ) → a < 2 → b < 2 → eqb (max a b) 1 ≡ (eqb a 1 || eqb b 1)
-max-or zero zero h l = refl
-max-or zero (suc zero) h l = refl
-max-or zero (suc (suc b)) h l = absurd (not-suc-le-zero (le-of-suc-le-suc (le-of-suc-le-suc l)))
-max-or (suc zero) zero h l = refl
-max-or (suc zero) (suc zero) h l = refl
-max-or (suc zero) (suc (suc b)) h l = absurd (not-suc-le-zero (le-of-suc-le-suc (le-of-suc-le-suc l)))
-max-or (suc (suc a)) b h l = absurd (not-suc-le-zero (le-of-suc-le-suc (le-of-suc-le-suc h)))
-
--- a disjunction, bit by bit
-pub bit-or : (a b i : ℕ) → bit (bitOr a b) i ≡ (bit a i || bit b i)
-unfolding bit
-bit-or a b zero =
-    let s = or-step a b in
-    let e : bitOr a b % 2 ≡ max (a % 2) (b % 2) = omega arith in
-    ap (λ (y : ℕ). eqb y 1) e ∙ max-or (a % 2) (b % 2) (omega arith) (omega arith)
-bit-or a b (suc i) =
-    let s = or-step a b in
-    let e : bitOr a b / 2 ≡ bitOr (a / 2) (b / 2) = omega arith in
-    ap (λ (y : ℕ). bit y i) e ∙ bit-or (a / 2) (b / 2) i
 
 -- the mask of a bit of a byte
 mask-is : (k : ℕ) → k < 8 → (1 * 2 ^ k) % 2 ^ 8 ≡ 2 ^ k

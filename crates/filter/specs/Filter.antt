@@ -1,34 +1,51 @@
--- The index, the filter's bits as an array, and what the sizes must fit.
+-- A filter's bits as an array, the filter of a page that a key fills, and what is asked of an index in lent bytes.
 use mathlib.Core.Bool.{Bool, _||_}
 use mathlib.Core.List.{List}
 use Prim.Native.Nat.{ℕ, _+_, _-_, _*_, _/_, _%_, _≤_, _<_}
+use native.Mathlib.Omega.{arith}
 use lib.ListN.{length, getD}
 use Rattle.memory.specs.Bits.{bit}
 use Rattle.memory.specs.Ranges.{any, memb}
 use Rattle.memory.specs.Words.{word, bytes4}
-use Rattle.layout.specs.Geometry.{page, block, entriesPerPage}
+use Rattle.layout.specs.Geometry.{page, block, entriesPerPage, fullSets}
 use Rattle.layout.specs.Index.{Index, fullBlock}
 use Rattle.layout.specs.Hash.{fnvFamily, positions, positionCount}
+use Rattle.layout.specs.Calls.{keyIndex}
+use Rattle.laws.specs.Lengths.{Readable}
 use Rattle.laws.specs.Units.{UnitSound}
+use Rattle.geometry.specs.declared.Geometry.{Geometry}
+use Rattle.geometry.specs.Shape.{shape, Sound}
+use Rattle.geometry.specs.Bounds.{index-le}
 
 -- bit x of an array of bytes; bit 0 is the lowest bit of a byte
 unfoldable pub arrayBit : List ℕ → ℕ → Bool
 arrayBit a x = bit (getD a (x / 8) 0) (x % 8)
 
 -- the three positions of a key are bits of a filter of m bits
-abbrev pub Below : ℕ → List ℕ → Type 0
-Below m ps = (getD ps 0 0 < m) × (getD ps 1 0 < m) × (getD ps 2 0 < m)
+abbrev pub PositionsIn : ℕ → List ℕ → Type 0
+PositionsIn m ps = (getD ps 0 0 < m) × (getD ps 1 0 < m) × (getD ps 2 0 < m)
 
--- bit x of the filter of the page of entries from byte `at` on: of its entries but the last, and of a key
+-- is x a position of the key
 abbrev pub keyBit : ℕ → ℕ → ℕ → Bool
 keyBit u key x = memb x (positions fnvFamily positionCount u (bytes4 key))
 
+-- bit x of the filter of the page of entries from byte `at` on: of its entries but the last, and of a key
 abbrev pub withKey : ℕ → ℕ → ℕ → List ℕ → ℕ → Bool
 withKey u at key ram x = keyBit u key x || any (λ i. keyBit u (word ram (at + i * 8)) x) (entriesPerPage u - 1)
 
 -- the unit is one of the six allowed; the index lies within the flash with Z full sets, its SKA page within the RAM
-pub record Fits (u : ℕ) (ix : Index) (Z : ℕ) (main ram : List ℕ) : Type 0 where
+pub record IndexFits (u : ℕ) (ix : Index) (Z : ℕ) (main ram : List ℕ) : Type 0 where
   pub unit : UnitSound u
   pub near : ix .first ≤ 20000
   pub on-flash : fullBlock u ix Z * block u ≤ length main
   pub in-ram : ix .ska + page u ≤ length ram
+
+-- the index over the entries, in lent bytes that hold the volume of a sound geometry
+pub index-fits : (g : Geometry) → Sound g → (main ram : List ℕ) → Readable (shape g) main ram
+    → IndexFits (g .chip .unit) (keyIndex (shape g)) (fullSets (shape g)) main ram
+index-fits g sound main ram read = record {
+  unit = sound .unit;
+  near = omega (arith, index-le g sound);
+  on-flash = omega (arith, read .main-fits);
+  in-ram = omega (arith, read .ram-fits);
+}

@@ -13,7 +13,7 @@ ghost use Rattle.layout.specs.Index.{filtersPerRound, inFull};
 ghost use Rattle.laws.specs.Units.{UnitIs};
 ghost use Rattle.geometry.specs.Indexes.{indexOf};
 ghost use Rattle.kernels.specs.Blocks.{Shows};
-ghost use Rattle.filter.specs.Filter.{Fits};
+ghost use Rattle.filter.specs.Filter.{IndexFits};
 ghost use Rattle.filter.specs.Groups.{stageOf, skaLevel, l1Level, setLevel, fullLevel, levelBelow, rowAt, levelHas};
 ghost use Rattle.filter.specs.Blocks.{EightsIn, BlocksIn, BlockOf, BlockAt};
 use geometry::Chip;
@@ -194,7 +194,8 @@ fn position_bit(l: Level, p: u32, g: usize, bytes: &[u8]) -> u64
 
 // Has it all of the first `count` positions: 1 or 0.
 fn has_all(l: Level, ps: [u32; 8], count: usize, g: usize, bytes: &[u8]) -> u64
-    requires { ⌜ (1 ≤ count) × (count ≤ 8) × ((i : ℕ) → i < count → EightsIn l (getD ps i 0) (g + 1) (length (now bytes))) ⌝ }
+    requires { ⌜ (1 ≤ count) × (count ≤ 8)
+        × ((i : ℕ) → i < count → EightsIn l (getD ps i 0) (g + 1) (length (now bytes))) ⌝ }
     ensures { λ r. ⌜ (r < 2) × (bit r 0 ≡ levelHas l (before bytes) (take count ps) g) ⌝ }
 {
     let mut r = position_bit(l, ps[0], g, bytes);
@@ -316,7 +317,8 @@ pub fn block_below(
     main: &[u8],
     ram: &[u8],
 ) -> Block
-    requires { ⌜ ((Z : ℕ) × (inFull (fs .chip .unit) (fs .count) ≤ Z) × Fits (fs .chip .unit) (indexOf (fs .index)) Z (now main) (now ram))
+    requires { ⌜ ((Z : ℕ) × (inFull (fs .chip .unit) (fs .count) ≤ Z)
+        × IndexFits (fs .chip .unit) (indexOf (fs .index)) Z (now main) (now ram))
         × (fs .count ≤ 2 ^ 20) × (0 < below) × (below ≤ fs .count) ⌝ }
     requires { ⌜ (1 ≤ count) × (count ≤ 8) × ((i : ℕ) → i < count → getD ps i 0 < filterBits (fs .chip .unit)) ⌝ }
     ensures { λ r. ⌜ BlockAt (fs .chip .unit) (indexOf (fs .index)) (before main) (before ram) (fs .count) below (take count ps) r ⌝ }

@@ -7,7 +7,7 @@ ghost use lib.ListN.{length, replicate};
 ghost use Rattle.memory.specs.Lent.{before, after};
 ghost use Rattle.memory.specs.Ranges.{memb};
 ghost use Rattle.layout.specs.Geometry.{page};
-ghost use Rattle.filter.specs.Filter.{arrayBit, Below, withKey};
+ghost use Rattle.filter.specs.Filter.{arrayBit, PositionsIn, withKey};
 use geometry::Chip;
 use geometry::areas;
 
@@ -30,7 +30,7 @@ fn set_bit(p: u32, bits: &mut [u8])
 
 // Sets the bits of a key's positions.
 fn set_positions(ps: [u32; 3], bits: &mut [u8])
-    requires { ⌜ (length (now bits) ≡ 256) × Below 2048 ps ⌝ }
+    requires { ⌜ (length (now bits) ≡ 256) × PositionsIn 2048 ps ⌝ }
     ensures { λ _. ⌜ ((x : ℕ) → x < 2048 → arrayBit (after bits) x ≡ (memb x ps || arrayBit (before bits) x)) ⌝ }
 {
     set_bit(ps[2], bits);

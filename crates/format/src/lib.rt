@@ -6,20 +6,21 @@ ghost use Rattle.memory.specs.Lent.{before, after};
 ghost use Rattle.layout.specs.Geometry.{blocks, ramSize};
 ghost use Rattle.layout.specs.Flash.{applyAll, erases};
 ghost use Rattle.layout.specs.Calls.{format};
+ghost use Rattle.laws.specs.Lengths.{Long};
 ghost use Rattle.laws.specs.LentFlash.{flashBefore, flashAfter};
 ghost use Rattle.geometry.specs.Shape.{sizesIs, shape, Sound};
-ghost use Rattle.state.specs.Contract.{seen, given, leftBy};
-ghost use Rattle.state.specs.Judge.{Long};
+ghost use Rattle.state.specs.Contract.{effectOf, given, effectBy};
 use geometry::Geometry;
 use geometry::Sizes;
 use state::Change;
-use state::Judged;
+use state::Judgement;
 use state::State;
 
 // All blocks erased and the RAM zeroed.
 fn erase_volume(g: Geometry, main: &mut [u8], spare: &mut [u8], ram: &mut [u8])
-    requires { ⌜ Sound g × Long g (now main) (now spare) (now ram) ⌝ }
-    ensures flash { λ _. ⌜ flashAfter main spare ≡ applyAll (g .chip .unit) (erases 0 (blocks (shape g))) (flashBefore main spare) ⌝ }
+    requires { ⌜ Sound g × Long (shape g) (now main) (now spare) (now ram) ⌝ }
+    ensures flash { λ _. ⌜ flashAfter main spare
+        ≡ applyAll (g .chip .unit) (erases 0 (blocks (shape g))) (flashBefore main spare) ⌝ }
     ensures ram { λ _. ⌜ after ram ≡ write (before ram) 0 (replicate (ramSize (shape g)) 0) ⌝ }
 {
     flash::erase_blocks(g.chip, 0, g.blocks(), main, spare);
@@ -28,13 +29,13 @@ fn erase_volume(g: Geometry, main: &mut [u8], spare: &mut [u8], ram: &mut [u8])
 
 // A new volume of the given sizes; the old state is not judged.
 pub fn format(old: State, sizes: Sizes, main: &mut [u8], spare: &mut [u8], ram: &mut [u8]) -> Change
-    ensures { λ r. ⌜ leftBy r main spare ram ≡ seen (format (given old main spare ram) (sizesIs sizes)) ⌝ }
+    ensures { λ r. ⌜ effectBy r main spare ram ≡ effectOf (format (given old main spare ram) (sizesIs sizes)) ⌝ }
 {
     match state::judge_new(sizes, main, spare, ram) {
-        Judged::Refused(i) => {
+        Judgement::Refused(i) => {
             return state::refuse(old, i);
         }
-        Judged::Good(g) => {
+        Judgement::Good(g) => {
             erase_volume(g, main, spare, ram);
             let s = State {
                 sizes,

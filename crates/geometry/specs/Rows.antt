@@ -8,13 +8,13 @@ use borrow.Author.Tests.{leb-true, eqb-true}
 use lib.Dec.{leb, eqb}
 use lib.ListN.{length, getD}
 use Rattle.memory.specs.Power.{log2up}
-use Rattle.geometry.specs.declared.table.Row.{Row}
+use Rattle.geometry.specs.declared.table.SizeRow.{SizeRow}
 
-abbrev pub row : ℕ → ℕ → ℕ → ℕ → Row
+abbrev pub row : ℕ → ℕ → ℕ → ℕ → SizeRow
 row s n e m = record { sector = s; records = n; entries = e; bits = m }
 
 -- document 01's table
-abbrev pub rows : List Row
+abbrev pub rows : List SizeRow
 rows =
     row 16 4 8 64
     ∷ row 32 8 16 128
@@ -24,7 +24,7 @@ rows =
     ∷ row 512 128 256 2048
     ∷ []
 
-abbrev pub rowOf : ℕ → Row
+abbrev pub rowOf : ℕ → SizeRow
 rowOf i = getD rows i (row 0 0 0 0)
 
 -- ---- the table's rules: "records a page (S/4)", "entries a page (S/2)", "filter bits m (4S)"
@@ -43,17 +43,17 @@ abbrev pub powerOf : ℕ → ℕ
 powerOf S = 16 * 2 ^ log2up (S / 16)
 
 -- the row of a sector size, by the rules
-abbrev pub rowFor : ℕ → Row
+abbrev pub rowFor : ℕ → SizeRow
 rowFor S = row S (recordsOf S) (entriesOf S) (bitsOf S)
 
-pub record Ruled (r : Row) : Type 0 where
+pub record Ruled (r : SizeRow) : Type 0 where
   pub records : r .records ≡ recordsOf (r .sector)
   pub entries : r .entries ≡ entriesOf (r .sector)
   pub bits : r .bits ≡ bitsOf (r .sector)
   pub power : r .sector ≡ powerOf (r .sector)
   pub most : r .sector ≤ 512
 
-abbrev test : Row → Bool
+abbrev test : SizeRow → Bool
 test r =
     eqb (r .records) (recordsOf (r .sector))
     && (eqb (r .entries) (entriesOf (r .sector))
@@ -70,11 +70,11 @@ module _ (a b c d e : Bool) (t : (a && (b && (c && (d && e)))) ≡ true) where
       (t1 .0, t2 .0, t3 .0, t4 .0, t4 .1)
 
 -- a test passes at each row
-abbrev every : (Row → Bool) → List Row → Bool
+abbrev every : (SizeRow → Bool) → List SizeRow → Bool
 every f [] = true
 every f (x ∷ xs) = f x && every f xs
 
-at : (f : Row → Bool) (d : Row) (xs : List Row) → every f xs ≡ true → (k : ℕ) → k < length xs → f (getD xs k d) ≡ true
+at : (f : SizeRow → Bool) (d : SizeRow) (xs : List SizeRow) → every f xs ≡ true → (k : ℕ) → k < length xs → f (getD xs k d) ≡ true
 at f d [] e k h = absurd (not-suc-le-zero h)
 at f d (x ∷ xs) e zero h = and-eq-true-iff (f x) (every f xs) .0 e .0
 at f d (x ∷ xs) e (suc k) h = at f d xs (and-eq-true-iff (f x) (every f xs) .0 e .1) k (le-of-suc-le-suc h)
@@ -86,7 +86,7 @@ all-pass = refl
 
 pub rule : (i : ℕ) → i < 6 → Ruled (rowOf i)
 rule i h =
-    let r : Row = rowOf i in
+    let r : SizeRow = rowOf i in
     let t : test r ≡ true = at test (row 0 0 0 0) rows all-pass i h in
     let S : ℕ = r .sector in
     let f =
@@ -101,5 +101,5 @@ rule i h =
     }
 
 -- a row of the table is the one that its sector size makes
-pub row-is : (r : Row) (S : ℕ) → Ruled r → r .sector ≡ S → r ≡ rowFor S
+pub row-is : (r : SizeRow) (S : ℕ) → Ruled r → r .sector ≡ S → r ≡ rowFor S
 row-is r S k e = rw (← e, k .records, k .entries, k .bits)

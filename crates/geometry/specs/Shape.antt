@@ -43,11 +43,11 @@ geometryFor sizes =
     record { chip = chipOf (layout.geometry sizes); row = rowFor (sizes .sectorSize); ra = sizes .raBlocks; da = sizes .daBlocks }
 
 -- what is answered to sizes, of which a test says whether they are allowed
-abbrev pub answer : Bool → layout.Sizes → Shaped
-answer t sizes = cond t (Good (geometryFor sizes)) Bad
+abbrev pub shapedBy : Bool → layout.Sizes → Shaped
+shapedBy t sizes = cond t (Good (geometryFor sizes)) Bad
 
 abbrev pub shapedOf : layout.Sizes → Shaped
-shapedOf sizes = answer (layout.allowed sizes) sizes
+shapedOf sizes = shapedBy (layout.allowed sizes) sizes
 
 abbrev pub GoodSound : Shaped → Type 0
 GoodSound (Good g) = Sound g

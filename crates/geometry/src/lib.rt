@@ -11,12 +11,12 @@ pub use areas::entry_area;
 pub use areas::item_place;
 pub use areas::record_area;
 pub use chip::Chip;
-pub use table::Row;
+pub use table::SizeRow;
 ghost use mathlib.Core.Path.{_≡_};
 ghost use mathlib.Core.Bool.{_&&_};
 ghost use Rattle.layout.specs.Geometry as layout;
 ghost use Rattle.geometry.specs.Rows.{rowFor};
-ghost use Rattle.geometry.specs.Shape.{sizesIs, shape, Sound, answer, shapedOf, GoodSound};
+ghost use Rattle.geometry.specs.Shape.{sizesIs, shape, Sound, shapedBy, shapedOf, GoodSound};
 
 // ---- the shape of a volume
 
@@ -31,7 +31,7 @@ pub struct Sizes {
 // A volume's chip, its row of the table, and the blocks of records and of deletions.
 pub struct Geometry {
     pub chip: Chip,
-    pub row: Row,
+    pub row: SizeRow,
     pub ra: usize,
     pub da: usize,
 }
@@ -220,10 +220,10 @@ fn blocks_allowed(b: u32) -> bool
 }
 
 // What is left to test once the row of the sector size is found.
-fn with_blocks(row: Row, sizes: Sizes) -> Shaped
+fn with_blocks(row: SizeRow, sizes: Sizes) -> Shaped
     requires { ⌜ row ≡ rowFor (sizes .«sector_size») ⌝ }
     ensures { λ r. ⌜ r
-        ≡ answer (layout.blocksAllowed (sizes .«ra_blocks») && layout.blocksAllowed (sizes .«da_blocks»)) (sizesIs sizes) ⌝ }
+        ≡ shapedBy (layout.blocksAllowed (sizes .«ra_blocks») && layout.blocksAllowed (sizes .«da_blocks»)) (sizesIs sizes) ⌝ }
 {
     if !blocks_allowed(sizes.ra_blocks) {
         return Shaped::Bad;

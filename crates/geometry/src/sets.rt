@@ -1,7 +1,7 @@
 // Partition sets of an index: how many pages and blocks, how many bits of a filter in a page, and where they begin. Document 01,
 // "Filters". A set of c rounds is set number c + 1.
 ghost use mathlib.Core.Path.{_≡_};
-ghost use Prim.Native.Nat.{_+_, _*_, _^_, _<_, _≤_};
+ghost use Prim.Native.Nat.{_+_, _*_, _<_, _≤_};
 ghost use lib.Dec.{eqb};
 ghost use Rattle.memory.specs.Power.{log2up};
 ghost use Rattle.layout.specs.Geometry.{sideBlocks};

@@ -30,7 +30,7 @@ use Rattle.laws.specs.ItemLaws.{length-record, length-entry, length-deletion, e
 use Rattle.history.specs.Parts as parts
 use Rattle.history.specs.Frames.{Did, Beyond, beyond-then, frame-beyond}
 use Rattle.history.specs.Parts.{Parts}
-use Rattle.laws.specs.RowLaws.{places-suffice}
+use Rattle.laws.specs.SetLaws.{places-suffice}
 use Rattle.laws.specs.Units.{UnitIs}
 
 -- what an insertion leaves behind: n records, d deletions
@@ -70,9 +70,7 @@ module _ (h : Family) (g : Geometry) (e : ℕ) (unit : UnitIs (g .u) e) where
           (length (H .deleted)) (C .main) (C .spare) ram
           (λ i b l m. ap (λ (x : ℕ). getD (deletionBytes x) b 0) (sym (List·getD-append (H .deleted) (j ∷ []) 0 i l))) (P .da);
       filters = rw (filter-deletion H j) (P .filters);
-      main-fits = P .main-fits;
-      spare-fits = P .spare-fits;
-      ram-fits = P .ram-fits;
+      long = P .long;
     }
 
     new : (b : ℕ) → b < 4 → getD (deletionBytes j) b 0 ≡ daItem (withDeletion H j) (length (H .deleted)) b
@@ -139,9 +137,7 @@ module _ (h : Family) (g : Geometry) (e : ℕ) (unit : UnitIs (g .u) e) where
       da = P .da;
       filters = index-ext (g .u) e unit (keyIndex g) (fullSets g) (keyFilter h g H) (keyFilter h g (withRecord H r)) N (C .main)
           (C .spare) ram filter-old sets-fit (P .filters);
-      main-fits = P .main-fits;
-      spare-fits = P .spare-fits;
-      ram-fits = P .ram-fits;
+      long = P .long;
     }
 
     -- ---- the record into RA, its entry into KA
@@ -210,7 +206,8 @@ module _ (h : Family) (g : Geometry) (e : ℕ) (unit : UnitIs (g .u) e) where
           (put-word (g .u) pu (KA g) (kaBlocks g) (omega arith) (omega (arith, pu)) (omega arith) (kaItem H′) n entry C₁ ram₁ (parts₁ .ka)
           (length-entry (r .key) n) entry-new
           (parts.ka-room h g e unit H′ (n + 1) n d N C₁ ram₁ parts₁ entry (length-entry (r .key) n) entry-new room)
-          (omega (arith, parts₁ .main-fits)) (omega (arith, parts₁ .spare-fits)) (omega (arith, parts₁ .ram-fits))
+          (omega (arith, parts₁ .long .read .main-fits)) (omega (arith, parts₁ .long .spare-fits))
+          (omega (arith, parts₁ .long .read .ram-fits))
           i 0 k (omega arith) (omega arith) (words′ (length (H .records) / (8 * g .u) * (8 * g .u) + i) (omega arith))
           (λ b m. entry-key k (length (H .records) / (8 * g .u) * (8 * g .u) + i) b m))
 

@@ -22,7 +22,7 @@ use Rattle.history.specs.ProgramOrder.{in-order, erases-in-order, erased
 use Rattle.history.specs.Volumes.{volumeOf}
 use Rattle.history.specs.Steps.{call-done}
 use Rattle.history.specs.RunLaws.{Ran, run, format-is, start-holds, start-beyond, start-spare}
-use Rattle.laws.specs.Sound.{Sound, sound}
+use Rattle.laws.specs.Sound.{SizesSound, sound}
 use Rattle.laws.specs.Sound as units
 
 module _ (h : Family) (v : Volume) (sizes : Sizes) (calls : List Call) (can : allowed sizes ≡ true)
@@ -30,7 +30,7 @@ module _ (h : Family) (v : Volume) (sizes : Sizes) (calls : List Call) (can : al
   abbrev g : Geometry
   g = geometry sizes
 
-  ok : Sound sizes
+  ok : SizesSound sizes
   ok = sound sizes can
 
   -- the volume after the format

@@ -21,20 +21,20 @@ use Rattle.layout.specs.Search.{Stop, found, corrupt}
 use Rattle.layout.specs.Keys.{Key}
 use Rattle.layout.specs.Refusals as refusal
 use Rattle.layout.specs.Calls.{Volume, Call, insert, update, delete, lookup, Outcome, accepted, hit, miss, refused, Result, refuse}
-use Rattle.layout.specs.Calls.{badState, tooShort, judged, format, formatted, keyIndex, keyFilters, keyPositions, tryAt, maybeIn, searchAt}
-use Rattle.layout.specs.Calls.{search, deletionPlan, deletionRam, newFilter, insertionPlan, insertionRam, commit, noRoom, noDeletion}
-use Rattle.layout.specs.Calls.{insertAfter, updateAfter, deleteAfter, lookupAfter, answer, call, Edit, one, change}
+use Rattle.layout.specs.Calls.{badState, tooShort, judgeFirst, format, formatted, keyIndex, keyFilters, keyPositions, tryAt, maybeIn}
+use Rattle.layout.specs.Calls.{searchAt, search, deletionPlan, deletionRam, newFilter, insertionPlan, insertionRam, commit, noRoom}
+use Rattle.layout.specs.Calls.{noDeletion, insertAfter, updateAfter, deleteAfter, lookupAfter, answer, call, Edit, one, change}
 use Rattle.history.specs.Operations.{recordRam, entryOps, entryRam, entered}
 use Rattle.history.specs.FlashLaws.{apply-main-length, apply-spare-length}
 use Rattle.laws.specs.ItemLaws.{length-record, length-entry, length-deletion}
-use Rattle.laws.specs.SearchLaws.{search-opened}
+use Rattle.history.specs.ScanLaws.{search-opened}
 use Rattle.history.specs.PlanLaws.{ops-append}
 use Rattle.history.specs.ChangeLaws.{deletion-ops, insertion-after, insertion-ops, insertion-ram}
 use Rattle.history.specs.Frames.{Beyond, beyond-same}
 use Rattle.history.specs.Inside.{Inside, inside-none, inside-append, inside-erases, main-past, spare-past, inside-item, inside-filter}
 use Rattle.history.specs.Inside.{Past, past-then, past-zero, past-item, past-filter}
-use Rattle.laws.specs.RowLaws.{places-suffice}
-use Rattle.laws.specs.Sound.{Sound, sound}
+use Rattle.laws.specs.SetLaws.{places-suffice}
+use Rattle.laws.specs.Sound.{SizesSound, sound}
 use Rattle.laws.specs.Sound as units
 
 -- ---- a refusal hands everything back
@@ -91,7 +91,7 @@ module _ (h : Family) (g : Geometry) (v : Volume) where
 
 -- "The state comes back as handed in", and so do all bytes
 pub refusal-keeps : (h : Family) (v : Volume) (c : Call) → Keeps v (call h v c)
-unfolding call judged
+unfolding call judgeFirst
 refusal-keeps h v c =
     keeps-either v (badState (v .state)) _ _ (refuse-keeps v refusal.badState)
     (keeps-either v (tooShort (geometry (v .state .sizes)) (v .flash) (v .ram)) _ _ (refuse-keeps v refusal.tooShort)
@@ -185,7 +185,7 @@ answer-most h g v (lookup key) =
     (v .state .records))
 
 pub count-most : (h : Family) (v : Volume) (c : Call) → call h v c .count ≤ v .state .records / entriesPerPage (unitOf (v .state .sizes))
-unfolding call judged
+unfolding call judgeFirst
 count-most h v c =
     most-either _ (badState (v .state)) _ _ (refuse-most _ v refusal.badState)
     (most-either _ (tooShort (geometry (v .state .sizes)) (v .flash) (v .ram)) _ _ (refuse-most _ v refusal.tooShort)
@@ -198,7 +198,7 @@ record Bounded (g : Geometry) (ram : List ℕ) (ops : List Op) (ram′ : List �
   inside : Inside (g .u) (blocks g) ops
   past : Past (ramSize g) ram ram′
 
-module _ (h : Family) (sizes : Sizes) (ok : Sound sizes) where
+module _ (h : Family) (sizes : Sizes) (ok : SizesSound sizes) where
   abbrev g : Geometry
   g = geometry sizes
 
@@ -368,7 +368,7 @@ state-allowed v good =
 
 pub beyond-kept : (h : Family) (v : Volume) (c : Call)
     → Beyond (geometry (v .state .sizes)) (v .flash) (call h v c .volume .flash) (v .ram) (call h v c .volume .ram)
-unfolding call judged
+unfolding call judgeFirst
 beyond-kept h v c =
     either (bool? (badState (v .state)))
     (λ a. rw a (beyond-same (geometry (v .state .sizes)) (v .flash) (v .ram)))

@@ -21,8 +21,8 @@ use Rattle.history.specs.FlashLaws.{fresh-append, fresh-programs, fresh-
 use Rattle.history.specs.FlashLaws.{apply-main-length, apply-spare-length, programs-main-in, programs-spare-in, programs-spare-out}
 use Rattle.history.specs.FlashLaws.{programs-allowed, range-out, erases-allowed, erases-main-in, erases-main-out, erases-spare-in}
 use Rattle.history.specs.FlashLaws.{erases-spare-out}
-use Rattle.laws.specs.RowLaws.{row-ext, set-whole, width-pos, blocks-fit, full-blocks, full-width, blocks-some, blocks-le}
-use Rattle.laws.specs.RowLaws.{side-range}
+use Rattle.laws.specs.SetLaws.{set-whole, width-pos, blocks-fit, side-range}
+use Rattle.history.specs.RowLaws.{row-ext, full-blocks, full-width, blocks-some, blocks-le}
 use Rattle.history.specs.IndexRead.{read-flash}
 use Rattle.laws.specs.Units.{UnitIs}
 
@@ -270,7 +270,7 @@ module _ (u e : ℕ) (unit : UnitIs u e) (ix : Index) (Z : ℕ) (F : ℕ → ℕ
     new-fit = blocks-fit u e (unit .power) (c + 1) (omega arith)
 
     old-fit : setBlocks c ≤ 4 * u
-    old-fit = blocks-le u c (4 * u) (blocks-fit u e (unit .power) c (omega arith))
+    old-fit = blocks-le c (4 * u) (blocks-fit u e (unit .power) c (omega arith))
 
     old-after : ix .first + 1 ≤ sideBlock u ix c
     old-after = side-range u ix c .0
@@ -377,7 +377,7 @@ module _ (u e : ℕ) (unit : UnitIs u e) (ix : Index) (Z : ℕ) (F : ℕ → ℕ
     side = buildTo other other-after (sides-apart u ix c) other-in
 
     blocks-next : setBlocks (c + 1) ≡ 2 ^ log2up (c + 1)
-    blocks-next = blocks-some u (c + 1) (omega arith)
+    blocks-next = blocks-some (c + 1) (omega arith)
 
     back : sideBlock u ix (c + 1 + 1) ≡ sideBlock u ix c
     back = same-side u ix (c + 1 + 1) c (omega arith)

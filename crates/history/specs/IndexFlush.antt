@@ -21,7 +21,8 @@ use Rattle.history.specs.Operations.{programs}
 use Rattle.history.specs.Image.{l1Byte, IndexMain, IndexSpare}
 use Rattle.history.specs.FlashLaws.{fresh-programs, AllAllowed, programs-main-in, programs-main-out, programs-spare-in}
 use Rattle.history.specs.FlashLaws.{programs-spare-out, programs-allowed, range-out}
-use Rattle.laws.specs.RowLaws.{row-new, row-old, row-none, side-range}
+use Rattle.laws.specs.SetLaws.{side-range}
+use Rattle.history.specs.RowLaws.{row-new, row-old, row-none}
 use Rattle.history.specs.IndexRead.{SkaIs}
 
 -- ---- the SKA page

@@ -16,7 +16,8 @@ use Rattle.layout.specs.Geometry.{page, block, sideBlocks}
 use Rattle.layout.specs.Index.{Index, bitAt, setPages, setWidth, setBlocks, fullFilters, sideBlock, fullBlock, skaPlace, l1Place, setPlace}
 use Rattle.layout.specs.Index.{flashPlace}
 use Rattle.history.specs.Image.{skaByte, l1Byte, partitionByte, sideByte, fullByte, IndexMain, IndexSpare}
-use Rattle.laws.specs.RowLaws.{read-row, row-ext, set-whole, width-pos, blocks-fit, blocks-some, side-range}
+use Rattle.laws.specs.SetLaws.{set-whole, width-pos, blocks-fit, side-range}
+use Rattle.history.specs.RowLaws.{read-row, row-ext, blocks-some}
 use Rattle.laws.specs.Units.{UnitIs}
 
 -- the SKA page holds s filters after `flushes` flushes
@@ -123,7 +124,7 @@ module _ (u e : ℕ) (unit : UnitIs u e) (ix : Index) where
         (set-whole u e (unit .power) c (omega arith))
         (omega (arith, log2up-enough c))
         (λ i h.
-        let b-is : setBlocks c ≡ 2 ^ log2up c = blocks-some u c pc in
+        let b-is : setBlocks c ≡ 2 ^ log2up c = blocks-some c pc in
         I .here i (omega (arith, mul-le-mul-right (1024 * u) fit)) ∙ rw (b-is, lt-ltb i (2 ^ log2up c * (1024 * u)) (omega arith)))
         g x hg hx
 
@@ -179,7 +180,7 @@ module _ (u e : ℕ) (unit : UnitIs u e) (ix : Index) where
         either (lt? i (setBlocks c * block u))
         (λ a. rw (a .0) (either (lt? 0 c)
         (λ p.
-        let b-is : setBlocks c ≡ 2 ^ log2up c = blocks-some u c (p .1) in
+        let b-is : setBlocks c ≡ 2 ^ log2up c = blocks-some c (p .1) in
         let b-by : setBlocks c * (1024 * u) ≡ 2 ^ log2up c * (1024 * u) = ap (λ (n : ℕ). n * (1024 * u)) b-is in
         partition-ext base (128 * c) (setPages c) (setWidth u c) i (width-pos u e (unit .power) c (omega arith))
         (set-whole u e (unit .power) c (omega arith)) same (omega arith))

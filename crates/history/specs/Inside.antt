@@ -17,7 +17,7 @@ use Rattle.layout.specs.Items.{Area, put, fills, itemRam, zeroPage}
 use Rattle.layout.specs.Index.{Index, inSka, inL1, inSet, inFull, setPages, setBlocks, sideBlock, fullBlock, setBlock, withFilter}
 use Rattle.layout.specs.Index.{filterRam}
 use Rattle.history.specs.Operations.{programs, itemOps, flushOps, buildOps, flushAndBuildOps, filterOps}
-use Rattle.laws.specs.RowLaws.{blocks-fit, side-range}
+use Rattle.laws.specs.SetLaws.{blocks-fit, side-range}
 use Rattle.history.specs.SkaLaws.{filter-out, filter-length}
 use Rattle.laws.specs.Units.{UnitIs}
 

@@ -1,3 +1,7 @@
+pub mod KeyLaws
+pub mod RowLaws
+pub mod Apart
+pub mod ScanLaws
 pub mod Operations
 pub mod FlashLaws
 pub mod PlanLaws

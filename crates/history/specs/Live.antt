@@ -14,7 +14,7 @@ use Rattle.layout.specs.Calls.{Call, insert, update, delete, lookup}
 use Rattle.layout.specs.Refusals as refusal
 use Rattle.layout.specs.FiniteMap.{Level, levelOf, Map, emptyMap, find, Reply, accepts, hits, misses, refuses}
 use Rattle.layout.specs.Items.{Record, recordBytes}
-use Rattle.laws.specs.KeyLaws.{key?}
+use Rattle.history.specs.KeyLaws.{key?}
 use Rattle.history.specs.Image.{History, recordAt}
 
 -- ---- which records are live

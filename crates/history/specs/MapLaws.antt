@@ -17,7 +17,7 @@ use Rattle.layout.specs.Keys.{Key, sameKey}
 use Rattle.layout.specs.Calls.{Call, insert, update, delete, lookup}
 use Rattle.layout.specs.FiniteMap.{Level, Map, find, without, Step, insertMap, updateMap, deleteMap, lookupMap, stepMap, levelOf}
 use Rattle.layout.specs.Items.{Record}
-use Rattle.laws.specs.KeyLaws.{key?, same-key, key-other}
+use Rattle.history.specs.KeyLaws.{key?, same-key, key-other}
 use Rattle.history.specs.Image.{History, recordAt}
 use Rattle.history.specs.Live.{liveAt, findLive, withRecord, withDeletion, HistoryStep, insertHistory, updateHistory, deleteHistory}
 use Rattle.history.specs.Live.{lookupHistory, stepHistory, levelAt, Nodup, Live}

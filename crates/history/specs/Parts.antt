@@ -10,7 +10,7 @@ use lib.ListN.{length, getD}
 use Rattle.memory.specs.Cases.{either}
 use Rattle.memory.specs.Numbers.{div-lt}
 use Rattle.layout.specs.Geometry.{Geometry, page, block, filterBits, kaBlocks, blocks, indexBlock, fullSets, recordCapacity}
-use Rattle.layout.specs.Geometry.{deletionCapacity, dataSize, spareSize, ramSize}
+use Rattle.layout.specs.Geometry.{deletionCapacity}
 use Rattle.layout.specs.Flash.{Flash, Op, applyAll}
 use Rattle.layout.specs.Hash.{Family}
 use Rattle.layout.specs.Items.{Area, RA, KA, DA, itemRam}
@@ -21,6 +21,7 @@ use Rattle.history.specs.Image.{History, raItem, kaItem, daItem, keyFilt
 use Rattle.history.specs.Frames.{Frame, Did, AreaGrown, IndexGrown}
 use Rattle.history.specs.AreaLaws as area
 use Rattle.history.specs.IndexLaws as index
+use Rattle.laws.specs.Lengths.{Long}
 use Rattle.laws.specs.Units.{UnitIs}
 
 module _ (u lo hi p : ℕ) (C C′ : Flash) (r r′ : List ℕ) (W : Frame u lo hi p C C′ r r′) where
@@ -53,6 +54,15 @@ module _ (u lo hi p : ℕ) (C C′ : Flash) (r r′ : List ℕ) (W : Frame u lo 
       (λ x l m. W .spare x (spare-apart (ix .first) (fullBlock u ix Z) x o l m))
       (λ x l m. W .ram x (ram-apart (ix .ska) x q l m))
 
+-- bytes of the same lengths are long enough too
+pub long-kept : (g : Geometry) (C C′ : Flash) (r r′ : List ℕ)
+    → length (C′ .main) ≡ length (C .main) → length (C′ .spare) ≡ length (C .spare) → length r′ ≡ length r
+    → Long g (C .main) (C .spare) r → Long g (C′ .main) (C′ .spare) r′
+long-kept g C C′ r r′ main spare ram L = record {
+  read = record { main-fits = rw main (L .read .main-fits); ram-fits = rw ram (L .read .ram-fits) };
+  spare-fits = rw spare (L .spare-fits);
+}
+
 module _ (h : Family) (g : Geometry) where
   -- nr records, nk entries, d deletions and N filters of the history
   pub record Parts (H : History) (nr nk d N : ℕ) (C : Flash) (ram : List ℕ) : Type 0 where
@@ -60,9 +70,7 @@ module _ (h : Family) (g : Geometry) where
     pub ka : AreaIs (g .u) (KA g) (kaBlocks g) (kaItem H) nk (C .main) (C .spare) ram
     pub da : AreaIs (g .u) (DA g) (g .D) (daItem H) d (C .main) (C .spare) ram
     pub filters : IndexIs (g .u) (keyIndex g) (fullSets g) (keyFilter h g H) N (C .main) (C .spare) ram
-    pub main-fits : dataSize g ≤ length (C .main)
-    pub spare-fits : spareSize g ≤ length (C .spare)
-    pub ram-fits : ramSize g ≤ length ram
+    pub long : Long g (C .main) (C .spare) ram
 
 module _ (h : Family) (g : Geometry) (e : ℕ) (unit : UnitIs (g .u) e) where
   abbrev pu : 0 < g .u
@@ -100,9 +108,8 @@ module _ (h : Family) (g : Geometry) (e : ℕ) (unit : UnitIs (g .u) e) where
           frame-index (g .u) lo hi p C C′ ram r′ (W .frame) e unit (keyIndex g) (fullSets g) (keyFilter h g H) N (inr o) (inr q)
           (P .filters)
 
-      fits : (dataSize g ≤ length (C′ .main)) × (spareSize g ≤ length (C′ .spare)) × (ramSize g ≤ length r′)
-      fits =
-          (rw (W .frame .main-length) (P .main-fits), rw (W .frame .spare-length) (P .spare-fits), rw (W .frame .ram-length) (P .ram-fits))
+      keep-long : Long g (C′ .main) (C′ .spare) r′
+      keep-long = long-kept g C C′ ram r′ (W .frame .main-length) (W .frame .spare-length) (W .frame .ram-length) (P .long)
 
     -- RA
     module _ (item : List ℕ) (size-is : length item ≡ 16) (new : (b : ℕ) → b < 16 → getD item b 0 ≡ raItem H nr b)
@@ -113,7 +120,8 @@ module _ (h : Family) (g : Geometry) (e : ℕ) (unit : UnitIs (g .u) e) where
       ra-grown : AreaGrown (g .u) (RA g) (g .R) (raItem H) nr item C ram
       ra-grown =
           area.area-grown (g .u) pu (RA g) (g .R) (omega arith) (omega (arith, pu)) (omega arith) (raItem H) nr item C ram (P .ra)
-          size-is new ra-room (omega (arith, P .main-fits)) (omega (arith, P .spare-fits)) (omega (arith, P .ram-fits))
+          size-is new ra-room (omega (arith, P .long .read .main-fits)) (omega (arith, P .long .spare-fits))
+          (omega (arith, P .long .read .ram-fits))
 
       pub ra-did : Did (g .u) (RA g .first) (RA g .first + g .R) (RA g .ram) C ram (itemRam (g .u) (RA g) nr item ram)
           (itemOps (g .u) (RA g) nr item ram)
@@ -126,9 +134,7 @@ module _ (h : Family) (g : Geometry) (e : ℕ) (unit : UnitIs (g .u) e) where
         ka = keep-ka _ _ _ _ _ ra-did (inr (omega arith)) (inr (omega arith));
         da = keep-da _ _ _ _ _ ra-did (inr (omega arith)) (inr (omega arith));
         filters = keep-filters _ _ _ _ _ ra-did (omega arith) (omega arith);
-        main-fits = fits _ _ _ _ _ ra-did .0;
-        spare-fits = fits _ _ _ _ _ ra-did .1;
-        ram-fits = fits _ _ _ _ _ ra-did .2;
+        long = keep-long _ _ _ _ _ ra-did;
       }
 
     -- KA
@@ -143,7 +149,8 @@ module _ (h : Family) (g : Geometry) (e : ℕ) (unit : UnitIs (g .u) e) where
       ka-grown : AreaGrown (g .u) (KA g) (kaBlocks g) (kaItem H) nk item C ram
       ka-grown =
           area.area-grown (g .u) pu (KA g) (kaBlocks g) (omega arith) (omega (arith, pu)) (omega arith) (kaItem H) nk item C ram (P .ka)
-          size-is new ka-room (omega (arith, P .main-fits)) (omega (arith, P .spare-fits)) (omega (arith, P .ram-fits))
+          size-is new ka-room (omega (arith, P .long .read .main-fits)) (omega (arith, P .long .spare-fits))
+          (omega (arith, P .long .read .ram-fits))
 
       pub ka-did : Did (g .u) (KA g .first) (KA g .first + kaBlocks g) (KA g .ram) C ram (itemRam (g .u) (KA g) nk item ram)
           (itemOps (g .u) (KA g) nk item ram)
@@ -156,9 +163,7 @@ module _ (h : Family) (g : Geometry) (e : ℕ) (unit : UnitIs (g .u) e) where
         ka = ka-grown .more;
         da = keep-da _ _ _ _ _ ka-did (inr (omega arith)) (inr (omega arith));
         filters = keep-filters _ _ _ _ _ ka-did (omega arith) (omega arith);
-        main-fits = fits _ _ _ _ _ ka-did .0;
-        spare-fits = fits _ _ _ _ _ ka-did .1;
-        ram-fits = fits _ _ _ _ _ ka-did .2;
+        long = keep-long _ _ _ _ _ ka-did;
       }
 
     -- DA
@@ -170,7 +175,8 @@ module _ (h : Family) (g : Geometry) (e : ℕ) (unit : UnitIs (g .u) e) where
       da-grown : AreaGrown (g .u) (DA g) (g .D) (daItem H) d item C ram
       da-grown =
           area.area-grown (g .u) pu (DA g) (g .D) (omega arith) (omega (arith, pu)) (omega arith) (daItem H) d item C ram (P .da)
-          size-is new da-room (omega (arith, P .main-fits)) (omega (arith, P .spare-fits)) (omega (arith, P .ram-fits))
+          size-is new da-room (omega (arith, P .long .read .main-fits)) (omega (arith, P .long .spare-fits))
+          (omega (arith, P .long .read .ram-fits))
 
       pub da-did : Did (g .u) (DA g .first) (DA g .first + g .D) (DA g .ram) C ram (itemRam (g .u) (DA g) d item ram)
           (itemOps (g .u) (DA g) d item ram)
@@ -183,9 +189,7 @@ module _ (h : Family) (g : Geometry) (e : ℕ) (unit : UnitIs (g .u) e) where
         ka = keep-ka _ _ _ _ _ da-did (inl (omega arith)) (inl (omega arith));
         da = da-grown .more;
         filters = keep-filters _ _ _ _ _ da-did (omega arith) (omega arith);
-        main-fits = fits _ _ _ _ _ da-did .0;
-        spare-fits = fits _ _ _ _ _ da-did .1;
-        ram-fits = fits _ _ _ _ _ da-did .2;
+        long = keep-long _ _ _ _ _ da-did;
       }
 
     -- the index over KA
@@ -200,7 +204,7 @@ module _ (h : Family) (g : Geometry) (e : ℕ) (unit : UnitIs (g .u) e) where
       index-grown : IndexGrown (g .u) (keyIndex g) (fullSets g) (keyFilter h g H) N new C ram
       index-grown =
           index.index-grown (g .u) e unit (keyIndex g) (fullSets g) (keyFilter h g H) N new C ram (P .filters) same room
-          (omega (arith, P .main-fits)) (omega (arith, P .spare-fits)) (omega (arith, P .ram-fits))
+          (omega (arith, P .long .read .main-fits)) (omega (arith, P .long .spare-fits)) (omega (arith, P .long .read .ram-fits))
 
       pub index-did : Did (g .u) (indexBlock g) (fullBlock (g .u) (keyIndex g) (fullSets g)) (keyIndex g .ska) C ram
           (filterRam (g .u) (keyIndex g) N filterIn) indexOps
@@ -212,7 +216,5 @@ module _ (h : Family) (g : Geometry) (e : ℕ) (unit : UnitIs (g .u) e) where
         ka = keep-ka _ _ _ _ _ index-did (inl (omega arith)) (inl (omega arith));
         da = keep-da _ _ _ _ _ index-did (inl (omega arith)) (inl (omega arith));
         filters = index-grown .more;
-        main-fits = fits _ _ _ _ _ index-did .0;
-        spare-fits = fits _ _ _ _ _ index-did .1;
-        ram-fits = fits _ _ _ _ _ index-did .2;
+        long = keep-long _ _ _ _ _ index-did;
       }

@@ -8,9 +8,7 @@ use Prim.Native.Nat.{ℕ, _-_, _*_, _/_, _≤_, _<_, zero-le}
 use native.Mathlib.Nat.{not-suc-le-zero, zero-div}
 use native.Mathlib.Omega.{arith}
 use lib.ListN.{length, getD, replicate, length-replicate, getD-replicate, length-append}
-use lib.Dec.{leb, ltb}
-use borrow.Author.Tests.{ltb-false}
-use Rattle.memory.specs.Booleans.{or-eq-false-iff}
+use lib.Dec.{leb}
 use Rattle.memory.specs.Cases.{either, bool?}
 use Rattle.memory.specs.Lists.{write, length-write, getD-write-in, getD-write-after}
 use Rattle.layout.specs.Geometry.{Geometry, geometry, allowed, kaBlocks, blocks, fullSets, recordCapacity, deletionCapacity, dataSize}
@@ -28,14 +26,15 @@ use Rattle.history.specs.Image.{History, raItem, kaItem, daItem, keyFilt
 use Rattle.history.specs.Live.{findLive, withRecord, withDeletion, emptyHistory, Live, stepHistory}
 use Rattle.history.specs.MapLaws.{step-same, Live-deletion}
 use Rattle.history.specs.Frames.{Beyond, beyond-same, beyond-then}
-use Rattle.history.specs.Parts.{Parts}
+use Rattle.history.specs.Parts.{Parts, long-kept}
 use Rattle.history.specs.AreaLaws.{area-start}
 use Rattle.history.specs.IndexLaws.{index-start}
 use Rattle.history.specs.Runs.{KeyWords, number, after, opsOf, replyOf, ResultAgrees, EachAgrees, growIf, grow, historyOf}
 use Rattle.history.specs.ProgramOrder.{Below, below-append}
 use Rattle.history.specs.Volumes.{Holds, volumeOf}
-use Rattle.history.specs.Steps.{Done, call-done}
-use Rattle.laws.specs.Sound.{Sound}
+use Rattle.history.specs.Steps.{CallDone, call-done}
+use Rattle.laws.specs.Lengths.{Long, long-of}
+use Rattle.laws.specs.Sound.{SizesSound}
 use Rattle.laws.specs.Sound as units
 
 -- ---- the history grows by the accepted calls
@@ -103,7 +102,7 @@ less H m L k j q =
     let L′ = Live-deletion H m k j L q in
     omega (arith, L′ .count, length-append (H .deleted) (j ∷ []))
 
-module _ (h : Family) (sizes : Sizes) (ok : Sound sizes) (can : allowed sizes ≡ true) where
+module _ (h : Family) (sizes : Sizes) (ok : SizesSound sizes) (can : allowed sizes ≡ true) where
   abbrev g : Geometry
   g = geometry sizes
 
@@ -112,17 +111,13 @@ module _ (h : Family) (sizes : Sizes) (ok : Sound sizes) (can : allowed sizes �
 
   -- ---- the format: the image of the empty history, whatever was handed in
 
-  module _ (v : Volume) (long : tooShort g (v .flash) (v .ram) ≡ false) where
-    enough : (dataSize g ≤ length (v .flash .main)) × (spareSize g ≤ length (v .flash .spare)) × (ramSize g ≤ length (v .ram))
-    unfolding tooShort
-    enough =
-        let a = or-eq-false-iff (ltb (length (v .flash .main)) (dataSize g)) _ .0 long in
-        let b = or-eq-false-iff (ltb (length (v .flash .spare)) (spareSize g)) _ .0 (a .1) in
-        (ltb-false _ _ (a .0), ltb-false _ _ (b .0), ltb-false _ _ (b .1))
+  module _ (v : Volume) (enough : tooShort g (v .flash) (v .ram) ≡ false) where
+    long : Long g (v .flash .main) (v .flash .spare) (v .ram)
+    long = long-of g (v .flash) (v .ram) enough
 
     pub format-is : format v sizes ≡ formatted v sizes
     unfolding format
-    format-is = rw (can, long)
+    format-is = rw (can, enough)
 
     abbrev C : Flash
     C = applyAll (unitOf sizes) (erases 0 (blocks g)) (v .flash)
@@ -131,13 +126,15 @@ module _ (h : Family) (sizes : Sizes) (ok : Sound sizes) (can : allowed sizes �
     ram = write (v .ram) 0 (replicate (ramSize g) 0)
 
     main-erased : (x : ℕ) → x < dataSize g → getD (C .main) x 0 ≡ 255
-    main-erased x l = erases-main-in (unitOf sizes) 0 (blocks g) (v .flash) x (omega (arith, enough .0)) (omega arith) (omega arith)
+    main-erased x l =
+        erases-main-in (unitOf sizes) 0 (blocks g) (v .flash) x (omega (arith, long .read .main-fits)) (omega arith) (omega arith)
 
     spare-erased : (x : ℕ) → x < spareSize g → getD (C .spare) x 0 ≡ 255
-    spare-erased x l = erases-spare-in (unitOf sizes) 0 (blocks g) (v .flash) x (omega (arith, enough .1)) (omega arith) (omega arith)
+    spare-erased x l =
+        erases-spare-in (unitOf sizes) 0 (blocks g) (v .flash) x (omega (arith, long .spare-fits)) (omega arith) (omega arith)
 
     pub start-spare : (spareSize g ≤ length (C .spare)) × ((x : ℕ) → x < spareSize g → getD (C .spare) x 0 ≡ 255)
-    start-spare = (rw (apply-spare-length (unitOf sizes) (erases 0 (blocks g)) (v .flash)) (enough .1), spare-erased)
+    start-spare = (rw (apply-spare-length (unitOf sizes) (erases 0 (blocks g)) (v .flash)) (long .spare-fits), spare-erased)
 
     zeros : length (replicate {A = ℕ} (ramSize g) 0) ≡ ramSize g
     zeros = length-replicate {A = ℕ} (ramSize g) 0
@@ -145,7 +142,7 @@ module _ (h : Family) (sizes : Sizes) (ok : Sound sizes) (can : allowed sizes �
     ram-zero : (x : ℕ) → x < ramSize g → getD ram x 0 ≡ 0
     ram-zero x l =
         let s : x - 0 ≡ x = omega arith in
-        getD-write-in (v .ram) 0 (replicate (ramSize g) 0) x 0 zero-le (omega (arith, zeros)) (omega (arith, enough .2))
+        getD-write-in (v .ram) 0 (replicate (ramSize g) 0) x 0 zero-le (omega (arith, zeros)) (omega (arith, long .read .ram-fits))
         ∙ rw s (getD-replicate (ramSize g) x 0 0 l)
 
     -- no record gives no filter
@@ -170,9 +167,9 @@ module _ (h : Family) (sizes : Sizes) (ok : Sound sizes) (can : allowed sizes �
           index-start (unitOf sizes) (ok .e) (units.unit sizes ok) (keyIndex g) (fullSets g) (keyFilter h g emptyHistory) (C .main)
           (C .spare) ram
           (λ x l m. main-erased x (omega arith)) (λ x l m. spare-erased x (omega arith)) (λ x l m. ram-zero x (omega arith));
-      main-fits = rw (apply-main-length (unitOf sizes) (erases 0 (blocks g)) (v .flash)) (enough .0);
-      spare-fits = rw (apply-spare-length (unitOf sizes) (erases 0 (blocks g)) (v .flash)) (enough .1);
-      ram-fits = rw (length-write (v .ram) 0 (replicate (ramSize g) 0)) (enough .2);
+      long =
+          long-kept g (v .flash) C (v .ram) ram (apply-main-length (unitOf sizes) (erases 0 (blocks g)) (v .flash))
+          (apply-spare-length (unitOf sizes) (erases 0 (blocks g)) (v .flash)) (length-write (v .ram) 0 (replicate (ramSize g) 0)) long;
     }
 
     pub start-holds : Holds h sizes emptyHistory C ram
@@ -202,7 +199,7 @@ module _ (h : Family) (sizes : Sizes) (ok : Sound sizes) (can : allowed sizes �
   call-agrees : (H : History) (C : Flash) (ram : List ℕ) (m : Map) (c : Call) → Live H m
       → Live (stepHistory (recordCapacity g) (deletionCapacity g) H c .next) (mapOf g m c .next)
       → stepHistory (recordCapacity g) (deletionCapacity g) H c .says ≡ mapOf g m c .says
-      → Done h sizes H C ram (call h (volumeOf sizes H C ram) c) (stepHistory (recordCapacity g) (deletionCapacity g) H c)
+      → CallDone h sizes H C ram (call h (volumeOf sizes H C ram) c) (stepHistory (recordCapacity g) (deletionCapacity g) H c)
       → ResultAgrees sizes (volumeOf sizes H C ram) (call h (volumeOf sizes H C ram) c) (mapOf g m c)
   call-agrees H C ram m c L L′ same X = record {
     says = X .says ∙ same;
@@ -220,7 +217,7 @@ module _ (h : Family) (sizes : Sizes) (ok : Sound sizes) (can : allowed sizes �
   -- a call, and the calls after it
   joined : (H : History) (C : Flash) (ram : List ℕ) (m : Map) (c : Call) (cs : List Call)
       → ResultAgrees sizes (volumeOf sizes H C ram) (call h (volumeOf sizes H C ram) c) (mapOf g m c)
-      → Done h sizes H C ram (call h (volumeOf sizes H C ram) c) (stepHistory (recordCapacity g) (deletionCapacity g) H c)
+      → CallDone h sizes H C ram (call h (volumeOf sizes H C ram) c) (stepHistory (recordCapacity g) (deletionCapacity g) H c)
       → Ran h sizes (call h (volumeOf sizes H C ram) c .volume) (growIf (call h (volumeOf sizes H C ram) c .outcome) H c)
       (mapOf g m c .next) cs
       → Ran h sizes (volumeOf sizes H C ram) H m (c ∷ cs)
@@ -252,7 +249,7 @@ module _ (h : Family) (sizes : Sizes) (ok : Sound sizes) (can : allowed sizes �
     room = less H m L;
   }
   run H C ram m (c ∷ cs) w I L =
-      let X : Done h sizes H C ram (call h (volumeOf sizes H C ram) c) (stepHistory (recordCapacity g) (deletionCapacity g) H c)
+      let X : CallDone h sizes H C ram (call h (volumeOf sizes H C ram) c) (stepHistory (recordCapacity g) (deletionCapacity g) H c)
       = call-done h sizes ok can H C ram I c (w .0) (less H m L) in
       let same = step-same (recordCapacity g) (deletionCapacity g) H m c L in
       let grown : growIf (call h (volumeOf sizes H C ram) c .outcome) H c ≡ stepHistory (recordCapacity g) (deletionCapacity g) H c .next

@@ -19,7 +19,7 @@ use Rattle.layout.specs.Hash.{Family}
 use Rattle.layout.specs.Items.{RA, KA, DA, zeroPage, Record, noRecord, recordBytes}
 use Rattle.layout.specs.Search.{found}
 use Rattle.layout.specs.Keys.{Key, KeyOk}
-use Rattle.layout.specs.Calls.{Volume, Call, insert, update, delete, lookup, Result, refuse, judged, keyIndex, keyFilters, deletionPlan}
+use Rattle.layout.specs.Calls.{Volume, Call, insert, update, delete, lookup, Result, refuse, judgeFirst, keyIndex, keyFilters, deletionPlan}
 use Rattle.layout.specs.Calls.{deletionRam, insertionPlan, insertionRam, commit, insertAfter, updateAfter, deleteAfter, lookupAfter, answer}
 use Rattle.layout.specs.Calls.{call, change}
 use Rattle.layout.specs.FiniteMap.{accepts, hits, refuses}
@@ -30,16 +30,16 @@ use Rattle.history.specs.Image.{History, recordAt, raItem, kaItem, daIte
 use Rattle.history.specs.Live.{findLive, withRecord, withDeletion, HistoryStep, historyStep, insertHistory, updateHistory}
 use Rattle.history.specs.Live.{deleteHistory, lookupHistory, stepHistory, found-below}
 use Rattle.history.specs.Frames.{Did, Frame, Beyond, beyond-same, beyond-then, frame-beyond}
-use Rattle.history.specs.Parts.{Parts, frame-area, frame-index}
+use Rattle.history.specs.Parts.{Parts, frame-area, frame-index, long-kept}
 use Rattle.history.specs.Changes.{Changed, deletion-did, deletion-parts, insertion-changes}
 use Rattle.history.specs.Runs.{KeyWord, replyOf, Possible, HandedOn}
 use Rattle.history.specs.ProgramOrder.{Below, fresh-below}
 use Rattle.history.specs.Volumes as volumes
 use Rattle.history.specs.Volumes.{Holds, volumeOf}
-use Rattle.laws.specs.Sound.{Sound}
+use Rattle.laws.specs.Sound.{SizesSound}
 use Rattle.laws.specs.Sound as units
 
-pub record Done (h : Family) (sizes : Sizes) (H : History) (C : Flash) (ram : List ℕ) (r : Result) (s : HistoryStep) : Type 0 where
+pub record CallDone (h : Family) (sizes : Sizes) (H : History) (C : Flash) (ram : List ℕ) (r : Result) (s : HistoryStep) : Type 0 where
   pub says : replyOf (r .outcome) ≡ s .says
   pub possible : Possible (r .outcome)
   pub handed-on : HandedOn (r .outcome) (volumeOf sizes H C ram) (r .volume)
@@ -51,7 +51,7 @@ pub record Done (h : Family) (sizes : Sizes) (H : History) (C : Flash) (ram : Li
   pub beyond : Beyond (geometry sizes) C (r .volume .flash) ram (r .volume .ram)
   pub count-le : r .count ≤ length (H .records) / entriesPerPage (unitOf sizes)
 
-module _ (h : Family) (sizes : Sizes) (ok : Sound sizes) (can : allowed sizes ≡ true) where
+module _ (h : Family) (sizes : Sizes) (ok : SizesSound sizes) (can : allowed sizes ≡ true) where
   abbrev g : Geometry
   g = geometry sizes
 
@@ -88,16 +88,14 @@ module _ (h : Family) (sizes : Sizes) (ok : Sound sizes) (can : allowed sizes �
           (omega arith) (omega (arith, pu)) (omega arith) (inr (omega arith)) (inl (omega arith)) (P .da);
       filters = frame-index (unitOf sizes) 0 0 (workRam (unitOf sizes)) C C ram ram′ work-frame (ok .e) (units.unit sizes ok) (keyIndex g)
           (fullSets g) (keyFilter h g H) N (inr (omega arith)) (inl (omega arith)) (P .filters);
-      main-fits = P .main-fits;
-      spare-fits = P .spare-fits;
-      ram-fits = rw (work-frame .ram-length) (P .ram-fits);
+      long = long-kept g C C ram ram′ refl refl (work-frame .ram-length) (P .long);
     }
 
     pub work-zero : (i : ℕ) → i < page (unitOf sizes) → getD ram′ (workRam (unitOf sizes) + i) 0 ≡ 0
     work-zero i l =
         let s : workRam (unitOf sizes) + i - workRam (unitOf sizes) ≡ i = omega arith in
         getD-write-in ram (workRam (unitOf sizes)) (replicate (page (unitOf sizes)) 0) (workRam (unitOf sizes) + i) 0 (omega arith)
-        (omega (arith, zeros)) (omega (arith, P .ram-fits))
+        (omega (arith, zeros)) (omega (arith, P .long .read .ram-fits))
         ∙ rw s (getD-replicate (page (unitOf sizes)) i 0 0 l)
 
     pub work-beyond : Beyond g C C ram ram′
@@ -115,7 +113,7 @@ module _ (h : Family) (sizes : Sizes) (ok : Sound sizes) (can : allowed sizes �
 
     -- ---- refusals, and answers that change nothing
 
-    refuse-done : (i : ℕ) → (i ≢ 1) × (i ≢ 2) × (i ≢ 7) × (i ≢ 8) → Done h sizes H C ram (refuse v i) (historyStep (refuses i) H)
+    refuse-done : (i : ℕ) → (i ≢ 1) × (i ≢ 2) × (i ≢ 7) × (i ≢ 8) → CallDone h sizes H C ram (refuse v i) (historyStep (refuses i) H)
     refuse-done i p = record {
       says = refl;
       possible = p;
@@ -138,7 +136,7 @@ module _ (h : Family) (sizes : Sizes) (ok : Sound sizes) (can : allowed sizes �
         → Below (spareSize g) ops
         → n′ ≤ recordCapacity g → d′ ≤ deletionCapacity g → d′ ≤ n′
         → ((j : ℕ) → j < n′ → KeyOk (recordAt H′ j .key)) → ((i : ℕ) → i < d′ → getD (H′ .deleted) i 0 < n′)
-        → Done h sizes H C ram (commit g v n′ d′ plan ram′) (historyStep accepts H′)
+        → CallDone h sizes H C ram (commit g v n′ d′ plan ram′) (historyStep accepts H′)
     unfolding commit
     commit-done H′ n′ d′ plan ops ram′ ops-are n-is d-is P allow past fresh low n-cap d-cap d-le keys gone =
         rw (ops-are, fresh)
@@ -195,7 +193,7 @@ module _ (h : Family) (sizes : Sizes) (ok : Sound sizes) (can : allowed sizes �
 
     module _ (r : Record) (word : KeyOk (r .key)) where
       insert-accepted : leb (recordCapacity g) (length (H .records)) ≡ false
-          → Done h sizes H C ram (commit g v (n + 1) d (insertionPlan h g n (r .key) (recordBytes r) ram)
+          → CallDone h sizes H C ram (commit g v (n + 1) d (insertionPlan h g n (r .key) (recordBytes r) ram)
           (insertionRam h g n (r .key) (recordBytes r) ram)) (historyStep accepts (withRecord H r))
       insert-accepted c =
           let room : length (H .records) < recordCapacity g = leb-false (recordCapacity g) (length (H .records)) c in
@@ -210,7 +208,7 @@ module _ (h : Family) (sizes : Sizes) (ok : Sound sizes) (can : allowed sizes �
           (omega arith) (I .d-cap) (omega (arith, I .d-le)) (keys-record r word) (λ i l. omega (arith, I .gone i l))
 
       insert-done : (o : Option ℕ) → findLive H (r .key) ≡ o
-          → Done h sizes H C ram (insertAfter h g v r (Option·map found o)) (insertHistory (recordCapacity g) H r o)
+          → CallDone h sizes H C ram (insertAfter h g v r (Option·map found o)) (insertHistory (recordCapacity g) H r o)
       unfolding change
       insert-done (some j) q = refuse-done 3 (omega arith, omega arith, omega arith, omega arith)
       insert-done none q =
@@ -250,7 +248,7 @@ module _ (h : Family) (sizes : Sizes) (ok : Sound sizes) (can : allowed sizes �
       inside₀ = did .fresh (take (spareSize g) (C .spare)) (λ x l m. getD-take (spareSize g) (C .spare) x 0 (omega arith))
 
       delete-accepted : length (H .deleted) < length (H .records)
-          → Done h sizes H C ram (commit g v n (d + 1) (deletionPlan g d j ram ++ []) (deletionRam g d j ram))
+          → CallDone h sizes H C ram (commit g v n (d + 1) (deletionPlan g d j ram ++ []) (deletionRam g d j ram))
           (historyStep accepts (withDeletion H j))
       delete-accepted less =
           commit-done (withDeletion H j) n (d + 1) (deletionPlan g d j ram ++ []) ops ram₁
@@ -260,7 +258,8 @@ module _ (h : Family) (sizes : Sizes) (ok : Sound sizes) (can : allowed sizes �
           (I .n-cap) (omega (arith, room-d)) (omega arith) (I .keys) (gone-deletion j below)
 
       update-accepted : (r : Record) → KeyOk (r .key) → leb (recordCapacity g) (length (H .records)) ≡ false
-          → Done h sizes H C ram (commit g v (n + 1) (d + 1) (deletionPlan g d j ram ++ insertionPlan h g n (r .key) (recordBytes r) ram)
+          → CallDone h sizes H C ram
+          (commit g v (n + 1) (d + 1) (deletionPlan g d j ram ++ insertionPlan h g n (r .key) (recordBytes r) ram)
           (insertionRam h g n (r .key) (recordBytes r) (deletionRam g d j ram)))
           (historyStep accepts (withRecord (withDeletion H j) r))
       update-accepted r word c5 =
@@ -285,7 +284,7 @@ module _ (h : Family) (sizes : Sizes) (ok : Sound sizes) (can : allowed sizes �
           (λ i l. omega (arith, gone-deletion j below i l))
 
     update-done : (r : Record) → KeyOk (r .key) → (o : Option ℕ) → findLive H (r .key) ≡ o
-        → Done h sizes H C ram (updateAfter h g v r (Option·map found o)) (updateHistory (recordCapacity g) (deletionCapacity g) H r o)
+        → CallDone h sizes H C ram (updateAfter h g v r (Option·map found o)) (updateHistory (recordCapacity g) (deletionCapacity g) H r o)
     unfolding change
     update-done r word none q = refuse-done 4 (omega arith, omega arith, omega arith, omega arith)
     update-done r word (some j) q =
@@ -297,7 +296,7 @@ module _ (h : Family) (sizes : Sizes) (ok : Sound sizes) (can : allowed sizes �
 
     delete-done : (k : Key) → ((j : ℕ) → findLive H k ≡ some j → length (H .deleted) < length (H .records)) → (o : Option ℕ)
         → findLive H k ≡ o
-        → Done h sizes H C ram (deleteAfter h g v (Option·map found o)) (deleteHistory (deletionCapacity g) H o)
+        → CallDone h sizes H C ram (deleteAfter h g v (Option·map found o)) (deleteHistory (deletionCapacity g) H o)
     unfolding change
     delete-done k less none q = refuse-done 4 (omega arith, omega arith, omega arith, omega arith)
     delete-done k less (some j) q =
@@ -308,7 +307,7 @@ module _ (h : Family) (sizes : Sizes) (ok : Sound sizes) (can : allowed sizes �
     -- ---- lookup
 
     lookup-done : (k : Key) (opened : ℕ) → opened ≤ length (H .records) / entriesPerPage (unitOf sizes) → (o : Option ℕ) → findLive H k ≡ o
-        → Done h sizes H C ram (lookupAfter g v opened (Option·map found o)) (lookupHistory H o)
+        → CallDone h sizes H C ram (lookupAfter g v opened (Option·map found o)) (lookupHistory H o)
     unfolding lookupAfter
     lookup-done k opened le none q = record {
       says = refl;
@@ -338,12 +337,12 @@ module _ (h : Family) (sizes : Sizes) (ok : Sound sizes) (can : allowed sizes �
     -- ---- every call
 
     -- its arguments are 32-bit numbers
-    judged-is : (r : Result) → judged v r ≡ r
-    unfolding judged
-    judged-is r = rw (volumes.state-good h sizes ok H C ram I can, volumes.long-enough h sizes ok H C ram I)
+    judge-is : (r : Result) → judgeFirst v r ≡ r
+    unfolding judgeFirst
+    judge-is r = rw (volumes.state-good h sizes ok H C ram I can, volumes.long-enough h sizes ok H C ram I)
 
     answer-done : (c : Call) → KeyWord c → ((k : Key) (j : ℕ) → findLive H k ≡ some j → length (H .deleted) < length (H .records))
-        → Done h sizes H C ram (answer h g v c) (stepHistory (recordCapacity g) (deletionCapacity g) H c)
+        → CallDone h sizes H C ram (answer h g v c) (stepHistory (recordCapacity g) (deletionCapacity g) H c)
     answer-done (insert r) w less = rw (volumes.search-is h sizes ok H C ram I (r .key)) (insert-done r w (findLive H (r .key)) refl)
     answer-done (update r) w less = rw (volumes.search-is h sizes ok H C ram I (r .key)) (update-done r w (findLive H (r .key)) refl)
     answer-done (delete key) w less = rw (volumes.search-is h sizes ok H C ram I key) (delete-done key (less key) (findLive H key) refl)
@@ -352,6 +351,6 @@ module _ (h : Family) (sizes : Sizes) (ok : Sound sizes) (can : allowed sizes �
         (lookup-done key _ (volumes.count-is h sizes ok H C ram I key) (findLive H key) refl)
 
     pub call-done : (c : Call) → KeyWord c → ((k : Key) (j : ℕ) → findLive H k ≡ some j → length (H .deleted) < length (H .records))
-        → Done h sizes H C ram (call h v c) (stepHistory (recordCapacity g) (deletionCapacity g) H c)
+        → CallDone h sizes H C ram (call h v c) (stepHistory (recordCapacity g) (deletionCapacity g) H c)
     unfolding call
-    call-done c w less = rw (judged-is (answer h g v c)) (answer-done c w less)
+    call-done c w less = rw (judge-is (answer h g v c)) (answer-done c w less)

@@ -1,8 +1,8 @@
 -- A volume that holds the image of a history: its search finds the history's live records, by bounds those of an earlier one.
-use mathlib.Core.Path.{_≡_, sym, ap, _∙_}
+use mathlib.Core.Path.{_≡_, refl, sym, ap, _∙_}
 use mathlib.Core.Bool.{true, false, cond}
 use mathlib.Core.Option.{none, some, Option·map}
-use mathlib.Core.List.{List}
+use mathlib.Core.List.{List, [], _∷_}
 use Prim.Native.Nat.{ℕ, _+_, _*_, _/_, _%_, _^_, _≤_, _<_}
 use native.Mathlib.Nat.{mul-le-mul-right, mod-lt, le-div-iff-mul-le}
 use native.Mathlib.Omega.{arith}
@@ -12,13 +12,15 @@ use lib.Dec.{eqb}
 use borrow.Author.Tests.{lt-leb, le-ltb}
 use Rattle.memory.specs.Cases.{either, bool?}
 use Rattle.memory.specs.Numbers.{euclid}
-use Rattle.memory.specs.Ranges.{any-ext, any-at, memb}
+use Rattle.memory.specs.Ranges.{any-ext, any-at, memb, any-memb, allOf-true, memb-tab-all}
+use Rattle.memory.specs.Lists.{tab, is-tab}
+use Rattle.memory.specs.Words.{byteOf, words-byte}
 use Rattle.layout.specs.Keys.{Key, KeyOk, sameKey, keyBytes, keyIn, numberIn}
 use Rattle.layout.specs.Geometry.{Geometry, geometry, allowed, page, block, filterBits, entriesPerPage, kaBlocks, fullSets, recordCapacity}
 use Rattle.layout.specs.Geometry.{deletionCapacity, workRam, Sizes, unitOf, stateOf}
 use Rattle.layout.specs.Flash.{Flash}
 use Rattle.layout.specs.Hash.{Family, positions}
-use Rattle.layout.specs.Items.{Record, RA, KA, DA, itemWord, itemPlace, bytesAt, recordBytes}
+use Rattle.layout.specs.Items.{Record, RA, KA, DA, itemWord, itemPlace, bytesAt, recordBytes, entryBytes, deletionBytes}
 use Rattle.layout.specs.Index.{filterBit}
 use Rattle.layout.specs.Search.{found}
 use Rattle.layout.specs.Calls.{Volume, keyIndex, keyFilters, keyPositions, badState, tooShort, isDeleted, entryWord, tryAt, maybeIn}
@@ -26,14 +28,28 @@ use Rattle.layout.specs.Calls.{searchAt, search}
 use Rattle.history.specs.Image.{History, recordsIn, deletionsIn, filtersIn, recordAt, raItem, kaItem, daItem, keyFilter}
 use Rattle.history.specs.Before.{Before, before-same, record-kept, deletion-kept, records-le, deleted-le}
 use Rattle.history.specs.Live.{liveAt, findLive, live-key}
-use Rattle.laws.specs.SearchLaws.{search-all, search-opened, scan-live, any-memb, allOf-true, memb-tab-all}
+use Rattle.history.specs.ScanLaws.{search-all, search-opened, scan-live}
 use Rattle.history.specs.AreaLaws.{read-word, read-bytes}
 use Rattle.history.specs.IndexLaws.{read-filter}
-use Rattle.laws.specs.ItemLaws.{entry-key, entry-number, deletion-number, tab-record}
 use Rattle.history.specs.Parts.{Parts}
-use Rattle.laws.specs.RowLaws.{places-suffice}
-use Rattle.laws.specs.Sound.{Sound}
+use Rattle.laws.specs.ItemLaws.{length-record, entry-key}
+use Rattle.laws.specs.SetLaws.{places-suffice}
+use Rattle.laws.specs.Lengths.{not-short}
+use Rattle.laws.specs.Sound.{SizesSound}
 use Rattle.laws.specs.Sound as units
+
+-- ---- the words of entries and deletions, and a record by its bytes
+
+entry-number : (key : Key) (j b : ℕ) → b < 4 → getD (entryBytes key j) (1 * 4 + b) 0 ≡ byteOf j b
+unfolding entryBytes
+entry-number key j b h = words-byte (key ∷ j ∷ []) 1 b (omega arith) h
+
+deletion-number : (j b : ℕ) → b < 4 → getD (deletionBytes j) (0 * 4 + b) 0 ≡ byteOf j b
+unfolding deletionBytes
+deletion-number j b h = words-byte (j ∷ []) 0 b (omega arith) h
+
+tab-record : (r : Record) → tab 16 (λ b. getD (recordBytes r) b 0) ≡ recordBytes r
+tab-record r = sym (is-tab (recordBytes r) 16 (λ b. getD (recordBytes r) b 0) (length-record r) (λ i h. refl))
 
 -- ---- the image of a history, as an invariant
 
@@ -51,7 +67,7 @@ pub record Holds (h : Family) (sizes : Sizes) (H : History) (C : Flash) (ram : L
 abbrev pub volumeOf : Sizes → History → Flash → List ℕ → Volume
 volumeOf sizes H C ram = record { state = stateOf sizes (recordsIn H) (deletionsIn H); flash = C; ram = ram }
 
-module _ (h : Family) (sizes : Sizes) (ok : Sound sizes) where
+module _ (h : Family) (sizes : Sizes) (ok : SizesSound sizes) where
   abbrev g : Geometry
   g = geometry sizes
 
@@ -201,10 +217,4 @@ module _ (h : Family) (sizes : Sizes) (ok : Sound sizes) where
     state-good a = rw (a, le-ltb (recordCapacity g) n (I .n-cap), le-ltb (deletionCapacity g) d (I .d-cap), le-ltb n d (I .d-le))
 
     pub long-enough : tooShort g C ram ≡ false
-    unfolding tooShort
-    long-enough =
-        rw (
-          le-ltb (length (C .main)) _ (I .parts .main-fits),
-          le-ltb (length (C .spare)) _ (I .parts .spare-fits),
-          le-ltb (length ram) _ (I .parts .ram-fits),
-        )
+    long-enough = not-short g C ram (I .parts .long)

@@ -1,12 +1,9 @@
--- Bits of shifts to the left, of a conjunction and of a little-endian number.
-use mathlib.Core.Path.{_≡_, refl, sym, ap, _∙_}
-use mathlib.Core.Bool.{true, false, _&&_, _||_, false≢true}
+-- Bits of shifts to the left and of a little-endian number.
+use mathlib.Core.Path.{_≡_, ap, _∙_}
+use mathlib.Core.Bool.{true, false}
 use mathlib.Core.List.{List}
-use Prim.Native.Nat.{ℕ, zero, suc, _+_, _*_, _-_, _/_, _%_, _^_, _≤_, _<_, min, max}
+use Prim.Native.Nat.{ℕ, zero, suc, _+_, _*_, _-_, _/_, _%_, _^_, _≤_, _<_}
 use native.Mathlib.Omega.{arith}
-use lib.Bits.{bitAnd, bitOr, and-step, or-step}
-use lib.Count.{leadingZeros, leading-top}
-use lib.Dec.{eqb}
 use lib.ListN.{getD}
 use lib.Pow.{pow-pos}
 use Rattle.memory.specs.Bits.{bit, bitIn, bit-zero, bit-low, bit-high, bit-mod}
@@ -40,28 +37,6 @@ bit-top j y l h =
     let e : y ≡ 1 * 2 ^ j + (y - 2 ^ j) = omega arith in
     let f : j ≡ j + 0 = omega arith in
     ap (λ (z : ℕ). bit y z) f ∙ (ap (λ (z : ℕ). bit z (j + 0)) e ∙ bit-high j 1 (y - 2 ^ j) 0 (omega arith))
-
--- ---- a disjunction
-
-max-or : (a b : ℕ) → a < 2 → b < 2 → eqb (max a b) 1 ≡ (eqb a 1 || eqb b 1)
-max-or zero zero h l = refl
-max-or zero (suc zero) h l = refl
-max-or zero (suc (suc b)) h l = absurd (omega arith)
-max-or (suc zero) zero h l = refl
-max-or (suc zero) (suc zero) h l = refl
-max-or (suc zero) (suc (suc b)) h l = absurd (omega arith)
-max-or (suc (suc a)) b h l = absurd (omega arith)
-
-pub bit-or : (a b i : ℕ) → bit (bitOr a b) i ≡ (bit a i || bit b i)
-unfolding bit
-bit-or a b zero =
-    let s = or-step a b in
-    let e : bitOr a b % 2 ≡ max (a % 2) (b % 2) = omega arith in
-    ap (λ (y : ℕ). eqb y 1) e ∙ max-or (a % 2) (b % 2) (omega arith) (omega arith)
-bit-or a b (suc i) =
-    let s = or-step a b in
-    let e : bitOr a b / 2 ≡ bitOr (a / 2) (b / 2) = omega arith in
-    ap (λ (y : ℕ). bit y i) e ∙ bit-or (a / 2) (b / 2) i
 
 -- ---- eight bytes, lowest first, as a number
 

@@ -1,26 +1,20 @@
 -- Bits that are shown so far, and a word or a bit more below them.
 use mathlib.Core.Path.{_≡_, refl, sym, ap, _∙_}
-use mathlib.Core.Bool.{Bool, true, false, _&&_, _||_, and-true, and-comm}
+use mathlib.Core.Bool.{Bool, true, false, _&&_, _||_}
 use mathlib.Core.List.{List}
-use Prim.Native.Nat.{ℕ, zero, suc, _+_, _*_, _-_, _/_, _%_, _^_, _≤_, _<_}
+use Prim.Native.Nat.{ℕ, zero, suc, _+_, _*_, _-_, _%_, _^_, _≤_, _<_}
 use native.Mathlib.Nat.{mul-le-mul-right, mul-le-mul-left}
 use native.Mathlib.Omega.{arith}
-use native.Mathlib.Numerals.{add-one}
-use lib.Bits.{bitOr, bitAnd}
-use lib.Dec.{ltb}
+use lib.Bits.{bitOr}
 use lib.ListN.{getD}
 use lib.Pow.{pow-pos}
 use borrow.Author.Tests.{lt-ltb, le-ltb}
-use Rattle.memory.specs.Bits.{bit, bitIn}
+use Rattle.memory.specs.Bits.{bit, bit-or}
 use Rattle.memory.specs.Cases.{either, lt?}
 use Rattle.kernels.specs.Rows.{allIn, Words}
 use Rattle.kernels.specs.Blocks.{Shows, Squeezed}
-use Rattle.kernels.specs.Conjunction.{bit-and}
-use Rattle.kernels.proofs.Bits.{bit-or, bit-shl, bit-shl-low, bit-over}
+use Rattle.kernels.proofs.Bits.{bit-shl, bit-shl-low}
 use Rattle.kernels.proofs.Filters.{all-from}
-
-false-or : (t : Bool) → (false || t) ≡ t
-false-or t = refl
 
 or-false : (t : Bool) → (t || false) ≡ t
 or-false true = refl
@@ -50,9 +44,6 @@ module _ (f : ℕ → Bool) (b d n r s : ℕ) (fits : n + d ≤ 64) (R : (i : �
 
 module _ (bytes at low : List ℕ) (count w per Q N r x s : ℕ) (pw : 0 < w) (word : per * w ≡ 64)
     (lows : (i : ℕ) → i < count → getD low i 0 < w) (W : Words bytes at low count Q x) (S : Squeezed w x s) where
-  gate : ℕ → Bool
-  gate = allIn bytes at low w count
-
   own : (u : ℕ) → u < per → bit s u ≡ allIn bytes at low w count (Q * per + u)
   unfolding Words Squeezed
   own u h =

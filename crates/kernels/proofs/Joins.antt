@@ -1,17 +1,17 @@
 -- Every w-th bit of a word, side by side: fields come together by two.
 use mathlib.Core.Path.{_≡_, refl, sym, ap, _∙_}
 use mathlib.Core.Bool.{Bool, true, false, _&&_, _||_, Bool·beq, and-eq-true-iff}
-use Prim.Native.Nat.{ℕ, zero, suc, _+_, _*_, _-_, _/_, _%_, _^_, _≤_, _<_}
+use Prim.Native.Nat.{ℕ, zero, suc, _+_, _*_, _/_, _%_, _^_, _≤_, _<_}
 use native.Mathlib.Omega.{arith}
 use lib.Bits.{bitAnd, bitOr, and-le-l, and-le-r}
-use lib.Dec.{eqb, ltb}
+use lib.Dec.{ltb}
 use borrow.Author.Tests.{lt-ltb, le-ltb}
-use Rattle.memory.specs.Bits.{bit, bit-shr}
+use Rattle.memory.specs.Bits.{bit, bit-shr, bit-or}
 use Rattle.memory.specs.Booleans.{eq-of-beq}
 use Rattle.memory.specs.Cases.{either, lt?}
 use Rattle.kernels.specs.Blocks.{Squeezed}
 use Rattle.kernels.specs.Conjunction.{bit-and}
-use Rattle.kernels.proofs.Bits.{bit-or, bit-over}
+use Rattle.kernels.proofs.Bits.{bit-over}
 
 -- of every G bits of m the lowest c are set, the first n by computing
 unfoldable isLow : ℕ → ℕ → ℕ → ℕ → Bool

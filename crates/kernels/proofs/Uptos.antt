@@ -1,19 +1,19 @@
 -- Eight words, one more each turn.
-use mathlib.Core.Path.{_≡_, refl, sym, ap, _∙_}
-use mathlib.Core.Bool.{Bool, true, false, _&&_}
+use mathlib.Core.Path.{_≡_, sym, ap, _∙_}
+use mathlib.Core.Bool.{Bool, _&&_}
 use mathlib.Core.List.{List}
-use Prim.Native.Nat.{ℕ, zero, suc, _+_, _*_, _-_, _/_, _%_, _^_, _≤_, _<_, min}
+use Prim.Native.Nat.{ℕ, _+_, _*_, _-_, _/_, _%_, _^_, _≤_, _<_, min}
 use native.Mathlib.Nat.{mul-le-mul-right}
 use native.Mathlib.Omega.{arith}
 use lib.Dec.{ltb}
-use lib.ListN.{length, getD, set, replicate}
+use lib.ListN.{length, getD, set}
 use lib.Seq.{getD-set-same, getD-set-other}
 use lib.Pow.{pow-pos}
 use borrow.Author.Tests.{lt-ltb, le-ltb}
 use Rattle.memory.specs.Bits.{bit, bit-zero}
 use Rattle.memory.specs.Cases.{either, lt?, eq?}
 use Rattle.kernels.specs.Rows.{allIn, Words}
-use Rattle.kernels.specs.Blocks.{Upto, GroupIn, Open}
+use Rattle.kernels.specs.Blocks.{Upto, GroupIn}
 
 same : (a b c d : ℕ) → (a < b → c < d) → (b ≤ a → d ≤ c) → ltb a b ≡ ltb c d
 same a b c d f g = either (lt? a b) (λ h. lt-ltb a b (h .1) ∙ sym (lt-ltb c d (f (h .1)))) (λ h. le-ltb a b (h .1) ∙ sym (le-ltb c d (g (h .1))))

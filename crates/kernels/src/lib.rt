@@ -220,7 +220,8 @@ fn field_block(q: usize, count: usize, at: &[usize], low: &[usize], bytes: &[u8]
 // Filters of w = 2 or 4 bits in each row: those of the w words from word q on, which lie in one block.
 fn few_words(w: usize, q: usize, count: usize, at: &[usize], low: &[usize], bytes: &[u8]) -> u64
     requires { ⌜ ((e : ℕ) × (0 < e) × (e < 7) × (w ≡ 2 ^ e)) × (64 / w * w ≡ 64) × (q % 8 + w ≤ 8) ⌝ }
-    requires { ⌜ BlockIn (now at) (now low) count (q - q % 8) (length (now bytes)) × ((i : ℕ) → i < count → getD (now low) i 0 < w) ⌝ }
+    requires { ⌜ BlockIn (now at) (now low) count (q - q % 8) (length (now bytes))
+        × ((i : ℕ) → i < count → getD (now low) i 0 < w) ⌝ }
     ensures { λ r. ⌜ Shows (allIn (before bytes) (before at) (before low) w count) (q * (64 / w)) (w * (64 / w)) r ⌝ }
 {
     let per = 64 / w;
@@ -246,7 +247,8 @@ fn more_words(
     low: &[usize],
     bytes: &[u8],
 ) -> u64
-    requires { ⌜ ((e : ℕ) × (0 < e) × (e < 7) × (w ≡ 2 ^ e)) × (64 / w * w ≡ 64) × (n * 8 * (64 / w) ≤ 64) × (n ≤ 8) × (q < 2 ^ 60) ⌝ }
+    requires { ⌜ ((e : ℕ) × (0 < e) × (e < 7) × (w ≡ 2 ^ e)) × (64 / w * w ≡ 64)
+        × (n * 8 * (64 / w) ≤ 64) × (n ≤ 8) × (q < 2 ^ 60) ⌝ }
     requires { ⌜ ((b : ℕ) → b < n → BlockIn (now at) (now low) count (q + b * 8) (length (now bytes)))
         × ((i : ℕ) → i < count → getD (now low) i 0 < w) ⌝ }
     ensures { λ r. ⌜ Shows (allIn (before bytes) (before at) (before low) w count) (q * (64 / w)) (n * 8 * (64 / w)) r ⌝ }
@@ -277,7 +279,8 @@ fn passed(
     low: &[usize],
     bytes: &[u8],
 ) -> u64
-    requires { ⌜ (1 < w) × (0 < m) × (m ≤ 64) × (from % 64 ≡ 0) × GroupIn (now at) (now low) count w (from + m) (length (now bytes)) ⌝ }
+    requires { ⌜ (1 < w) × (0 < m) × (m ≤ 64) × (from % 64 ≡ 0)
+        × GroupIn (now at) (now low) count w (from + m) (length (now bytes)) ⌝ }
     ensures { λ r. ⌜ Open (allIn (before bytes) (before at) (before low) w count) from m r ⌝ }
 {
     if w < 8 {
@@ -350,7 +353,8 @@ pub fn block(
     low: &[usize],
     bytes: &[u8],
 ) -> [u64; 8]
-    requires { ⌜ (0 < n) × (n ≤ 512) × (first % 512 ≡ 0) × GroupIn (now at) (now low) count w (first + n) (length (now bytes)) ⌝ }
+    requires { ⌜ (0 < n) × (n ≤ 512) × (first % 512 ≡ 0)
+        × GroupIn (now at) (now low) count w (first + n) (length (now bytes)) ⌝ }
     ensures { λ r. ⌜ OpenBlock (allIn (before bytes) (before at) (before low) w count) first n r ⌝ }
 {
     if w > 1 {

@@ -1,8 +1,7 @@
-pub mod KeyLaws
-pub mod RowLaws
-pub mod Apart
+pub mod SetLaws
 pub mod ItemLaws
 pub mod SearchLaws
 pub mod Units
 pub mod Sound
+pub mod Lengths
 pub mod LentFlash

@@ -6,12 +6,11 @@ use native.Mathlib.Omega.{arith}
 use lib.Dec.{leb}
 use borrow.Author.Tests.{leb-true}
 use Rattle.memory.specs.Lists.{tab, tabFrom}
-use Rattle.memory.specs.Ranges.{memb}
+use Rattle.memory.specs.Ranges.{memb, memb-tab-all}
 use Rattle.layout.specs.Geometry.{Sizes, unitOf, sectorSizes, allowed}
-use Rattle.laws.specs.SearchLaws.{memb-tab-all}
 use Rattle.laws.specs.Units.{UnitIs, unit-is}
 
-pub record Sound (sizes : Sizes) : Type 0 where
+pub record SizesSound (sizes : Sizes) : Type 0 where
   pub e : ℕ
   pub e-lt : e < 6
   pub size : (sizes .sectorSize) ≡ 16 * 2 ^ e
@@ -28,7 +27,7 @@ table-is = refl
 abbrev SizeIs : ℕ → Type 0
 SizeIs bytes = (e : ℕ) × (e < 6) × (bytes ≡ 16 * 2 ^ e)
 
-pub sound : (sizes : Sizes) → allowed sizes ≡ true → Sound sizes
+pub sound : (sizes : Sizes) → allowed sizes ≡ true → SizesSound sizes
 unfolding allowed
 sound sizes q =
     let p = and-eq-true-iff (memb (sizes .sectorSize) sectorSizes) _ .0 q in
@@ -48,7 +47,7 @@ sound sizes q =
       D-le = leb-true (sizes .daBlocks) 4096 (rD .1);
     }
 
-module _ (sizes : Sizes) (ok : Sound sizes) where
+module _ (sizes : Sizes) (ok : SizesSound sizes) where
   pub unit : UnitIs (unitOf sizes) (ok .e)
   unit = unit-is (unitOf sizes) (ok .e) (ok .e-lt) (omega (arith, ok .size))
 

@@ -66,8 +66,8 @@ unfoldable pub tooShort : Geometry → Flash → List ℕ → Bool
 tooShort g c ram = ltb (length (c .main)) (dataSize g) || (ltb (length (c .spare)) (spareSize g) || ltb (length ram) (ramSize g))
 
 -- 1, then 2, then the call's own
-unfoldable pub judged : Volume → Result → Result
-judged v r =
+unfoldable pub judgeFirst : Volume → Result → Result
+judgeFirst v r =
     cond (badState (v .state)) (refuse v refusal.badState)
     (cond (tooShort (geometry (v .state .sizes)) (v .flash) (v .ram)) (refuse v refusal.tooShort) r)
 
@@ -276,4 +276,4 @@ module _ (h : Family) where
 
   -- a call on a volume
   unfoldable pub call : Volume → Call → Result
-  call v c = judged v (answer (geometry (v .state .sizes)) v c)
+  call v c = judgeFirst v (answer (geometry (v .state .sizes)) v c)

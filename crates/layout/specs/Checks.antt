@@ -7,7 +7,7 @@ use Prim.Native.Nat.{ℕ, suc, _+_, _*_}
 use lib.ListN.{length, getD, take, replicate}
 use lib.Dec.{eqb}
 use Rattle.memory.specs.Lists.{write, tab, tabFrom, pieces}
-use Rattle.memory.specs.Bits.{pack}
+use Rattle.memory.specs.Bits.{num, pack}
 use Rattle.memory.specs.Power.{log2up}
 use Rattle.memory.specs.Words.{bytes4, wordsBytes}
 use Rattle.memory.specs.Ranges.{any, memb}
@@ -62,11 +62,8 @@ full-set = refl
 abbrev place : ℕ → ℕ → BitPlace
 place f x = filterPlace 1 (record { first = 0; ska = 192 }) 1000 f x
 
-abbrev num : Bool → ℕ
-num t = cond t 1 0
-
 abbrev row-at : BitPlace → List ℕ
-row-at p = cond (p .inRam) 1 0 ∷ p .row ∷ p .at ∷ []
+row-at p = num (p .inRam) ∷ p .row ∷ p .at ∷ []
 
 pub places : row-at (place 5 13) ≡ 0 ∷ (9 * block 1 + 13 * page 1) ∷ 5 ∷ []
 unfolding log2up

@@ -1,9 +1,9 @@
 -- Document 01, "Examples": its starred lines, one table and one theorem.
 use mathlib.Core.Path.{_≡_, refl}
-use mathlib.Core.Bool.{Bool, cond}
 use mathlib.Core.List.{List, [], _∷_}
 use Prim.Native.Nat.{ℕ, _+_, _-_, _*_, _/_, _%_}
 use lib.ListN.{length, getD}
+use Rattle.memory.specs.Bits.{num}
 use Rattle.memory.specs.Power.{log2up}
 use Rattle.layout.specs.Geometry.{Geometry, sizesOf, geometry, blocks, indexBlock, recordCapacity, sectorSizes, sector, page}
 use Rattle.layout.specs.Geometry.{recordsPerPage, entriesPerPage, filterBits}
@@ -13,24 +13,21 @@ use Rattle.layout.specs.Index.{Index, BitPlace, inSka, inL1, setPages, s
 use Rattle.layout.specs.Items.{RA, Place, itemPlace}
 use Rattle.layout.specs.Calls.{keyFilters, insertionPlan}
 
--- a row: what the definitions give, and what the document says
-pub record Row : Type 0 where
+-- a line: what the definitions give, and what the document says
+pub record Line : Type 0 where
   pub is : ℕ
   pub says : ℕ
 
-abbrev row : ℕ → ℕ → Row
-row a b = record { is = a; says = b }
+abbrev line : ℕ → ℕ → Line
+line a b = record { is = a; says = b }
 
-abbrev pub computed : List Row → List ℕ
+abbrev pub computed : List Line → List ℕ
 computed [] = []
 computed (r ∷ rs) = r .is ∷ computed rs
 
-abbrev pub expected : List Row → List ℕ
+abbrev pub expected : List Line → List ℕ
 expected [] = []
 expected (r ∷ rs) = r .says ∷ expected rs
-
-abbrev num : Bool → ℕ
-num t = cond t 1 0
 
 abbrev B : ℕ → ℕ → ℕ → ℕ
 B S R D = blocks (geometry (sizesOf S R D))
@@ -78,48 +75,48 @@ abbrev oneMore : Family → ℕ → List ℕ → List Planned
 oneMore h key bytes = insertionPlan h g16 1023 key bytes []
 
 -- the last line's insert is of any record, whatever the hash functions
-abbrev pub examples : Family → ℕ → List ℕ → List Row
+abbrev pub examples : Family → ℕ → List ℕ → List Line
 examples h key bytes =
     -- FNV-1a of nothing, and of the letter a
-    row (fnv1a []) 0x811C9DC5
-    ∷ row (fnv1a (97 ∷ [])) 0xE40C292C
+    line (fnv1a []) 0x811C9DC5
+    ∷ line (fnv1a (97 ∷ [])) 0xE40C292C
     -- S = 16, D = 1: B, and the capacity at R = 1
-    ∷ row (B 16 1 1) 12
-    ∷ row (recordCapacity (geometry (sizesOf 16 1 1))) 64
-    ∷ row (B 16 32 1) 58
-    ∷ row (B 16 63 1) 105
-    ∷ row (B 16 64 1) 110
+    ∷ line (B 16 1 1) 12
+    ∷ line (recordCapacity (geometry (sizesOf 16 1 1))) 64
+    ∷ line (B 16 32 1) 58
+    ∷ line (B 16 63 1) 105
+    ∷ line (B 16 64 1) 110
     -- S = 512, R = 2048, D = 1
-    ∷ row (B 512 2048 1) 3458
+    ∷ line (B 512 2048 1) 3458
     -- P for i = 2 to 6; set i has i - 1 rounds
-    ∷ row (setPages (2 - 1)) 16
-    ∷ row (setPages (3 - 1)) 32
-    ∷ row (setPages (4 - 1)) 64
-    ∷ row (setPages (5 - 1)) 64
-    ∷ row (setPages (6 - 1)) 128
+    ∷ line (setPages (2 - 1)) 16
+    ∷ line (setPages (3 - 1)) 32
+    ∷ line (setPages (4 - 1)) 64
+    ∷ line (setPages (5 - 1)) 64
+    ∷ line (setPages (6 - 1)) 128
     -- S = 16, set 3, position 13, filter 200: page 6, byte 50, bit 1
-    ∷ row (partition .row / page 1) 6
-    ∷ row (partition .at / 8) 50
-    ∷ row (partition .at % 8) 1
+    ∷ line (partition .row / page 1) 6
+    ∷ line (partition .at / 8) 50
+    ∷ line (partition .at % 8) 1
     -- flush 6, i = 2: L1 page 9, sector 2
-    ∷ row (flushed / 4) 9
-    ∷ row (flushed % 4) 2
-    ∷ row (flushRead / 4) 9
-    ∷ row (flushRead % 4) 2
+    ∷ line (flushed / 4) 9
+    ∷ line (flushed % 4) 2
+    ∷ line (flushRead / 4) 9
+    ∷ line (flushRead % 4) 2
     -- S = 16, n = 5: record 3 at cell 48, record 4 at desk byte 0
-    ∷ row (num (recordAt 5 3 .inRam)) 0
-    ∷ row (recordAt 5 3 .at) 48
-    ∷ row (num (recordAt 5 4 .inRam)) 1
-    ∷ row (recordAt 5 4 .at) 0
+    ∷ line (num (recordAt 5 3 .inRam)) 0
+    ∷ line (recordAt 5 3 .at) 48
+    ∷ line (num (recordAt 5 4 .inRam)) 1
+    ∷ line (recordAt 5 4 .at) 0
     -- S = 16, R = 16, n = 1023: 15 flushes, 7 filters and 7 entries on the desk
-    ∷ row (inL1 filters) 15
-    ∷ row (inSka filters) 7
-    ∷ row (1023 % entriesPerPage 1) 7
+    ∷ line (inL1 filters) 15
+    ∷ line (inSka filters) 7
+    ∷ line (1023 % entriesPerPage 1) 7
     -- one more insert builds set 2: after its RA page, its KA page and the flush's four sectors come 16 pages of side A; and erases L1
-    ∷ row (length (sectorsOf (oneMore h key bytes))) (4 + 4 + 4 + 16 * 4)
-    ∷ row (getD (sectorsOf (oneMore h key bytes)) 12 0) ((indexBlock g16 + 1) * 64)
-    ∷ row (length (blocksOf (oneMore h key bytes))) 1
-    ∷ row (getD (blocksOf (oneMore h key bytes)) 0 0) (indexBlock g16)
+    ∷ line (length (sectorsOf (oneMore h key bytes))) (4 + 4 + 4 + 16 * 4)
+    ∷ line (getD (sectorsOf (oneMore h key bytes)) 12 0) ((indexBlock g16 + 1) * 64)
+    ∷ line (length (blocksOf (oneMore h key bytes))) 1
+    ∷ line (getD (blocksOf (oneMore h key bytes)) 0 0) (indexBlock g16)
     ∷ []
 
 pub examples-hold : (h : Family) (key : ℕ) (bytes : List ℕ) → computed (examples h key bytes) ≡ expected (examples h key bytes)

@@ -104,6 +104,5 @@ abbrev pub itemPlan : ℕ → Area → ℕ → List ℕ → List ℕ → List Pl
 itemPlan u a n item ram = cond (fills a n) (plannedFrom (pageSector u a n (put a n item ram)) 0 sectorsPerPage) []
 
 -- the RAM after it: "zeroes each desk page it has programmed"
-
 abbrev pub itemRam : ℕ → Area → ℕ → List ℕ → List ℕ → List ℕ
 itemRam u a n item ram = cond (fills a n) (zeroPage u (a .ram) (put a n item ram)) (put a n item ram)

@@ -1,5 +1,5 @@
--- The key of a level. Every rule about keys goes by these names, every proof by the laws
--- of `laws/specs/KeyLaws.antt`. Document 01, "Records, entries, deletions", "Filters".
+-- The key of a level. Every rule about keys goes by these names, the theorems' proofs by the laws
+-- of `history/specs/KeyLaws.antt`. Document 01, "Records, entries, deletions", "Filters".
 use mathlib.Core.Bool.{Bool}
 use mathlib.Core.List.{List}
 use Prim.Native.Nat.{ℕ, _+_, _^_, _<_}

@@ -15,10 +15,10 @@ use Rattle.layout.specs.Geometry.{Geometry, geometry}
 use Rattle.layout.specs.Hash.{Family}
 use Rattle.layout.specs.Search.{Stop, found, corrupt}
 use Rattle.layout.specs.Calls.{Volume, Outcome, accepted, hit, miss, refused, Result}
-use Rattle.layout.specs.Calls.{badState, tooShort, judged, lookup, lookupAfter, search, call}
-use Rattle.state.specs.Contract.{Left, seen, changed}
+use Rattle.layout.specs.Calls.{badState, tooShort, judgeFirst, lookup, lookupAfter, search, call}
+use Rattle.state.specs.Contract.{Effect, effectOf, changeEffect}
 use Rattle.state.specs.declared.Change.{Change}
-use Rattle.lookup.specs.Looked.{lookedOf, looked, partOf}
+use Rattle.lookup.specs.Results.{lookupBy, lookupOf, partOf}
 use Rattle.script.specs.Lines.{Request, request}
 use Rattle.script.specs.Answers.{text}
 use Rattle.script.specs.Answers as answers
@@ -31,33 +31,33 @@ use Rattle.lines.specs.declared.Reply.{Reply}
 -- ---- changes
 
 -- what a caller sees of a call, as a request's answer
-abbrev leftAnswer : Left → Outcome → answers.Answer
-leftAnswer l accepted = answers.ok (l .left .state .records) (l .left .state .deletions)
-leftAnswer l (hit place bytes) = answers.hit (word bytes 4) (l .count)
-leftAnswer l miss = answers.miss (l .count)
-leftAnswer l (refused i) = answers.no i
+abbrev effectAnswer : Effect → Outcome → answers.Answer
+effectAnswer l accepted = answers.ok (l .left .state .records) (l .left .state .deletions)
+effectAnswer l (hit place bytes) = answers.hit (word bytes 4) (l .count)
+effectAnswer l miss = answers.miss (l .count)
+effectAnswer l (refused i) = answers.no i
 
-abbrev leftReply : Left → script.Reply
-leftReply l = record { answer = leftAnswer l (l .outcome); volume = l .left }
+abbrev effectReply : Effect → script.Reply
+effectReply l = record { answer = effectAnswer l (l .outcome); volume = l .left }
 
-left-answer : (r : Result) (o : Outcome) → leftAnswer (seen r) o ≡ resultAnswer r o
-left-answer r accepted = refl
-left-answer r (hit place bytes) = refl
-left-answer r miss = refl
-left-answer r (refused i) = refl
+effect-answer : (r : Result) (o : Outcome) → effectAnswer (effectOf r) o ≡ resultAnswer r o
+effect-answer r accepted = refl
+effect-answer r (hit place bytes) = refl
+effect-answer r miss = refl
+effect-answer r (refused i) = refl
 
-left-reply : (r : Result) → leftReply (seen r) ≡ resultReply r
-left-reply r = ap (λ (a : answers.Answer). record { answer = a; volume = r .volume }) (left-answer r (r .outcome))
+effect-reply : (r : Result) → effectReply (effectOf r) ≡ resultReply r
+effect-reply r = ap (λ (a : answers.Answer). record { answer = a; volume = r .volume }) (effect-answer r (r .outcome))
 
-change-left : (c : Change) (main spare ram : List ℕ)
-    → replyOf (record { state = c .state; answer = changeAnswer c }) main spare ram ≡ leftReply (changed c main spare ram)
-change-left c main spare ram = either (bool? (eqb (c .refusal) 0)) (λ e. rw e) (λ e. rw e)
+change-effect : (c : Change) (main spare ram : List ℕ)
+    → replyOf (record { state = c .state; answer = changeAnswer c }) main spare ram ≡ effectReply (changeEffect c main spare ram)
+change-effect c main spare ram = either (bool? (eqb (c .refusal) 0)) (λ e. rw e) (λ e. rw e)
 
 pub change-reply : (p : Reply) (c : Change) (main spare ram : List ℕ) (r : Result)
-    → p ≡ record { state = c .state; answer = changeAnswer c } → changed c main spare ram ≡ seen r
+    → p ≡ record { state = c .state; answer = changeAnswer c } → changeEffect c main spare ram ≡ effectOf r
     → replyOf p main spare ram ≡ resultReply r
 change-reply p c main spare ram r is e =
-    ap (λ (q : Reply). replyOf q main spare ram) is ∙ change-left c main spare ram ∙ ap leftReply e ∙ left-reply r
+    ap (λ (q : Reply). replyOf q main spare ram) is ∙ change-effect c main spare ram ∙ ap effectReply e ∙ effect-reply r
 
 -- ---- lookups
 
@@ -82,7 +82,7 @@ module _ (h : Family) where
   after-keeps g v opened (some (found j)) = refl
 
   call-outcome : (v : Volume) (key : ℕ) → LookupOutcome (call h v (lookup key) .outcome)
-  unfolding call judged
+  unfolding call judgeFirst
   call-outcome v key =
       either (bool? (badState (v .state)))
       (λ a. rw a (λ e. omega arith))
@@ -94,7 +94,7 @@ module _ (h : Family) where
       (search h (geometry (v .state .sizes)) v key .stop))))
 
   call-keeps : (v : Volume) (key : ℕ) → call h v (lookup key) .volume ≡ v
-  unfolding call judged
+  unfolding call judgeFirst
   call-keeps v key =
       either (bool? (badState (v .state)))
       (λ a. rw a)
@@ -106,22 +106,22 @@ module _ (h : Family) where
       (search h (geometry (v .state .sizes)) v key .stop))))
 
 -- the answer by the three numbers and the part that a lookup gives
-refused-answer : (r : Result) (o : Outcome) (i : ℕ) → i ≡ lookedOf o (r .count) .refusal → i ≢ 0 → answers.no i ≡ resultAnswer r o
+refused-answer : (r : Result) (o : Outcome) (i : ℕ) → i ≡ lookupBy o (r .count) .refusal → i ≢ 0 → answers.no i ≡ resultAnswer r o
 refused-answer r accepted i e n = absurd (n e)
 refused-answer r (hit place bytes) i e n = absurd (n e)
 refused-answer r miss i e n = absurd (n e)
 refused-answer r (refused j) i e n = ap answers.no e
 
-missed-answer : (r : Result) (o : Outcome) (i f n : ℕ) → LookupOutcome o → i ≡ lookedOf o (r .count) .refusal
-    → f ≡ lookedOf o (r .count) .found → n ≡ lookedOf o (r .count) .count
+missed-answer : (r : Result) (o : Outcome) (i f n : ℕ) → LookupOutcome o → i ≡ lookupBy o (r .count) .refusal
+    → f ≡ lookupBy o (r .count) .found → n ≡ lookupBy o (r .count) .count
     → i ≡ 0 → f ≡ 0 → answers.miss n ≡ resultAnswer r o
 missed-answer r accepted i f n l ei ef en zi zf = absurd l
 missed-answer r (hit place bytes) i f n l ei ef en zi zf = absurd (omega arith)
 missed-answer r miss i f n l ei ef en zi zf = ap answers.miss en
 missed-answer r (refused j) i f n l ei ef en zi zf = absurd (l (sym ei ∙ zi))
 
-hit-answer : (r : Result) (o : Outcome) (f n : ℕ) (bytes : List ℕ) → LookupOutcome o → f ≡ lookedOf o (r .count) .found
-    → n ≡ lookedOf o (r .count) .count → bytes ≡ partOf o
+hit-answer : (r : Result) (o : Outcome) (f n : ℕ) (bytes : List ℕ) → LookupOutcome o → f ≡ lookupBy o (r .count) .found
+    → n ≡ lookupBy o (r .count) .count → bytes ≡ partOf o
     → f ≢ 0 → (length bytes ≡ 16) × (answers.hit (word bytes 4) n ≡ resultAnswer r o)
 hit-answer r accepted f n bytes l ef en eb nf = absurd l
 hit-answer r (hit place b) f n bytes l ef en eb nf = rw (eb, en) (l, refl)
@@ -132,14 +132,14 @@ module _ (h : Family) (v : Volume) (key : ℕ) where
   abbrev r : Result
   r = call h v (lookup key)
 
-  pub lookup-refused : (i : ℕ) → i ≡ looked r .refusal → i ≢ 0 → answers.no i ≡ resultReply r .answer
+  pub lookup-refused : (i : ℕ) → i ≡ lookupOf r .refusal → i ≢ 0 → answers.no i ≡ resultReply r .answer
   lookup-refused i = refused-answer r (r .outcome) i
 
-  pub lookup-missed : (i f n : ℕ) → i ≡ looked r .refusal → f ≡ looked r .found → n ≡ looked r .count → i ≡ 0 → f ≡ 0
+  pub lookup-missed : (i f n : ℕ) → i ≡ lookupOf r .refusal → f ≡ lookupOf r .found → n ≡ lookupOf r .count → i ≡ 0 → f ≡ 0
       → answers.miss n ≡ resultReply r .answer
   lookup-missed i f n = missed-answer r (r .outcome) i f n (call-outcome h v key)
 
-  pub lookup-hit : (f n : ℕ) (bytes : List ℕ) → f ≡ looked r .found → n ≡ looked r .count → bytes ≡ partOf (r .outcome)
+  pub lookup-hit : (f n : ℕ) (bytes : List ℕ) → f ≡ lookupOf r .found → n ≡ lookupOf r .count → bytes ≡ partOf (r .outcome)
       → f ≢ 0 → (length bytes ≡ 16) × (answers.hit (word bytes 4) n ≡ resultReply r .answer)
   lookup-hit f n bytes = hit-answer r (r .outcome) f n bytes (call-outcome h v key)
 

@@ -12,7 +12,7 @@ use base.Logic.{ent, sep, ex}
 use base.Fml.{fsep}
 use prog.Wp.{Heap}
 use ghost.Atoms.{Atoms, sem}
-use types.Kit.{Given, ‵, _⊛_, _$_, _∵_, !, qed, fjoin, fpack, fpick, fsplit, show, done}
+use types.Kit.{Given, ‵, _$_, _∵_, !, qed, fjoin, fpack, fpick, fsplit, show, done}
 use denote.RattleType.{RattleType}
 use denote.Memory.{cellAt, partAt, partOf}
 

@@ -163,7 +163,8 @@ pub fn answer_on(
     out: &mut [u8],
 ) -> usize
     requires { ⌜ 32 ≤ length (now out) ⌝ }
-    ensures { λ r. ⌜ record { length = r; volume = volume (now (v .exit) .state) (after main) (after spare) (after ram); out = after out }
+    ensures { λ r.
+        ⌜ record { length = r; volume = volume (now (v .exit) .state) (after main) (after spare) (after ram); out = after out }
         ≡ answerLine (given (now (v .entry) .state) main spare ram) (before line) (before out) ⌝ }
 {
     let c = answer_line(v.state, line, main, spare, ram, out);

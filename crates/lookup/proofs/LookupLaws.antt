@@ -17,10 +17,10 @@ use Rattle.layout.specs.Calls.{Volume, lookup, call, answer, search, lookupAfte
 use Rattle.geometry.specs.Shape.{shape, Sound}
 use Rattle.geometry.specs.Bounds.{record-capacity-le}
 use Rattle.geometry.specs.declared.Geometry.{Geometry}
-use Rattle.state.specs.Judge.{judgedOf, Fits}
-use Rattle.state.specs.declared.Judged.the-variants.{Refused}
-use Rattle.state.proofs.Refusals.{judged-refused, judged-fits}
-use Rattle.lookup.specs.Looked.{looked}
+use Rattle.state.specs.Judge.{judgementOf, VolumeFits}
+use Rattle.state.specs.declared.Judgement.the-variants.{Refused}
+use Rattle.state.proofs.Refusals.{judge-refused, judge-fits}
+use Rattle.lookup.specs.Results.{lookupOf}
 use Rattle.lookup.specs.declared.LookupResult.{LookupResult}
 
 -- what a refused lookup answers
@@ -28,24 +28,24 @@ abbrev pub refusedLookup : ℕ → LookupResult
 refusedLookup i = record { refusal = i; found = 0; count = 0; «in_ram» = 0; offset = 0 }
 
 module _ (h : Family) (g : layout.Geometry) (v : Volume) (key : ℕ) where
-  pub lookup-corrupt : (k : ℕ) → search h g v key ≡ find.reply (some corrupt) k → refusedLookup refusal.corruptEntry ≡ looked (answer h g v (lookup key))
+  pub lookup-corrupt : (k : ℕ) → search h g v key ≡ find.reply (some corrupt) k → refusedLookup refusal.corruptEntry ≡ lookupOf (answer h g v (lookup key))
   unfolding lookupAfter
   lookup-corrupt k e = rw e
 
   pub lookup-nothing : (k : ℕ) → search h g v key ≡ find.reply none k
-      → record { refusal = 0; found = 0; count = k; «in_ram» = 0; offset = 0 } ≡ looked (answer h g v (lookup key))
+      → record { refusal = 0; found = 0; count = k; «in_ram» = 0; offset = 0 } ≡ lookupOf (answer h g v (lookup key))
   unfolding lookupAfter
   lookup-nothing k e = rw e
 
   pub lookup-ram : (k j o : ℕ) (b : Bool) → search h g v key ≡ find.reply (some (found j)) k
       → record { inRam = b; at = o } ≡ itemPlace (g .u) (RA g) (v .state .records) j → b ≡ true
-      → record { refusal = 0; found = 1; count = k; «in_ram» = 1; offset = o } ≡ looked (answer h g v (lookup key))
+      → record { refusal = 0; found = 1; count = k; «in_ram» = 1; offset = o } ≡ lookupOf (answer h g v (lookup key))
   unfolding lookupAfter
   lookup-ram k j o b e p t = rw (e, ← p, t)
 
   pub lookup-main : (k j o : ℕ) (b : Bool) → search h g v key ≡ find.reply (some (found j)) k
       → record { inRam = b; at = o } ≡ itemPlace (g .u) (RA g) (v .state .records) j → b ≡ false
-      → record { refusal = 0; found = 1; count = k; «in_ram» = 0; offset = o } ≡ looked (answer h g v (lookup key))
+      → record { refusal = 0; found = 1; count = k; «in_ram» = 0; offset = o } ≡ lookupOf (answer h g v (lookup key))
   unfolding lookupAfter
   lookup-main k j o b e p t = rw (e, ← p, t)
 
@@ -65,10 +65,10 @@ module _ (g : Geometry) (s : Sound g) (n j : ℕ) (m : n ≤ layout.recordCapaci
 -- ---- by what the judge of the state answers
 
 module _ (h : Family) (v : Volume) (key : ℕ) where
-  pub lookup-refused : (i : ℕ) → judgedOf v ≡ Refused i → refusedLookup i ≡ looked (call h v (lookup key))
+  pub lookup-refused : (i : ℕ) → judgementOf v ≡ Refused i → refusedLookup i ≡ lookupOf (call h v (lookup key))
   unfolding call
-  lookup-refused i e = ap looked (sym (judged-refused v _ i e .is))
+  lookup-refused i e = ap lookupOf (sym (judge-refused v _ i e .is))
 
-  pub lookup-fits : (g : Geometry) → Fits v g → answer h (shape g) v (lookup key) ≡ call h v (lookup key)
+  pub lookup-fits : (g : Geometry) → VolumeFits v g → answer h (shape g) v (lookup key) ≡ call h v (lookup key)
   unfolding call
-  lookup-fits g f = ap (λ (k : Geometry). answer h (shape k) v (lookup key)) (f .is) ∙ sym (judged-fits v g _ f)
+  lookup-fits g f = ap (λ (k : Geometry). answer h (shape k) v (lookup key)) (f .is) ∙ sym (judge-fits v g _ f)

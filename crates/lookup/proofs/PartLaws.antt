@@ -18,10 +18,11 @@ use Rattle.layout.specs.Items.{Place, bytesAt, source}
 use Rattle.layout.specs.Hash.{Family}
 use Rattle.layout.specs.Refusals as refusal
 use Rattle.layout.specs.Search.{Stop, found, corrupt}
-use Rattle.layout.specs.Calls.{Volume, Outcome, accepted, hit, miss, refused, refuse, badState, tooShort, judged, lookup, lookupAfter, recordPlace, search, answer, call}
-use Rattle.flash.specs.Parts.{tab-part}
-use Rattle.lookup.specs.Looked.{lookedOf, looked, partOf, whereOf}
+use Rattle.layout.specs.Calls.{Volume, Outcome, accepted, hit, miss, refused, refuse, badState, tooShort, judgeFirst, lookup, lookupAfter, recordPlace, search, answer, call}
+use Rattle.memory.specs.Lists.{tab-part}
+use Rattle.lookup.specs.Results.{lookupBy, lookupOf, partOf, whereOf}
 use Rattle.lookup.specs.declared.LookupResult.{LookupResult}
+use Rattle.laws.specs.Lengths.{long-of}
 use Rattle.laws.specs.Sound.{sound, pu}
 
 -- the place of an outcome, and its bytes
@@ -44,7 +45,7 @@ isHit (refused i) = false
 isHit accepted = false
 
 -- an answer with `found` set is a hit
-pub found-hit : (o : Outcome) (c : ℕ) → lookedOf o c .found ≢ 0 → (p : Place) × (b : List ℕ) × (o ≡ hit p b)
+pub found-hit : (o : Outcome) (c : ℕ) → lookupBy o c .found ≢ 0 → (p : Place) × (b : List ℕ) × (o ≡ hit p b)
 found-hit (hit p b) c n = (p, b, refl)
 found-hit miss c n = absurd (n refl)
 found-hit (refused i) c n = absurd (n refl)
@@ -63,20 +64,17 @@ module _ (h : Family) (v : Volume) where
 
   place-inside : badState (v .state) ≡ false → tooShort g (v .flash) (v .ram) ≡ false → (j : ℕ)
       → recordPlace g v j .at + 16 ≤ length (source (v .flash .main) (v .ram) (recordPlace g v j))
-  unfolding badState tooShort
+  unfolding badState
   place-inside bad short j =
       let state = or-eq-false-iff (not (layout.allowed (v .state .sizes))) _ .0 bad in
       let counts = or-eq-false-iff (ltb (layout.recordCapacity g) (v .state .records)) _ .0 (state .1) in
-      let flash = or-eq-false-iff (ltb (length (v .flash .main)) (layout.dataSize g)) _ .0 short in
-      let rest = or-eq-false-iff (ltb (length (v .flash .spare)) (layout.spareSize g)) _ .0 (flash .1) in
       let ok = sound (v .state .sizes) (not-false _ (state .0)) in
       let u-pos = pu (v .state .sizes) ok in
       let cap : v .state .records ≤ layout.recordCapacity g = ltb-false _ _ (counts .0) in
-      let main-fits : layout.dataSize g ≤ length (v .flash .main) = ltb-false _ _ (flash .0) in
-      let ram-fits : layout.ramSize g ≤ length (v .ram) = ltb-false _ _ (rest .1) in
+      let read = long-of g (v .flash) (v .ram) short .read in
       either (lt? j (v .state .records / (4 * u) * (4 * u)))
-      (λ a. rw (a .0) (omega (arith, div-mul-le-self (v .state .records) (4 * u), cap, main-fits)))
-      (λ a. rw (a .0) (omega (arith, mul-le-mul-right 16 (mod-lt j {m = 4 * u} (omega (arith, u-pos))), ram-fits)))
+      (λ a. rw (a .0) (omega (arith, div-mul-le-self (v .state .records) (4 * u), cap, read .main-fits)))
+      (λ a. rw (a .0) (omega (arith, mul-le-mul-right 16 (mod-lt j {m = 4 * u} (omega (arith, u-pos))), read .ram-fits)))
 
   after-inside : badState (v .state) ≡ false → tooShort g (v .flash) (v .ram) ≡ false → (opened : ℕ) (o : Option Stop) (p : Place) (b : List ℕ)
       → lookupAfter g v opened o .outcome ≡ hit p b → Inside (v .flash .main) (v .ram) p b
@@ -89,7 +87,7 @@ module _ (h : Family) (v : Volume) where
       (sym r ∙ ap (λ (x : Place). bytesAt (v .flash .main) (v .ram) x 16) q, rw q at (place-inside bad short j))
 
   pub call-inside : (key : ℕ) (p : Place) (b : List ℕ) → call h v (lookup key) .outcome ≡ hit p b → Inside (v .flash .main) (v .ram) p b
-  unfolding call judged
+  unfolding call judgeFirst
   call-inside key p b e = go (badState (v .state)) (tooShort g (v .flash) (v .ram)) refl refl e
     where
       go : (x y : Bool) → badState (v .state) ≡ x → tooShort g (v .flash) (v .ram) ≡ y
@@ -109,7 +107,7 @@ num-false true q = absurd (q refl)
 num-false false q = refl
 
 -- an answer with `found` 0 hands out nothing
-pub empty-part : (m r : ℕ × ℕ) (o : Outcome) (c : ℕ) → lookedOf o c .found ≡ 0 → (partOf o ≡ []) × (whereOf m r o ≡ (m .0, 0 + m .1))
+pub empty-part : (m r : ℕ × ℕ) (o : Outcome) (c : ℕ) → lookupBy o c .found ≡ 0 → (partOf o ≡ []) × (whereOf m r o ≡ (m .0, 0 + m .1))
 empty-part m r (hit p b) c q = absurd (omega (arith, q))
 empty-part m r miss c q = (refl, refl)
 empty-part m r (refused i) c q = (refl, refl)
@@ -122,7 +120,7 @@ as-place p x q t e = λ i. record { inRam = t i; at = sym e i }
 moved : (main ram : List ℕ) (p p′ : Place) (b : List ℕ) → p ≡ p′ → Inside main ram p b → Inside main ram p′ b
 moved main ram p p′ b e x = rw e at x
 
-module _ (h : Family) (v : Volume) (key : ℕ) (f : LookupResult) (is : f ≡ looked (call h v (lookup key))) (there : f .found ≢ 0) where
+module _ (h : Family) (v : Volume) (key : ℕ) (f : LookupResult) (is : f ≡ lookupOf (call h v (lookup key))) (there : f .found ≢ 0) where
   o : Outcome
   o = call h v (lookup key) .outcome
 
@@ -132,7 +130,7 @@ module _ (h : Family) (v : Volume) (key : ℕ) (f : LookupResult) (is : f ≡ lo
   -- its numbers are those of the place
   numbers : (f .offset ≡ at-hit .0 .at) × (f .«in_ram» ≡ num (at-hit .0 .inRam))
   numbers =
-      let e : f ≡ lookedOf (hit (at-hit .0) (at-hit .1)) (call h v (lookup key) .count) = is ∙ ap (λ (x : Outcome). lookedOf x (call h v (lookup key) .count)) (at-hit .2) in
+      let e : f ≡ lookupBy (hit (at-hit .0) (at-hit .1)) (call h v (lookup key) .count) = is ∙ ap (λ (x : Outcome). lookupBy x (call h v (lookup key) .count)) (at-hit .2) in
       (ap (λ (x : LookupResult). x .offset) e, ap (λ (x : LookupResult). x .«in_ram») e)
 
   inside : Inside (v .flash .main) (v .ram) (at-hit .0) (at-hit .1)

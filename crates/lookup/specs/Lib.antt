@@ -1,2 +1,2 @@
-pub mod Looked
-pub mod LookedLeft
+pub mod Results
+pub mod Effects

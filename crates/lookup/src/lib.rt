@@ -5,11 +5,11 @@ ghost use Rattle.layout.specs.Hash.{fnvFamily};
 ghost use Rattle.layout.specs.Calls.{lookup, call, answer};
 ghost use Rattle.geometry.specs.Shape.{shape};
 ghost use Rattle.state.specs.Contract.{volume, given};
-ghost use Rattle.state.specs.Judge.{Fits};
-ghost use Rattle.lookup.specs.Looked.{looked, numbersOf, partOf, whereOf};
+ghost use Rattle.state.specs.Judge.{VolumeFits};
+ghost use Rattle.lookup.specs.Results.{lookupOf, answerNumbers, partOf, whereOf};
 use geometry::Geometry;
 use search::End;
-use state::Judged;
+use state::Judgement;
 use state::State;
 
 // The answer of a lookup. found 1: the record's 16 bytes start at `offset` of the RAM (in_ram 1) or of the
@@ -36,8 +36,8 @@ fn refuse_lookup(i: u32) -> LookupResult
 }
 
 fn find_in(g: Geometry, s: State, key: u32, main: &[u8], spare: &[u8], ram: &[u8]) -> LookupResult
-    requires { ⌜ Fits (volume s (now main) (now spare) (now ram)) g ⌝ }
-    ensures { λ r. ⌜ r ≡ looked (answer fnvFamily (shape g) (given s main spare ram) (lookup key)) ⌝ }
+    requires { ⌜ VolumeFits (volume s (now main) (now spare) (now ram)) g ⌝ }
+    ensures { λ r. ⌜ r ≡ lookupOf (answer fnvFamily (shape g) (given s main spare ram) (lookup key)) ⌝ }
 {
     let n = s.records as usize;
     let f = search::search(search::all(g, n, s.deletions as usize), key, main, ram);
@@ -82,13 +82,13 @@ fn find_in(g: Geometry, s: State, key: u32, main: &[u8], spare: &[u8], ram: &[u8
 
 // Where a level's record lies, in numbers.
 pub fn find(s: State, key: u32, main: &[u8], spare: &[u8], ram: &[u8]) -> LookupResult
-    ensures { λ r. ⌜ r ≡ looked (call fnvFamily (given s main spare ram) (lookup key)) ⌝ }
+    ensures { λ r. ⌜ r ≡ lookupOf (call fnvFamily (given s main spare ram) (lookup key)) ⌝ }
 {
     match state::judge(s, main, spare, ram) {
-        Judged::Refused(i) => {
+        Judgement::Refused(i) => {
             return refuse_lookup(i);
         }
-        Judged::Good(g) => {
+        Judgement::Good(g) => {
             return find_in(g, s, key, main, spare, ram);
         }
     }
@@ -105,8 +105,9 @@ pub fn lookup<'a>(
     numbers: &mut [u32; 3],
 ) -> &'a [u8]
     ensures part { λ r. ⌜ (now r ≡ partOf (call fnvFamily (given s main spare ram) (lookup key) .outcome))
-        × (r .ptr ≡ whereOf ((main .entry) .ptr) ((ram .entry) .ptr) (call fnvFamily (given s main spare ram) (lookup key) .outcome)) ⌝ }
-    ensures numbers { λ r. ⌜ after numbers ≡ numbersOf (looked (call fnvFamily (given s main spare ram) (lookup key))) ⌝ }
+        × (r .ptr ≡ whereOf ((main .entry) .ptr) ((ram .entry) .ptr)
+        (call fnvFamily (given s main spare ram) (lookup key) .outcome)) ⌝ }
+    ensures numbers { λ r. ⌜ after numbers ≡ answerNumbers (lookupOf (call fnvFamily (given s main spare ram) (lookup key))) ⌝ }
 {
     let f = find(s, key, main, spare, ram);
     *numbers = [f.refusal, f.found, f.count];

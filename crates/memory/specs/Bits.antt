@@ -1,13 +1,13 @@
 -- Bits of a number, and a number from its bits.
 use mathlib.Core.Path.{_≡_, refl, sym, ap, ap₂, _∙_}
 use mathlib.Core.Logic.{_≢_}
-use mathlib.Core.Bool.{Bool, true, false}
+use mathlib.Core.Bool.{Bool, true, false, _||_}
 use mathlib.Core.List.{List}
-use Prim.Native.Nat.{ℕ, zero, suc, _+_, _*_, _/_, _%_, _^_, _<_}
+use Prim.Native.Nat.{ℕ, zero, suc, _+_, _*_, _/_, _%_, _^_, _<_, max}
 use native.Mathlib.Nat.{le-of-suc-le-suc, not-suc-le-zero, mod-lt, div-div-eq-div-mul, div-one, pow-suc, mul-comm}
 use native.Mathlib.Omega.{arith}
 use lib.Arith.{digits-div, digits-mod}
-use lib.Bits.{block-half, block-odd}
+use lib.Bits.{bitOr, or-step, block-half, block-odd}
 use lib.Dec.{eqb}
 use lib.ListN.{getD}
 use lib.Pow.{split, pow-pos}
@@ -121,3 +121,25 @@ bit-mod n m i h = sym (ap (λ (y : ℕ). bit y i) (sym (split n m)) ∙ bit-low 
 -- a shift to the right
 pub bit-shr : (x k i : ℕ) → bit (x / 2 ^ k) i ≡ bit x (k + i)
 bit-shr x k i = sym (ap (λ (y : ℕ). bit y (k + i)) (sym (split x k)) ∙ bit-high k (x / 2 ^ k) (x % 2 ^ k) i (mod-lt x (pow-pos k)))
+
+-- ---- a disjunction, bit by bit
+
+max-or : (a b : ℕ) → a < 2 → b < 2 → eqb (max a b) 1 ≡ (eqb a 1 || eqb b 1)
+max-or zero zero h l = refl
+max-or zero (suc zero) h l = refl
+max-or zero (suc (suc b)) h l = absurd (omega arith)
+max-or (suc zero) zero h l = refl
+max-or (suc zero) (suc zero) h l = refl
+max-or (suc zero) (suc (suc b)) h l = absurd (omega arith)
+max-or (suc (suc a)) b h l = absurd (omega arith)
+
+pub bit-or : (a b i : ℕ) → bit (bitOr a b) i ≡ (bit a i || bit b i)
+unfolding bit
+bit-or a b zero =
+    let s = or-step a b in
+    let e : bitOr a b % 2 ≡ max (a % 2) (b % 2) = omega arith in
+    ap (λ (y : ℕ). eqb y 1) e ∙ max-or (a % 2) (b % 2) (omega arith) (omega arith)
+bit-or a b (suc i) =
+    let s = or-step a b in
+    let e : bitOr a b / 2 ≡ bitOr (a / 2) (b / 2) = omega arith in
+    ap (λ (y : ℕ). bit y i) e ∙ bit-or (a / 2) (b / 2) i

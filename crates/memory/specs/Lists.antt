@@ -6,7 +6,7 @@ use Prim.Native.Nat.{ℕ, zero, suc, _+_, _-_, _*_, _≤_, _<_, zero-le}
 use native.Mathlib.Nat.{le-of-suc-le-suc, not-suc-le-zero, suc-sub-suc, sub-zero}
 use native.Mathlib.Omega.{arith}
 use lib.ListN.{length, getD, set, take, drop, length-take, length-drop}
-use lib.Seq.{ext-getD, drop-drop, getD-set-same, getD-set-other}
+use lib.Seq.{ext-getD, drop-drop, getD-set-same, getD-set-other, getD-take, getD-drop}
 use Rattle.memory.specs.Cases.{either, eq?}
 
 module _ {ℓ} {A : Type ℓ} where
@@ -111,6 +111,12 @@ is-tab l n f e h =
 abbrev pub part : List ℕ → ℕ → ℕ → List ℕ
 part l at n = tab n (λ k. getD l (at + k) 0)
 
+-- the same as a cut
+pub tab-part : (l : List ℕ) (a n : ℕ) → a + n ≤ length l → tab n (λ y. getD l (a + y) 0) ≡ take n (drop a l)
+tab-part l a n h =
+    sym (is-tab (take n (drop a l)) n (λ y. getD l (a + y) 0) (simp (length-take, length-drop) (omega arith))
+    (λ i k. getD-take n (drop a l) i 0 k ∙ getD-drop a l i 0))
+
 -- ---- a list that is filled from its start on: its first i elements are those of f
 
 abbrev pub Done : (ℕ → ℕ) → List ℕ → ℕ → Type 0
@@ -145,6 +151,18 @@ length-part l at n h = simp (length-take, length-drop) (omega arith)
 pub part-back : (l : List ℕ) (i e : ℕ) (s : List ℕ) → i ≤ e → e ≤ length l → length s ≡ e - i
     → take i l ++ (s ++ drop (e - i) (drop i l)) ≡ write l i s
 part-back l i e s order h size = rw (← size, drop-drop, write-cut l i s (omega arith))
+
+-- what is written behind a write is written with it
+pub write-append : (l : List ℕ) (at : ℕ) (a b : List ℕ) → write (write l at a) (at + length a) b ≡ write l at (a ++ b)
+unfolding write
+write-append [] at a b = refl
+write-append (x ∷ xs) zero [] b = refl
+write-append (x ∷ xs) zero (y ∷ ys) b =
+    let e : 0 + suc (length ys) ≡ suc (0 + length ys) = omega arith in
+    rw e (ap (λ (l : List ℕ). y ∷ l) (write-append xs zero ys b))
+write-append (x ∷ xs) (suc n) a b =
+    let e : suc n + length a ≡ suc (n + length a) = omega arith in
+    rw e (ap (λ (l : List ℕ). x ∷ l) (write-append xs n a b))
 
 -- ---- k pieces of L elements, the j-th from at + j * d on; element y of the j-th is f j y
 

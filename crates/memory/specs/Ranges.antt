@@ -1,14 +1,17 @@
 -- The last index below n that passes a test, whether any does; a list of numbers and what is in it.
-use mathlib.Core.Path.{_≡_, refl}
+use mathlib.Core.Path.{_≡_, refl, _∙_}
 use mathlib.Core.Logic.{⊎-elim}
-use mathlib.Core.Bool.{Bool, true, false, _&&_, _||_, cond}
+use mathlib.Core.Bool.{Bool, true, false, _&&_, _||_, cond, false≢true}
 use mathlib.Core.List.{List, [], _∷_}
 use mathlib.Core.Option.{Option, none, some}
 use Prim.Native.Nat.{ℕ, zero, suc, _<_}
 use native.Mathlib.Nat.{not-suc-le-zero}
 use native.Mathlib.Omega.{arith}
 use lib.Dec.{eqb}
-use Rattle.memory.specs.Cases.{bool?, lt?}
+use lib.ListN.{length, getD}
+use borrow.Author.Tests.{eq-eqb}
+use Rattle.memory.specs.Cases.{bool?, lt?, eq?, either}
+use Rattle.memory.specs.Lists.{tab, length-tab, getD-tab}
 
 unfoldable pub last : (ℕ → Bool) → ℕ → Option ℕ
 last f zero = none
@@ -68,3 +71,41 @@ memb x (y ∷ ys) = eqb y x || memb x ys
 unfoldable pub allOf : (ℕ → Bool) → List ℕ → Bool
 allOf f [] = true
 allOf f (x ∷ xs) = f x && allOf f xs
+
+-- ---- membership in a list by index
+
+any-front : (f : ℕ → Bool) (n : ℕ) → any f (suc n) ≡ (f zero || any (λ i. f (suc i)) n)
+unfolding any
+any-front f zero = refl
+any-front f (suc n) =
+    let ih = any-front f n in
+    either (bool? (f (suc n)))
+    (λ a. either (bool? (f zero)) (λ b. cc) (λ b. cc))
+    (λ a. either (bool? (f zero)) (λ b. cc) (λ b. cc))
+
+pub any-memb : (x : ℕ) (l : List ℕ) → any (λ i. eqb (getD l i 0) x) (length l) ≡ memb x l
+unfolding any memb
+any-memb x [] = refl
+any-memb x (y ∷ ys) = any-front (λ i. eqb (getD (y ∷ ys) i 0) x) (length ys) ∙ rw (any-memb x ys)
+
+-- ---- membership in a list of positions
+
+pub allOf-true : (f : ℕ → Bool) (l : List ℕ) → ((x : ℕ) → memb x l ≡ true → f x ≡ true) → allOf f l ≡ true
+unfolding allOf memb
+allOf-true f [] h = refl
+allOf-true f (y ∷ ys) h =
+    let first : f y ≡ true = h y (rw (eq-eqb y y refl)) in
+    rw first (allOf-true f ys (λ x m. h x (either (bool? (eqb y x)) (λ c. rw c) (λ c. rw c m))))
+
+-- what holds of the number at each index holds of each member
+memb-all : (P : ℕ → Type 0) (l : List ℕ) → ((i : ℕ) → i < length l → P (getD l i 0)) → (x : ℕ) → memb x l ≡ true → P x
+unfolding memb
+memb-all P [] h x m = absurd (false≢true m)
+memb-all P (y ∷ ys) h x m =
+    either (eq? y x)
+    (λ e. rw (← (e .1)) (h 0 (omega arith)))
+    (λ e. memb-all P ys (λ i l. h (suc i) (omega arith)) x (rw (e .0) at m))
+
+-- every number of a tab comes from an index: what holds of each f j holds of each member
+pub memb-tab-all : (P : ℕ → Type 0) (k : ℕ) (f : ℕ → ℕ) → ((j : ℕ) → j < k → P (f j)) → (x : ℕ) → memb x (tab k f) ≡ true → P x
+memb-tab-all P k f h = memb-all P (tab k f) (λ i l. let s : i < k = rw (length-tab k f) at l in rw (getD-tab k f i 0 s) (h i s))

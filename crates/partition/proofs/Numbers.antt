@@ -8,7 +8,7 @@ use Rattle.memory.specs.Power.{log2up}
 use Rattle.memory.specs.Numbers.{euclid}
 use Rattle.layout.specs.Geometry.{sector, page, block}
 use Rattle.layout.specs.Index.{Index, pagesPerFourth, setPages, setWidth, sideBlock}
-use Rattle.laws.specs.RowLaws.{unit-pos, width-is, width-pos, blocks-fit}
+use Rattle.laws.specs.SetLaws.{unit-pos, width-is, width-pos, blocks-fit}
 use Rattle.laws.specs.Units.{UnitSound}
 use Rattle.partition.specs.Sources.{roundBytes, sourceOf, rowOf}
 use Rattle.fields.specs.declared.Source.{Source}

@@ -8,7 +8,7 @@ use Rattle.memory.specs.Numbers.{div-lt}
 use Rattle.memory.specs.Power.{log2up}
 use Rattle.layout.specs.Geometry.{block}
 use Rattle.layout.specs.Index.{Index, setPages, setWidth, fullBlock}
-use Rattle.laws.specs.RowLaws.{width-is, width-pos, set-whole, blocks-fit, filters-fit, side-range}
+use Rattle.laws.specs.SetLaws.{width-is, width-pos, set-whole, blocks-fit, filters-fit, side-range}
 use Rattle.fields.specs.Sources.{Aligned, Reaches}
 use Rattle.partition.specs.declared.Row.{Row}
 use Rattle.laws.specs.Units.{UnitIs}

@@ -14,8 +14,7 @@ use Rattle.memory.specs.Bits.{bit, bitIn, pack, pack-ext}
 use Rattle.layout.specs.Geometry.{sector, page, block}
 use Rattle.layout.specs.Index.{Index, filtersPerRound, pagesPerFourth, rowBit, rowByte, bitAt}
 use Rattle.layout.specs.Index.{setWidth, fullFilters, sideBlock, flashPlace, setByte}
-use Rattle.laws.specs.RowLaws.{unit-pos, width-pos}
-use Rattle.laws.specs.Apart.{place-old, place-new}
+use Rattle.laws.specs.SetLaws.{unit-pos, width-pos, place-old, place-new}
 use Rattle.fields.specs.declared.Source.{Source}
 use Rattle.fields.specs.Sources.{fieldByte}
 use Rattle.partition.specs.declared.Row.{Row}

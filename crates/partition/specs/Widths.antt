@@ -5,7 +5,7 @@ use native.Mathlib.Omega.{arith}
 use lib.Pow.{pow-add}
 use Rattle.memory.specs.Power.{log2up, log2up-enough, log2up-least}
 use Rattle.layout.specs.Index.{setWidth}
-use Rattle.laws.specs.RowLaws.{width-is}
+use Rattle.laws.specs.SetLaws.{width-is}
 use Rattle.fields.specs.Laws.{pow-whole}
 
 -- more rounds want no smaller power of two

@@ -7,7 +7,7 @@ use lib.ListN.{length, take, drop, length-append}
 use Rattle.layout.specs.Geometry.{sectorsPerPage, raRam, kaRam, daRam}
 use Rattle.layout.specs.Flash.{Flash, Planned, plannedFrom}
 use Rattle.layout.specs.Index.{flushesPerRound}
-use Rattle.laws.specs.RowLaws.{blocks-fit}
+use Rattle.laws.specs.SetLaws.{blocks-fit}
 use Rattle.plan.specs.declared.Page.{Page}
 use Rattle.plan.specs.declared.Plan.{Plan}
 use Rattle.plan.specs.declared.Span.{Span}

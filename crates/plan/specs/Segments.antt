@@ -13,7 +13,7 @@ use Rattle.memory.specs.Lists.{tab, is-tab, tab-ext, getD-tab, write, getD-writ
 use Rattle.layout.specs.Geometry.{sector, page, fourthSize}
 use Rattle.layout.specs.Flash.{Planned, known, made, wipe}
 use Rattle.layout.specs.Index.{Index, flushesPerRound, withFilter, setByte}
-use Rattle.flash.specs.Parts.{tab-part}
+use Rattle.memory.specs.Lists.{tab-part}
 use Rattle.geometry.specs.Indexes.{indexOf}
 use Rattle.filter.specs.Filter.{arrayBit}
 use Rattle.filter.specs.Pieces.{fourthOf, piece-of}

@@ -13,10 +13,10 @@ use Rattle.layout.specs.Flash.{Planned}
 use Rattle.layout.specs.Hash.{Family}
 use Rattle.layout.specs.Items.{RA, KA, DA, fills, deletionBytes, entryBytes}
 use Rattle.layout.specs.Calls.{newFilter, deletionPlan, deletionRam, insertionPlan, insertionRam}
+use Rattle.laws.specs.Lengths.{Long}
 use Rattle.geometry.specs.declared.Geometry.{Geometry as CodeGeometry}
 use Rattle.geometry.specs.Shape.{shape, Sound}
 use Rattle.filter.specs.Filter.{arrayBit}
-use Rattle.state.specs.Judge.{Long}
 use Rattle.plan.specs.declared.Plan.{Plan}
 use Rattle.plan.specs.Plans.{PlanFits, deletionIn, recordIn, entryIn, planned}
 use Rattle.planning.specs.declared.Slots.{Slots}
@@ -77,7 +77,7 @@ module _ (h : Family) (g : Geometry) (j key : ℕ) (bytes new bits ram : List �
       update-planned h g n key bytes new bits ram (G .1 .size) (G .1 .record-is) (G .1 .entry-is) (G .1 .filter-is) d j (G .0)
 
 -- and it fits
-pub edit-fits : (g : CodeGeometry) → Sound g → (main spare ram : List ℕ) → Long g main spare ram → (e : Slots) → Room (shape g) e
+pub edit-fits : (g : CodeGeometry) → Sound g → (main spare ram : List ℕ) → Long (shape g) main spare ram → (e : Slots) → Room (shape g) e
     → PlanFits (numbersOf (shape g) e) (length main) (length spare) (length ram)
 edit-fits g S main spare ram L (Delete d) R = deletion-fits g S main spare ram L d R
 edit-fits g S main spare ram L (Insert n) R = insertion-fits g S main spare ram L n R

@@ -14,12 +14,12 @@ use Rattle.layout.specs.Geometry as layout
 use Rattle.layout.specs.Items.{Area, RA, KA, DA, fills}
 use Rattle.layout.specs.Index.{Index, inSka, inL1, inSet, inFull, setPages, setBlocks, sideBlock, fullBlock, setBlock}
 use Rattle.layout.specs.Calls.{keyIndex, keyFilters}
-use Rattle.laws.specs.RowLaws.{blocks-fit, side-range, places-suffice}
+use Rattle.laws.specs.Lengths.{Long}
+use Rattle.laws.specs.SetLaws.{blocks-fit, side-range, places-suffice}
 use Rattle.geometry.specs.declared.Geometry.{Geometry}
 use Rattle.geometry.specs.Shape.{shape, chipOf, Sound}
 use Rattle.geometry.specs.Bounds.{index-le}
 use Rattle.geometry.specs.Indexes.{indexFor}
-use Rattle.state.specs.Judge.{Long}
 use Rattle.plan.specs.declared.Segment.{Segment}
 use Rattle.geometry.specs.declared.sets.Set.{Set}
 use Rattle.plan.specs.Fits.{PageFits, FlushFits, NextFits, WipeFits}
@@ -109,7 +109,7 @@ module _ (g : Geometry) (S : Sound g) where
 
   -- ---- in slices that hold the volume
 
-  module _ (main spare ram : List ℕ) (L : Long g main spare ram) where
+  module _ (main spare ram : List ℕ) (L : Long G main spare ram) where
     abbrev m : ℕ
     m = length main
 
@@ -126,24 +126,24 @@ module _ (g : Geometry) (S : Sound g) where
         → PageFits u (record { sector = first; at = at }) m s r
     page-fits first at h k = record {
       small = S .unit .1 .most;
-      in-main = sectors-in u (layout.blocks G) (first + 4) m (L .main-fits) h;
+      in-main = sectors-in u (layout.blocks G) (first + 4) m (L .read .main-fits) h;
       in-spare = le-trans h (L .spare-fits);
-      in-ram = le-trans k (L .ram-fits);
+      in-ram = le-trans k (L .read .ram-fits);
     }
 
     flush-fits : (first : ℕ) → first + 49 ≤ layout.blocks G * 64 → FlushFits u (record { sector = first; at = keyIndex G .ska }) m s r
     flush-fits first h = record {
       some = S .unit .1 .some;
       small = S .unit .1 .most;
-      in-main = sectors-in u (layout.blocks G) (first + 49) m (L .main-fits) h;
+      in-main = sectors-in u (layout.blocks G) (first + 49) m (L .read .main-fits) h;
       in-spare = le-trans h (L .spare-fits);
-      in-ram = le-trans (omega arith) (L .ram-fits);
+      in-ram = le-trans (omega arith) (L .read .ram-fits);
     }
 
     wipe-fits : (b : Segment) → b .first + b .count ≤ layout.blocks G → WipeFits u b m s
     wipe-fits b h = record {
       small = S .unit .1 .most;
-      in-main = blocks-in (layout.blocks G) (b .first + b .count) (layout.block u) m (L .main-fits) h;
+      in-main = blocks-in (layout.blocks G) (b .first + b .count) (layout.block u) m (L .read .main-fits) h;
       in-spare = blocks-in (layout.blocks G) (b .first + b .count) 64 s (L .spare-fits) h;
     }
 
@@ -156,9 +156,9 @@ module _ (g : Geometry) (S : Sound g) where
           unit = S .unit;
           rounds = hc;
           near = omega (arith, i);
-          sides = blocks-in (layout.blocks G) (fullBlock u (keyIndex G) 0) (layout.block u) m (L .main-fits) l;
+          sides = blocks-in (layout.blocks G) (fullBlock u (keyIndex G) 0) (layout.block u) m (L .read .main-fits) l;
           sectors = hk;
-          in-main = sectors-in u (layout.blocks G) (first + k) m (L .main-fits) h;
+          in-main = sectors-in u (layout.blocks G) (first + k) m (L .read .main-fits) h;
           in-spare = le-trans h (L .spare-fits);
         }
 

@@ -7,7 +7,7 @@ use lib.ListN.{length, take, drop, length-append}
 use lib.Seq.{take-all, take-append-seam, drop-append-seam}
 use Rattle.layout.specs.Items.{Record, recordBytes, entryBytes, deletionBytes}
 use Rattle.laws.specs.ItemLaws.{length-record, length-entry, length-deletion}
-use Rattle.plan.specs.Plans.{newLength, deletionIn, recordIn, entryIn}
+use Rattle.plan.specs.Plans.{deletionIn, recordIn, entryIn}
 
 -- the deletion of record j, record n and its entry
 abbrev pub newBytes : ℕ → Record → ℕ → List ℕ
@@ -38,9 +38,6 @@ module _ (j : ℕ) (r : Record) (n : ℕ) where
 
   abbrev E : List ℕ
   E = entryBytes (r .key) n
-
-  pub new-length : length (newBytes j r n) ≡ newLength
-  new-length = length-append D (R ++ E) ∙ omega (arith, length-append R E, length-deletion j, length-record r, length-entry (r .key) n)
 
   pub deletion-part : deletionIn (newBytes j r n) ≡ D
   deletion-part = part-first D R E (length-deletion j) (length-record r) (length-entry (r .key) n)

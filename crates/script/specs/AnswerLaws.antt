@@ -6,7 +6,7 @@ use native.Mathlib.Omega.{arith}
 use lib.ListN.{length, set, length-append}
 use borrow.Author.Tests.{lt-ltb, le-ltb}
 use Rattle.memory.specs.Cases.{either, lt?}
-use Rattle.memory.specs.Lists.{write}
+use Rattle.memory.specs.Lists.{write, write-append}
 use Rattle.script.specs.Answers.{Answer, ok, hit, miss, no, bad, digits, decimal, text}
 
 -- a store is a write of one byte
@@ -17,22 +17,10 @@ write-byte (x ∷ []) zero c = refl
 write-byte (x ∷ y ∷ xs) zero c = refl
 write-byte (x ∷ xs) (suc n) c = ap (λ (t : List ℕ). x ∷ t) (write-byte xs n c)
 
--- two writes next to each other
-pub write-next : (l : List ℕ) (at : ℕ) (a b : List ℕ) → write (write l at a) (at + length a) b ≡ write l at (a ++ b)
-unfolding write
-write-next [] at a b = refl
-write-next (x ∷ xs) zero [] b = refl
-write-next (x ∷ xs) zero (y ∷ ys) b =
-    let e : 0 + suc (length ys) ≡ suc (0 + length ys) = omega arith in
-    rw e (ap (λ (t : List ℕ). y ∷ t) (write-next xs zero ys b))
-write-next (x ∷ xs) (suc n) a b =
-    let e : suc n + length a ≡ suc (n + length a) = omega arith in
-    rw e (ap (λ (t : List ℕ). x ∷ t) (write-next xs n a b))
-
--- the same by what each write leaves
+-- two writes next to each other, by what each leaves
 pub write-then : (l x y : List ℕ) (at next : ℕ) (a b : List ℕ) → x ≡ write l at a → next ≡ at + length a → y ≡ write x next b
     → y ≡ write l at (a ++ b)
-write-then l x y at next a b p q r = r ∙ rw (p, q) (write-next l at a b)
+write-then l x y at next a b p q r = r ∙ rw (p, q) (write-append l at a b)
 
 -- a word, a piece with a space after it, and the rest
 pub write-three : (l x y z w a b : List ℕ) (at end : ℕ) → x ≡ write l 0 w

@@ -75,7 +75,8 @@ fn put_two(word: &[u8], n: u32, m: u32, out: &mut [u8]) -> usize
     requires { ⌜ length (now word) + 22 ≤ length (now out) ⌝ }
     ensures end { λ r. ⌜ (r ≡ length (before word ++ (decimal n ++ (ascii " " ++ (decimal m ++ ascii "\n")))))
         × (r ≤ length (before word) + 22) ⌝ }
-    ensures bytes { λ _. ⌜ after out ≡ write (before out) 0 (before word ++ (decimal n ++ (ascii " " ++ (decimal m ++ ascii "\n")))) ⌝ }
+    ensures bytes { λ _. ⌜ after out
+        ≡ write (before out) 0 (before word ++ (decimal n ++ (ascii " " ++ (decimal m ++ ascii "\n")))) ⌝ }
 {
     words::copy_at(out, 0, word);
     let at = put_number(n, b' ', word.len(), out);

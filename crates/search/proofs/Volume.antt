@@ -21,13 +21,11 @@ use Rattle.layout.specs.Search.{Stop, reply, ramFirst, scan, searchPages, tryEn
 use Rattle.layout.specs.Calls.{keyIndex, keyPositions, isDeleted, entryWord, tryAt, maybeIn, searchAt}
 use Rattle.geometry.specs.declared.Geometry.{Geometry}
 use Rattle.geometry.specs.Shape.{shape, AreaSound}
-use Rattle.geometry.specs.Bounds.{index-le}
 use Rattle.geometry.specs.declared.areas.Area as items
 use Rattle.items.specs.Fits as fits
 use Rattle.items.specs.Scans.{isWord, hasWord, any-sum}
 use Rattle.items.specs.Reading.{word-on-flash, page-word, ram-word}
 use Rattle.kernels.specs.Blocks.{OpenBlock}
-use Rattle.filter.specs.Filter.{Fits}
 use Rattle.filter.specs.Blocks.{BlockAt}
 use Rattle.filter.specs.declared.groups.Block.{Block}
 use Rattle.search.specs.declared.View.{View}
@@ -148,7 +146,7 @@ module _ (u : ℕ) (a : Area) (d : ℕ) (main ram : List ℕ) (one : a .size ≡
           ap (λ (x : ℕ). eqb x j) (ram-word u a d main ram i 0 (omega arith) ∙ ap (λ (x : ℕ). word ram x) e))
 
 -- both runs lie within the lent bytes
-module _ (u : ℕ) (a : items.Area) (d d₀ main ram : ℕ) (F : fits.Fits u a d main ram) (one : a .size ≡ 4) where
+module _ (u : ℕ) (a : items.Area) (d d₀ main ram : ℕ) (F : fits.AreaFits u a d main ram) (one : a .size ≡ 4) where
   pub flash-run-in : d₀ ≤ d / a .«per_page» * a .«per_page» → a .first * layout.block u + d₀ * 4 ≤ main
   flash-run-in h = omega (arith, h, rw one at (fits.run-fits u a d main ram F))
 
@@ -168,7 +166,7 @@ module _ (v : View) (main ram : List ℕ) (R : Ready v main ram) where
   -- its deletions by their first block
   pub deletions-fit : (first : ℕ) → first ≡ layout.daBlock (shape (v .g)) → DeletionsFit (v .g .chip .unit) first (v .d) main ram × (v .d0 ≤ v .d)
   deletions-fit first is = (
-    fits.fits-deletions (v .g) (R .sound) (deletionsFrom (v .g .chip .unit) first) sound (rw is refl) (v .d) (length main) (length ram) (R .d-cap) (R .main-long) (R .ram-long),
+    fits.deletions-fit (v .g) (R .sound) (deletionsFrom (v .g .chip .unit) first) sound (rw is refl) (v .d) main ram (R .d-cap) (R .read),
     R .d0-le,
   )
     where
@@ -209,7 +207,7 @@ module _ (v : View) (main ram : List ℕ) (R : Ready v main ram) where
   page-in p h =
       let b : p + 1 ≤ 16 * layout.kaBlocks (shape (v .g)) = omega (arith, pages-le) in
       let k : layout.kaBlock (shape (v .g)) + layout.kaBlocks (shape (v .g)) ≤ layout.blocks (shape (v .g)) = omega arith in
-      omega (arith, mul-le-mul-right (layout.page (v .g .chip .unit)) b, mul-le-mul-right (layout.block (v .g .chip .unit)) k, R .main-long)
+      omega (arith, mul-le-mul-right (layout.page (v .g .chip .unit)) b, mul-le-mul-right (layout.block (v .g .chip .unit)) k, R .read .main-fits)
 
   -- entries past the last full page are fewer than a page's
   pub slots-lt : v .n0 % perPage v < perPage v
@@ -227,15 +225,6 @@ module _ (v : View) (main ram : List ℕ) (R : Ready v main ram) where
       either (lt? (layout.fullSets (shape (v .g))) (inFull (v .g .chip .unit) (pages v)))
       (λ h. absurd (omega (arith, mul-le-mul-right (v .g .chip .unit) (h .1), a, E .whole, F .whole, F .small)))
       (λ h. h .1)
-
-  pub index-fits : Fits (v .g .chip .unit) (keyIndex (shape (v .g))) (layout.fullSets (shape (v .g))) main ram
-  index-fits =
-      record {
-        unit = R .sound .unit;
-        near = omega (arith, index-le (v .g) (R .sound));
-        on-flash = omega (arith, R .main-long);
-        in-ram = omega (arith, R .ram-long);
-      }
 
   -- ---- the page that n₀ records do not fill, with q entries to a page
 
@@ -260,7 +249,7 @@ module _ (v : View) (main ram : List ℕ) (R : Ready v main ram) where
 
     module _ (start : ℕ) (at : start ≡ layout.kaRam (v .g .chip .unit)) where
       pub open-in-ram : start + v .n0 % q * 8 ≤ length ram
-      open-in-ram = rw q-is (omega (arith, slots-lt, at, R .ram-long))
+      open-in-ram = rw q-is (omega (arith, slots-lt, at, R .read .ram-fits))
 
       pub open-on-ram : v .n / q ≤ v .n0 / q → (key : Key) (s : Option Stop) → s ≡ scan (tryIn v main ram key ram start) 0 (v .n0 % q)
           → s ≡ scan (tryOf v main ram key) (pagesThen v * perPage v) (v .n0 % perPage v)

@@ -9,7 +9,7 @@ use Rattle.layout.specs.Geometry as layout
 use Rattle.layout.specs.Items.{itemWord}
 use Rattle.geometry.specs.Shape.{area}
 use Rattle.geometry.specs.declared.areas.Area.{Area}
-use Rattle.items.specs.Fits.{Fits}
+use Rattle.items.specs.Fits.{AreaFits}
 
 -- the area of the deletions, whose first block is given
 abbrev pub deletionsFrom : ℕ → ℕ → Area
@@ -17,7 +17,7 @@ deletionsFrom u first = record { size = 4; «per_page» = layout.deletionsPerPag
 
 -- d of them lie within the lent bytes
 abbrev pub DeletionsFit : ℕ → ℕ → ℕ → List ℕ → List ℕ → Type 0
-DeletionsFit u first d main ram = Fits u (deletionsFrom u first) d (length main) (length ram)
+DeletionsFit u first d main ram = AreaFits u (deletionsFrom u first) d (length main) (length ram)
 
 -- is record number j one of the first d₀ of d
 abbrev pub amongFirst : ℕ → ℕ → ℕ → List ℕ → List ℕ → ℕ → ℕ → Bool

@@ -4,7 +4,7 @@ use mathlib.Core.Option.{Option, none, some}
 use mathlib.Core.List.{List, []}
 use Prim.Native.Nat.{ℕ, _+_, _*_, _/_, _≤_, _<_}
 use native.Mathlib.Omega.{arith}
-use lib.ListN.{length, getD}
+use lib.ListN.{getD}
 use Rattle.memory.specs.Words.{word}
 use Rattle.layout.specs.Keys.{Key, keyAt, numberIn}
 use Rattle.layout.specs.Geometry as layout
@@ -12,6 +12,7 @@ use Rattle.layout.specs.Flash.{flashOf}
 use Rattle.layout.specs.Hash.{Family}
 use Rattle.layout.specs.Search as find
 use Rattle.layout.specs.Calls.{Volume, isDeleted, tryAt, maybeIn, searchAt, search}
+use Rattle.laws.specs.Lengths.{Readable}
 use Rattle.geometry.specs.declared.Geometry.{Geometry}
 use Rattle.geometry.specs.Shape.{shape, Sound}
 use Rattle.geometry.specs.Indexes.{indexFor}
@@ -45,8 +46,7 @@ viewed v main ram = record { state = layout.stateOf (layout.sizesOf 0 0 0) (v .n
 -- the lent bytes hold a volume of a sound geometry, of which no more is searched than there is
 pub record Ready (v : View) (main ram : List ℕ) : Type 0 where
   pub sound : Sound (v .g)
-  pub main-long : layout.dataSize (shape (v .g)) ≤ length main
-  pub ram-long : layout.ramSize (shape (v .g)) ≤ length ram
+  pub read : Readable (shape (v .g)) main ram
   pub n-cap : v .n ≤ layout.recordCapacity (shape (v .g))
   pub d-cap : v .d ≤ layout.deletionCapacity (shape (v .g))
   pub n0-le : v .n0 ≤ v .n
@@ -55,13 +55,13 @@ pub record Ready (v : View) (main ram : List ℕ) : Type 0 where
 -- ---- all of a volume
 
 module _ (w : Volume) (g : Geometry) (v : View) (is : v ≡ whole g (w .state .records) (w .state .deletions)) where
-  pub ready-whole : Sound g → layout.dataSize (shape g) ≤ length (w .flash .main) → layout.ramSize (shape g) ≤ length (w .ram)
-      → w .state .records ≤ layout.recordCapacity (shape g) → w .state .deletions ≤ layout.deletionCapacity (shape g) → Ready v (w .flash .main) (w .ram)
-  ready-whole sound main-long ram-long n-cap d-cap =
+  pub ready-whole : Sound g → Readable (shape g) (w .flash .main) (w .ram)
+      → w .state .records ≤ layout.recordCapacity (shape g) → w .state .deletions ≤ layout.deletionCapacity (shape g)
+      → Ready v (w .flash .main) (w .ram)
+  ready-whole sound read n-cap d-cap =
       rw is record {
         sound = sound;
-        main-long = main-long;
-        ram-long = ram-long;
+        read = read;
         n-cap = n-cap;
         d-cap = d-cap;
         n0-le = omega arith;
@@ -70,7 +70,8 @@ module _ (w : Volume) (g : Geometry) (v : View) (is : v ≡ whole g (w .state .r
 
   -- what a search of all found is the volume's
   pub search-is : (h : Family) (key : Key) (r : Found)
-      → foundOf r ≡ searchAt h (shape (v .g)) (viewed v (w .flash .main) (w .ram)) (v .n0) (v .d0) key → search h (shape g) w key ≡ foundOf r
+      → foundOf r ≡ searchAt h (shape (v .g)) (viewed v (w .flash .main) (w .ram)) (v .n0) (v .d0) key
+      → search h (shape g) w key ≡ foundOf r
   unfolding searchAt maybeIn tryAt isDeleted
   search-is h key r e = sym (rw is at e)
 
@@ -83,7 +84,8 @@ tryOf v main ram key = tryAt (shape (v .g)) (viewed v main ram) (v .n0) (v .d0) 
 -- entry k of those that lie from byte `start` of a page's bytes on
 abbrev pub tryIn : View → List ℕ → List ℕ → Key → List ℕ → ℕ → ℕ → Option find.Stop
 tryIn v main ram key bytes start k =
-    find.tryEntry (v .n0) (isDeleted (shape (v .g)) (viewed v main ram) (v .d0)) key (keyAt bytes (start + k * 8)) (numberIn (word bytes (start + k * 8 + 4)))
+    find.tryEntry (v .n0) (isDeleted (shape (v .g)) (viewed v main ram) (v .d0)) key (keyAt bytes (start + k * 8))
+    (numberIn (word bytes (start + k * 8 + 4)))
 
 -- the full pages below a number, opened by the bits of some positions
 abbrev pub pagesBelow : View → List ℕ → List ℕ → Key → List ℕ → ℕ → find.Found

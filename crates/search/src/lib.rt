@@ -263,7 +263,8 @@ const POSITIONS: usize = 3;
 // They, as the filters take them.
 fn positions_of(g: Geometry, key: u32) -> [u32; 8]
     requires { ⌜ Sound g ⌝ }
-    ensures { λ r. ⌜ (take positionCount r ≡ positions fnvFamily positionCount (g .chip .unit) (keyBytes key)) × Low g positionCount r ⌝ }
+    ensures { λ r. ⌜ (take positionCount r ≡ positions fnvFamily positionCount (g .chip .unit) (keyBytes key))
+        × Low g positionCount r ⌝ }
 {
     let p = fnv::positions(g.chip, key);
     [p[0], p[1], p[2], 0, 0, 0, 0, 0]

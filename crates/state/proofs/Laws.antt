@@ -3,7 +3,6 @@ use mathlib.Core.Path.{_≡_, refl, sym, ap, _∙_}
 use mathlib.Core.Bool.{Bool, true, false, _||_}
 use mathlib.Core.List.{List}
 use Prim.Native.Nat.{ℕ}
-use lib.ListN.{length}
 use lib.Dec.{ltb}
 use borrow.Author.Tests.{ltb-false}
 use Rattle.memory.specs.Booleans.{or-eq-false-iff}
@@ -11,12 +10,13 @@ use Rattle.layout.specs.Geometry as layout
 use Rattle.layout.specs.Flash.{Flash}
 use Rattle.layout.specs.Refusals as refusal
 use Rattle.layout.specs.Calls.{Volume, badState, tooShort}
-use Rattle.geometry.specs.Shape.{geometryFor, shape, Sound, answer}
+use Rattle.laws.specs.Lengths.{long-of}
+use Rattle.geometry.specs.Shape.{geometryFor, shape, Sound, shapedBy}
 use Rattle.geometry.specs.declared.Geometry.{Geometry}
 use Rattle.geometry.specs.declared.Shaped.{Shaped}
 use Rattle.geometry.specs.declared.Shaped.the-variants as shaped
-use Rattle.state.specs.declared.Judged.the-variants.{Good, Refused}
-use Rattle.state.specs.Judge.{judgedOf, judgedNew, Long, Fits, New}
+use Rattle.state.specs.declared.Judgement.the-variants.{Good, Refused}
+use Rattle.state.specs.Judge.{judgementOf, judgementOfNew, VolumeFits, FormatFits}
 
 abbrev gOf : Geometry → Shaped → Geometry
 gOf d (shaped.Good g) = g
@@ -26,25 +26,18 @@ abbrev isGood : Shaped → Bool
 isGood (shaped.Good g) = true
 isGood shaped.Bad = false
 
-good-is : (t : Bool) (sizes : layout.Sizes) → isGood (answer t sizes) ≡ t
+good-is : (t : Bool) (sizes : layout.Sizes) → isGood (shapedBy t sizes) ≡ t
 good-is true sizes = refl
 good-is false sizes = refl
 
-pub shaped-bad : (t : Bool) (sizes : layout.Sizes) (r : Shaped) → r ≡ answer t sizes → r ≡ shaped.Bad → t ≡ false
+pub shaped-bad : (t : Bool) (sizes : layout.Sizes) (r : Shaped) → r ≡ shapedBy t sizes → r ≡ shaped.Bad → t ≡ false
 shaped-bad t sizes r p q = sym (good-is t sizes) ∙ ap isGood (sym p ∙ q)
 
-pub shaped-good : (t : Bool) (sizes : layout.Sizes) (r : Shaped) (g : Geometry) → r ≡ answer t sizes → r ≡ shaped.Good g → (t ≡ true) × (g ≡ geometryFor sizes)
+pub shaped-good : (t : Bool) (sizes : layout.Sizes) (r : Shaped) (g : Geometry) → r ≡ shapedBy t sizes → r ≡ shaped.Good g → (t ≡ true) × (g ≡ geometryFor sizes)
 shaped-good true sizes r g p q = (refl, ap (gOf g) (sym q ∙ p))
 shaped-good false sizes r g p q =
     let z : false ≡ true = ap isGood (sym p ∙ q) in
     (z, cc)
-
-pub long-of : (g : Geometry) (flash : Flash) (ram : List ℕ) → tooShort (shape g) flash ram ≡ false → Long g (flash .main) (flash .spare) ram
-unfolding tooShort
-long-of g flash ram q =
-    let a = or-eq-false-iff (ltb (length (flash .main)) (layout.dataSize (shape g))) _ .0 q in
-    let b = or-eq-false-iff (ltb (length (flash .spare)) (layout.spareSize (shape g))) _ .0 (a .1) in
-    record { main-fits = ltb-false _ _ (a .0); spare-fits = ltb-false _ _ (b .0); ram-fits = ltb-false _ _ (b .1) }
 
 -- n or d above its capacity, or d above n
 abbrev pub counts : Geometry → layout.State → Bool
@@ -63,9 +56,9 @@ module _ (v : Volume) where
   unfolding badState
   bad-is q = rw q
 
-  pub judged-shape : can ≡ false → judgedOf v ≡ Refused refusal.badState
+  pub judge-shape : can ≡ false → judgementOf v ≡ Refused refusal.badState
   unfolding badState
-  judged-shape q = rw q
+  judge-shape q = rw q
 
   module _ (g : Geometry) (q : can ≡ true) (p : g ≡ named) where
     at-state : (b : Bool) → counts g (v .state) ≡ b → counts named (v .state) ≡ b
@@ -74,18 +67,18 @@ module _ (v : Volume) where
     short-at : (b : Bool) → tooShort (shape g) (v .flash) (v .ram) ≡ b → tooShort (shape named) (v .flash) (v .ram) ≡ b
     short-at b t = rw p at t
 
-    pub judged-counts : counts g (v .state) ≡ true → judgedOf v ≡ Refused refusal.badState
-    judged-counts c = rw (bad-is q, at-state true c)
+    pub judge-counts : counts g (v .state) ≡ true → judgementOf v ≡ Refused refusal.badState
+    judge-counts c = rw (bad-is q, at-state true c)
 
-    pub judged-short : counts g (v .state) ≡ false → tooShort (shape g) (v .flash) (v .ram) ≡ true → judgedOf v ≡ Refused refusal.tooShort
-    judged-short c t = rw (bad-is q, at-state false c, short-at true t)
+    pub judge-short : counts g (v .state) ≡ false → tooShort (shape g) (v .flash) (v .ram) ≡ true → judgementOf v ≡ Refused refusal.tooShort
+    judge-short c t = rw (bad-is q, at-state false c, short-at true t)
 
-    pub judged-good : counts g (v .state) ≡ false → tooShort (shape g) (v .flash) (v .ram) ≡ false → Good g ≡ judgedOf v
-    judged-good c t =
-        let e : judgedOf v ≡ Good named = rw (bad-is q, at-state false c, short-at false t) in
+    pub judge-good : counts g (v .state) ≡ false → tooShort (shape g) (v .flash) (v .ram) ≡ false → Good g ≡ judgementOf v
+    judge-good c t =
+        let e : judgementOf v ≡ Good named = rw (bad-is q, at-state false c, short-at false t) in
         ap Good p ∙ sym e
 
-    pub fits-of : Sound g → counts g (v .state) ≡ false → tooShort (shape g) (v .flash) (v .ram) ≡ false → Fits v g
+    pub fits-of : Sound g → counts g (v .state) ≡ false → tooShort (shape g) (v .flash) (v .ram) ≡ false → VolumeFits v g
     fits-of ok c t =
         let a = or-eq-false-iff (ltb (layout.recordCapacity (shape g)) (v .state .records)) _ .0 c in
         let b = or-eq-false-iff (ltb (layout.deletionCapacity (shape g)) (v .state .deletions)) _ .0 (a .1) in
@@ -93,28 +86,27 @@ module _ (v : Volume) where
           sound = ok;
           is = p;
           good = bad-is q ∙ at-state false c;
-          enough = t;
-          long = long-of g (v .flash) (v .ram) t;
+          long = long-of (shape g) (v .flash) (v .ram) t;
           n-cap = ltb-false _ _ (a .0);
           d-cap = ltb-false _ _ (b .0);
           d-le = ltb-false _ _ (b .1);
         }
 
 module _ (sizes : layout.Sizes) (flash : Flash) (ram : List ℕ) where
-  pub new-shape : layout.allowed sizes ≡ false → judgedNew sizes flash ram ≡ Refused refusal.badState
+  pub new-shape : layout.allowed sizes ≡ false → judgementOfNew sizes flash ram ≡ Refused refusal.badState
   new-shape q = rw q
 
   module _ (g : Geometry) (q : layout.allowed sizes ≡ true) (p : g ≡ geometryFor sizes) where
     new-at : (b : Bool) → tooShort (shape g) flash ram ≡ b → tooShort (shape (geometryFor sizes)) flash ram ≡ b
     new-at b t = rw p at t
 
-    pub new-short : tooShort (shape g) flash ram ≡ true → judgedNew sizes flash ram ≡ Refused refusal.tooShort
+    pub new-short : tooShort (shape g) flash ram ≡ true → judgementOfNew sizes flash ram ≡ Refused refusal.tooShort
     new-short t = rw (q, new-at true t)
 
-    pub new-good : tooShort (shape g) flash ram ≡ false → Good g ≡ judgedNew sizes flash ram
+    pub new-good : tooShort (shape g) flash ram ≡ false → Good g ≡ judgementOfNew sizes flash ram
     new-good t =
-        let e : judgedNew sizes flash ram ≡ Good (geometryFor sizes) = rw (q, new-at false t) in
+        let e : judgementOfNew sizes flash ram ≡ Good (geometryFor sizes) = rw (q, new-at false t) in
         ap Good p ∙ sym e
 
-    pub new-of : Sound g → tooShort (shape g) flash ram ≡ false → New sizes flash ram g
-    new-of ok t = record { sound = ok; is = p; can = q; enough = t; long = long-of g flash ram t }
+    pub new-of : Sound g → tooShort (shape g) flash ram ≡ false → FormatFits sizes flash ram g
+    new-of ok t = record { sound = ok; is = p; can = q; long = long-of (shape g) flash ram t }

@@ -5,24 +5,25 @@ use Prim.Native.Nat.{ℕ}
 use lib.Dec.{eqb}
 use Rattle.layout.specs.Geometry as layout
 use Rattle.layout.specs.Refusals as refusal
-use Rattle.layout.specs.Calls.{Volume, Result, refuse, badState, tooShort, judged, format, formatted}
-use Rattle.geometry.specs.Shape.{geometryFor}
+use Rattle.layout.specs.Calls.{Volume, Result, refuse, badState, tooShort, judgeFirst, format, formatted}
+use Rattle.laws.specs.Lengths.{not-short}
+use Rattle.geometry.specs.Shape.{geometryFor, shape}
 use Rattle.geometry.specs.declared.Geometry.{Geometry}
-use Rattle.state.specs.Contract.{Left, seen, outcomeOf}
-use Rattle.state.specs.Judge.{judgedOf, judgedNew, Fits}
-use Rattle.state.specs.declared.Judged.{Judged}
-use Rattle.state.specs.declared.Judged.the-variants.{Good, Refused}
+use Rattle.state.specs.Contract.{Effect, effectOf, outcomeOf}
+use Rattle.state.specs.Judge.{judgementOf, judgementOfNew, VolumeFits}
+use Rattle.state.specs.declared.Judgement.{Judgement}
+use Rattle.state.specs.declared.Judgement.the-variants.{Good, Refused}
 
 -- what a refusal shows
-abbrev pub refusedLeft : Volume → ℕ → Left
-refusedLeft v i = record { outcome = outcomeOf i; count = 0; left = v }
+abbrev pub refusedEffect : Volume → ℕ → Effect
+refusedEffect v i = record { outcome = outcomeOf i; count = 0; left = v }
 
 -- the number of a refusal, 0 for none
-abbrev pub number : Judged → ℕ
+abbrev pub number : Judgement → ℕ
 number (Good g) = 0
 number (Refused i) = i
 
-abbrev pub refuses : Judged → Bool
+abbrev pub refuses : Judgement → Bool
 refuses (Good g) = false
 refuses (Refused i) = true
 
@@ -34,8 +35,8 @@ pub record Refusal (v : Volume) (i : ℕ) (r : Result) : Type 0 where
 pub refusal-of : (v : Volume) (k i : ℕ) → k ≡ i → eqb k 0 ≡ false → Refusal v i (refuse v k)
 refusal-of v k i e c = rw (← e) (record { is = refl; some = c })
 
-pub refused-seen : (v : Volume) (i : ℕ) (r : Result) → Refusal v i r → refusedLeft v i ≡ seen r
-refused-seen v i r p = rw (p .is, p .some)
+pub refused-effect : (v : Volume) (i : ℕ) (r : Result) → Refusal v i r → refusedEffect v i ≡ effectOf r
+refused-effect v i r p = rw (p .is, p .some)
 
 module _ (v : Volume) (x : Result) (i : ℕ) where
   -- in their order
@@ -51,17 +52,18 @@ module _ (v : Volume) (x : Result) (i : ℕ) where
   of-format true false g e = absurd (false≢true (ap refuses e))
   of-format false b g e = refusal-of v refusal.badState i (ap number e) refl
 
-  pub judged-refused : judgedOf v ≡ Refused i → Refusal v i (judged v x)
-  unfolding judged
-  judged-refused e = of-volume (badState (v .state)) (tooShort (layout.geometry (v .state .sizes)) (v .flash) (v .ram)) (geometryFor (v .state .sizes)) e
+  pub judge-refused : judgementOf v ≡ Refused i → Refusal v i (judgeFirst v x)
+  unfolding judgeFirst
+  judge-refused e = of-volume (badState (v .state)) (tooShort (layout.geometry (v .state .sizes)) (v .flash) (v .ram)) (geometryFor (v .state .sizes)) e
 
-pub format-refused : (v : Volume) (sizes : layout.Sizes) (i : ℕ) → judgedNew sizes (v .flash) (v .ram) ≡ Refused i → Refusal v i (format v sizes)
+pub format-refused : (v : Volume) (sizes : layout.Sizes) (i : ℕ) → judgementOfNew sizes (v .flash) (v .ram) ≡ Refused i → Refusal v i (format v sizes)
 unfolding format
 format-refused v sizes i e = of-format v (formatted v sizes) i (layout.allowed sizes) (tooShort (layout.geometry sizes) (v .flash) (v .ram)) (geometryFor sizes) e
 
--- a volume that is not refused
-pub judged-fits : (v : Volume) (g : Geometry) (x : Result) → Fits v g → judged v x ≡ x
-unfolding judged
-judged-fits v g x f =
-    let enough : tooShort (layout.geometry (v .state .sizes)) (v .flash) (v .ram) ≡ false = rw (f .is) at (f .enough) in
-    rw (f .good, enough)
+-- a volume that is not refused: its bytes are enough, and the call's own answer stands
+pub fits-enough : (v : Volume) (g : Geometry) → VolumeFits v g → tooShort (layout.geometry (v .state .sizes)) (v .flash) (v .ram) ≡ false
+fits-enough v g f = rw (f .is) at (not-short (shape g) (v .flash) (v .ram) (f .long))
+
+pub judge-fits : (v : Volume) (g : Geometry) (x : Result) → VolumeFits v g → judgeFirst v x ≡ x
+unfolding judgeFirst
+judge-fits v g x f = rw (f .good, fits-enough v g f)

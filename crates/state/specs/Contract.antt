@@ -28,21 +28,21 @@ abbrev pub given : State → Lent → Lent → Lent → Volume
 given s main spare ram = volume s (before main) (before spare) (before ram)
 
 -- all that a caller sees of a call: a layout's result but for its operations
-pub record Left : Type 0 where
+pub record Effect : Type 0 where
   pub outcome : Outcome
   pub count : ℕ
   pub left : Volume
 
-abbrev pub seen : Result → Left
-seen r = record { outcome = r .outcome; count = r .count; left = r .volume }
+abbrev pub effectOf : Result → Effect
+effectOf r = record { outcome = r .outcome; count = r .count; left = r .volume }
 
 -- a refusal's number, 0 for accepted
 abbrev pub outcomeOf : ℕ → Outcome
 outcomeOf i = cond (eqb i 0) accepted (refused i)
 
 -- what a changing call answers and leaves
-abbrev pub changed : Change → List ℕ → List ℕ → List ℕ → Left
-changed c main spare ram = record { outcome = outcomeOf (c .refusal); count = 0; left = volume (c .state) main spare ram }
+abbrev pub changeEffect : Change → List ℕ → List ℕ → List ℕ → Effect
+changeEffect c main spare ram = record { outcome = outcomeOf (c .refusal); count = 0; left = volume (c .state) main spare ram }
 
-abbrev pub leftBy : Change → Lent → Lent → Lent → Left
-leftBy c main spare ram = changed c (after main) (after spare) (after ram)
+abbrev pub effectBy : Change → Lent → Lent → Lent → Effect
+effectBy c main spare ram = changeEffect c (after main) (after spare) (after ram)

@@ -9,7 +9,7 @@ ghost use Rattle.layout.specs.Calls.{tooShort};
 ghost use Rattle.laws.specs.LentFlash.{flashBefore};
 ghost use Rattle.geometry.specs.Shape.{sizesIs, shape, Sound};
 ghost use Rattle.state.specs.Contract.{given};
-ghost use Rattle.state.specs.Judge.{judgedOf, judgedNew, GoodFits, NewFits};
+ghost use Rattle.state.specs.Judge.{judgementOf, judgementOfNew, GoodFits, NewFits};
 use geometry::Geometry;
 use geometry::Shaped;
 use geometry::Sizes;
@@ -72,7 +72,7 @@ pub fn refuse(s: State, i: u32) -> Change
 // ---- refusals 1 and 2
 
 // The volume's geometry, or the number of the refusal.
-pub enum Judged {
+pub enum Judgement {
     Good(Geometry),
     Refused(u32),
 }
@@ -106,40 +106,40 @@ fn too_short(g: Geometry, main: &[u8], spare: &[u8], ram: &[u8]) -> bool
 }
 
 // Judges a state that is handed in.
-pub fn judge(s: State, main: &[u8], spare: &[u8], ram: &[u8]) -> Judged
-    ensures equal { λ r. ⌜ r ≡ judgedOf (given s main spare ram) ⌝ }
+pub fn judge(s: State, main: &[u8], spare: &[u8], ram: &[u8]) -> Judgement
+    ensures equal { λ r. ⌜ r ≡ judgementOf (given s main spare ram) ⌝ }
     ensures fits { λ r. ⌜ GoodFits (given s main spare ram) r ⌝ }
 {
     match geometry::geometry_for(s.sizes) {
         Shaped::Bad => {
-            return Judged::Refused(BAD_STATE);
+            return Judgement::Refused(BAD_STATE);
         }
         Shaped::Good(g) => {
             if counts_bad(g, s.records, s.deletions) {
-                return Judged::Refused(BAD_STATE);
+                return Judgement::Refused(BAD_STATE);
             }
             if too_short(g, main, spare, ram) {
-                return Judged::Refused(TOO_SHORT);
+                return Judgement::Refused(TOO_SHORT);
             }
-            return Judged::Good(g);
+            return Judgement::Good(g);
         }
     }
 }
 
 // Judges the sizes of a format.
-pub fn judge_new(sizes: Sizes, main: &[u8], spare: &[u8], ram: &[u8]) -> Judged
-    ensures equal { λ r. ⌜ r ≡ judgedNew (sizesIs sizes) (flashBefore main spare) (before ram) ⌝ }
+pub fn judge_new(sizes: Sizes, main: &[u8], spare: &[u8], ram: &[u8]) -> Judgement
+    ensures equal { λ r. ⌜ r ≡ judgementOfNew (sizesIs sizes) (flashBefore main spare) (before ram) ⌝ }
     ensures fits { λ r. ⌜ NewFits (sizesIs sizes) (flashBefore main spare) (before ram) r ⌝ }
 {
     match geometry::geometry_for(sizes) {
         Shaped::Bad => {
-            return Judged::Refused(BAD_STATE);
+            return Judgement::Refused(BAD_STATE);
         }
         Shaped::Good(g) => {
             if too_short(g, main, spare, ram) {
-                return Judged::Refused(TOO_SHORT);
+                return Judgement::Refused(TOO_SHORT);
             }
-            return Judged::Good(g);
+            return Judgement::Good(g);
         }
     }
 }

@@ -12,12 +12,12 @@ use Rattle.layout.specs.Index.{rowBit, rowByte, bitAt, filterBit, setByte, flus
 use Rattle.layout.specs.Items.{recordBytes, entryBytes, deletionBytes, itemWord, put}
 use Rattle.layout.specs.Search.{scan, searchPages}
 use Rattle.layout.specs.Keys.{sameKey}
-use Rattle.layout.specs.Calls.{badState, tooShort, judged, formatted, format, isDeleted, tryAt, maybeIn, searchAt, deletionPlan}
+use Rattle.layout.specs.Calls.{badState, tooShort, judgeFirst, formatted, format, isDeleted, tryAt, maybeIn, searchAt, deletionPlan}
 use Rattle.layout.specs.Calls.{deletionRam, pageFilter, insertionPlan, insertionRam, commit, change, lookupAfter, call}
 
 unfoldable pub calls : Unit {0}
 unfolding write tab tabFrom pieces bit pack log2up wordsBytes any memb allOf allowed fresh allFresh fnvFrom positions
     rowBit rowByte bitAt filterBit setByte flushAndBuild recordBytes entryBytes deletionBytes itemWord put sameKey scan searchPages
-    badState tooShort judged formatted format isDeleted tryAt maybeIn searchAt deletionPlan deletionRam pageFilter insertionPlan
+    badState tooShort judgeFirst formatted format isDeleted tryAt maybeIn searchAt deletionPlan deletionRam pageFilter insertionPlan
     insertionRam commit change lookupAfter call
 calls = tt

@@ -7,7 +7,7 @@ use Rattle.geometry.specs.declared.Geometry.{Geometry}
 use Rattle.search.specs.Find.{stopOf, ready-whole, search-is}
 use Rattle.search.specs.declared.End.{End}
 use Rattle.state.specs.Contract.{volume}
-use Rattle.state.specs.Judge.{Fits}
+use Rattle.state.specs.Judge.{VolumeFits}
 use Rattle.calls.specs.Resolve.{stopped, resolvedOf}
 use Rattle.calls.proofs.CallsLaws.{resolved-refused, resolved-fits}
 use Rattle.calls.proofs.resolve.Statement.{statement}
@@ -49,7 +49,7 @@ start-of c = c .before .before .before .before .before .before
 abbrev geometry : tie.After-g → Geometry
 geometry c = c .g .given .0 .0
 
-fits : (c : tie.After-g) → Fits (handed (start-of c)) (geometry c)
+fits : (c : tie.After-g) → VolumeFits (handed (start-of c)) (geometry c)
 fits c = rw (c .g .given .1) at (c .before .before .judge .ensures .1)
 
 abbrev known : tie.After-all → tie.After-g
@@ -59,7 +59,7 @@ search-requires : tie.Need-search-requires
 search-requires c κs =
     let k = known c in
     let f = fits k in
-    ready-whole (handed (start-of k)) (geometry k) (c .all .result) (c .all .ensures) (f .sound) (f .long .main-fits) (f .long .ram-fits) (f .n-cap) (f .d-cap)
+    ready-whole (handed (start-of k)) (geometry k) (c .all .result) (c .all .ensures) (f .sound) (f .long .read) (f .n-cap) (f .d-cap)
 
 -- by where the search ended
 resolved : (c : tie.After-search) (end : End) → c .search .result .end ≡ end → let k = known (c .before) in

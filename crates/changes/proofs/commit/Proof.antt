@@ -51,7 +51,7 @@ returns-2 c =
     let x = s .args in
     nothing-done (shape (x .g)) (x .e) (x .old) (recordIs (x .«record»)) (flashOf (x .main .now) (x .spare .now)) (x .ram .now) [] (n .new-bytes .result)
     (n .new-bytes .ensures ∙ ap (newBytes (x .old) (recordIs (x .«record»))) (n .before .record-number .ensures))
-    (s .pre .0 .unit .1 .some) (s .pre .2 .ram-fits) (sym (t .before .programs .ensures) ∙ t .if1 .left) _ (f .append .ensures)
+    (s .pre .0 .unit .1 .some) (s .pre .2 .read .ram-fits) (sym (t .before .programs .ensures) ∙ t .if1 .left) _ (f .append .ensures)
 
 pub commit-spec : {M : Type 1} → statement M
 commit-spec =

@@ -87,7 +87,7 @@ finish-requires c κs =
     let b = c .before .before .before .before .before .before .before .before .before .before .before .before .before .before .before .before .before in
     let n = b .before .before .before in
     let s = n .before .before .before .before .before in
-    (s .pre .0, omega (arith, n .new-bytes .ok), omega (arith, b .new-bits .ok), s .pre .2 .ram-fits)
+    (s .pre .0, omega (arith, n .new-bytes .ok), omega (arith, b .new-bits .ok), s .pre .2 .read .ram-fits)
 
 same-length-3 : tie.Need-same-length-3
 same-length-3 c = search needs
@@ -112,7 +112,7 @@ returns-2 c =
     all-done (shape (x .g)) (x .e) (x .old) (recordIs (x .«record»)) (flashOf (x .main .now) (x .spare .now)) (x .ram .now) (b .new-bits .result)
     (n .new-bytes .result) (n .new-bytes .ensures ∙ ap (newBytes (x .old) (recordIs (x .«record»))) (n .before .record-number .ensures))
     (b .new-bits .ensures) (p .of .result) (w .whole .result) (t .before .fresh .result) _ _ (p .of .ensures) (w .whole .ensures) (not-false _ (t .if1 .left))
-    (t .before .fresh .ensures (n .new-bytes .result) (b .new-bits .result) (x .ram .now) (flashOf (x .main .now) (x .spare .now))) (s .pre .2 .ram-fits) (r .run .ensures) (f .finish .ensures)
+    (t .before .fresh .ensures (n .new-bytes .result) (b .new-bits .result) (x .ram .now) (flashOf (x .main .now) (x .spare .now))) (s .pre .2 .read .ram-fits) (r .run .ensures) (f .finish .ensures)
 
 pub program-spec : {M : Type 1} → statement M
 program-spec =

@@ -4,7 +4,7 @@ use Prim.Native.Nat.{ℕ, _+_}
 use lib.ListN.{length, set}
 use Rattle.memory.specs.Lists.{write}
 use Rattle.layout.specs.Flash.{flashOf}
-use Rattle.flash.specs.Parts.{write-append}
+use Rattle.memory.specs.Lists.{write-append}
 use borrow.Author.Needs.{needs}
 use Rattle.flash.proofs.program_joined.Statement.{statement}
 use Rattle.flash.proofs.program_joined.Tie as tie

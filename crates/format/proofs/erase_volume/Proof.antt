@@ -10,7 +10,7 @@ blocks-requires c κs = search needs
 erase-blocks-requires : tie.Need-erase-blocks-requires
 erase-blocks-requires c κs =
     let s = c .before .before .before .before .before .before .pre in
-    rw (c .before .before .blocks2 .ensures) ((s .0 .unit .1 .most, omega (arith, s .1 .main-fits)), omega (arith, s .1 .spare-fits))
+    rw (c .before .before .blocks2 .ensures) ((s .0 .unit .1 .most, omega (arith, s .1 .read .main-fits)), omega (arith, s .1 .spare-fits))
 
 ram-size-requires : tie.Need-ram-size-requires
 ram-size-requires c κs = search needs

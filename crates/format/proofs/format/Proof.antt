@@ -4,9 +4,9 @@ use Rattle.layout.specs.Flash.{flashOf}
 use Rattle.layout.specs.Calls.{Volume}
 use Rattle.geometry.specs.Shape.{sizesIs}
 use Rattle.state.specs.Contract.{volume}
-use Rattle.state.specs.Judge.{New}
-use Rattle.state.proofs.Refusals.{format-refused, refused-seen}
-use Rattle.format.proofs.FormatLaws.{format-left}
+use Rattle.state.specs.Judge.{FormatFits}
+use Rattle.state.proofs.Refusals.{format-refused, refused-effect}
+use Rattle.format.proofs.FormatLaws.{format-effect}
 use Rattle.format.proofs.format.Statement.{statement}
 use Rattle.format.proofs.format.Tie as tie
 
@@ -37,13 +37,13 @@ returns c =
     let s = c .before .before .before .before .before .before .before .before .before .before .before in
     let i = c .before .before .i in
     rw (c .refuse .ensures)
-    (refused-seen (handed s) (i .given .0 .0) _ (format-refused (handed s) (sizesIs (s .args .sizes)) (i .given .0 .0) (sym (c .before .before .before .before .judge-new .ensures .0) ∙ i .given .1)))
+    (refused-effect (handed s) (i .given .0 .0) _ (format-refused (handed s) (sizesIs (s .args .sizes)) (i .given .0 .0) (sym (c .before .before .before .before .judge-new .ensures .0) ∙ i .given .1)))
 
 enum-known-g : tie.Need-enum-known-g
 enum-known-g c = search needs
 
 -- what the judge says of the geometry
-new : (c : tie.After-g) → New (sizesIs (c .before .before .before .before .before .before .before .before .before .args .sizes)) (handed (c .before .before .before .before .before .before .before .before .before) .flash) (c .before .before .before .before .before .before .before .before .before .args .ram .now) (c .g .given .0 .0)
+new : (c : tie.After-g) → FormatFits (sizesIs (c .before .before .before .before .before .before .before .before .before .args .sizes)) (handed (c .before .before .before .before .before .before .before .before .before) .flash) (c .before .before .before .before .before .before .before .before .before .args .ram .now) (c .g .given .0 .0)
 new c = rw (c .g .given .1) at (c .before .before .judge-new .ensures .1)
 
 erase-volume-requires : tie.Need-erase-volume-requires
@@ -65,7 +65,7 @@ returns-2 c =
     let s = c .before .before .before .before .before .before .before .before .before .before .before .before .before .before .before .before .before .before .before .before in
     let k = c .before .before .before .before .before .before .before .before .before .before .before in
     let e = c .before .before .before .before .before .before .erase-volume in
-    format-left (handed s) (sizesIs (s .args .sizes)) (k .g .given .0 .0) (flashOf (e .last .1 .0) (e .last .1 .1 .0)) (e .last .1 .1 .1 .0) (new k) (e .ensures .0) (e .ensures .1)
+    format-effect (handed s) (sizesIs (s .args .sizes)) (k .g .given .0 .0) (flashOf (e .last .1 .0) (e .last .1 .1 .0)) (e .last .1 .1 .1 .0) (new k) (e .ensures .0) (e .ensures .1)
 
 pub format-spec : {M : Type 1} → statement M
 format-spec =

@@ -3,10 +3,10 @@ use native.Mathlib.Omega.{arith}
 use Prim.Native.Nat.{_-_, _≤_}
 use mathlib.Core.Path.{_≡_, refl, sym, ap, _∙_}
 use mathlib.Core.Bool.{true}
-use Rattle.geometry.specs.declared.table.Row.{Row}
+use Rattle.geometry.specs.declared.table.SizeRow.{SizeRow}
 use Rattle.geometry.specs.Rows.{rowOf, row-is}
 use Rattle.geometry.specs.Shape.{sizesIs, shapedOf}
-use Rattle.geometry.specs.Allowed.{fromRow, from-hit, from-next, from-end, answer-hit, answer-miss, shaped-sound}
+use Rattle.geometry.specs.Allowed.{fromRow, from-hit, from-next, from-end, shaped-hit, shaped-miss, shaped-sound}
 use Rattle.geometry.proofs.geometry_for.Statement.{statement}
 use Rattle.geometry.proofs.geometry_for.Tie as tie
 
@@ -27,7 +27,7 @@ row-at-requires c κs = omega arith
 
 -- the sector size of the row that was read
 row-sector : (c : tie.After-struct-known2 Inv-loop μ-loop) → rowOf (c .before .before .before .loop .i) .sector ≡ c .before .row-at .result .sector
-row-sector c = ap (λ (r : Row). r .sector) (sym (c .before .row-at .ensures .0))
+row-sector c = ap (λ (r : SizeRow). r .sector) (sym (c .before .row-at .ensures .0))
 
 cast-if1 : tie.Need-cast-if1 Inv-loop μ-loop
 cast-if1 c = search needs
@@ -42,7 +42,7 @@ returns c =
     let l = c .before .before .before .before .before in
     let s = sizesIs (l .before .before .args .sizes) in
     let hit : fromRow (s .sectorSize) 0 ≡ true = l .loop .inv .1 ∙ from-hit (s .sectorSize) (l .loop .i) (omega arith) (row-sector (c .before .before) ∙ c .before .if1 .taken) in
-    let e : c .with-blocks .result ≡ shapedOf s = c .with-blocks .ensures ∙ sym (answer-hit s hit) in
+    let e : c .with-blocks .result ≡ shapedOf s = c .with-blocks .ensures ∙ sym (shaped-hit s hit) in
     (e, rw e (shaped-sound s))
 
 add-i : tie.Need-add-i Inv-loop μ-loop
@@ -60,7 +60,7 @@ loop-again c =
 returns-2 : tie.Need-returns-2 Inv-loop μ-loop
 returns-2 c =
     let s = sizesIs (c .before .before .before .args .sizes) in
-    (sym (answer-miss s (c .before .loop .inv .1 ∙ from-end (s .sectorSize) (c .before .loop .i) (omega arith))), tt)
+    (sym (shaped-miss s (c .before .loop .inv .1 ∙ from-end (s .sectorSize) (c .before .loop .i) (omega arith))), tt)
 
 pub geometry-for-spec : {M : Type 1} → statement M
 geometry-for-spec =

@@ -1,7 +1,7 @@
 use mathlib.Core.Path.{ap, _∙_}
 use Prim.Native.Nat.{_/_}
 use borrow.Author.Tests.{not-true, not-false}
-use Rattle.geometry.specs.declared.table.Row.{Row}
+use Rattle.geometry.specs.declared.table.SizeRow.{SizeRow}
 use Rattle.geometry.specs.declared.Shaped.the-variants.{Good}
 use borrow.Author.Needs.{needs}
 use Rattle.geometry.proofs.with_blocks.Statement.{statement}
@@ -43,7 +43,7 @@ returns-3 c =
     let d = w .before .before in
     let b = d .before .before .before in
     let e = b .before .pre in
-    let u = w .with-sectors .ensures ∙ ap (λ (r : Row). r .sector / 16) e in
+    let u = w .with-sectors .ensures ∙ ap (λ (r : SizeRow). r .sector / 16) e in
     rw (
       ← b .blocks-allowed .ensures,
       ← d .before .blocks-allowed2 .ensures,

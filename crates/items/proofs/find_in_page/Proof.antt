@@ -1,11 +1,9 @@
 -- From the newest 64 words on: those that have not the key have no entry with it.
 use native.Mathlib.Omega.{arith}
 use Prim.Native.Nat.{ℕ, zero, suc, _+_, _*_, _-_, _/_, _%_, _^_, _≤_, _<_}
-use mathlib.Core.Path.{_≡_, refl, sym, ap, _∙_}
+use mathlib.Core.Path.{_≡_, sym, ap, _∙_}
 use lib.Pow.{pow-pos}
 use borrow.Author.Needs.{needs}
-use Rattle.memory.specs.Candidate.{candidate}
-use Rattle.laws.specs.Units.{UnitSound}
 use Rattle.items.specs.Scans.{hasKey, lastEntry, newest-end, newest-none, no-word, entries-no}
 use Rattle.items.proofs.find_in_page.Statement.{statement}
 use Rattle.items.proofs.find_in_page.Tie as tie

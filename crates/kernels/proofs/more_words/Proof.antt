@@ -1,11 +1,10 @@
 -- A word more each turn, a block after another.
-use native.Mathlib.Nat.{mul-le-mul-right, mul-comm}
+use native.Mathlib.Nat.{mul-le-mul-right}
 use Rattle.kernels.proofs.Folds.{two-le, per-le}
 use native.Mathlib.Omega.{arith}
-use mathlib.Core.Path.{_≡_, refl, sym, ap, _∙_}
-use Prim.Native.Nat.{ℕ, zero, suc, _+_, _-_, _*_, _/_, _%_, _^_, _≤_, _<_}
-use lib.ListN.{getD, length}
-use Rattle.memory.specs.Bits.{bit}
+use mathlib.Core.Path.{_≡_, ap, _∙_}
+use Prim.Native.Nat.{ℕ, _+_, _-_, _*_, _/_, _≤_}
+use lib.ListN.{getD}
 use Rattle.kernels.specs.Rows.{allIn}
 use Rattle.kernels.specs.Blocks.{Shows}
 use Rattle.kernels.proofs.Folds.{word-more, shows-none}

@@ -4,7 +4,7 @@ use Rattle.layout.specs.Geometry.{sizesOf}
 use Rattle.layout.specs.Hash.{fnvFamily}
 use Rattle.layout.specs.Items.{Record, recordOf}
 use Rattle.layout.specs.Calls as calls
-use Rattle.state.specs.Contract.{volume, seen}
+use Rattle.state.specs.Contract.{volume, effectOf}
 use Rattle.script.specs.Values.{answerOf}
 use Rattle.script.specs.Script.{perform}
 use Rattle.lines.proofs.Answering.{change-reply, lookup-reply}
@@ -69,7 +69,7 @@ returns-2 c =
     let v = volume (x .s) (x .main .now) (x .spare .now) (x .ram .now) in
     rw (g .1)
     (change-reply (c .after-change2 .result) (k .result) (k .last .1 .1 .0) (k .last .1 .1 .1 .0) (k .last .1 .1 .1 .1 .0) (calls.call fnvFamily v (calls.insert (recordOf (g .0 .0) (g .0 .1 .0) 0 0))) (c .after-change2 .ensures)
-    (k .ensures ∙ ap (λ (r : Record). seen (calls.call fnvFamily v (calls.insert r))) (c .before .before .before .before .before .before .before .before .before .before .before .level .ensures)))
+    (k .ensures ∙ ap (λ (r : Record). effectOf (calls.call fnvFamily v (calls.insert r))) (c .before .before .before .before .before .before .before .before .before .before .before .level .ensures)))
 
 enum-known-q-3 : tie.Need-enum-known-q-3
 enum-known-q-3 c = search needs
@@ -101,7 +101,7 @@ returns-3 c =
     let v = volume (x .s) (x .main .now) (x .spare .now) (x .ram .now) in
     rw (g .1)
     (change-reply (c .after-change3 .result) (k .result) (k .last .1 .1 .0) (k .last .1 .1 .1 .0) (k .last .1 .1 .1 .1 .0) (calls.call fnvFamily v (calls.update (recordOf (g .0 .0) (g .0 .1 .0) 0 0))) (c .after-change3 .ensures)
-    (k .ensures ∙ ap (λ (r : Record). seen (calls.call fnvFamily v (calls.update r))) (c .before .before .before .before .before .before .before .before .before .before .before .level2 .ensures)))
+    (k .ensures ∙ ap (λ (r : Record). effectOf (calls.call fnvFamily v (calls.update r))) (c .before .before .before .before .before .before .before .before .before .before .before .level2 .ensures)))
 
 enum-known-q-4 : tie.Need-enum-known-q-4
 enum-known-q-4 c = search needs

@@ -3,7 +3,7 @@ use mathlib.Core.Path.{sym, ap, _∙_}
 use Rattle.layout.specs.Hash.{fnvFamily}
 use Rattle.layout.specs.Calls.{Volume}
 use Rattle.state.specs.Contract.{volume}
-use Rattle.lookup.specs.Looked.{looked}
+use Rattle.lookup.specs.Results.{lookupOf}
 use Rattle.lookup.proofs.LookupLaws.{lookup-refused, lookup-fits}
 use Rattle.lookup.proofs.find.Statement.{statement}
 use Rattle.lookup.proofs.find.Tie as tie
@@ -38,7 +38,7 @@ returns-2 : tie.Need-returns-2
 returns-2 c =
     let s = c .before .before .before .before .before .before .before .before in
     let g = c .before .before .g in
-    c .find-in .ensures ∙ ap looked (lookup-fits fnvFamily (handed s) (s .args .key) (g .given .0 .0) (rw (g .given .1) at (c .before .before .before .before .judge .ensures .1)))
+    c .find-in .ensures ∙ ap lookupOf (lookup-fits fnvFamily (handed s) (s .args .key) (g .given .0 .0) (rw (g .given .1) at (c .before .before .before .before .judge .ensures .1)))
 
 pub find-spec : {M : Type 1} → statement M
 find-spec =

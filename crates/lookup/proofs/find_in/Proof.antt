@@ -35,7 +35,7 @@ search-requires : tie.Need-search-requires
 search-requires c κs =
     let b = start-of c in
     let f = b .pre in
-    ready-whole (handed b) (b .args .g) (c .all .result) (c .all .ensures) (f .sound) (f .long .main-fits) (f .long .ram-fits) (f .n-cap) (f .d-cap)
+    ready-whole (handed b) (b .args .g) (c .all .result) (c .all .ensures) (f .sound) (f .long .read) (f .n-cap) (f .d-cap)
 
 -- what the search found, by where it ended
 found-at : (c : tie.After-search) (end : End) → c .search .result .end ≡ end

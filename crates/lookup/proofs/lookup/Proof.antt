@@ -6,7 +6,7 @@ use Rattle.layout.specs.Hash.{fnvFamily}
 use Rattle.layout.specs.Calls.{call, lookup}
 use Rattle.state.specs.Contract.{volume}
 use Rattle.lookup.specs.declared.LookupResult.{LookupResult}
-use Rattle.lookup.specs.Looked.{numbersOf}
+use Rattle.lookup.specs.Results.{answerNumbers}
 use Rattle.lookup.proofs.PartLaws.{empty-part, part-in-ram, part-in-main}
 use Rattle.lookup.proofs.lookup.Statement.{statement}
 use Rattle.lookup.proofs.lookup.Tie as tie
@@ -32,7 +32,7 @@ returns c =
     let f = c .before .before .before .before .find in
     let v = volume (x .s) (x .main .now) (x .spare .now) (x .ram .now) in
     let e = empty-part (x .main .ptr) (x .ram .ptr) (call fnvFamily v (lookup (x .key)) .outcome) (call fnvFamily v (lookup (x .key)) .count) (ap (λ (y : LookupResult). y .found) (sym (f .ensures)) ∙ c .before .if1 .taken) in
-    ((sym (e .0), sym (e .1)), ap numbersOf (f .ensures))
+    ((sym (e .0), sym (e .1)), ap answerNumbers (f .ensures))
 
 add-e : tie.Need-add-e
 add-e c = search needs
@@ -55,7 +55,7 @@ returns-2 c =
     let f = c .before .before .before .before .before .find in
     let p = part-in-ram fnvFamily (volume (x .s) (x .main .now) (x .spare .now) (x .ram .now)) (x .key) (f .result) (f .ensures) (c .before .before .if1 .left) (x .main .ptr) (x .ram .ptr) (c .before .if2 .taken) in
     let s : f .result .offset + 16 - f .result .offset ≡ 16 = omega arith in
-    ((rw s (p .1), p .2), ap numbersOf (f .ensures))
+    ((rw s (p .1), p .2), ap answerNumbers (f .ensures))
 
 sub-result-3 : tie.Need-sub-result-3
 sub-result-3 c = search needs
@@ -75,7 +75,7 @@ returns-3 c =
     let f = c .before .before .before .before .before .find in
     let p = part-in-main fnvFamily (volume (x .s) (x .main .now) (x .spare .now) (x .ram .now)) (x .key) (f .result) (f .ensures) (c .before .before .if1 .left) (x .main .ptr) (x .ram .ptr) (c .before .if2 .left) in
     let s : f .result .offset + 16 - f .result .offset ≡ 16 = omega arith in
-    ((rw s (p .1), p .2), ap numbersOf (f .ensures))
+    ((rw s (p .1), p .2), ap answerNumbers (f .ensures))
 
 pub lookup-spec : {M : Type 1} → statement M
 lookup-spec =

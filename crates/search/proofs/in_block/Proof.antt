@@ -11,13 +11,14 @@ use Rattle.layout.specs.Geometry.{page, fullSets}
 use Rattle.layout.specs.Calls.{keyIndex, maybeIn}
 use Rattle.layout.specs.Search.{Stop, found, corrupt, reply, scan, searchPages}
 use Rattle.geometry.specs.Shape.{shape}
+use Rattle.filter.specs.Filter.{index-fits}
 use Rattle.filter.specs.Blocks.{BlockAt}
 use Rattle.filter.specs.declared.groups.Block.{Block}
 use Rattle.search.specs.declared.End.the-variants.{Nothing}
 use Rattle.search.specs.Find.{viewed, Ready, tryOf}
 use Rattle.search.proofs.Bits.{Gates, Words, Word, words-first, words-next, words-end, word-first, word-next, word-lt, word-few, word-ended, cleared-less}
 use Rattle.search.proofs.Entries.{Same, Left, left-none, left-first, left-corrupt, left-found, left-next, left-less}
-use Rattle.search.proofs.Volume.{deletedOf, perPage, pages, same-flash, block-shows, pages-few, pages-then, page-in, sets-le, index-fits, deletions-fit, deletions-are}
+use Rattle.search.proofs.Volume.{deletedOf, perPage, pages, same-flash, block-shows, pages-few, pages-then, page-in, sets-le, deletions-fit, deletions-are}
 use borrow.Author.Needs.{needs}
 use borrow.Author.Tests.{not-true, not-false}
 use Rattle.search.proofs.in_block.Statement.{statement}
@@ -110,7 +111,7 @@ block-below-requires c κs =
     let L = b .pre .0 .1 in
     rw (c .key-filters .ensures) (
       (
-        (fullSets (shape (x .v .g)), sets-le (x .v) (x .main .now) (x .ram .now) R, index-fits (x .v) (x .main .now) (x .ram .now) R),
+        (fullSets (shape (x .v .g)), sets-le (x .v) (x .main .now) (x .ram .now) R, index-fits (x .v .g) (R .sound) (x .main .now) (x .ram .now) (R .read)),
         omega (arith, pages-few (x .v) (x .main .now) (x .ram .now) R),
         b .pre .1 .0,
         omega (arith, b .pre .1 .1, pages-then (x .v) (x .main .now) (x .ram .now) R),

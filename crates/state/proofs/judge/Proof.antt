@@ -5,7 +5,7 @@ use Rattle.layout.specs.Geometry.{allowed}
 use Rattle.layout.specs.Calls.{Volume}
 use Rattle.geometry.specs.Shape.{Sound, sizesIs, geometryFor}
 use Rattle.state.specs.Contract.{volume}
-use Rattle.state.proofs.Laws.{shaped-bad, shaped-good, judged-shape, judged-counts, judged-short, judged-good, fits-of}
+use Rattle.state.proofs.Laws.{shaped-bad, shaped-good, judge-shape, judge-counts, judge-short, judge-good, fits-of}
 use Rattle.state.proofs.judge.Statement.{statement}
 use Rattle.state.proofs.judge.Tie as tie
 
@@ -26,7 +26,7 @@ returns c =
     let G = c .before .before in
     let v = handed G in
     let bad = shaped-bad (allowed (v .state .sizes)) (v .state .sizes) (G .geometry-for .result) (G .geometry-for .ensures .0) (c .enum-told .given .1) in
-    (sym (judged-shape v bad), tt)
+    (sym (judge-shape v bad), tt)
 
 enum-known-g : tie.Need-enum-known-g
 enum-known-g c = search needs
@@ -48,7 +48,7 @@ counts-bad-requires c κs = is-sound (c .before)
 returns-2 : tie.Need-returns-2
 returns-2 c =
     let K = c .before .before .before in
-    (sym (judged-counts (handed (K .before .before)) (K .g .given .0 .0) (good K .0) (good K .1) (sym (c .before .counts-bad .ensures) ∙ c .if1 .taken)), tt)
+    (sym (judge-counts (handed (K .before .before)) (K .g .given .0 .0) (good K .0) (good K .1) (sym (c .before .counts-bad .ensures) ∙ c .if1 .taken)), tt)
 
 too-short-requires : tie.Need-too-short-requires
 too-short-requires c κs = is-sound (c .before .before .before)
@@ -57,7 +57,7 @@ returns-3 : tie.Need-returns-3
 returns-3 c =
     let E = c .before .before in
     let K = E .before .before .before in
-    (sym (judged-short (handed (K .before .before)) (K .g .given .0 .0) (good K .0) (good K .1) (sym (E .before .counts-bad .ensures) ∙ E .if1 .left) (sym (c .before .too-short .ensures) ∙ c .if2 .taken)), tt)
+    (sym (judge-short (handed (K .before .before)) (K .g .given .0 .0) (good K .0) (good K .1) (sym (E .before .counts-bad .ensures) ∙ E .if1 .left) (sym (c .before .too-short .ensures) ∙ c .if2 .taken)), tt)
 
 returns-4 : tie.Need-returns-4
 returns-4 c =
@@ -66,7 +66,7 @@ returns-4 c =
     let v = handed (K .before .before) in
     let counts = sym (E .before .counts-bad .ensures) ∙ E .if1 .left in
     let enough = sym (c .before .too-short .ensures) ∙ c .if2 .left in
-    (judged-good v (K .g .given .0 .0) (good K .0) (good K .1) counts enough, fits-of v (K .g .given .0 .0) (good K .0) (good K .1) (is-sound K) counts enough)
+    (judge-good v (K .g .given .0 .0) (good K .0) (good K .1) counts enough, fits-of v (K .g .given .0 .0) (good K .0) (good K .1) (is-sound K) counts enough)
 
 pub judge-spec : {M : Type 1} → statement M
 judge-spec =

@@ -2,10 +2,9 @@
 use borrow.Author.Needs.{needs}
 use native.Mathlib.Nat.{mod-lt}
 use native.Mathlib.Omega.{arith}
-use mathlib.Core.Path.{_≡_, refl, sym, ap, _∙_}
-use Prim.Native.Nat.{ℕ, _+_, _*_, _-_, _/_, _%_, _^_, _≤_, _<_}
+use mathlib.Core.Path.{_≡_, refl, sym}
+use Prim.Native.Nat.{ℕ, _+_, _*_, _-_, _/_, _%_, _^_, _≤_}
 use lib.ListN.{length, getD, length-set, take}
-use lib.Pow.{pow-pos}
 use Rattle.memory.specs.Bits.{bitIn}
 use Rattle.memory.specs.Lists.{done-more}
 use Rattle.kernels.specs.Rows.{allIn}

@@ -5,7 +5,7 @@ use mathlib.Core.Path.{_≡_}
 use mathlib.Core.Bool.{Bool}
 use mathlib.Core.List.{List}
 use Prim.Native.Nat.{ℕ, _+_, _*_, _-_, _%_, _^_, _≤_, _<_}
-use lib.ListN.{length, getD, take}
+use lib.ListN.{length, take}
 use Rattle.memory.specs.Bits.{bitIn}
 use Rattle.kernels.specs.Blocks.{Shows}
 use Rattle.filter.specs.Groups.{rowAt, levelHas}

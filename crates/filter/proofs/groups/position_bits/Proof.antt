@@ -1,8 +1,7 @@
 -- The byte of each filter, and its bit in it.
 use native.Mathlib.Nat.{mod-lt}
 use native.Mathlib.Omega.{arith}
-use mathlib.Core.Path.{_≡_}
-use Prim.Native.Nat.{ℕ, _+_, _*_, _/_, _%_, _^_, _<_}
+use Prim.Native.Nat.{_+_, _*_, _/_, _%_}
 use lib.ListN.{length}
 use Rattle.filter.proofs.Bytes.{eighth, first-in, byte-in, step-bit}
 use borrow.Author.Needs.{needs}

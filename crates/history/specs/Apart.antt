@@ -6,37 +6,16 @@ use Prim.Native.Nat.{ℕ, _+_, _-_, _*_, _/_, _%_, _^_, _≤_, _<_}
 use native.Mathlib.Nat.{mul-le-mul-right}
 use native.Mathlib.Omega.{arith}
 use lib.ListN.{getD}
-use borrow.Author.Tests.{lt-ltb, le-ltb}
 use Rattle.memory.specs.Cases.{lt?, eq?, either}
 use Rattle.memory.specs.Numbers.{euclid, div-lt}
 use Rattle.memory.specs.Power.{log2up}
 use Rattle.memory.specs.Bits.{bit}
 use Rattle.layout.specs.Geometry.{sector, page, block}
-use Rattle.layout.specs.Index.{Index, bitAt, setPages, setWidth, fullFilters, sideBlock, l1Place, setPlace, flashPlace, setByte, setBlock}
-use Rattle.laws.specs.RowLaws.{row-ext, unit-pos, set-whole, width-pos, blocks-fit, filters-fit, side-range}
+use Rattle.layout.specs.Index.{Index, bitAt, setPages, setWidth, fullFilters, sideBlock, flashPlace, setByte, setBlock}
+use Rattle.laws.specs.SetLaws.{unit-pos, set-whole, width-pos, blocks-fit, filters-fit, side-range, place-old, place-new}
+use Rattle.history.specs.RowLaws.{row-ext}
 
 module _ (u : ℕ) (ix : Index) where
-  -- filter g of the set before the next one
-  pub place-old : (z c g x : ℕ) → g < 128 * c
-      → flashPlace u ix z c (z * fullFilters u + g) x ≡ setPlace u (sideBlock u ix c) (setWidth u c) g x
-  place-old z c g x h =
-      let s : z * fullFilters u + g - z * fullFilters u ≡ g = omega arith in
-      rw (
-        le-ltb (z * fullFilters u + g) (z * fullFilters u) (omega arith),
-        lt-ltb (z * fullFilters u + g) (z * fullFilters u + 128 * c) (omega arith),
-        s,
-      )
-
-  -- and one of L1
-  pub place-new : (z c g x : ℕ) → 128 * c ≤ g → flashPlace u ix z c (z * fullFilters u + g) x ≡ l1Place u ix (g - 128 * c) x
-  place-new z c g x h =
-      let s : z * fullFilters u + g - (z * fullFilters u + 128 * c) ≡ g - 128 * c = omega arith in
-      rw (
-        le-ltb (z * fullFilters u + g) (z * fullFilters u) (omega arith),
-        le-ltb (z * fullFilters u + g) (z * fullFilters u + 128 * c) (omega arith),
-        s,
-      )
-
   -- one round more is on the other side
   side-other : (c : ℕ) → (sideBlock u ix c + 4 * u ≤ sideBlock u ix (c + 1)) ⊎ (sideBlock u ix (c + 1) + 4 * u ≤ sideBlock u ix c)
   side-other c =

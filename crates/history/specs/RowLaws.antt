@@ -1,19 +1,20 @@
--- Laws of rows of filter bits, and the widths and places of partition sets.
+-- Laws of rows of filter bits, and of a full set's width and blocks.
 use mathlib.Core.Path.{_≡_, refl, _∙_}
 use mathlib.Core.Logic.{_≢_}
 use mathlib.Core.Bool.{Bool, false, _&&_}
-use Prim.Native.Nat.{ℕ, zero, suc, _+_, _-_, _*_, _/_, _%_, _^_, _≤_, _<_, zero-le}
-use native.Mathlib.Nat.{mul-le-mul-right, mod-lt, not-suc-le-zero, div-mul-le-self, le-div-iff-mul-le, le-of-mul-le-mul-right}
+use Prim.Native.Nat.{ℕ, zero, suc, _+_, _*_, _/_, _%_, _^_, _≤_, _<_, zero-le}
+use native.Mathlib.Nat.{mod-lt, not-suc-le-zero}
 use native.Mathlib.Omega.{arith}
 use lib.Arith.{digits-div, digits-mod}
 use lib.Pow.{pow-pos}
-use lib.Dec.{ltb, eqb}
+use lib.Dec.{ltb}
 use borrow.Author.Tests.{lt-ltb, le-ltb}
 use Rattle.memory.specs.Bits.{bit, pack, bit-pack, pack-ext}
-use Rattle.memory.specs.Cases.{lt?, either, bool?}
+use Rattle.memory.specs.Cases.{lt?, either}
 use Rattle.memory.specs.Numbers.{euclid, div-of, mod-of}
-use Rattle.memory.specs.Power.{log2up, log2up-enough, width}
-use Rattle.layout.specs.Index.{Index, rowBit, rowByte, setPages, setWidth, setBlocks, sideBlock}
+use Rattle.memory.specs.Power.{log2up, log2up-enough}
+use Rattle.layout.specs.Index.{rowBit, rowByte, setWidth, setBlocks}
+use Rattle.laws.specs.SetLaws.{blocks-fit}
 
 -- bit r of the w bits of filter g, read from the row's bytes
 pub read-row : (G : ℕ → ℕ → Bool) (N w lo g r : ℕ) → g < N → r < w
@@ -69,60 +70,21 @@ module _ (u : ℕ) (pu : 0 < u) where
           (λ a. rw (a .0, lt-ltb (y / (2 * u)) (s + 1) (omega arith)))
           (λ a. rw (a .0, le-ltb (y / (2 * u)) (s + 1) (omega arith)))
 
--- ---- pages, blocks and width of the set of c rounds
+-- ---- blocks and width of a set
 
 module _ (u e : ℕ) (pow : u ≡ 2 ^ e) where
-  pub unit-pos : 0 < u
-  unit-pos = rw pow (pow-pos e)
-
-  -- the pages' bits are the filter's
-  pub width-is : (c : ℕ) → c ≤ 4 * u → setWidth u c ≡ 2 ^ (e + 2 - log2up c)
-  width-is c h =
-      let w = width e c (omega arith) in
-      div-of (64 * u) (16 * 2 ^ log2up c) (2 ^ (e + 2 - log2up c)) 0 (omega arith) (omega (arith, pow-pos (log2up c)))
-
-  pub set-whole : (c : ℕ) → c ≤ 4 * u → setPages c * setWidth u c ≡ 64 * u
-  set-whole c h = rw (width-is c h) (omega (arith, width e c (omega arith)))
-
-  pub width-pos : (c : ℕ) → c ≤ 4 * u → 0 < setWidth u c
-  width-pos c h = rw (width-is c h) (pow-pos (e + 2 - log2up c))
-
-  -- a set fits a side
-  pub blocks-fit : (c : ℕ) → c ≤ 4 * u → 2 ^ log2up c ≤ 4 * u
-  blocks-fit c h = omega (arith, width e c (omega arith), mul-le-mul-right (2 ^ log2up c) (pow-pos (e + 2 - log2up c)))
-
-  -- the filters of a set fit its pages
-  pub filters-fit : (c : ℕ) → c ≤ 4 * u → 128 * c * setWidth u c ≤ 512 * u
-  filters-fit c h = omega (arith, set-whole c h, mul-le-mul-right (setWidth u c) (log2up-enough c))
-
   -- a full set has as many blocks as a side, and a bit of a filter to a page
   pub full-blocks : 2 ^ log2up (4 * u) ≡ 4 * u
-  full-blocks = omega (arith, blocks-fit (4 * u) (omega arith), log2up-enough (4 * u))
+  full-blocks = omega (arith, blocks-fit u e pow (4 * u) (omega arith), log2up-enough (4 * u))
 
   pub full-width : setWidth u (4 * u) ≡ 1
   full-width = div-of (64 * u) (16 * 2 ^ log2up (4 * u)) 1 0 (omega (arith, full-blocks)) (omega (arith, pow-pos (log2up (4 * u))))
 
 -- blocks of a set, by its rounds
-pub blocks-some : (u c : ℕ) → 0 < c → setBlocks c ≡ 2 ^ log2up c
-blocks-some u zero h = absurd (not-suc-le-zero h)
-blocks-some u (suc c) h = refl
+pub blocks-some : (c : ℕ) → 0 < c → setBlocks c ≡ 2 ^ log2up c
+blocks-some zero h = absurd (not-suc-le-zero h)
+blocks-some (suc c) h = refl
 
-pub blocks-le : (u c m : ℕ) → 2 ^ log2up c ≤ m → setBlocks c ≤ m
-blocks-le u zero m h = zero-le
-blocks-le u (suc c) m h = h
-
--- where a side lies
-pub side-range : (u : ℕ) (ix : Index) (c : ℕ) → (ix .first + 1 ≤ sideBlock u ix c) × (sideBlock u ix c + 4 * u ≤ ix .first + 1 + 8 * u)
-side-range u ix c = either (bool? (eqb (c % 2) 1)) (λ a. rw a (omega arith, omega arith)) (λ a. rw a (omega arith, omega arith))
-
--- the places for full sets suffice: n records give n / (S/2) filters, 128 (S/4) of them to a full set
-pub places-suffice : (u R n : ℕ) → 0 < u → n ≤ 4 * R * (16 * u) → n / (8 * u) / 8 / 16 / (4 * u) ≤ R / (64 * u)
-places-suffice u R n pu h =
-    let f = div-mul-le-self n (8 * u) in
-    let t = div-mul-le-self (n / (8 * u)) 8 in
-    let c = div-mul-le-self (n / (8 * u) / 8) 16 in
-    let z = div-mul-le-self (n / (8 * u) / 8 / 16) (4 * u) in
-    let pos : 0 < 64 * u = omega arith in
-    let all : n / (8 * u) / 8 / 16 / (4 * u) * (64 * u) * (64 * u) ≤ R * (64 * u)
-    = omega (arith, mul-le-mul-right (16 * 8 * (8 * u)) z, mul-le-mul-right (8 * (8 * u)) c, mul-le-mul-right (8 * u) t, f) in
-    le-div-iff-mul-le pos .1 (le-of-mul-le-mul-right all pos)
+pub blocks-le : (c m : ℕ) → 2 ^ log2up c ≤ m → setBlocks c ≤ m
+blocks-le zero m h = zero-le
+blocks-le (suc c) m h = h

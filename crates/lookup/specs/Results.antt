@@ -7,18 +7,18 @@ use Rattle.layout.specs.Calls.{Outcome, accepted, hit, miss, refused, Result}
 use Rattle.lookup.specs.declared.LookupResult.{LookupResult}
 
 -- "hit, count and the 16 record bytes .. or miss, count and an empty part; its refusals give count 0 and an empty part"
-abbrev pub lookedOf : Outcome → ℕ → LookupResult
-lookedOf (hit place bytes) count = record { refusal = 0; found = 1; count = count; «in_ram» = num (place .inRam); offset = place .at }
-lookedOf miss count = record { refusal = 0; found = 0; count = count; «in_ram» = 0; offset = 0 }
-lookedOf (refused i) count = record { refusal = i; found = 0; count = 0; «in_ram» = 0; offset = 0 }
-lookedOf accepted count = record { refusal = 0; found = 0; count = 0; «in_ram» = 0; offset = 0 }
+abbrev pub lookupBy : Outcome → ℕ → LookupResult
+lookupBy (hit place bytes) count = record { refusal = 0; found = 1; count = count; «in_ram» = num (place .inRam); offset = place .at }
+lookupBy miss count = record { refusal = 0; found = 0; count = count; «in_ram» = 0; offset = 0 }
+lookupBy (refused i) count = record { refusal = i; found = 0; count = 0; «in_ram» = 0; offset = 0 }
+lookupBy accepted count = record { refusal = 0; found = 0; count = 0; «in_ram» = 0; offset = 0 }
 
-abbrev pub looked : Result → LookupResult
-looked r = lookedOf (r .outcome) (r .count)
+abbrev pub lookupOf : Result → LookupResult
+lookupOf r = lookupBy (r .outcome) (r .count)
 
 -- the three numbers beside the part that lookup hands out: the refusal, whether there is a record, the count
-abbrev pub numbersOf : LookupResult → List ℕ
-numbersOf r = r .refusal ∷ r .found ∷ r .count ∷ []
+abbrev pub answerNumbers : LookupResult → List ℕ
+answerNumbers r = r .refusal ∷ r .found ∷ r .count ∷ []
 
 -- the bytes of that part
 abbrev pub partOf : Outcome → List ℕ
