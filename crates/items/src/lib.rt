@@ -1,6 +1,7 @@
 // Words and entries in a row of bytes: is a number among the words, which entry has a key. Document 01, "Calls".
 ghost use mathlib.Core.Path.{_≡_};
 ghost use mathlib.Core.Bool.{false};
+ghost use mathlib.Core.Logic.{_≢_};
 ghost use Prim.Native.Nat.{_+_, _*_, _≤_, _<_};
 ghost use lib.ListN.{length};
 ghost use Rattle.memory.specs.Lent.{before};
@@ -138,11 +139,14 @@ pub fn find_entry(at: usize, count: usize, key: u32, s: &[u8]) -> usize
 
 // ---- full pages
 
-// Is one of the words of a page of one unit or two the number j.
+// Is one of the words of a page of up to four units the number j.
 fn small_has(chip: Chip, at: usize, j: u32, s: &[u8]) -> bool
-    requires { ⌜ (0 < chip .unit) × (chip .unit < 3) × (at + page (chip .unit) ≤ length (now s)) ⌝ }
+    requires { ⌜ (0 < chip .unit) × (chip .unit < 5) × (chip .unit ≢ 3) × (at + page (chip .unit) ≤ length (now s)) ⌝ }
     ensures { λ r. ⌜ r ≡ hasWord (before s) at (16 * chip .unit) j ⌝ }
 {
+    if chip.unit == 4 {
+        return many_have(at, j, s);
+    }
     if few_have(at, j, s) {
         return true;
     }
@@ -159,7 +163,7 @@ pub fn find_in_page(chip: Chip, at: usize, key: u32, s: &[u8]) -> usize
     ensures { λ r. ⌜ r ≡ lastEntry (before s) at (entriesPerPage (chip .unit)) key ⌝ }
 {
     let unit = chip.unit;
-    if unit < 4 {
+    if unit < 5 {
         if small_has(chip, at, key, s) {
             return last_key(at, unit * 8, key, s);
         }

@@ -1,5 +1,6 @@
 -- From the newest 64 words on: those that have not the key have no entry with it.
 use native.Mathlib.Omega.{arith}
+use mathlib.Core.Logic.{_≢_}
 use Prim.Native.Nat.{ℕ, zero, suc, _+_, _*_, _-_, _/_, _%_, _^_, _≤_, _<_}
 use mathlib.Core.Path.{_≡_, sym, ap, _∙_}
 use lib.Pow.{pow-pos}
@@ -9,10 +10,10 @@ use Rattle.items.proofs.find_in_page.Statement.{statement}
 use Rattle.items.proofs.find_in_page.Tie as tie
 
 -- a power of two: 1, 2, or a multiple of 4
-fours : (e u : ℕ) → u ≡ 2 ^ e → (u < 4 → u < 3) × (4 ≤ u → u % 4 ≡ 0)
-fours zero u p = (λ h. omega arith, λ h. absurd (omega arith))
-fours (suc zero) u p = (λ h. omega arith, λ h. absurd (omega arith))
-fours (suc (suc e)) u p = (λ h. absurd (omega (arith, pow-pos e)), λ h. omega arith)
+fours : (e u : ℕ) → u ≡ 2 ^ e → (u ≢ 3) × (5 ≤ u → u % 4 ≡ 0)
+fours zero u p = (omega arith, λ h. absurd (omega arith))
+fours (suc zero) u p = (omega arith, λ h. absurd (omega arith))
+fours (suc (suc e)) u p = (omega (arith, pow-pos e), λ h. omega arith)
 
 abbrev Inv-loop : tie.InvT-loop
 Inv-loop at key s unit b₀ b = (b ≤ unit / 4) × (lastEntry s at (8 * unit) key ≡ lastEntry s at (b * 32) key)
@@ -21,7 +22,9 @@ abbrev μ-loop : tie.MeasureT-loop
 μ-loop at key s unit b₀ b = b
 
 small-has-requires : tie.Need-small-has-requires Inv-loop μ-loop
-small-has-requires c κs = (c .before .before .pre .0 .1 .some, fours (c .before .before .pre .0 .0) (c .before .before .args .chip .unit) (c .before .before .pre .0 .1 .power) .0 (c .if1 .taken), c .before .before .pre .1)
+small-has-requires c κs =
+    let b = c .before .before in
+    (b .pre .0 .1 .some, c .if1 .taken, fours (b .pre .0 .0) (b .args .chip .unit) (b .pre .0 .1 .power) .0, b .pre .1)
 
 mul-last-key : tie.Need-mul-last-key Inv-loop μ-loop
 mul-last-key c = omega (arith, c .before .before .before .before .pre .0 .1 .most)
