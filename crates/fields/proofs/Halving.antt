@@ -1,19 +1,20 @@
 -- Every other field of a byte by masks and shifts, for each of its 256 values; and a byte made of two.
-use mathlib.Core.Path.{_≡_, refl, sym, _∙_}
+use mathlib.Core.Path.{_≡_, refl, sym, ap, _∙_}
 use mathlib.Core.Logic.{inl, inr}
 use mathlib.Core.Bool.{Bool, true, _&&_, Bool·beq, and-eq-true-iff}
 use mathlib.Core.List.{List}
 use Prim.Native.Nat.{ℕ, zero, suc, _+_, _-_, _*_, _/_, _%_, _^_, _≤_, _<_}
-use native.Mathlib.Nat.{not-suc-le-zero}
+use native.Mathlib.Nat.{not-suc-le-zero, mul-le-mul-left}
 use native.Mathlib.Omega.{arith}
 use lib.Bits.{bitAnd, bitOr}
 use lib.Dec.{ltb}
 use lib.ListN.{getD}
 use lib.Pow.{pow-pos}
 use borrow.Author.Tests.{ltb-true}
-use Rattle.memory.specs.Bits.{bit, bitIn, bit-low, bit-high, bit-shr}
+use Rattle.memory.specs.Bits.{bit, bitIn, bit-low, bit-high, bit-mod, bit-shr}
 use Rattle.memory.specs.Booleans.{eq-of-beq}
 use Rattle.memory.specs.Cases.{lt?, either}
+use Rattle.memory.specs.Numbers.{div-lt}
 use Rattle.fields.specs.declared.Source.{Source}
 use Rattle.fields.specs.Laws.{pack-byte}
 use Rattle.fields.specs.Sources.{fieldByte, Aligned, Reaches}
@@ -74,6 +75,10 @@ half4 = half-by even4 4 refl
 
 -- ---- two bytes to one
 
+-- a number moved down is no greater
+pub down-lt : (x low : ℕ) → x < 65536 → x / 2 ^ low < 65536
+down-lt x low h = div-lt x (2 ^ low) 65536 (pow-pos low) (omega (arith, mul-le-mul-left 65536 (pow-pos low)))
+
 module _ (bytes : List ℕ) (s : Source) (w y : ℕ) (A : Aligned s w) (small : w < 8) (twice : s .step ≡ 2 * w) where
   pub narrow : Narrow w
   narrow = go (A .k) (A .w-is)
@@ -116,6 +121,40 @@ module _ (bytes : List ℕ) (s : Source) (w y : ℕ) (A : Aligned s w) (small : 
       go (inl e) l = let l1 : s .low ≤ 1 = omega arith in rw e (omega arith, omega arith)
       go (inr (inl e)) l = let l2 : s .low ≤ 2 = omega arith in rw e (omega arith, omega arith)
       go (inr (inr e)) l = let l4 : s .low ≤ 4 = omega arith in rw e (omega arith, omega arith)
+
+  -- the bits that a half takes are in their byte, moved down too
+  taken-in : (i : ℕ) → i < 4 → s .low + (i / w * (2 * w) + i % w) < 8
+  taken-in i h = go narrow low-le
+    where
+      go : Narrow w → s .low ≤ w → s .low + (i / w * (2 * w) + i % w) < 8
+      go (inl e) l = let l1 : s .low ≤ 1 = omega arith in rw e (omega arith)
+      go (inr (inl e)) l = let l2 : s .low ≤ 2 = omega arith in rw e (omega arith)
+      go (inr (inr e)) l = let l4 : s .low ≤ 4 = omega arith in rw e (omega arith)
+
+  -- two bytes as one number, moved down: its halves are theirs
+  module _ (p q x r : ℕ) (small-p : p < 256) (x-is : x ≡ (p + q * 256) / 2 ^ s .low) where
+    both : (j : ℕ) → bit x j ≡ bit (q * 2 ^ 8 + p) (s .low + j)
+    both j =
+        let e : p + q * 256 ≡ q * 2 ^ 8 + p = omega arith in
+        rw (x-is, e) (bit-shr (q * 2 ^ 8 + p) (s .low) j)
+
+    pub pair-low : Half w (x % 256) r → Half w (p / 2 ^ s .low) r
+    pair-low H = record {
+      small = H .small;
+      bits = λ i h.
+          let t = taken-in i h in
+          H .bits i h ∙ (bit-mod x 8 (i / w * (2 * w) + i % w) (omega (arith, t)) ∙ (both (i / w * (2 * w) + i % w)
+          ∙ (bit-low 8 q p (s .low + (i / w * (2 * w) + i % w)) t ∙ sym (bit-shr p (s .low) (i / w * (2 * w) + i % w)))));
+    }
+
+    pub pair-high : Half w (x / 256) r → Half w (q / 2 ^ s .low) r
+    pair-high H = record {
+      small = H .small;
+      bits = λ i h.
+          let e : s .low + (8 + (i / w * (2 * w) + i % w)) ≡ 8 + (s .low + (i / w * (2 * w) + i % w)) = omega arith in
+          H .bits i h ∙ (bit-shr x 8 (i / w * (2 * w) + i % w) ∙ (both (8 + (i / w * (2 * w) + i % w))
+          ∙ (ap (bit (q * 2 ^ 8 + p)) e ∙ (bit-high 8 q p (s .low + (i / w * (2 * w) + i % w)) small-p ∙ sym (bit-shr q (s .low) (i / w * (2 * w) + i % w))))));
+    }
 
   pub halved-is : (lo hi : ℕ) → Half w (getD bytes (s .at + 2 * y) 0 / 2 ^ s .low) lo → Half w (getD bytes (s .at + 2 * y + 1) 0 / 2 ^ s .low) hi → hi * 16 + lo ≡ fieldByte bytes s w y
   unfolding fieldByte

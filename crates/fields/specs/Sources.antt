@@ -1,5 +1,6 @@
 -- Fields of bits in a row of bytes, and the bytes that they make when w bits of each are taken, one field after another.
 use mathlib.Core.Path.{_≡_}
+use mathlib.Core.Logic.{_⊎_}
 use mathlib.Core.List.{List}
 use Prim.Native.Nat.{ℕ, _+_, _*_, _/_, _%_, _^_, _≤_, _<_}
 use lib.ListN.{getD}
@@ -26,6 +27,18 @@ pub record Aligned (s : Source) (w : ℕ) : Type 0 where
   pub lows : ℕ
   pub low-is : s .low ≡ lows * w
   pub room : s .low + w ≤ s .step
+
+-- fields of less than a byte are taken whole or by half
+abbrev pub Near : Source → ℕ → Type 0
+Near s w = (8 ≤ w) ⊎ ((s .step ≡ w) ⊎ (s .step ≡ 2 * w))
+
+-- x is so many times n
+abbrev pub Whole : ℕ → ℕ → Type 0
+Whole n x = (m : ℕ) × (x ≡ m * n)
+
+-- bytes of a field that has whole ones
+abbrev pub Size : ℕ → Type 0
+Size n = (n ≡ 1) ⊎ ((n ≡ 2) ⊎ ((n ≡ 4) ⊎ ((n ≡ 8) ⊎ (n ≡ 16))))
 
 -- the last bit of byte y is there
 pub record Reaches (len : ℕ) (s : Source) (w y : ℕ) : Type 0 where

@@ -9,6 +9,7 @@ ghost use Rattle.layout.specs.Geometry.{sectorsPerBlock, sector, block};
 ghost use Rattle.layout.specs.Flash.{program, erase, fresh, apply, applyAll, erases};
 ghost use Rattle.laws.specs.LentFlash.{flashBefore, flashAfter};
 ghost use Rattle.flash.specs.Fresh.{freshRun};
+ghost use Rattle.flash.specs.Sectors.{programmedRow};
 use geometry::Chip;
 
 // What an erased byte and the mark of a fresh sector hold.
@@ -34,7 +35,24 @@ pub fn program_sector(chip: Chip, s: usize, src: &[u8], main: &mut [u8], spare: 
     spare[s] = PROGRAMMED;
 }
 
-// The same out of two parts: sector s gets the bytes of a, then those of b.
+// k sectors in a row from sector s on get the bytes of src.
+pub fn program_sectors(
+    chip: Chip,
+    s: usize,
+    k: usize,
+    src: &[u8],
+    main: &mut [u8],
+    spare: &mut [u8],
+)
+    requires { ⌜ (chip .unit ≤ 32) × (length (now src) ≡ k * sector (chip .unit)) ⌝ }
+    requires { ⌜ ((s + k) * sector (chip .unit) ≤ length (now main)) × (s + k ≤ length (now spare)) ⌝ }
+    ensures { λ _. ⌜ flashAfter main spare ≡ programmedRow (chip .unit) s k (before src) (flashBefore main spare) ⌝ }
+{
+    words::copy_at(main, chip.sector_address(s), src);
+    words::fill_at(spare, s, k, PROGRAMMED);
+}
+
+// One sector out of two parts: sector s gets the bytes of a, then those of b.
 pub fn program_joined(chip: Chip, s: usize, a: &[u8], b: &[u8], main: &mut [u8], spare: &mut [u8])
     requires { ⌜ (chip .unit ≤ 32) × (length (now a) + length (now b) ≡ sector (chip .unit)) ⌝ }
     requires { ⌜ (s * sector (chip .unit) + sector (chip .unit) ≤ length (now main)) × (s < length (now spare)) ⌝ }

@@ -22,7 +22,8 @@ use Rattle.history.specs.FlashLaws.{apply-main-length, apply-spare-lengt
 use Rattle.history.specs.FlashLaws.{programs-allowed, range-out, erases-allowed, erases-main-in, erases-main-out, erases-spare-in}
 use Rattle.history.specs.FlashLaws.{erases-spare-out}
 use Rattle.laws.specs.SetLaws.{set-whole, width-pos, blocks-fit, side-range}
-use Rattle.history.specs.RowLaws.{row-ext, full-blocks, full-width, blocks-some, blocks-le}
+use Rattle.laws.specs.Apart.{row-ext}
+use Rattle.history.specs.RowLaws.{full-blocks, full-width, blocks-some, blocks-le}
 use Rattle.history.specs.IndexRead.{read-flash}
 use Rattle.laws.specs.Units.{UnitIs}
 

@@ -17,7 +17,8 @@ use Rattle.layout.specs.Index.{Index, bitAt, setPages, setWidth, setBlocks, ful
 use Rattle.layout.specs.Index.{flashPlace}
 use Rattle.history.specs.Image.{skaByte, l1Byte, partitionByte, sideByte, fullByte, IndexMain, IndexSpare}
 use Rattle.laws.specs.SetLaws.{set-whole, width-pos, blocks-fit, side-range}
-use Rattle.history.specs.RowLaws.{read-row, row-ext, blocks-some}
+use Rattle.history.specs.RowLaws.{read-row, blocks-some}
+use Rattle.laws.specs.Apart.{row-ext}
 use Rattle.laws.specs.Units.{UnitIs}
 
 -- the SKA page holds s filters after `flushes` flushes

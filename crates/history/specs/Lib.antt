@@ -1,6 +1,5 @@
 pub mod KeyLaws
 pub mod RowLaws
-pub mod Apart
 pub mod ScanLaws
 pub mod Operations
 pub mod FlashLaws

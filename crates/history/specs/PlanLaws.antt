@@ -18,7 +18,7 @@ use Rattle.layout.specs.Index.{Index, inSka, inL1, inSet, inFull, setPages, set
 use Rattle.layout.specs.Index.{buildPlan, flushAndBuild, filterPlan}
 use Rattle.history.specs.Operations.{programs, itemOps, flushOps, buildOps, flushAndBuildOps, filterOps}
 use Rattle.history.specs.FlashLaws.{programs-ext}
-use Rattle.history.specs.Apart.{set-byte-same}
+use Rattle.laws.specs.Apart.{set-byte-same}
 use Rattle.laws.specs.Units.{UnitIs}
 
 -- the same planned operations, counted from one later

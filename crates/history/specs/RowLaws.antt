@@ -26,15 +26,6 @@ read-row G N w lo g r hg hr =
     let m : (g * w + r) % w ≡ r = digits-mod g hr in
     bit-pack 8 _ ((g * w + r) % 8) (omega arith) ∙ rw (q, d, m, lt-ltb g N hg)
 
--- only the bits that are there decide
-pub row-ext : (G H : ℕ → ℕ → Bool) (N w lo y : ℕ) → 0 < w → ((g r : ℕ) → g < N → r < w → G g (lo + r) ≡ H g (lo + r))
-    → rowByte G N w lo y ≡ rowByte H N w lo y
-unfolding rowByte rowBit
-row-ext G H N w lo y pw same = pack-ext 8 _ _ (λ b l. one (y * 8 + b))
-  where
-    one : (q : ℕ) → (ltb (q / w) N && G (q / w) (lo + q % w)) ≡ (ltb (q / w) N && H (q / w) (lo + q % w))
-    one q = either (lt? (q / w) N) (λ a. rw (a .0) (same (q / w) (q % w) (a .1) (mod-lt q pw))) (λ a. rw (a .0))
-
 -- a row of no filters is zero
 pub row-none : (G : ℕ → ℕ → Bool) (w lo y : ℕ) → rowByte G 0 w lo y ≡ 0
 unfolding rowByte rowBit pack

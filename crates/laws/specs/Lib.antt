@@ -1,4 +1,5 @@
 pub mod SetLaws
+pub mod Apart
 pub mod ItemLaws
 pub mod SearchLaws
 pub mod Units

@@ -10,9 +10,9 @@ use Rattle.layout.specs.Geometry.{sector, page, block}
 use Rattle.layout.specs.Index.{Index, pagesPerFourth, setPages, setWidth, sideBlock}
 use Rattle.laws.specs.SetLaws.{unit-pos, width-is, width-pos, blocks-fit}
 use Rattle.laws.specs.Units.{UnitSound}
-use Rattle.partition.specs.Sources.{roundBytes, sourceOf, rowOf}
+use Rattle.partition.specs.Sources.{roundBytes, sourceOf, pageSource}
 use Rattle.fields.specs.declared.Source.{Source}
-use Rattle.partition.specs.declared.Row.{Row}
+use Rattle.partition.specs.declared.PageSource.{PageSource}
 use Rattle.partition.specs.Widths.{old-whole, sector-whole}
 
 -- a set's width and its bounds
@@ -21,6 +21,12 @@ width-of u c r U h e =
     let w = width-is u (U .0) (U .1 .power) c h in
     let l : U .0 + 2 - log2up c ≤ 7 = omega (arith, U .1 .small) in
     rw e (refl, width-pos u (U .0) (U .1 .power) c h, rw w (omega (arith, pow-mono l)))
+
+-- so many fields in a byte
+pub few-pages : (w : ℕ) → 0 < w → w < 8 → (0 < 8 / w) × (8 / w ≤ 8)
+few-pages w p h =
+    let E = euclid 8 w p in
+    (le-div-iff-mul-le p .1 (omega arith), omega (arith, E .whole, mul-le-mul-left (8 / w) p))
 
 -- v / w shares of a field
 pub record Shares (v w p gap : ℕ) : Type 0 where
@@ -60,5 +66,5 @@ pages-le u c U h = omega (arith, U .1 .most, blocks-fit u (U .0) (U .1 .power) c
 module _ (u : ℕ) (ix : Index) (c p w v side first gap four size : ℕ) (o l : Source) where
   pub row-made : w ≡ setWidth u (c + 1) → v ≡ setWidth u c → side ≡ sideBlock u ix c * block u → first ≡ ix .first * block u
       → gap ≡ page u → four ≡ pagesPerFourth * page u → size ≡ sector u → o ≡ sourceOf side gap v w p → l ≡ sourceOf first four size w p
-      → _≡_ {A = Row} (record { w = w; split = roundBytes * c * w; end = roundBytes * (c + 1) * w; old = o; l1 = l }) (rowOf u ix c p)
+      → _≡_ {A = PageSource} (record { w = w; split = roundBytes * c * w; end = roundBytes * (c + 1) * w; old = o; l1 = l }) (pageSource u ix c p)
   row-made ew ev es ef eg e4 ez eo el = rw (eo, el, ew, ev, es, ef, eg, e4, ez)

@@ -1,3 +1,5 @@
 pub mod Widths
 pub mod Sources
+pub mod Shared
+pub mod Sharing
 pub mod Reach

@@ -1,6 +1,7 @@
 -- What a page of the next set is made of lies in the main area.
 use mathlib.Core.Path.{_≡_, refl, sym, ap}
-use Prim.Native.Nat.{ℕ, _+_, _-_, _*_, _/_, _%_, _^_, _≤_, _<_}
+use mathlib.Core.Logic.{inr}
+use Prim.Native.Nat.{ℕ, _+_, _-_, _*_, _/_, _%_, _≤_, _<_}
 use native.Mathlib.Nat.{mul-le-mul-right}
 use native.Mathlib.Omega.{arith}
 use Rattle.memory.specs.Cases.{lt?, either}
@@ -9,16 +10,20 @@ use Rattle.memory.specs.Power.{log2up}
 use Rattle.layout.specs.Geometry.{block}
 use Rattle.layout.specs.Index.{Index, setPages, setWidth, fullBlock}
 use Rattle.laws.specs.SetLaws.{width-is, width-pos, set-whole, blocks-fit, filters-fit, side-range}
-use Rattle.fields.specs.Sources.{Aligned, Reaches}
-use Rattle.partition.specs.declared.Row.{Row}
+use Rattle.fields.specs.Sources.{Aligned, Near, Whole, Reaches}
+use Rattle.partition.specs.declared.PageSource.{PageSource}
 use Rattle.laws.specs.Units.{UnitIs}
-use Rattle.partition.specs.Widths.{old-whole, sector-whole}
-use Rattle.partition.specs.Sources.{oldOf, l1Of, rowOf, pages-pos, field-room}
+use Rattle.partition.specs.Widths.{old-whole, sector-whole, next-width}
+use Rattle.partition.specs.Sources.{oldOf, l1Of, pageSource, pages-pos, field-room}
 
-pub record RowFits (len : ℕ) (r : Row) : Type 0 where
+pub record SourceFits (len : ℕ) (r : PageSource) : Type 0 where
   pub order : r .split ≤ r .end
   pub old-aligned : Aligned (r .old) (r .w)
+  pub old-near : Near (r .old) (r .w)
   pub l1-aligned : Aligned (r .l1) (r .w)
+  pub l1-bytes : r .l1 .step ≡ 8 * (r .l1 .step / 8)
+  pub split-whole : Whole (r .w) (r .split)
+  pub end-is : r .end ≡ r .split + 16 * r .w
   pub old-reaches : (y : ℕ) → y < r .split → Reaches len (r .old) (r .w) y
   pub l1-reaches : (y : ℕ) → r .split ≤ y → y < r .end → Reaches len (r .l1) (r .w) (y - r .split)
 
@@ -83,7 +88,7 @@ module _ (u e : ℕ) (U : UnitIs u e) (ix : Index) (c p len : ℕ) (hc : c < 4 *
       let a = mul-le-mul-right (256 * u) l1-group in
       record { short = omega arith; few = omega arith; inside = omega arith }
 
-  pub row-fits : RowFits len (rowOf u ix c p)
+  pub row-fits : SourceFits len (pageSource u ix c p)
   row-fits =
       let k-lt : e + 2 - log2up (c + 1) < 8 = omega arith in
       record {
@@ -98,6 +103,10 @@ module _ (u e : ℕ) (U : UnitIs u e) (ix : Index) (c p len : ℕ) (hc : c < 4 *
           low-is = refl;
           room = field-room w (setWidth u c) m (old-whole u e (U .power) c hc) wp vp p;
         };
+        old-near = inr (next-width u e (U .power) c hc);
+        l1-bytes = omega arith;
+        split-whole = (16 * c, refl);
+        end-is = omega arith;
         l1-aligned = record {
           k = e + 2 - log2up (c + 1);
           small = k-lt;

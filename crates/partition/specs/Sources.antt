@@ -17,11 +17,11 @@ use Rattle.layout.specs.Index.{setWidth, fullFilters, sideBlock, flashPlace, se
 use Rattle.laws.specs.SetLaws.{unit-pos, width-pos, place-old, place-new}
 use Rattle.fields.specs.declared.Source.{Source}
 use Rattle.fields.specs.Sources.{fieldByte}
-use Rattle.partition.specs.declared.Row.{Row}
+use Rattle.partition.specs.declared.PageSource.{PageSource}
 use Rattle.partition.specs.Widths.{old-whole, sector-whole}
 
 -- byte y of a page
-unfoldable pub pageByte : List ℕ → Row → ℕ → ℕ
+unfoldable pub pageByte : List ℕ → PageSource → ℕ → ℕ
 pageByte main r y =
     cond (ltb y (r .split)) (fieldByte main (r .old) (r .w) y) (cond (ltb y (r .end)) (fieldByte main (r .l1) (r .w) (y - r .split)) 0)
 
@@ -42,8 +42,8 @@ module _ (u : ℕ) (ix : Index) where
   abbrev pub l1Of : ℕ → ℕ → Source
   l1Of c p = sourceOf (ix .first * block u) (pagesPerFourth * page u) (sector u) (setWidth u (c + 1)) p
 
-  abbrev pub rowOf : ℕ → ℕ → Row
-  rowOf c p = record {
+  abbrev pub pageSource : ℕ → ℕ → PageSource
+  pageSource c p = record {
     w = setWidth u (c + 1);
     split = roundBytes * c * setWidth u (c + 1);
     end = roundBytes * (c + 1) * setWidth u (c + 1);
@@ -151,7 +151,7 @@ module _ (u e : ℕ) (pow : u ≡ 2 ^ e) (ix : Index) (main : List ℕ) (z c : �
       rw (le-ltb (q / w) (128 * (c + 1)) l)
 
   -- the page's bytes are those of the row
-  page-is : (p y : ℕ) → rowByte G (128 * (c + 1)) w (p * w) y ≡ pageByte main (rowOf u ix c p) y
+  page-is : (p y : ℕ) → rowByte G (128 * (c + 1)) w (p * w) y ≡ pageByte main (pageSource u ix c p) y
   unfolding rowByte pageByte fieldByte
   page-is p y =
       either (lt? y (16 * c * w))
@@ -168,6 +168,6 @@ module _ (u e : ℕ) (pow : u ≡ 2 ^ e) (ix : Index) (main : List ℕ) (z c : �
           let q : y * 8 + b ≡ 128 * (c * w) + ((y - 16 * c * w) * 8 + b) = omega arith in
           rw q (bit-new p ((y - 16 * c * w) * 8 + b) (omega arith))
 
-  pub set-byte-is : (j y : ℕ) → setByte u ix main z c j y ≡ pageByte main (rowOf u ix c (j / 4)) (j % 4 * sector u + y)
+  pub set-byte-is : (j y : ℕ) → setByte u ix main z c j y ≡ pageByte main (pageSource u ix c (j / 4)) (j % 4 * sector u + y)
   unfolding setByte
   set-byte-is j y = page-is (j / 4) (j % 4 * sector u + y)

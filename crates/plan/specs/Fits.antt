@@ -4,7 +4,7 @@ use Prim.Native.Nat.{ℕ, _+_, _-_, _*_, _≤_, _<_}
 use native.Mathlib.Nat.{mul-le-mul-right}
 use native.Mathlib.Omega.{arith}
 use Rattle.layout.specs.Geometry.{sectorsPerPage, sectorsPerBlock, sector, page, block, fourthSize, sideBlocks}
-use Rattle.layout.specs.Index.{flushesPerRound, fullBlock, setPages}
+use Rattle.layout.specs.Index.{flushesPerRound, fullBlock, setPages, setBlock}
 use Rattle.geometry.specs.Indexes.{indexOf}
 use Rattle.laws.specs.Units.{UnitSound}
 use Rattle.plan.specs.declared.Page.{Page}
@@ -35,6 +35,7 @@ pub record NextFits (u : ℕ) (set : Set) (s n main spare : ℕ) : Type 0 where
   pub near : set .index .first ≤ 20000
   pub sides : fullBlock u (indexOf (set .index)) 0 * block u ≤ main
   pub sectors : n ≤ setPages (set .rounds + 1) * sectorsPerPage
+  pub place : 0 < n → s ≡ setBlock u (indexOf (set .index)) (set .«full_sets») (set .rounds) * sectorsPerBlock
   pub in-main : (s + n) * sector u ≤ main
   pub in-spare : s + n ≤ spare
 
@@ -90,6 +91,7 @@ fewer u set s n main spare F k h =
       near = F .near;
       sides = F .sides;
       sectors = omega (arith, h, F .sectors);
+      place = λ l. F .place (omega (arith, h));
       in-main = omega (arith, mul-le-mul-right (sector u) l, F .in-main);
       in-spare = omega (arith, h, F .in-spare);
     }

@@ -1,15 +1,21 @@
 // The chip operations of a change as numbers, a run of them, and whether their sectors are fresh. The RAM is only read.
 ghost use mathlib.Core.Path.{_≡_};
 ghost use mathlib.Core.List.{List};
-ghost use Prim.Native.Nat.{ℕ, _+_, _-_, _*_, _^_, _<_, _≤_};
+ghost use Prim.Native.Nat.{ℕ, _+_, _-_, _*_, _/_, _^_, _<_, _≤_};
 ghost use lib.ListN.{length};
 ghost use Rattle.memory.specs.Lent.{before};
 ghost use Rattle.layout.specs.Geometry.{sectorsPerPage, sector};
+ghost use Rattle.layout.specs.Index.{setWidth};
 ghost use Rattle.layout.specs.Flash.{Flash, planOps, allFresh};
+ghost use Rattle.laws.specs.Units.{UnitSound};
+ghost use Rattle.geometry.specs.Indexes.{indexOf};
+ghost use Rattle.partition.specs.Sources.{pageSource};
+ghost use Rattle.partition.specs.Shared.{together, Shares};
 ghost use Rattle.laws.specs.LentFlash.{flashBefore, flashAfter};
 ghost use Rattle.plan.specs.Runs.{doneOne, done};
 ghost use Rattle.plan.specs.Spans.{span, among, behind, runOf};
 ghost use Rattle.plan.specs.Segments.{filledPage, flushed, nextSet, wiped};
+ghost use Rattle.plan.specs.Groups.{bufferSize, atOnce, Steps, upTo, OfPage, Beside};
 ghost use Rattle.plan.specs.Fits.{PageFits, FlushFits, NextFits, WipeFits};
 ghost use Rattle.plan.specs.Plans.{newLength, pagesOf, buildOf, planned, plannedCount, wholeOf};
 ghost use Rattle.plan.specs.Plans.{PagesFit, BuildFits, PlanFits, SpareFits};
@@ -90,6 +96,9 @@ fn less(x: usize, n: usize) -> usize
 }
 
 // ---- segments
+
+// Bytes of a set that are made at once, at least a sector.
+const BUFFER_SIZE: usize = 512;
 
 // Where four sectors begin, and the RAM page whose bytes they get.
 pub struct Page {
@@ -199,25 +208,86 @@ fn flush_run(
     }
 }
 
-// Sectors of a set from sector s on, each by way of `buf` and out of the flash as it stands then.
-fn set_run(
+// How many sectors of a page are made at once: those that the buffer holds.
+fn at_once(chip: Chip) -> usize
+    requires { ⌜ UnitSound (chip .unit) ⌝ }
+    ensures { λ r. ⌜ (r ≡ atOnce (chip .unit)) × Steps r × (r * sector (chip .unit) ≤ bufferSize) ⌝ }
+{
+    let n = BUFFER_SIZE / chip.sector_size();
+    if n < Chip::SECTORS_PER_PAGE {
+        return n;
+    }
+    Chip::SECTORS_PER_PAGE
+}
+
+// Of sectors j to `end` - 1 those that come before the next multiple of n.
+fn up_to(j: usize, n: usize, end: usize) -> Span
+    requires { ⌜ (0 < n) × (n ≤ 32) × (end < 2 ^ 32) × (j < end) ⌝ }
+    ensures { λ r. ⌜ r ≡ upTo j n end ⌝ }
+{
+    let rest = Span {
+        from: j,
+        to: j / n * n + n,
+    };
+    rest.among(end)
+}
+
+// Sectors of one page of a set from sector s on, all made out of the flash before the first of them is programmed.
+fn page_part(
     chip: Chip,
     set: Set,
     s: usize,
     part: Span,
-    buf: &mut [u8],
+    shared: &[u8],
     main: &mut [u8],
     spare: &mut [u8],
 )
-    requires { ⌜ NextFits (chip .unit) set s (part .to) (length (now main)) (length (now spare)) ⌝ }
-    requires { ⌜ length (now buf) ≡ sector (chip .unit) ⌝ }
+    requires { ⌜ NextFits (chip .unit) set s (part .to) (length (now main)) (length (now spare)) × (part .from < part .to) ⌝ }
+    requires { ⌜ OfPage (chip .unit) part ⌝ }
+    requires { ⌜ Shares (now main) (pageSource (chip .unit) (indexOf (set .index)) (set .rounds) (part .from / sectorsPerPage)) (now shared) ⌝ }
     ensures { λ _. ⌜ flashAfter main spare ≡ runOf (chip .unit) (nextSet (chip .unit) set s) part (flashBefore main spare) ⌝ }
 {
+    let mut buf = [0u8; BUFFER_SIZE];
+    let k = part.to - part.from;
+    let n = chip.sector_address(k);
+    partition::set_sectors(chip, set, part.from, main, shared, &mut buf[0..n]);
+    flash::program_sectors(chip, s + part.from, k, &buf[0..n], main, spare);
+}
+
+// Sectors of a set whose pages share their bytes of L1.
+fn group_run(chip: Chip, set: Set, s: usize, part: Span, main: &mut [u8], spare: &mut [u8])
+    requires { ⌜ NextFits (chip .unit) set s (part .to) (length (now main)) (length (now spare)) × (part .from < part .to) ⌝ }
+    requires { ⌜ Beside (together (setWidth (chip .unit) (set .rounds + 1))) part ⌝ }
+    ensures { λ _. ⌜ flashAfter main spare ≡ runOf (chip .unit) (nextSet (chip .unit) set s) part (flashBefore main spare) ⌝ }
+{
+    let mut shared = [0u8; 128];
+    let n = at_once(chip);
+    partition::shared_bytes(
+        chip,
+        set,
+        part.from / Chip::SECTORS_PER_PAGE,
+        main,
+        &mut shared,
+    );
     let mut j = part.from;
     while j < part.to {
-        partition::set_sector(chip, set, j, main, buf);
-        flash::program_sector(chip, s + j, buf, main, spare);
-        j += 1;
+        let some = up_to(j, n, part.to);
+        page_part(chip, set, s, some, &shared, main, spare);
+        j = some.to;
+    }
+}
+
+// Sectors of a set from sector s on.
+fn set_run(chip: Chip, set: Set, s: usize, part: Span, main: &mut [u8], spare: &mut [u8])
+    requires { ⌜ NextFits (chip .unit) set s (part .to) (length (now main)) (length (now spare)) ⌝ }
+    ensures { λ _. ⌜ flashAfter main spare ≡ runOf (chip .unit) (nextSet (chip .unit) set s) part (flashBefore main spare) ⌝ }
+{
+    let n = partition::pages_together(chip, set) * Chip::SECTORS_PER_PAGE;
+    let mut j = part.from;
+    while j < part.to {
+        let some = up_to(j, n, part.to);
+        group_run(chip, set, s, some, main, spare);
+        j = some.to;
     }
 }
 
@@ -296,16 +366,13 @@ fn build(p: Plan, part: Span, main: &mut [u8], spare: &mut [u8])
     ensures { λ _. ⌜ flashAfter main spare ≡ done (p .chip .unit) (span (buildOf p) part) (flashBefore main spare) ⌝ }
 {
     let chip = p.chip;
-    let size = chip.sector_size();
     let second = part.behind(p.set.count);
     let third = second.behind(p.l1.count);
-    let mut buf = [0u8; 512];
     set_run(
         chip,
         p.next,
         p.set.first,
         part.among(p.set.count),
-        &mut buf[0..size],
         main,
         spare,
     );
@@ -359,7 +426,7 @@ pub fn run(
         ram,
     );
     if later.to == 0 {
-        return; // no buffer is made for a set that is not reached
+        return; // nothing is built where the run ends before
     }
     build(p, later, main, spare);
 }

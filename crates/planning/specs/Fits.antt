@@ -1,5 +1,5 @@
 -- The plans of a sound geometry fit in lent slices that hold its volume.
-use mathlib.Core.Path.{_≡_}
+use mathlib.Core.Path.{_≡_, refl}
 use mathlib.Core.Bool.{true}
 use mathlib.Core.List.{List}
 use Prim.Native.Nat.{ℕ, zero, suc, _+_, _*_, _/_, _%_, _^_, _≤_, _<_}
@@ -147,9 +147,10 @@ module _ (g : Geometry) (S : Sound g) where
       in-spare = blocks-in (layout.blocks G) (b .first + b .count) 64 s (L .spare-fits) h;
     }
 
-    next-fits : (z c first k : ℕ) → c < 4 * u → k ≤ setPages (c + 1) * 4 → first + k ≤ layout.blocks G * 64
+    next-fits : (z c first k : ℕ) → c < 4 * u → k ≤ setPages (c + 1) * 4 → (0 < k → first ≡ setBlock u (keyIndex G) z c * 64)
+        → first + k ≤ layout.blocks G * 64
         → NextFits u (record { index = indexFor G; «full_sets» = z; rounds = c }) first k m s
-    next-fits z c first k hc hk h =
+    next-fits z c first k hc hk place h =
         let i = index-le g S in
         let l : fullBlock u (keyIndex G) 0 ≤ layout.blocks G = omega arith in
         record {
@@ -158,12 +159,13 @@ module _ (g : Geometry) (S : Sound g) where
           near = omega (arith, i);
           sides = blocks-in (layout.blocks G) (fullBlock u (keyIndex G) 0) (layout.block u) m (L .read .main-fits) l;
           sectors = hk;
+          place = place;
           in-main = sectors-in u (layout.blocks G) (first + k) m (L .read .main-fits) h;
           in-spare = le-trans h (L .spare-fits);
         }
 
     no-set : NextFits u (startPlan G none .next) 0 0 m s
-    no-set = next-fits 0 0 0 0 (omega (arith, S .unit .1 .some)) (omega arith) (omega arith)
+    no-set = next-fits 0 0 0 0 (omega (arith, S .unit .1 .some)) (omega arith) (λ l. absurd (omega arith)) (omega arith)
 
     no-wipe : WipeFits u none m s
     no-wipe = wipe-fits none (omega arith)
@@ -270,7 +272,7 @@ module _ (g : Geometry) (S : Sound g) where
             (record { first = sideBlock u (keyIndex G) (inSet u F); count = setBlocks (inSet u F) })
             (record { index = indexFor G; «full_sets» = inFull u F; rounds = inSet u F }) a-flush (omega arith)
             (next-fits (inFull u F) (inSet u F) (setBlock u (keyIndex G) (inFull u F) (inSet u F) * 64) (setPages (inSet u F + 1) * 4)
-            (rounds-lt full eight last) (le-refl _)
+            (rounds-lt full eight last) (le-refl _) (λ l. refl)
             (sectors-end full eight last))
             (wipe-fits (record { first = layout.indexBlock G; count = 1 }) (omega arith))
             (wipe-fits (record { first = sideBlock u (keyIndex G) (inSet u F); count = setBlocks (inSet u F) }) (old-end full eight last)))

@@ -1,174 +1,93 @@
 use native.Mathlib.Omega.{arith}
-use Prim.Native.Nat.{ℕ, _+_, _-_, _≤_, _<_}
-use mathlib.Core.Logic.{_⊎_}
-use mathlib.Core.List.{List}
-use mathlib.Core.Path.{_≡_, refl, sym, ap, _∙_}
-use lib.ListN.{length, getD}
-use Rattle.fields.specs.Sources.{runByte}
-use Rattle.memory.specs.Lists.{Done, length-part}
-use Rattle.fields.specs.Lists.{done-all, part-length, part-more}
-use Rattle.fields.proofs.Strides.{At, first-in, at-lt, turn-some, turn-inside, turn-bytes, turn-next}
+use lib.ListN.{length}
+use Rattle.fields.proofs.Strides.{at-size, of-size, last-size}
+use borrow.Author.Needs.{needs}
 use Rattle.fields.proofs.copy_runs.Statement.{statement}
 use Rattle.fields.proofs.copy_runs.Tie as tie
 
-abbrev Inv-loop : tie.InvT-loop
-Inv-loop bytes at stride n y out₀ a₀ k₀ i₀ out a k i =
-    (i ≤ length out₀) × (length out ≡ length out₀) × Done (λ (j : ℕ). runByte bytes at stride n (y + j)) out i
-    × (i < length out₀ → At at stride n (y + i) a k)
-
-abbrev μ-loop : tie.MeasureT-loop
-μ-loop bytes at stride n y out₀ a₀ k₀ i₀ out a k i = length out₀ - i
-
--- a turn begins in a run, and copies some bytes that are there
-k-lt : (c : tie.In-loop Inv-loop μ-loop) → c .before .loop .k < c .before .before .before .before .args .n
-k-lt c =
+whole-runs-requires : tie.Need-whole-runs-requires
+whole-runs-requires c κs =
     let x = c .before .before .before .before in
-    let l = c .before .loop in
-    at-lt (x .args .at) (x .args .stride) (x .args .n) (x .args .y + l .i) (l .a) (l .k) (x .pre .0) (l .inv .3 (omega arith))
+    at-size (length (x .args .bytes .now)) (x .args .at) (x .args .stride) (x .args .n) (x .args .y) (length (x .args .out .now)) 1 (omega arith) (omega arith) (x .pre)
 
-less : (c : tie.After-lesser Inv-loop μ-loop)
-    → (c .lesser .result ≤ c .before .before .before .before .before .args .n - c .before .before .loop .k)
-    × (c .lesser .result ≤ length (c .before .before .before .before .before .args .out .now) - c .before .before .loop .i)
-    × ((c .lesser .result ≡ c .before .before .before .before .before .args .n - c .before .before .loop .k)
-    ⊎ (c .lesser .result ≡ length (c .before .before .before .before .before .args .out .now) - c .before .before .loop .i))
-less c = rw (c .before .before .loop .inv .1) at (c .lesser .ensures)
+same-length : tie.Need-same-length
+same-length c = search needs
 
-turn : (c : tie.After-lesser Inv-loop μ-loop)
-    → (0 < c .lesser .result) × (c .before .before .loop .a + c .before .before .loop .k + c .lesser .result ≤ length (c .before .before .before .before .before .args .bytes .now))
-turn c =
-    let x = c .before .before .before .before .before in
-    let l = c .before .before .loop in
-    let h : l .i < length (x .args .out .now) = omega arith in (
-      turn-some (x .args .bytes .now) (x .args .at) (x .args .stride) (x .args .n) (x .args .y) (length (x .args .out .now)) (l .i) (l .a) (l .k) (c .lesser .result) (x .pre .0) (x .pre .3) h (l .inv .3 h) (less c),
-      turn-inside (x .args .bytes .now) (x .args .at) (x .args .stride) (x .args .n) (x .args .y) (length (x .args .out .now)) (l .i) (l .a) (l .k) (c .lesser .result) (x .pre .0) (x .pre .3) h (l .inv .3 h) (less c),
-    )
-
-div-a : tie.Need-div-a Inv-loop μ-loop
-div-a c = c .before .before .pre .0
-
-mul-a : tie.Need-mul-a Inv-loop μ-loop
-mul-a c =
-    let x = c .before .before in
-    omega (arith, first-in (length (x .args .bytes .now)) (x .args .at) (x .args .stride) (x .args .n) (x .args .y) (length (x .args .out .now)) (x .pre .3) (x .pre .2))
-
-add-a : tie.Need-add-a Inv-loop μ-loop
-add-a c =
-    let x = c .before .before in
-    omega (arith, first-in (length (x .args .bytes .now)) (x .args .at) (x .args .stride) (x .args .n) (x .args .y) (length (x .args .out .now)) (x .pre .3) (x .pre .2))
-
-rem-k : tie.Need-rem-k Inv-loop μ-loop
-rem-k c = c .before .before .pre .0
-
-loop-holds : tie.Need-loop-holds Inv-loop μ-loop
-loop-holds c =
-    let x = c .before .before .args in
-    let z : x .y + 0 ≡ x .y = omega arith in
-    (omega arith, refl, λ k h. absurd (omega arith), λ h. rw z (record { run = refl; byte = refl }))
-
-sub-lesser : tie.Need-sub-lesser Inv-loop μ-loop
-sub-lesser c = let l = k-lt c in omega arith
-
-sub-lesser-2 : tie.Need-sub-lesser-2 Inv-loop μ-loop
-sub-lesser-2 c = omega arith
-
-lesser-requires : tie.Need-lesser-requires Inv-loop μ-loop
-lesser-requires c κs = tt
-
-add-e : tie.Need-add-e Inv-loop μ-loop
-add-e c = omega arith
-
-add-f : tie.Need-add-f Inv-loop μ-loop
-add-f c = omega (arith, turn c .1)
-
-add-g : tie.Need-add-g Inv-loop μ-loop
-add-g c = omega (arith, turn c .1)
-
-sub-copy : tie.Need-sub-copy Inv-loop μ-loop
-sub-copy c = omega arith
-
-part-copy-start : tie.Need-part-copy-start Inv-loop μ-loop
-part-copy-start c = omega arith
-
-part-copy-end : tie.Need-part-copy-end Inv-loop μ-loop
-part-copy-end c = let T = turn c in omega arith
-
-sub-copy-2 : tie.Need-sub-copy-2 Inv-loop μ-loop
-sub-copy-2 c = omega arith
-
-part-copy-start-2 : tie.Need-part-copy-start-2 Inv-loop μ-loop
-part-copy-start-2 c = omega arith
-
-part-copy-end-2 : tie.Need-part-copy-end-2 Inv-loop μ-loop
-part-copy-end-2 c = omega (arith, turn (c .before) .1)
-
-copy-requires : tie.Need-copy-requires Inv-loop μ-loop
-copy-requires c κs =
-    let d = c .before .before in
-    let l = d .before .before .loop in
-    let x = d .before .before .before .before .before .args in
-    length-part (l .out) (l .i) (d .lesser .result) (omega (arith, d .lesser .ensures .1))
-    ∙ sym (length-part (x .bytes .now) (l .a + l .k) (d .lesser .result) (turn d .1))
-
-add-a-2 : tie.Need-add-a-2 Inv-loop μ-loop
-add-a-2 c = omega (arith, turn (c .before .before .before .before .before) .1)
-
-loop-less : tie.Need-loop-less Inv-loop μ-loop
-loop-less c = let T = turn (c .before .before .before .before .before) in omega (arith, T .0)
-
-loop-again : tie.Need-loop-again Inv-loop μ-loop
-loop-again c =
-    let d = c .before .before .before .before .before in
-    let x = d .before .before .before .before .before in
-    let l = d .before .before .loop in
-    let k = c .before .before .copy in
-    let h : l .i < length (x .args .out .now) = omega arith in
-    let fit : l .i + d .lesser .result ≤ length (l .out) = omega (arith, d .lesser .ensures .1) in
-    let size : length (k .last .0) ≡ l .i + d .lesser .result - l .i = ap length (k .ensures) ∙ length-part (x .args .bytes .now) (l .a + l .k) (d .lesser .result) (turn d .1) ∙ omega arith in
-    let f : ℕ → ℕ = λ j. runByte (x .args .bytes .now) (x .args .at) (x .args .stride) (x .args .n) (x .args .y + j) in (
-      omega (arith, fit, l .inv .1),
-      part-length (l .out) (k .last .0) (l .i) (l .i + d .lesser .result) (omega arith) fit size ∙ l .inv .1,
-      part-more (l .out) (k .last .0) (l .i) (l .i + d .lesser .result) (omega arith) fit size f (l .inv .2) (λ j p.
-          ap (λ (v : List ℕ). getD v j 0) (k .ensures)
-          ∙ turn-bytes (x .args .bytes .now) (x .args .at) (x .args .stride) (x .args .n) (x .args .y) (length (x .args .out .now)) (l .i) (l .a) (l .k) (d .lesser .result) (x .pre .0) (x .pre .3) h (l .inv .3 h) (less d) j (omega arith)),
-      λ g. turn-next (x .args .bytes .now) (x .args .at) (x .args .stride) (x .args .n) (x .args .y) (length (x .args .out .now)) (l .i) (l .a) (l .k) (d .lesser .result) (x .pre .0) (x .pre .3) h (l .inv .3 h) (less d) g,
-    )
-
-same-length : tie.Need-same-length Inv-loop μ-loop
-same-length c = omega arith
-
-returns : tie.Need-returns Inv-loop μ-loop
+returns : tie.Need-returns
 returns c =
-    let x = c .before .before .before .before .args in
-    let l = c .before .loop in
-    let f : ℕ → ℕ = λ j. runByte (x .bytes .now) (x .at) (x .stride) (x .n) (x .y + j) in
-    done-all f (l .out) (length (x .out .now)) (l .i) (l .inv .1) (omega arith) (l .inv .2)
+    let x = c .before .before .before .before .before .before .before in
+    of-size (x .args .bytes .now) (x .args .at) (x .args .stride) (x .args .n) (x .args .y) (length (x .args .out .now)) 1 _ (omega arith) (c .before .before .whole-runs .ensures)
+
+whole-runs-requires-2 : tie.Need-whole-runs-requires-2
+whole-runs-requires-2 c κs =
+    let x = c .before .before .before .before .before in
+    at-size (length (x .args .bytes .now)) (x .args .at) (x .args .stride) (x .args .n) (x .args .y) (length (x .args .out .now)) 2 (omega arith) (omega arith) (x .pre)
+
+same-length-2 : tie.Need-same-length-2
+same-length-2 c = search needs
+
+returns-2 : tie.Need-returns-2
+returns-2 c =
+    let x = c .before .before .before .before .before .before .before .before in
+    of-size (x .args .bytes .now) (x .args .at) (x .args .stride) (x .args .n) (x .args .y) (length (x .args .out .now)) 2 _ (omega arith) (c .before .before .whole-runs2 .ensures)
+
+whole-runs-requires-3 : tie.Need-whole-runs-requires-3
+whole-runs-requires-3 c κs =
+    let x = c .before .before .before .before .before .before in
+    at-size (length (x .args .bytes .now)) (x .args .at) (x .args .stride) (x .args .n) (x .args .y) (length (x .args .out .now)) 4 (omega arith) (omega arith) (x .pre)
+
+same-length-3 : tie.Need-same-length-3
+same-length-3 c = search needs
+
+returns-3 : tie.Need-returns-3
+returns-3 c =
+    let x = c .before .before .before .before .before .before .before .before .before in
+    of-size (x .args .bytes .now) (x .args .at) (x .args .stride) (x .args .n) (x .args .y) (length (x .args .out .now)) 4 _ (omega arith) (c .before .before .whole-runs3 .ensures)
+
+whole-runs-requires-4 : tie.Need-whole-runs-requires-4
+whole-runs-requires-4 c κs =
+    let x = c .before .before .before .before .before .before .before in
+    at-size (length (x .args .bytes .now)) (x .args .at) (x .args .stride) (x .args .n) (x .args .y) (length (x .args .out .now)) 8 (omega arith) (omega arith) (x .pre)
+
+same-length-4 : tie.Need-same-length-4
+same-length-4 c = search needs
+
+returns-4 : tie.Need-returns-4
+returns-4 c =
+    let x = c .before .before .before .before .before .before .before .before .before .before in
+    of-size (x .args .bytes .now) (x .args .at) (x .args .stride) (x .args .n) (x .args .y) (length (x .args .out .now)) 8 _ (omega arith) (c .before .before .whole-runs4 .ensures)
+
+whole-runs-requires-5 : tie.Need-whole-runs-requires-5
+whole-runs-requires-5 c κs =
+    let x = c .before .before .before .before .before .before .before in
+    at-size (length (x .args .bytes .now)) (x .args .at) (x .args .stride) (x .args .n) (x .args .y) (length (x .args .out .now)) 16
+    (last-size (x .args .n) (x .pre .0 .0) (c .before .before .before .before .if1 .left) (c .before .before .before .if2 .left) (c .before .before .if3 .left) (c .before .if4 .left)) (omega arith) (x .pre)
+
+same-length-5 : tie.Need-same-length-5
+same-length-5 c = search needs
+
+returns-5 : tie.Need-returns-5
+returns-5 c =
+    let x = c .before .before .before .before .before .before .before .before .before .before in
+    of-size (x .args .bytes .now) (x .args .at) (x .args .stride) (x .args .n) (x .args .y) (length (x .args .out .now)) 16 _
+    (last-size (x .args .n) (x .pre .0 .0) (c .before .before .before .before .before .before .before .if1 .left) (c .before .before .before .before .before .before .if2 .left) (c .before .before .before .before .before .if3 .left) (c .before .before .before .before .if4 .left)) (c .before .before .whole-runs5 .ensures)
 
 pub copy-runs-spec : {M : Type 1} → statement M
 copy-runs-spec =
     tie.close
     (tie.spec
-    Inv-loop
-    μ-loop
-    div-a
-    mul-a
-    add-a
-    rem-k
-    loop-holds
-    sub-lesser
-    sub-lesser-2
-    lesser-requires
-    add-e
-    add-f
-    add-g
-    sub-copy
-    part-copy-start
-    part-copy-end
-    sub-copy-2
-    part-copy-start-2
-    part-copy-end-2
-    copy-requires
-    add-a-2
-    loop-less
-    loop-again
+    whole-runs-requires
     same-length
-    returns)
+    returns
+    whole-runs-requires-2
+    same-length-2
+    returns-2
+    whole-runs-requires-3
+    same-length-3
+    returns-3
+    whole-runs-requires-4
+    same-length-4
+    returns-4
+    whole-runs-requires-5
+    same-length-5
+    returns-5)

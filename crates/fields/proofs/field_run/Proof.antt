@@ -1,6 +1,7 @@
 use native.Mathlib.Omega.{arith}
-use Prim.Native.Nat.{ℕ, _+_}
-use mathlib.Core.Path.{refl}
+use Prim.Native.Nat.{ℕ, _+_, _*_}
+use mathlib.Core.Path.{_≡_, refl}
+use Rattle.memory.specs.Cases.{either}
 use lib.ListN.{length}
 use Rattle.fields.specs.Sources.{fieldByte}
 use Rattle.memory.specs.Lists.{is-tab}
@@ -14,7 +15,9 @@ returns c =
     is-tab (x .out .now) (length (x .out .now)) (λ (i : ℕ). fieldByte (x .bytes .now) (x .s) (x .w) (x .y + i)) refl (λ i h. absurd (omega arith))
 
 copy-run-requires : tie.Need-copy-run-requires
-copy-run-requires c κs = search needs
+copy-run-requires c κs =
+    let x = c .before .before .before .before .before .before in
+    (x .pre .0 .0, omega arith, omega arith, x .pre .0 .2)
 
 same-length : tie.Need-same-length
 same-length c = search needs
@@ -23,7 +26,9 @@ returns-2 : tie.Need-returns-2
 returns-2 c = search needs
 
 wide-run-requires : tie.Need-wide-run-requires
-wide-run-requires c κs = search needs
+wide-run-requires c κs =
+    let x = c .before .before .before .before .before .before .before in
+    ((x .pre .0 .0, omega arith, omega arith, x .pre .0 .2), x .pre .1)
 
 same-length-2 : tie.Need-same-length-2
 same-length-2 c = search needs
@@ -31,26 +36,17 @@ same-length-2 c = search needs
 returns-3 : tie.Need-returns-3
 returns-3 c = search needs
 
-mul-if4 : tie.Need-mul-if4
-mul-if4 c = search needs
-
 halve-run-requires : tie.Need-halve-run-requires
-halve-run-requires c κs = search needs
+halve-run-requires c κs =
+    let x = c .before .before .before .before .before .before .before in
+    let half : x .args .s .step ≡ 2 * x .args .w = either (x .pre .0 .1) (λ a. absurd (omega arith)) (λ a. either a (λ e. absurd (omega arith)) (λ e. e)) in
+    (x .pre .0 .0, omega arith, half, x .pre .0 .2)
 
 same-length-3 : tie.Need-same-length-3
 same-length-3 c = search needs
 
 returns-4 : tie.Need-returns-4
 returns-4 c = search needs
-
-narrow-run-requires : tie.Need-narrow-run-requires
-narrow-run-requires c κs = search needs
-
-same-length-4 : tie.Need-same-length-4
-same-length-4 c = search needs
-
-returns-5 : tie.Need-returns-5
-returns-5 c = search needs
 
 pub field-run-spec : {M : Type 1} → statement M
 field-run-spec =
@@ -63,10 +59,6 @@ field-run-spec =
     wide-run-requires
     same-length-2
     returns-3
-    mul-if4
     halve-run-requires
     same-length-3
-    returns-4
-    narrow-run-requires
-    same-length-4
-    returns-5)
+    returns-4)

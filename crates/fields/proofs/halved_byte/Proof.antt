@@ -1,6 +1,8 @@
 use native.Mathlib.Omega.{arith}
+use Prim.Native.Nat.{_+_, _*_}
+use mathlib.Core.Path.{refl}
 use lib.ListN.{length}
-use Rattle.fields.proofs.Halving.{narrow, both-inside, halved-is}
+use Rattle.fields.proofs.Halving.{down-lt, narrow, both-inside, pair-low, pair-high, halved-is}
 use borrow.Author.Needs.{needs}
 use Rattle.fields.proofs.halved_byte.Statement.{statement}
 use Rattle.fields.proofs.halved_byte.Tie as tie
@@ -11,39 +13,54 @@ mul-a c = search needs
 add-a : tie.Need-add-a
 add-a c = search needs
 
-shared-slice-read-even-fields : tie.Need-shared-slice-read-even-fields
-shared-slice-read-even-fields c =
+shared-slice-read-wide16 : tie.Need-shared-slice-read-wide16
+shared-slice-read-wide16 c =
     let x = c .before .before .before in
     omega (arith, both-inside (x .args .bytes .now) (x .args .s) (x .args .w) (x .args .y) (x .pre .0) (x .pre .2) (x .pre .3) (length (x .args .bytes .now)) (x .pre .1))
+
+wide16-requires : tie.Need-wide16-requires
+wide16-requires c κs = search needs
+
+add-wide16 : tie.Need-add-wide16
+add-wide16 c = search needs
+
+shared-slice-read-wide16-2 : tie.Need-shared-slice-read-wide16-2
+shared-slice-read-wide16-2 c =
+    let x = c .before .before .before .before .before in
+    both-inside (x .args .bytes .now) (x .args .s) (x .args .w) (x .args .y) (x .pre .0) (x .pre .2) (x .pre .3) (length (x .args .bytes .now)) (x .pre .1)
+
+wide16-requires-2 : tie.Need-wide16-requires-2
+wide16-requires-2 c κs = search needs
+
+mul-x : tie.Need-mul-x
+mul-x c = search needs
+
+add-x : tie.Need-add-x
+add-x c = search needs
+
+cast-x : tie.Need-cast-x
+cast-x c = search needs
+
+shr-x : tie.Need-shr-x
+shr-x c = search needs
 
 cast-even-fields : tie.Need-cast-even-fields
 cast-even-fields c = search needs
 
-shr-even-fields : tie.Need-shr-even-fields
-shr-even-fields c = search needs
-
 even-fields-requires : tie.Need-even-fields-requires
 even-fields-requires c κs =
-    let x = c .before .before .before in
+    let x = c .before .before .before .before .before .before in
     narrow (x .args .bytes .now) (x .args .s) (x .args .w) (x .args .y) (x .pre .0) (x .pre .2) (x .pre .3)
 
-add-even-fields : tie.Need-add-even-fields
-add-even-fields c = search needs
-
-shared-slice-read-even-fields-2 : tie.Need-shared-slice-read-even-fields-2
-shared-slice-read-even-fields-2 c =
-    let x = c .before .before .before .before .before in
-    both-inside (x .args .bytes .now) (x .args .s) (x .args .w) (x .args .y) (x .pre .0) (x .pre .2) (x .pre .3) (length (x .args .bytes .now)) (x .pre .1)
-
 cast-even-fields-2 : tie.Need-cast-even-fields-2
-cast-even-fields-2 c = search needs
-
-shr-even-fields-2 : tie.Need-shr-even-fields-2
-shr-even-fields-2 c = search needs
+cast-even-fields-2 c =
+    let p = c .before .before .before .wide16 in
+    let q = c .before .wide162 in
+    omega (arith, down-lt (p .result + q .result * 256) (c .before .before .before .before .before .before .before .args .s .low) (omega (arith, p .ensures .1, q .ensures .1)))
 
 even-fields-requires-2 : tie.Need-even-fields-requires-2
 even-fields-requires-2 c κs =
-    let x = c .before .before .before .before .before in
+    let x = c .before .before .before .before .before .before .before in
     narrow (x .args .bytes .now) (x .args .s) (x .args .w) (x .args .y) (x .pre .0) (x .pre .2) (x .pre .3)
 
 mul-result : tie.Need-mul-result
@@ -54,8 +71,13 @@ add-result c = search needs
 
 returns : tie.Need-returns
 returns c =
-    let x = c .before .before .before .before .before .before in
-    halved-is (x .args .bytes .now) (x .args .s) (x .args .w) (x .args .y) (x .pre .0) (x .pre .2) (x .pre .3) (c .before .before .even-fields .result) (c .even-fields2 .result) (c .before .before .even-fields .ensures) (c .even-fields2 .ensures)
+    let l = c .before in
+    let q = l .before .wide162 in
+    let p = l .before .before .before .wide16 in
+    let x = c .before .before .before .before .before .before .before .before in
+    let low = pair-low (x .args .bytes .now) (x .args .s) (x .args .w) (x .args .y) (x .pre .0) (x .pre .2) (x .pre .3) (p .result) (q .result) _ (l .even-fields .result) (p .ensures .1) refl (l .even-fields .ensures) in
+    let high = pair-high (x .args .bytes .now) (x .args .s) (x .args .w) (x .args .y) (x .pre .0) (x .pre .2) (x .pre .3) (p .result) (q .result) _ (c .even-fields2 .result) (p .ensures .1) refl (c .even-fields2 .ensures) in
+    halved-is (x .args .bytes .now) (x .args .s) (x .args .w) (x .args .y) (x .pre .0) (x .pre .2) (x .pre .3) (l .even-fields .result) (c .even-fields2 .result) (rw (p .ensures .0) at low) (rw (q .ensures .0) at high)
 
 pub halved-byte-spec : {M : Type 1} → statement M
 halved-byte-spec =
@@ -63,14 +85,18 @@ halved-byte-spec =
     (tie.spec
     mul-a
     add-a
-    shared-slice-read-even-fields
+    shared-slice-read-wide16
+    wide16-requires
+    add-wide16
+    shared-slice-read-wide16-2
+    wide16-requires-2
+    mul-x
+    add-x
+    cast-x
+    shr-x
     cast-even-fields
-    shr-even-fields
     even-fields-requires
-    add-even-fields
-    shared-slice-read-even-fields-2
     cast-even-fields-2
-    shr-even-fields-2
     even-fields-requires-2
     mul-result
     add-result

@@ -3,7 +3,7 @@ use Prim.Native.Nat.{_-_}
 use mathlib.Core.Path.{refl}
 use lib.ListN.{length}
 use Rattle.fields.specs.Lists.{take-lt}
-use Rattle.partition.proofs.Pages.{Cuts, order, old-run, l1-run, made}
+use Rattle.partition.proofs.Pages.{Cuts, order, old-run, old-part, l1-part, made}
 use borrow.Author.Needs.{needs}
 use Rattle.partition.proofs.page_bytes.Statement.{statement}
 use Rattle.partition.proofs.page_bytes.Tie as tie
@@ -35,42 +35,41 @@ field-run-requires : tie.Need-field-run-requires
 field-run-requires c κs =
     let b = c .before in
     let x = b .before .before .before .before .before .before .before in (
-      x .pre .0 .old-aligned,
-      λ i h.
-          old-run (x .args .main .now) (x .args .r) (x .args .y) (length (x .args .out .now)) (b .before .before .below .result) (b .before .below2 .result) (b .behind .result) (x .pre .0) (cuts b) i
-          (let t = take-lt (x .args .out .now) (b .before .before .below .result - 0) i h in omega arith),
+      (
+        x .pre .0 .0 .old-aligned,
+        x .pre .0 .0 .old-near,
+        λ i h. old-run (x .args .main .now) (x .args .r) (x .args .y) (length (x .args .out .now)) (b .before .before .below .result) (b .before .below2 .result) (b .behind .result) (x .pre .0 .0) (cuts b) i (let t = take-lt (x .args .out .now) (b .before .before .below .result - 0) i h in omega arith),
+      ),
+      old-part (x .args .main .now) (x .args .r) (x .args .y) (length (x .args .out .now)) (b .before .before .below .result) (b .before .below2 .result) (b .behind .result) (x .pre .0 .0) (cuts b) (x .pre .1 .0) (x .pre .1 .1) (x .args .out .now) refl,
     )
 
-sub-field-run-2 : tie.Need-sub-field-run-2
-sub-field-run-2 c = search needs
+sub-l1-bytes : tie.Need-sub-l1-bytes
+sub-l1-bytes c = search needs
 
-part-field-run-start-2 : tie.Need-part-field-run-start-2
-part-field-run-start-2 c = search needs
+part-l1-bytes-start : tie.Need-part-l1-bytes-start
+part-l1-bytes-start c = search needs
 
-part-field-run-end-2 : tie.Need-part-field-run-end-2
-part-field-run-end-2 c = search needs
+part-l1-bytes-end : tie.Need-part-l1-bytes-end
+part-l1-bytes-end c = search needs
 
-field-run-requires-2 : tie.Need-field-run-requires-2
-field-run-requires-2 c κs =
+l1-bytes-requires : tie.Need-l1-bytes-requires
+l1-bytes-requires c κs =
     let b = c .before .before .before .before .before in
-    let x = b .before .before .before .before .before .before .before in (
-      x .pre .0 .l1-aligned,
-      λ i h.
-          l1-run (x .args .main .now) (x .args .r) (x .args .y) (length (x .args .out .now)) (b .before .before .below .result) (b .before .below2 .result) (b .behind .result) (x .pre .0) (cuts b) i
-          (take-lt _ (b .before .below2 .result - b .before .before .below .result) i h),
-    )
+    let x = b .before .before .before .before .before .before .before in
+    let o = c .before .before .before .field-run in
+    (x .pre .0, l1-part (x .args .main .now) (x .args .r) (x .args .y) (length (x .args .out .now)) (b .before .before .below .result) (b .before .below2 .result) (b .behind .result) (x .pre .0 .0) (cuts b) (x .pre .1 .0) (x .pre .1 .1) (x .args .out .now) refl (o .last .1 .1 .1 .1 .0) (o .ensures))
 
 sub-fill : tie.Need-sub-fill
 sub-fill c =
     let b = c .before .before .before .before .before .before .before .before in
     let x = b .before .before .before .before .before .before .before in
-    order (x .args .main .now) (x .args .r) (x .args .y) (length (x .args .out .now)) (b .before .before .below .result) (b .before .below2 .result) (b .behind .result) (x .pre .0) (cuts b) .1
+    order (x .args .main .now) (x .args .r) (x .args .y) (length (x .args .out .now)) (b .before .before .below .result) (b .before .below2 .result) (b .behind .result) (x .pre .0 .0) (cuts b) .1
 
 part-fill-start : tie.Need-part-fill-start
 part-fill-start c =
     let b = c .before .before .before .before .before .before .before .before in
     let x = b .before .before .before .before .before .before .before in
-    let o = order (x .args .main .now) (x .args .r) (x .args .y) (length (x .args .out .now)) (b .before .before .below .result) (b .before .below2 .result) (b .behind .result) (x .pre .0) (cuts b) .1 in
+    let o = order (x .args .main .now) (x .args .r) (x .args .y) (length (x .args .out .now)) (b .before .before .below .result) (b .before .below2 .result) (b .behind .result) (x .pre .0 .0) (cuts b) .1 in
     omega (arith, o)
 
 part-fill-end : tie.Need-part-fill-end
@@ -86,9 +85,11 @@ returns : tie.Need-returns
 returns c =
     let b = c .before .before .before .before .before .before .before .before .before .before .before .before in
     let x = b .before .before .before .before .before .before .before in
-    made (x .args .main .now) (x .args .r) (x .args .y) (length (x .args .out .now)) (b .before .before .below .result) (b .before .below2 .result) (b .behind .result) (x .pre .0) (cuts b)
-    (x .args .out .now) (c .before .before .before .before .before .before .before .before .before .before .field-run .last .1 .1 .1 .1 .0) (c .before .before .before .before .before .before .field-run2 .last .1 .1 .1 .1 .0) (c .before .before .fill .last .0) refl
-    (c .before .before .before .before .before .before .before .before .before .before .field-run .ensures) (c .before .before .before .before .before .before .field-run2 .ensures) (c .before .before .fill .ensures)
+    let o = c .before .before .before .before .before .before .before .before .before .before .field-run in
+    let l = c .before .before .before .before .before .before .l1-bytes in
+    made (x .args .main .now) (x .args .r) (x .args .y) (length (x .args .out .now)) (b .before .before .below .result) (b .before .below2 .result) (b .behind .result) (x .pre .0 .0) (cuts b)
+    (x .args .out .now) (o .last .1 .1 .1 .1 .0) (l .last .1 .1 .1 .1 .0) (c .before .before .fill .last .0) refl
+    (o .ensures) (l .ensures) (c .before .before .fill .ensures)
 
 pub page-bytes-spec : {M : Type 1} → statement M
 page-bytes-spec =
@@ -101,10 +102,10 @@ page-bytes-spec =
     part-field-run-start
     part-field-run-end
     field-run-requires
-    sub-field-run-2
-    part-field-run-start-2
-    part-field-run-end-2
-    field-run-requires-2
+    sub-l1-bytes
+    part-l1-bytes-start
+    part-l1-bytes-end
+    l1-bytes-requires
     sub-fill
     part-fill-start
     part-fill-end

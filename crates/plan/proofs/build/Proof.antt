@@ -8,9 +8,6 @@ use borrow.Author.Needs.{needs}
 use Rattle.plan.proofs.build.Statement.{statement}
 use Rattle.plan.proofs.build.Tie as tie
 
-sector-size-requires : tie.Need-sector-size-requires
-sector-size-requires c κs = search needs
-
 behind-requires : tie.Need-behind-requires
 behind-requires c κs = search needs
 
@@ -20,24 +17,12 @@ behind-requires-2 c κs = search needs
 among-requires : tie.Need-among-requires
 among-requires c κs = search needs
 
-sub-set-run : tie.Need-sub-set-run
-sub-set-run c = search needs
-
-part-buf-start : tie.Need-part-buf-start
-part-buf-start c = search needs
-
-part-buf-end : tie.Need-part-buf-end
-part-buf-end c = search needs
-
 set-run-requires : tie.Need-set-run-requires
 set-run-requires c κs =
-    let x = c .before .before .before .before .before .before .before .before .before .before .args in
-    let P = c .before .before .before .before .before .before .before .before .before .before .pre .set in
-    let r = c .before .before .before .among in (
-      fewer (x .p .chip .unit) (x .p .next) (x .p .set .first) (x .p .set .count) _ _ P (r .result .to)
-          (among-le _ _ _ _ (r .ensures) (le-refl (x .p .set .count))),
-      omega (arith, c .before .before .before .before .before .before .sector-size .ensures, P .unit .1 .most),
-    )
+    let x = c .before .before .before .before .before .before .before .before in
+    let r = c .before .before .among in
+    fewer (x .args .p .chip .unit) (x .args .p .next) (x .args .p .set .first) (x .args .p .set .count) _ _ (x .pre .set) (r .result .to)
+    (among-le _ _ _ _ (r .ensures) (le-refl (x .args .p .set .count)))
 
 among-requires-2 : tie.Need-among-requires-2
 among-requires-2 c κs = search needs
@@ -47,7 +32,7 @@ wipe-run-requires c κs =
     let b1 = c .before .before in
     let b2 = b1 .before .before in
     let b3 = b2 .before .before in
-    let b4 = b3 .before .before .before .before .before .before .before .before .before .before .before .before .before in
+    let b4 = b3 .before .before .before .before .before .before .before .before .before .before in
     let x = b4 .args in
     let P = b4 .pre in (
       at-lengths (λ m s. WipeFits (x .p .chip .unit) (x .p .l1) m s) _ _ _ _
@@ -65,7 +50,7 @@ wipe-run-requires-2 c κs =
     let b3 = b2 .before .before in
     let b4 = b3 .before .before .before .before .before .before in
     let b5 = b4 .before .before in
-    let b6 = b5 .before .before .before .before .before .before .before .before .before .before .before .before .before in
+    let b6 = b5 .before .before .before .before .before .before .before .before .before .before in
     let x = b6 .args in
     let P = b6 .pre in (
       at-lengths (λ m s. WipeFits (x .p .chip .unit) (x .p .old) m s) _ _ _ _
@@ -85,11 +70,11 @@ returns c =
     let b2 = b1 .before .before .before in
     let b3 = b2 .before .before .before .before .before in
     let b4 = b3 .before .before .before in
-    let b5 = b4 .before .before .before .before .before .before in
-    let b6 = b5 .before .before .before .before in
+    let b5 = b4 .before .before .before .before .before in
+    let b6 = b5 .before .before .before in
     let b7 = b6 .before in
     let b8 = b7 .before in
-    let b9 = b8 .before .before .before .before .before in
+    let b9 = b8 .before .before .before .before in
     let x = b9 .args in
     build-run (x .p) (x .part) (b8 .behind .result) (b7 .behind2 .result) (flashOf (x .main .now) (x .spare .now))
     (b6 .among .result) (b4 .among2 .result) (b2 .among3 .result)
@@ -100,13 +85,9 @@ pub build-spec : {M : Type 1} → statement M
 build-spec =
     tie.close
     (tie.spec
-    sector-size-requires
     behind-requires
     behind-requires-2
     among-requires
-    sub-set-run
-    part-buf-start
-    part-buf-end
     set-run-requires
     among-requires-2
     wipe-run-requires

@@ -1,93 +1,80 @@
 use native.Mathlib.Omega.{arith}
-use Prim.Native.Nat.{ℕ, _+_, _-_, _≤_}
-use mathlib.Core.Path.{_≡_, refl, sym, ap, _∙_}
-use mathlib.Core.List.{List}
+use native.Mathlib.Nat.{le-refl}
+use Prim.Native.Nat.{ℕ, _-_, _*_, _≤_}
+use mathlib.Core.Path.{_≡_, refl, ap, _∙_}
 use lib.ListN.{length}
-use Rattle.memory.specs.Lists.{length-tab}
-use Rattle.layout.specs.Geometry.{sector}
-use Rattle.layout.specs.Flash.{flashOf, program, apply, plannedFrom}
-use Rattle.layout.specs.Index.{setByte}
-use Rattle.geometry.specs.Indexes.{indexOf}
-use Rattle.plan.specs.Runs.{done, turn}
+use Rattle.layout.specs.Flash.{flashOf, plannedFrom}
+use Rattle.plan.specs.Runs.{done}
 use Rattle.plan.specs.Segments.{nextSet}
-use Rattle.plan.specs.Fits.{set-on-flash}
+use Rattle.plan.specs.Groups.{Turn, turn-of, turn-span, few-sectors, next-part, beside}
 use Rattle.plan.proofs.set_run.Statement.{statement}
 use Rattle.plan.proofs.set_run.Tie as tie
 
 abbrev Inv-loop : tie.InvT-loop
-Inv-loop chip set s part buf₀ main₀ spare₀ j₀ buf main spare j =
+Inv-loop chip set s part main₀ spare₀ n j₀ main spare j =
     (part .from ≤ j) × (j - part .from ≤ part .to - part .from) × (length main ≡ length main₀) × (length spare ≡ length spare₀)
-    × (length buf ≡ length buf₀)
     × (flashOf main spare ≡ done (chip .unit) (plannedFrom (nextSet (chip .unit) set s) (part .from) (j - part .from)) (flashOf main₀ spare₀))
 
 abbrev μ-loop : tie.MeasureT-loop
-μ-loop chip set s part buf₀ main₀ spare₀ j₀ buf main spare j = part .to - j
+μ-loop chip set s part main₀ spare₀ n j₀ main spare j = part .to - j
+
+pages-together-requires : tie.Need-pages-together-requires Inv-loop μ-loop
+pages-together-requires c κs = let P = c .before .before .pre in (P .unit, P .rounds)
+
+mul-n : tie.Need-mul-n Inv-loop μ-loop
+mul-n c = omega (arith, c .pages-together .ensures .2)
 
 loop-holds : tie.Need-loop-holds Inv-loop μ-loop
 loop-holds c =
     let x = c .before .before .before .args in
     let z : x .part .from - x .part .from ≡ 0 = omega arith in
-    (omega arith, omega arith, refl, refl, refl, rw z refl)
+    (le-refl _, omega arith, refl, refl, rw z refl)
 
-set-sector-requires : tie.Need-set-sector-requires Inv-loop μ-loop
-set-sector-requires c κs =
-    let l = c .before .before .before .before .loop in
-    let P = c .before .before .before .before .before .before .before .before .pre .0 in (
-      (P .unit, P .rounds, P .near),
+up-to-requires : tie.Need-up-to-requires Inv-loop μ-loop
+up-to-requires c κs =
+    let p = c .before .before .before .pages-together in
+    let x = c .before .before .before .before .before .before in
+    let l = few-sectors (x .args .chip .unit) (x .args .set) (x .args .s) (x .args .part .to) _ _ (x .pre) in
+    (omega (arith, p .ensures .1), omega (arith, p .ensures .2), omega (arith, l), omega arith)
+
+-- a turn goes on
+turn : (c : tie.After-up-to Inv-loop μ-loop) → Turn (c .before .before .before .loop .j) (c .before .before .before .before .before .before .before .args .part .to) (c .up-to .result)
+turn c =
+    let p = c .before .before .before .before .pages-together in
+    turn-of (c .before .before .before .loop .j) (p .result * 4) (c .before .before .before .before .before .before .before .args .part .to) (c .up-to .result) (omega (arith, p .ensures .1)) (omega arith) (c .up-to .ensures)
+
+group-run-requires : tie.Need-group-run-requires Inv-loop μ-loop
+group-run-requires c κs =
+    let d = c .before .before in
+    let l = c .before .before .before .before .before .loop in
+    let x = c .before .before .before .before .before .before .before .before .before in
+    let p = d .before .before .before .before .pages-together in
+    let T = turn d in (
       (
-        omega (arith, P .sectors, c .before .before .if1 .taken),
-        (
-          omega (arith, P .sides, l .inv .2),
-          omega (arith, l .inv .4, c .before .before .before .before .before .before .before .before .pre .1),
-        ),
+        next-part (x .args .chip .unit) (x .args .set) (x .args .s) (x .args .part .to) (d .up-to .result .to) _ _ _ _ (x .pre) (T .most) (l .inv .2) (l .inv .3),
+        omega (arith, T .first, T .more),
       ),
+      rw (d .up-to .ensures, ← p .ensures .0) (beside (l .j) (p .result) (x .args .part .to) (p .ensures .1) (omega arith)),
     )
-
-add-program-sector : tie.Need-add-program-sector Inv-loop μ-loop
-add-program-sector c = omega arith
-
-program-sector-requires : tie.Need-program-sector-requires Inv-loop μ-loop
-program-sector-requires c κs =
-    let b1 = c .before .before .before .before .before in
-    let b2 = b1 .before .before .before in
-    let b3 = b2 .before .before in
-    let b4 = b3 .before .before .before .before in
-    let x = b4 .args in
-    let l = b3 .loop in
-    let P = b4 .pre .0 in
-    let b = setByte (x .chip .unit) (indexOf (x .set .index)) (l .main) (x .set .«full_sets») (x .set .rounds) (l .j) in (
-      (P .unit .1 .most, ap length (b1 .set-sector .ensures) ∙ length-tab (sector (x .chip .unit)) b),
-      (
-        omega (arith, set-on-flash (x .chip .unit) (x .set) (x .s) (x .part .to) _ _ P (l .j) (b2 .if1 .taken), l .inv .2),
-        omega (arith, P .in-spare, b2 .if1 .taken, l .inv .3),
-      ),
-    )
-
-add-j : tie.Need-add-j Inv-loop μ-loop
-add-j c = omega arith
 
 loop-less : tie.Need-loop-less Inv-loop μ-loop
-loop-less c = omega arith
+loop-less c =
+    let T = turn (c .before .before .before .before .before .before .before) in
+    omega (arith, T .more, T .most)
 
 loop-again : tie.Need-loop-again Inv-loop μ-loop
 loop-again c =
-    let b1 = c .before .before .before .before in
-    let b2 = b1 .before .before .before .before .before .before in
-    let b3 = b2 .before .before .before .before .before in
-    let b4 = b3 .before .before .before .before in
-    let x = b4 .args in
-    let l = b3 .loop in
-    let r = b1 .program-sector in
-    let u = x .chip .unit in
-    let f = nextSet u (x .set) (x .s) in
-    let b = setByte u (indexOf (x .set .index)) (l .main) (x .set .«full_sets») (x .set .rounds) (l .j) in (
+    let d = c .before .before .before .before .before .before .before in
+    let T = turn d in
+    let l = d .before .before .before .loop in
+    let x = d .before .before .before .before .before .before .before in
+    let u = x .args .chip .unit in (
+      omega (arith, T .more, l .inv .0),
+      omega (arith, T .most),
       omega arith,
       omega arith,
-      omega arith,
-      omega arith,
-      ap length (b2 .set-sector .ensures) ∙ (length-tab (sector u) b ∙ sym (b4 .pre .1)),
-      turn u f (x .part .from) (l .j) (flashOf (x .main .now) (x .spare .now)) (l .inv .0) (l .inv .5)
-          (r .ensures ∙ ap (λ (s : List ℕ). apply u (program (x .s + l .j) s) (flashOf (l .main) (l .spare))) (b2 .set-sector .ensures)),
+      turn-span u (nextSet u (x .args .set) (x .args .s)) (x .args .part .from) (l .j) (d .up-to .result) (flashOf (x .args .main .now) (x .args .spare .now))
+          (T .first) (l .inv .0) (omega (arith, T .more)) (l .inv .4) (c .before .before .before .before .group-run .ensures),
     )
 
 same-length : tie.Need-same-length Inv-loop μ-loop
@@ -96,18 +83,13 @@ same-length c = omega arith
 same-length-2 : tie.Need-same-length-2 Inv-loop μ-loop
 same-length-2 c = omega arith
 
-same-length-3 : tie.Need-same-length-3 Inv-loop μ-loop
-same-length-3 c = omega arith
-
 returns : tie.Need-returns Inv-loop μ-loop
 returns c =
     let l = c .before .before .loop in
     let x = c .before .before .before .before .before .before .args in
     let u = x .chip .unit in
-    let f = nextSet u (x .set) (x .s) in
     let k : l .j - x .part .from ≡ x .part .to - x .part .from = omega arith in
-    l .inv .5
-    ∙ ap (λ (n : ℕ). done u (plannedFrom f (x .part .from) n) (flashOf (x .main .now) (x .spare .now))) k
+    l .inv .4 ∙ ap (λ (n : ℕ). done u (plannedFrom (nextSet u (x .set) (x .s)) (x .part .from) n) (flashOf (x .main .now) (x .spare .now))) k
 
 pub set-run-spec : {M : Type 1} → statement M
 set-run-spec =
@@ -115,14 +97,13 @@ set-run-spec =
     (tie.spec
     Inv-loop
     μ-loop
+    pages-together-requires
+    mul-n
     loop-holds
-    set-sector-requires
-    add-program-sector
-    program-sector-requires
-    add-j
+    up-to-requires
+    group-run-requires
     loop-less
     loop-again
     same-length
     same-length-2
-    same-length-3
     returns)

@@ -6,8 +6,8 @@ use Rattle.layout.specs.Index.{setWidth}
 use Rattle.geometry.specs.Indexes.{indexOf}
 use Rattle.partition.proofs.Numbers.{width-of, next-le, sector-le, row-made}
 use borrow.Author.Needs.{needs}
-use Rattle.partition.proofs.row_of.Statement.{statement}
-use Rattle.partition.proofs.row_of.Tie as tie
+use Rattle.partition.proofs.page_source.Statement.{statement}
+use Rattle.partition.proofs.page_source.Tie as tie
 
 add-set-width : tie.Need-add-set-width
 add-set-width c = search needs
@@ -124,5 +124,5 @@ returns c =
     (b .set-width .ensures) (v .set-width2 .ensures) e (f .block-address2 .ensures) (g .page-size .ensures) (k .page-address .ensures) (z .sector-size .ensures)
     (o .source-of .ensures) (c .source-of2 .ensures)
 
-pub row-of-spec : {M : Type 1} → statement M
-row-of-spec = tie.close (tie.spec add-set-width set-width-requires set-width-requires-2 side-block-requires block-address-requires block-address-requires-2 page-size-requires mul-split mul-split-2 add-end mul-end mul-end-2 source-of-requires page-address-requires sector-size-requires source-of-requires-2 returns)
+pub page-source-spec : {M : Type 1} → statement M
+page-source-spec = tie.close (tie.spec add-set-width set-width-requires set-width-requires-2 side-block-requires block-address-requires block-address-requires-2 page-size-requires mul-split mul-split-2 add-end mul-end mul-end-2 source-of-requires page-address-requires sector-size-requires source-of-requires-2 returns)

@@ -1,19 +1,29 @@
 -- The next set is built of bytes outside its own place: L1 and the set before it, which lies on the other side.
 use mathlib.Core.Path.{_≡_, ap}
+use mathlib.Core.Bool.{Bool, _&&_}
 use mathlib.Core.Logic.{_⊎_, inl, inr}
 use mathlib.Core.List.{List, []}
 use Prim.Native.Nat.{ℕ, _+_, _-_, _*_, _/_, _%_, _^_, _≤_, _<_}
-use native.Mathlib.Nat.{mul-le-mul-right}
+use native.Mathlib.Nat.{mul-le-mul-right, mod-lt}
 use native.Mathlib.Omega.{arith}
+use lib.Dec.{ltb}
 use lib.ListN.{getD}
 use Rattle.memory.specs.Cases.{lt?, eq?, either}
 use Rattle.memory.specs.Numbers.{euclid, div-lt}
 use Rattle.memory.specs.Power.{log2up}
-use Rattle.memory.specs.Bits.{bit}
+use Rattle.memory.specs.Bits.{bit, pack-ext}
 use Rattle.layout.specs.Geometry.{sector, page, block}
-use Rattle.layout.specs.Index.{Index, bitAt, setPages, setWidth, fullFilters, sideBlock, flashPlace, setByte, setBlock}
+use Rattle.layout.specs.Index.{Index, rowBit, rowByte, bitAt, setPages, setWidth, fullFilters, sideBlock, flashPlace, setByte, setBlock}
 use Rattle.laws.specs.SetLaws.{unit-pos, set-whole, width-pos, blocks-fit, filters-fit, side-range, place-old, place-new}
-use Rattle.history.specs.RowLaws.{row-ext}
+
+-- only the bits that are there decide
+pub row-ext : (G H : ℕ → ℕ → Bool) (N w lo y : ℕ) → 0 < w → ((g r : ℕ) → g < N → r < w → G g (lo + r) ≡ H g (lo + r))
+    → rowByte G N w lo y ≡ rowByte H N w lo y
+unfolding rowByte rowBit
+row-ext G H N w lo y pw same = pack-ext 8 _ _ (λ b l. one (y * 8 + b))
+  where
+    one : (q : ℕ) → (ltb (q / w) N && G (q / w) (lo + q % w)) ≡ (ltb (q / w) N && H (q / w) (lo + q % w))
+    one q = either (lt? (q / w) N) (λ a. rw (a .0) (same (q / w) (q % w) (a .1) (mod-lt q pw))) (λ a. rw (a .0))
 
 module _ (u : ℕ) (ix : Index) where
   -- one round more is on the other side
