@@ -16,6 +16,7 @@ ghost use Rattle.planning.specs.Edits.{Room};
 ghost use Rattle.changes.specs.Edits.{editIs, slotsOf, oldNumber, newRecord, recordNumber, fullAt, deletionsFullAt, roomRefusal};
 ghost use Rattle.changes.specs.Commit.{FilterOf, BitsOf, Committed};
 use geometry::Geometry;
+use geometry::areas;
 use planning::Slots;
 use state::Change;
 use state::Record;
@@ -127,13 +128,13 @@ fn record_number(g: Geometry, e: Slots) -> u32
 }
 
 // Where the words of the new bytes lie behind the record's key and the entry's.
-const MOVES_AT: usize = plan::RECORD_AT + 4;
+const MOVES_AT: usize = plan::RECORD_AT + areas::MOVES_AT;
 
-const GOAL_AT: usize = MOVES_AT + 4;
+const GOAL_AT: usize = MOVES_AT + areas::WORD_SIZE;
 
-const FREE_AT: usize = GOAL_AT + 4;
+const FREE_AT: usize = GOAL_AT + areas::WORD_SIZE;
 
-const NUMBER_AT: usize = plan::ENTRY_AT + 4;
+const NUMBER_AT: usize = plan::ENTRY_AT + areas::NUMBER_AT;
 
 // The deletion of record `old`, then record n and its entry.
 fn new_bytes(old: u32, record: Record, n: u32) -> [u8; plan::NEW_SIZE]

@@ -51,7 +51,7 @@ pub fn new_filter(chip: Chip, at: usize, key: u32, ram: &[u8]) -> [u8; 256]
     requires { ⌜ (0 < chip .unit) × (chip .unit ≤ 32) × (at + page (chip .unit) ≤ length (now ram)) ⌝ }
     ensures { λ r. ⌜ ((x : ℕ) → x < 2048 → arrayBit r x ≡ withKey (chip .unit) at key (before ram) x) ⌝ }
 {
-    let last = chip.page_size() / areas::ENTRY_SIZE - 1;
+    let last = chip.entries_per_page() - 1;
     let mut bits = no_bits();
     let mut i = 0;
     while i < last {

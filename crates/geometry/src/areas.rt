@@ -6,12 +6,20 @@ ghost use Rattle.layout.specs.Items.{RA, KA, DA, itemPlace};
 ghost use Rattle.geometry.specs.Shape.{shape, Sound, area, place, AreaSound};
 use crate::Geometry;
 
+// Bytes of a number.
+pub const WORD_SIZE: usize = 4;
+
 // Bytes of a record, of an entry and of a deletion.
 pub const RECORD_SIZE: usize = 16;
 
 pub const ENTRY_SIZE: usize = 8;
 
 pub const DELETION_SIZE: usize = 4;
+
+// Where a record's moves lie behind its key, and an entry's number behind its key.
+pub const MOVES_AT: usize = WORD_SIZE;
+
+pub const NUMBER_AT: usize = WORD_SIZE;
 
 // Items of `size` bytes, `per_page` to a page, from block `first` on; the page that is not full is in RAM from byte `ram` on.
 pub struct Area {

@@ -1,7 +1,8 @@
 // A flash chip: sectors, pages and blocks, their sizes and their addresses. Document 01, "The chip and the desk".
 ghost use mathlib.Core.Path.{_≡_};
 ghost use Prim.Native.Nat.{_*_, _/_, _^_, _<_, _≤_};
-ghost use Rattle.layout.specs.Geometry.{sectorsPerPage, sectorsPerBlock, sector, page, block, filterBits, fourthSize, sideBlocks};
+ghost use Rattle.layout.specs.Geometry.{sectorsPerPage, sectorsPerBlock, sector, page, block, entriesPerPage, deletionsPerPage};
+ghost use Rattle.layout.specs.Geometry.{filterBits, fourthSize, sideBlocks};
 
 // A chip by its unit, a sixteenth of the sector size.
 pub struct Chip {
@@ -46,6 +47,22 @@ impl Chip {
     }
 
     // ---- what a sector's size decides besides
+
+    // Entries a page: S/2.
+    pub fn entries_per_page(self) -> usize
+        requires { ⌜ self .unit ≤ 32 ⌝ }
+        ensures { λ r. ⌜ r ≡ entriesPerPage (self .unit) ⌝ }
+    {
+        self.sector_size() / 2
+    }
+
+    // Deletions a page: S.
+    pub fn deletions_per_page(self) -> usize
+        requires { ⌜ self .unit ≤ 32 ⌝ }
+        ensures { λ r. ⌜ r ≡ deletionsPerPage (self .unit) ⌝ }
+    {
+        self.sector_size()
+    }
 
     // Bits of a filter: 4S.
     pub fn filter_bits(self) -> usize

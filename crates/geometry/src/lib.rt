@@ -70,7 +70,7 @@ impl Geometry {
         requires { ⌜ Sound self ⌝ }
         ensures { λ r. ⌜ r ≡ layout.deletionsPerPage (shape self .u) ⌝ }
     {
-        self.chip.sector_size()
+        self.chip.deletions_per_page()
     }
 
     pub fn filter_bits(self) -> usize

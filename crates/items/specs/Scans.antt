@@ -11,10 +11,17 @@ use Rattle.memory.specs.Words.{word}
 use Rattle.memory.specs.Cases.{bool?, either}
 use Rattle.memory.specs.Ranges.{any}
 use Rattle.memory.specs.Candidate.{candidate, candidate-open, candidate-shut, candidate-low, candidate-ext}
+use Rattle.layout.specs.Keys.{wordSize}
+use Rattle.layout.specs.Geometry.{deletionsPerPage}
+use Rattle.layout.specs.Items.{entrySize}
+
+-- words of a page: a deletion is one
+abbrev pub wordsPerPage : ℕ → ℕ
+wordsPerPage u = deletionsPerPage u
 
 -- is word i from byte `at` on the number j
 unfoldable pub isWord : List ℕ → ℕ → ℕ → ℕ → Bool
-isWord s at j i = eqb (word s (at + i * 4)) j
+isWord s at j i = eqb (word s (at + i * wordSize)) j
 
 -- is it one of n words
 abbrev pub hasWord : List ℕ → ℕ → ℕ → ℕ → Bool
@@ -22,7 +29,7 @@ hasWord s at n j = any (isWord s at j) n
 
 -- has entry i from byte `at` on the key, its first word
 unfoldable pub hasKey : List ℕ → ℕ → ℕ → ℕ → Bool
-hasKey s at key i = eqb (word s (at + i * 8)) key
+hasKey s at key i = eqb (word s (at + i * entrySize)) key
 
 -- the newest of n entries with the key, plus one
 abbrev pub lastEntry : List ℕ → ℕ → ℕ → ℕ → ℕ

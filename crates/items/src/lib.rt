@@ -5,19 +5,25 @@ ghost use mathlib.Core.Logic.{_≢_};
 ghost use Prim.Native.Nat.{_+_, _*_, _≤_, _<_};
 ghost use lib.ListN.{length};
 ghost use Rattle.memory.specs.Lent.{before};
+ghost use Rattle.layout.specs.Keys.{wordSize};
 ghost use Rattle.layout.specs.Geometry.{page, entriesPerPage};
+ghost use Rattle.layout.specs.Items.{entrySize};
 ghost use Rattle.laws.specs.Units.{UnitSound};
-ghost use Rattle.items.specs.Scans.{hasWord, lastEntry};
+ghost use Rattle.items.specs.Scans.{wordsPerPage, hasWord, lastEntry};
 use geometry::Chip;
 use geometry::areas;
 
-// Bytes of a number.
-const WORD: usize = 4;
-
-// Words that are compared at once: in a page of one unit, and in larger ones.
+// Words that are compared at once: in pages of one and two units, and in larger ones.
 const FEW: usize = 16;
 
 const MANY: usize = 64;
+
+// Their bytes, and the entries that have so many words.
+const FEW_BYTES: usize = FEW * areas::WORD_SIZE;
+
+const MANY_BYTES: usize = MANY * areas::WORD_SIZE;
+
+const MANY_ENTRIES: usize = MANY_BYTES / areas::ENTRY_SIZE;
 
 // Entries that are looked through at once.
 const RUN: usize = 64;
@@ -27,13 +33,13 @@ const RUN: usize = 64;
 // Is one of the 16 words from byte `at` on the number j. No exit before the end, so that many words are compared at once; the count is a
 // constant, so that no loop is left.
 fn few_have(at: usize, j: u32, s: &[u8]) -> bool
-    requires { ⌜ at + 64 ≤ length (now s) ⌝ }
+    requires { ⌜ at + 16 * wordSize ≤ length (now s) ⌝ }
     ensures { λ r. ⌜ r ≡ hasWord (before s) at 16 j ⌝ }
 {
     let mut found = false;
     let mut i = 0;
     while i < FEW {
-        if words::get32(s, at + i * WORD) == j {
+        if words::get32(s, at + i * areas::WORD_SIZE) == j {
             found = true;
         }
         i += 1;
@@ -43,13 +49,13 @@ fn few_have(at: usize, j: u32, s: &[u8]) -> bool
 
 // The same of 64 words.
 fn many_have(at: usize, j: u32, s: &[u8]) -> bool
-    requires { ⌜ at + 256 ≤ length (now s) ⌝ }
+    requires { ⌜ at + 64 * wordSize ≤ length (now s) ⌝ }
     ensures { λ r. ⌜ r ≡ hasWord (before s) at 64 j ⌝ }
 {
     let mut found = false;
     let mut i = 0;
     while i < MANY {
-        if words::get32(s, at + i * WORD) == j {
+        if words::get32(s, at + i * areas::WORD_SIZE) == j {
             found = true;
         }
         i += 1;
@@ -59,13 +65,13 @@ fn many_have(at: usize, j: u32, s: &[u8]) -> bool
 
 // Those behind the first m of n words, a word at a time.
 fn rest_have(at: usize, m: usize, n: usize, j: u32, s: &[u8]) -> bool
-    requires { ⌜ (m ≤ n) × (at + n * 4 ≤ length (now s)) × (hasWord (now s) at m j ≡ false) ⌝ }
+    requires { ⌜ (m ≤ n) × (at + n * wordSize ≤ length (now s)) × (hasWord (now s) at m j ≡ false) ⌝ }
     ensures { λ r. ⌜ r ≡ hasWord (before s) at n j ⌝ }
 {
     let mut found = false;
     let mut i = m;
     while i < n {
-        if words::get32(s, at + i * WORD) == j {
+        if words::get32(s, at + i * areas::WORD_SIZE) == j {
             found = true;
         }
         i += 1;
@@ -75,13 +81,13 @@ fn rest_have(at: usize, m: usize, n: usize, j: u32, s: &[u8]) -> bool
 
 // Is one of the n words from byte `at` on the number j.
 pub fn has_word(at: usize, n: usize, j: u32, s: &[u8]) -> bool
-    requires { ⌜ at + n * 4 ≤ length (now s) ⌝ }
+    requires { ⌜ at + n * wordSize ≤ length (now s) ⌝ }
     ensures { λ r. ⌜ r ≡ hasWord (before s) at n j ⌝ }
 {
     let blocks = n / MANY;
     let mut b = 0;
     while b < blocks {
-        if many_have(at + b * 256, j, s) {
+        if many_have(at + b * MANY_BYTES, j, s) {
             return true;
         }
         b += 1;
@@ -93,7 +99,7 @@ pub fn has_word(at: usize, n: usize, j: u32, s: &[u8]) -> bool
 
 // The newest of the n entries with the key, plus one, an entry at a time; 0 if there is none.
 fn last_key(at: usize, n: usize, key: u32, s: &[u8]) -> usize
-    requires { ⌜ at + n * 8 ≤ length (now s) ⌝ }
+    requires { ⌜ at + n * entrySize ≤ length (now s) ⌝ }
     ensures { λ r. ⌜ r ≡ lastEntry (before s) at n key ⌝ }
 {
     let mut k = n;
@@ -110,7 +116,7 @@ fn last_key(at: usize, n: usize, key: u32, s: &[u8]) -> usize
 // The same, after a pass over all words of the entries: it takes their numbers for keys too, but it has no exit and reads without a gap,
 // and nearly always it finds none.
 fn find_few(at: usize, count: usize, key: u32, s: &[u8]) -> usize
-    requires { ⌜ at + count * 8 ≤ length (now s) ⌝ }
+    requires { ⌜ at + count * entrySize ≤ length (now s) ⌝ }
     ensures { λ r. ⌜ r ≡ lastEntry (before s) at count key ⌝ }
 {
     if !has_word(at, count * 2, key, s) {
@@ -122,7 +128,7 @@ fn find_few(at: usize, count: usize, key: u32, s: &[u8]) -> usize
 // The newest of the entries with the key, plus one, by runs from the newest on: the pass over a run has no exit, and what lies before the
 // run with the key is not read.
 pub fn find_entry(at: usize, count: usize, key: u32, s: &[u8]) -> usize
-    requires { ⌜ at + count * 8 ≤ length (now s) ⌝ }
+    requires { ⌜ at + count * entrySize ≤ length (now s) ⌝ }
     ensures { λ r. ⌜ r ≡ lastEntry (before s) at count key ⌝ }
 {
     let mut k = count;
@@ -142,7 +148,7 @@ pub fn find_entry(at: usize, count: usize, key: u32, s: &[u8]) -> usize
 // Is one of the words of a page of up to four units the number j.
 fn small_has(chip: Chip, at: usize, j: u32, s: &[u8]) -> bool
     requires { ⌜ (0 < chip .unit) × (chip .unit < 5) × (chip .unit ≢ 3) × (at + page (chip .unit) ≤ length (now s)) ⌝ }
-    ensures { λ r. ⌜ r ≡ hasWord (before s) at (16 * chip .unit) j ⌝ }
+    ensures { λ r. ⌜ r ≡ hasWord (before s) at (wordsPerPage (chip .unit)) j ⌝ }
 {
     if chip.unit == 4 {
         return many_have(at, j, s);
@@ -153,27 +159,26 @@ fn small_has(chip: Chip, at: usize, j: u32, s: &[u8]) -> bool
     if chip.unit == 1 {
         return false;
     }
-    few_have(at + 64, j, s)
+    few_have(at + FEW_BYTES, j, s)
 }
 
-// The newest entry of a full page with the key, plus one; 0 if there is none. It is looked for from the newest 64 words on that have the
-// key.
+// The newest entry of a full page with the key, plus one; 0 if there is none. In pages of more than four units it is looked for from the
+// newest 64 words on that have the key.
 pub fn find_in_page(chip: Chip, at: usize, key: u32, s: &[u8]) -> usize
     requires { ⌜ UnitSound (chip .unit) × (at + page (chip .unit) ≤ length (now s)) ⌝ }
     ensures { λ r. ⌜ r ≡ lastEntry (before s) at (entriesPerPage (chip .unit)) key ⌝ }
 {
-    let unit = chip.unit;
-    if unit < 5 {
+    if chip.unit < 5 {
         if small_has(chip, at, key, s) {
-            return last_key(at, unit * 8, key, s);
+            return last_key(at, chip.entries_per_page(), key, s);
         }
         return 0;
     }
-    let mut b = unit / 4;
+    let mut b = chip.page_size() / MANY_BYTES;
     while b > 0 {
         let c = b - 1;
-        if many_have(at + c * 256, key, s) {
-            return last_key(at, b * 32, key, s);
+        if many_have(at + c * MANY_BYTES, key, s) {
+            return last_key(at, b * MANY_ENTRIES, key, s);
         }
         b = c;
     }

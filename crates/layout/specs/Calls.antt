@@ -14,7 +14,7 @@ use Rattle.layout.specs.Flash.{Flash, Op, applyAll, erases, Planned, pla
 use Rattle.layout.specs.Hash.{Family, positions, positionCount}
 use Rattle.layout.specs.Index.{Index, filterBit, withFilter, filterPlan, filterRam, inSka}
 use Rattle.layout.specs.Items.{RA, KA, DA, Record, recordBytes, entryBytes, deletionBytes, Place, itemPlace, bytesAt, itemWord, put}
-use Rattle.layout.specs.Items.{fills, itemPlan, itemRam, zeroPage}
+use Rattle.layout.specs.Items.{recordSize, entrySize, fills, itemPlan, itemRam, zeroPage}
 use Rattle.layout.specs.Refusals as refusal
 use Rattle.layout.specs.Search.{Stop, found, corrupt, Found, tryEntry, searchFrom}
 
@@ -148,7 +148,7 @@ deletionRam g d j ram = itemRam (g .u) (DA g) d (deletionBytes j) ram
 module _ (h : Family) where
   -- "A full KA page gives one filter of m bits with the positions of all its keys set"; the keys in the page's bytes
   unfoldable pub pageFilter : Geometry → List ℕ → ℕ → Bool
-  pageFilter g ram x = any (λ i. memb x (keyPositions h g (keyAt ram (kaRam (g .u) + i * 8)))) (entriesPerPage (g .u))
+  pageFilter g ram x = any (λ i. memb x (keyPositions h g (keyAt ram (kaRam (g .u) + i * entrySize)))) (entriesPerPage (g .u))
 
   -- the filter of the page that entry n fills
   abbrev pub newFilter : Geometry → ℕ → Key → List ℕ → ℕ → Bool
@@ -205,7 +205,7 @@ lookupAfter g v opened (some corrupt) = refuse v refusal.corruptEntry
 lookupAfter g v opened none = record { outcome = miss; count = opened; volume = v; ops = [] }
 lookupAfter g v opened (some (found j)) =
     record {
-      outcome = hit (recordPlace g v j) (bytesAt (v .flash .main) (v .ram) (recordPlace g v j) 16);
+      outcome = hit (recordPlace g v j) (bytesAt (v .flash .main) (v .ram) (recordPlace g v j) recordSize);
       count = opened;
       volume = v;
       ops = [];

@@ -6,7 +6,7 @@ use lib.ListN.{getD, replicate}
 use lib.Dec.{ltb, eqb}
 use Rattle.memory.specs.Lists.{write, part, tab}
 use Rattle.memory.specs.Words.{word, wordsBytes}
-use Rattle.layout.specs.Keys.{Key}
+use Rattle.layout.specs.Keys.{wordSize, Key}
 use Rattle.layout.specs.Geometry.{Geometry, sectorsPerPage, sectorsPerBlock, sector, page, block}
 use Rattle.layout.specs.Geometry.{recordsPerPage, entriesPerPage, deletionsPerPage, raBlock, kaBlock, daBlock, raRam, kaRam, daRam}
 use Rattle.layout.specs.Flash.{Planned, known, plannedFrom}
@@ -19,15 +19,24 @@ pub record Area : Type 0 where
   pub ram : ℕ
 
 -- "A record is 16 bytes", "a KA entry of 8 bytes", "the 4-byte record number"
+abbrev pub recordSize : ℕ
+recordSize = 16
+
+abbrev pub entrySize : ℕ
+entrySize = 8
+
+abbrev pub deletionSize : ℕ
+deletionSize = 4
+
 module _ (g : Geometry) where
   abbrev pub RA : Area
-  RA = record { size = 16; perPage = recordsPerPage (g .u); first = raBlock g; ram = raRam (g .u) }
+  RA = record { size = recordSize; perPage = recordsPerPage (g .u); first = raBlock g; ram = raRam (g .u) }
 
   abbrev pub KA : Area
-  KA = record { size = 8; perPage = entriesPerPage (g .u); first = kaBlock g; ram = kaRam (g .u) }
+  KA = record { size = entrySize; perPage = entriesPerPage (g .u); first = kaBlock g; ram = kaRam (g .u) }
 
   abbrev pub DA : Area
-  DA = record { size = 4; perPage = deletionsPerPage (g .u); first = daBlock g; ram = daRam (g .u) }
+  DA = record { size = deletionSize; perPage = deletionsPerPage (g .u); first = daBlock g; ram = daRam (g .u) }
 
 -- "level key, moves, goal, free word"
 pub record Record : Type 0 where
@@ -76,7 +85,7 @@ bytesAt main ram p size = part (source main ram p) (p .at) size
 
 -- word i of item j of n
 unfoldable pub itemWord : ℕ → Area → ℕ → List ℕ → List ℕ → ℕ → ℕ → ℕ
-itemWord u a n main ram j i = word (source main ram (itemPlace u a n j)) (itemPlace u a n j .at + i * 4)
+itemWord u a n main ram j i = word (source main ram (itemPlace u a n j)) (itemPlace u a n j .at + i * wordSize)
 
 -- ---- one more item
 

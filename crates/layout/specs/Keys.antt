@@ -6,6 +6,10 @@ use Prim.Native.Nat.{ℕ, _+_, _^_, _<_}
 use lib.Dec.{eqb}
 use Rattle.memory.specs.Words.{word, bytes4}
 
+-- bytes of a number
+abbrev pub wordSize : ℕ
+wordSize = 4
+
 -- "level key, .. 4 bytes"
 abbrev pub Key : Type 0
 Key = ℕ
@@ -31,4 +35,4 @@ numberIn second = second
 
 -- the key of the entry from byte `at` on
 abbrev pub keyAt : List ℕ → ℕ → Key
-keyAt bytes at = keyIn (word bytes at) (word bytes (at + 4))
+keyAt bytes at = keyIn (word bytes at) (word bytes (at + wordSize))

@@ -12,6 +12,7 @@ ghost use Rattle.script.specs.Values.{requestOf, answerOf};
 ghost use Rattle.script.specs.Script.{perform};
 ghost use Rattle.lines.specs.Contract.{replyOf, changeAnswer, afterLine, answerLine};
 use geometry::Sizes;
+use geometry::areas;
 use script::Request;
 use script::answers::Answer;
 use state::Change;
@@ -31,7 +32,7 @@ fn after_change(c: Change) -> Reply
     ensures { λ r. ⌜ r ≡ record { state = c .state; answer = changeAnswer c } ⌝ }
 {
     let s = c.state;
-    if c.refusal == 0 {
+    if c.refusal == state::ACCEPTED {
         return Reply {
             state: s,
             answer: Answer::Ok(s.records, s.deletions),
@@ -52,13 +53,13 @@ fn lookup<'a>(s: State, key: u32, main: &'a [u8], spare: &[u8], ram: &'a [u8]) -
     let refusal = numbers[0];
     let found = numbers[1];
     let count = numbers[2];
-    if refusal != 0 {
+    if refusal != state::ACCEPTED {
         return Answer::No(refusal);
     }
     if found == 0 {
         return Answer::Miss(count);
     }
-    Answer::Hit(words::get32(bytes, 4), count)
+    Answer::Hit(words::get32(bytes, areas::MOVES_AT), count)
 }
 
 // A line's record: goal and free word are 0.

@@ -8,6 +8,7 @@ ghost use Rattle.state.specs.Contract.{volume, given};
 ghost use Rattle.state.specs.Judge.{VolumeFits};
 ghost use Rattle.lookup.specs.Results.{lookupOf, answerNumbers, partOf, whereOf};
 use geometry::Geometry;
+use geometry::areas;
 use search::End;
 use state::Judgement;
 use state::State;
@@ -49,7 +50,7 @@ fn find_in(g: Geometry, s: State, key: u32, main: &[u8], spare: &[u8], ram: &[u8
         }
         End::Nothing => {
             return LookupResult {
-                refusal: 0,
+                refusal: state::ACCEPTED,
                 found: 0,
                 count: opened,
                 in_ram: 0,
@@ -62,7 +63,7 @@ fn find_in(g: Geometry, s: State, key: u32, main: &[u8], spare: &[u8], ram: &[u8
             let in_ram = p.in_ram;
             if in_ram {
                 return LookupResult {
-                    refusal: 0,
+                    refusal: state::ACCEPTED,
                     found: 1,
                     count: opened,
                     in_ram: 1,
@@ -70,7 +71,7 @@ fn find_in(g: Geometry, s: State, key: u32, main: &[u8], spare: &[u8], ram: &[u8
                 };
             }
             return LookupResult {
-                refusal: 0,
+                refusal: state::ACCEPTED,
                 found: 1,
                 count: opened,
                 in_ram: 0,
@@ -117,7 +118,7 @@ pub fn lookup<'a>(
     if hit == 0 {
         return &main[0..0];
     }
-    let e = at + 16;
+    let e = at + areas::RECORD_SIZE;
     if in_ram == 1 {
         return &ram[at..e];
     }

@@ -7,6 +7,7 @@ use lib.ListN.{length, take, drop, length-append}
 use Rattle.layout.specs.Geometry.{sectorsPerPage, raRam, kaRam, daRam}
 use Rattle.layout.specs.Flash.{Flash, Planned, plannedFrom}
 use Rattle.layout.specs.Index.{flushesPerRound}
+use Rattle.layout.specs.Items.{recordSize, entrySize, deletionSize}
 use Rattle.laws.specs.SetLaws.{blocks-fit}
 use Rattle.plan.specs.declared.Page.{Page}
 use Rattle.plan.specs.declared.Plan.{Plan}
@@ -16,18 +17,24 @@ use Rattle.plan.specs.Spans.{span, among, behind, runOf, span-all, span-
 use Rattle.plan.specs.Segments.{filledPage, flushed, nextSet, wiped}
 use Rattle.plan.specs.Fits.{PageFits, FlushFits, NextFits, WipeFits}
 
--- the new bytes: the deletion's 4, the record's 16, the entry's 8
+-- the new bytes: the deletion's, the record's, the entry's
+abbrev pub recordAt : ℕ
+recordAt = deletionSize
+
+abbrev pub entryAt : ℕ
+entryAt = recordAt + recordSize
+
 abbrev pub newLength : ℕ
-newLength = 28
+newLength = entryAt + entrySize
 
 abbrev pub deletionIn : List ℕ → List ℕ
-deletionIn new = take 4 (drop 0 new)
+deletionIn new = take deletionSize (drop 0 new)
 
 abbrev pub recordIn : List ℕ → List ℕ
-recordIn new = take 16 (drop 4 new)
+recordIn new = take recordSize (drop recordAt new)
 
 abbrev pub entryIn : List ℕ → List ℕ
-entryIn new = take 8 (drop 20 new)
+entryIn new = take entrySize (drop entryAt new)
 
 module _ (p : Plan) where
   -- their pages, and that of the filters

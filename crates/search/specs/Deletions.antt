@@ -6,14 +6,14 @@ use lib.ListN.{length}
 use lib.Dec.{eqb}
 use Rattle.memory.specs.Ranges.{any}
 use Rattle.layout.specs.Geometry as layout
-use Rattle.layout.specs.Items.{itemWord}
+use Rattle.layout.specs.Items.{deletionSize, itemWord}
 use Rattle.geometry.specs.Shape.{area}
 use Rattle.geometry.specs.declared.areas.Area.{Area}
 use Rattle.items.specs.Fits.{AreaFits}
 
 -- the area of the deletions, whose first block is given
 abbrev pub deletionsFrom : ℕ → ℕ → Area
-deletionsFrom u first = record { size = 4; «per_page» = layout.deletionsPerPage u; first = first; ram = layout.daRam u }
+deletionsFrom u first = record { size = deletionSize; «per_page» = layout.deletionsPerPage u; first = first; ram = layout.daRam u }
 
 -- d of them lie within the lent bytes
 abbrev pub DeletionsFit : ℕ → ℕ → ℕ → List ℕ → List ℕ → Type 0

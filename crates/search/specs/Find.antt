@@ -6,9 +6,10 @@ use Prim.Native.Nat.{ℕ, _+_, _*_, _/_, _≤_, _<_}
 use native.Mathlib.Omega.{arith}
 use lib.ListN.{getD}
 use Rattle.memory.specs.Words.{word}
-use Rattle.layout.specs.Keys.{Key, keyAt, numberIn}
+use Rattle.layout.specs.Keys.{wordSize, Key, keyAt, numberIn}
 use Rattle.layout.specs.Geometry as layout
 use Rattle.layout.specs.Flash.{flashOf}
+use Rattle.layout.specs.Items.{entrySize}
 use Rattle.layout.specs.Hash.{Family}
 use Rattle.layout.specs.Search as find
 use Rattle.layout.specs.Calls.{Volume, isDeleted, tryAt, maybeIn, searchAt, search}
@@ -84,8 +85,8 @@ tryOf v main ram key = tryAt (shape (v .g)) (viewed v main ram) (v .n0) (v .d0) 
 -- entry k of those that lie from byte `start` of a page's bytes on
 abbrev pub tryIn : View → List ℕ → List ℕ → Key → List ℕ → ℕ → ℕ → Option find.Stop
 tryIn v main ram key bytes start k =
-    find.tryEntry (v .n0) (isDeleted (shape (v .g)) (viewed v main ram) (v .d0)) key (keyAt bytes (start + k * 8))
-    (numberIn (word bytes (start + k * 8 + 4)))
+    find.tryEntry (v .n0) (isDeleted (shape (v .g)) (viewed v main ram) (v .d0)) key (keyAt bytes (start + k * entrySize))
+    (numberIn (word bytes (start + k * entrySize + wordSize)))
 
 -- the full pages below a number, opened by the bits of some positions
 abbrev pub pagesBelow : View → List ℕ → List ℕ → Key → List ℕ → ℕ → find.Found

@@ -1,12 +1,13 @@
 // The search for a key: the entries past the last full page, newest first, then full pages, newest first, a page
 // being opened only if its filter has all bits of the key's positions. Document 01, "Calls".
 ghost use mathlib.Core.Path.{_≡_};
-ghost use Prim.Native.Nat.{ℕ, _+_, _*_, _/_, _%_, _≤_, _<_};
+ghost use Prim.Native.Nat.{_+_, _*_, _/_, _%_, _≤_, _<_};
 ghost use lib.ListN.{length, take};
 ghost use Rattle.memory.specs.Words.{word};
 ghost use Rattle.memory.specs.Lent.{before};
-ghost use Rattle.layout.specs.Keys.{keyBytes, numberIn};
+ghost use Rattle.layout.specs.Keys.{wordSize, keyBytes, numberIn};
 ghost use Rattle.layout.specs.Geometry.{page, block, entriesPerPage, kaBlock};
+ghost use Rattle.layout.specs.Items.{entrySize};
 ghost use Rattle.layout.specs.Hash.{fnvFamily, positions, positionCount};
 ghost use Rattle.layout.specs.Calls.{searchAt};
 ghost use Rattle.layout.specs.Search.{scan};
@@ -16,6 +17,7 @@ ghost use Rattle.search.specs.Deletions.{DeletionsFit, amongFirst};
 use filter::Filters;
 use geometry::Chip;
 use geometry::Geometry;
+use geometry::areas;
 use geometry::sets;
 
 // What is searched: of the n records and d deletions of a volume the first n0 and the first d0. Where they lie goes
@@ -64,10 +66,10 @@ fn wide(x: u32) -> usize
 
 // The record number of entry k of those from byte `at` on.
 fn number_at(at: usize, k: usize, s: &[u8]) -> u32
-    requires { ⌜ at + k * 8 + 8 ≤ length (now s) ⌝ }
-    ensures { λ r. ⌜ r ≡ numberIn (word (before s) (at + k * 8 + 4)) ⌝ }
+    requires { ⌜ at + k * entrySize + entrySize ≤ length (now s) ⌝ }
+    ensures { λ r. ⌜ r ≡ numberIn (word (before s) (at + k * entrySize + wordSize)) ⌝ }
 {
-    words::get32(s, at + k * 8 + 4)
+    words::get32(s, at + k * areas::ENTRY_SIZE + areas::NUMBER_AT)
 }
 
 // Is record j among the first d0 of d deletions, from block `first` on: first those of full pages, in a row on flash, then those in
@@ -77,7 +79,7 @@ fn deleted(chip: Chip, first: usize, d: usize, d0: usize, j: u32, main: &[u8], r
     ensures { λ r. ⌜ r ≡ amongFirst (chip .unit) first d (before main) (before ram) d0 j ⌝ }
 {
     let start = chip.block_address(first);
-    let per_page = chip.sector_size();
+    let per_page = chip.deletions_per_page();
     let full = d / per_page * per_page;
     if d0 <= full {
         return items::has_word(start, d0, j, main);
@@ -100,7 +102,7 @@ fn in_page(
     main: &[u8],
     ram: &[u8],
 ) -> End
-    requires { ⌜ Ready v (now main) (now ram) × (start + count * 8 ≤ length (now page)) ⌝ }
+    requires { ⌜ Ready v (now main) (now ram) × (start + count * entrySize ≤ length (now page)) ⌝ }
     ensures { λ r. ⌜ stopOf r ≡ scan (tryIn v (before main) (before ram) key (before page) start) 0 count ⌝ }
 {
     let mut e = items::find_entry(start, count, key, page);

@@ -27,7 +27,7 @@ or-false p false b e t = e ∙ t
 -- ---- the numbers that code computes: the first byte on flash, the items of a page, those of full pages
 
 module _ (u first d d₀ j : ℕ) (main ram : List ℕ) (F : DeletionsFit u first d main ram) (start per-page at : ℕ)
-    (start-is : start ≡ first * layout.block u) (per-page-is : per-page ≡ layout.sector u) (at-is : at ≡ 2 * layout.page u) where
+    (start-is : start ≡ first * layout.block u) (per-page-is : per-page ≡ layout.deletionsPerPage u) (at-is : at ≡ 2 * layout.page u) where
   flash-in : (n : ℕ) → n ≤ d / per-page * per-page → start + n * 4 ≤ length main
   flash-in n h = rw start-is (flash-run-in u (deletionsFrom u first) d n (length main) (length ram) F refl (rw per-page-is at h))
 
@@ -49,14 +49,14 @@ block-address-requires c κs =
     let F = c .before .before .pre .0 in
     (F .unit .1 .most, omega (arith, mul-le-mul (F .sound .first-most) (F .unit .1 .most)))
 
-sector-size-requires : tie.Need-sector-size-requires
-sector-size-requires c κs = c .before .before .before .pre .0 .unit .1 .most
+deletions-per-page-requires : tie.Need-deletions-per-page-requires
+deletions-per-page-requires c κs = c .before .before .before .pre .0 .unit .1 .most
 
 div-full : tie.Need-div-full
-div-full c = omega (arith, c .sector-size .ensures, c .before .before .before .before .pre .0 .unit .1 .some)
+div-full c = omega (arith, c .deletions-per-page .ensures, c .before .before .before .before .pre .0 .unit .1 .some)
 
 mul-full : tie.Need-mul-full
-mul-full c = omega (arith, div-mul-le-self (c .before .before .before .before .args .d) (c .sector-size .result))
+mul-full c = omega (arith, div-mul-le-self (c .before .before .before .before .args .d) (c .deletions-per-page .result))
 
 has-word-requires : tie.Need-has-word-requires
 has-word-requires c κs =
@@ -64,8 +64,8 @@ has-word-requires c κs =
     let B = S .before in
     let b = B .before .before .before in
     let x = b .args in
-    flash-in (x .chip .unit) (x .first) (x .d) (x .d0) (x .j) (x .main .now) (x .ram .now) (b .pre .0) (B .block-address .result) (S .sector-size .result)
-    (2 * layout.page (x .chip .unit)) (B .block-address .ensures) (S .sector-size .ensures) refl (x .d0) (c .if1 .taken)
+    flash-in (x .chip .unit) (x .first) (x .d) (x .d0) (x .j) (x .main .now) (x .ram .now) (b .pre .0) (B .block-address .result) (S .deletions-per-page .result)
+    (2 * layout.page (x .chip .unit)) (B .block-address .ensures) (S .deletions-per-page .ensures) refl (x .d0) (c .if1 .taken)
 
 returns : tie.Need-returns
 returns c =
@@ -74,8 +74,8 @@ returns c =
     let b = B .before .before .before in
     let x = b .args in
     c .has-word .ensures
-    ∙ sym (on-flash (x .chip .unit) (x .first) (x .d) (x .d0) (x .j) (x .main .now) (x .ram .now) (b .pre .0) (B .block-address .result) (S .sector-size .result)
-    (2 * layout.page (x .chip .unit)) (B .block-address .ensures) (S .sector-size .ensures) refl (c .before .if1 .taken))
+    ∙ sym (on-flash (x .chip .unit) (x .first) (x .d) (x .d0) (x .j) (x .main .now) (x .ram .now) (b .pre .0) (B .block-address .result) (S .deletions-per-page .result)
+    (2 * layout.page (x .chip .unit)) (B .block-address .ensures) (S .deletions-per-page .ensures) refl (c .before .if1 .taken))
 
 has-word-requires-2 : tie.Need-has-word-requires-2
 has-word-requires-2 c κs =
@@ -83,28 +83,28 @@ has-word-requires-2 c κs =
     let B = S .before in
     let b = B .before .before .before in
     let x = b .args in
-    flash-in (x .chip .unit) (x .first) (x .d) (x .d0) (x .j) (x .main .now) (x .ram .now) (b .pre .0) (B .block-address .result) (S .sector-size .result)
-    (2 * layout.page (x .chip .unit)) (B .block-address .ensures) (S .sector-size .ensures) refl _ (omega arith)
+    flash-in (x .chip .unit) (x .first) (x .d) (x .d0) (x .j) (x .main .now) (x .ram .now) (b .pre .0) (B .block-address .result) (S .deletions-per-page .result)
+    (2 * layout.page (x .chip .unit)) (B .block-address .ensures) (S .deletions-per-page .ensures) refl _ (omega arith)
 
 -- both runs, the one on flash being tested first
 both-runs : (c : tie.After-has-word2) (at : ℕ) → let S = c .before .before in let B = S .before in let b = B .before .before .before in let x = b .args in
     at ≡ 2 * layout.page (x .chip .unit)
     → amongFirst (x .chip .unit) (x .first) (x .d) (x .main .now) (x .ram .now) (x .d0) (x .j)
-    ≡ (hasWord (x .ram .now) at (x .d0 - x .d / S .sector-size .result * S .sector-size .result) (x .j) || c .has-word2 .result)
+    ≡ (hasWord (x .ram .now) at (x .d0 - x .d / S .deletions-per-page .result * S .deletions-per-page .result) (x .j) || c .has-word2 .result)
 both-runs c at is =
     let S = c .before .before in
     let B = S .before in
     let b = B .before .before .before in
     let x = b .args in
-    both (x .chip .unit) (x .first) (x .d) (x .d0) (x .j) (x .main .now) (x .ram .now) (b .pre .0) (B .block-address .result) (S .sector-size .result)
-    at (B .block-address .ensures) (S .sector-size .ensures) is (omega (arith, c .before .if1 .left)) (b .pre .1)
-    ∙ ap (λ (t : Bool). hasWord (x .ram .now) at (x .d0 - x .d / S .sector-size .result * S .sector-size .result) (x .j) || t) (sym (c .has-word2 .ensures))
+    both (x .chip .unit) (x .first) (x .d) (x .d0) (x .j) (x .main .now) (x .ram .now) (b .pre .0) (B .block-address .result) (S .deletions-per-page .result)
+    at (B .block-address .ensures) (S .deletions-per-page .ensures) is (omega (arith, c .before .if1 .left)) (b .pre .1)
+    ∙ ap (λ (t : Bool). hasWord (x .ram .now) at (x .d0 - x .d / S .deletions-per-page .result * S .deletions-per-page .result) (x .j) || t) (sym (c .has-word2 .ensures))
 
 returns-2 : tie.Need-returns-2
 returns-2 c =
     let S = c .before .before .before in
     let x = S .before .before .before .before .args in
-    sym (or-true _ (hasWord (x .ram .now) (2 * layout.page (x .chip .unit)) (x .d0 - x .d / S .sector-size .result * S .sector-size .result) (x .j))
+    sym (or-true _ (hasWord (x .ram .now) (2 * layout.page (x .chip .unit)) (x .d0 - x .d / S .deletions-per-page .result * S .deletions-per-page .result) (x .j))
     (c .before .has-word2 .result) (both-runs (c .before) (2 * layout.page (x .chip .unit)) refl) (c .if2 .taken))
 
 page-address-requires : tie.Need-page-address-requires
@@ -121,8 +121,8 @@ has-word-requires-3 c κs =
     let B = S .before in
     let b = B .before .before .before in
     let x = b .args in
-    ram-in (x .chip .unit) (x .first) (x .d) (x .d0) (x .j) (x .main .now) (x .ram .now) (b .pre .0) (B .block-address .result) (S .sector-size .result)
-    (c .page-address .result) (B .block-address .ensures) (S .sector-size .ensures) (c .page-address .ensures) (b .pre .1)
+    ram-in (x .chip .unit) (x .first) (x .d) (x .d0) (x .j) (x .main .now) (x .ram .now) (b .pre .0) (B .block-address .result) (S .deletions-per-page .result)
+    (c .page-address .result) (B .block-address .ensures) (S .deletions-per-page .ensures) (c .page-address .ensures) (b .pre .1)
 
 returns-3 : tie.Need-returns-3
 returns-3 c =
@@ -135,7 +135,7 @@ deleted-spec =
     tie.close
     (tie.spec
     block-address-requires
-    sector-size-requires
+    deletions-per-page-requires
     div-full
     mul-full
     has-word-requires

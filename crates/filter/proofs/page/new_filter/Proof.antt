@@ -18,11 +18,11 @@ Inv-loop chip at key ram last bits₀ i₀ bits i =
 abbrev μ-loop : tie.MeasureT-loop
 μ-loop chip at key ram last bits₀ i₀ bits i = last - i
 
-page-size-requires : tie.Need-page-size-requires Inv-loop μ-loop
-page-size-requires c κs = search needs
+entries-per-page-requires : tie.Need-entries-per-page-requires Inv-loop μ-loop
+entries-per-page-requires c κs = search needs
 
 sub-last : tie.Need-sub-last Inv-loop μ-loop
-sub-last c = omega (arith, c .page-size .ensures)
+sub-last c = omega (arith, c .entries-per-page .ensures)
 
 no-bits-requires : tie.Need-no-bits-requires Inv-loop μ-loop
 no-bits-requires c κs = search needs
@@ -36,13 +36,13 @@ loop-holds c = (
 )
 
 mul-get32 : tie.Need-mul-get32 Inv-loop μ-loop
-mul-get32 c = omega (arith, c .before .before .before .page-size .ensures)
+mul-get32 c = omega (arith, c .before .before .before .entries-per-page .ensures)
 
 add-get32 : tie.Need-add-get32 Inv-loop μ-loop
-add-get32 c = omega (arith, c .before .before .before .page-size .ensures)
+add-get32 c = omega (arith, c .before .before .before .entries-per-page .ensures)
 
 get32-requires : tie.Need-get32-requires Inv-loop μ-loop
-get32-requires c κs = omega (arith, c .before .before .before .page-size .ensures)
+get32-requires c κs = omega (arith, c .before .before .before .entries-per-page .ensures)
 
 positions-requires : tie.Need-positions-requires Inv-loop μ-loop
 positions-requires c κs = search needs
@@ -92,7 +92,7 @@ returns c =
     let x = c .before .before .before .before .before .before .before .before .before .args in
     let l = c .before .before .before .before .before .loop in
     let s = c .before .set-positions2 in
-    let e : l .i ≡ 8 * x .chip .unit - 1 = omega (arith, c .before .before .before .before .before .before .before .page-size .ensures) in
+    let e : l .i ≡ 8 * x .chip .unit - 1 = omega (arith, c .before .before .before .before .before .before .before .entries-per-page .ensures) in
     λ y h. s .ensures y h ∙ rw (l .inv .2 y h, c .before .before .before .positions2 .ensures .0, e)
 
 pub new-filter-spec : {M : Type 1} → statement M
@@ -101,7 +101,7 @@ new-filter-spec =
     (tie.spec
     Inv-loop
     μ-loop
-    page-size-requires
+    entries-per-page-requires
     sub-last
     no-bits-requires
     loop-holds
