@@ -107,9 +107,6 @@ module _ (main : List ℕ) (r : PageSource) (y n a b from : ℕ) (F : SourceFits
     l1-is : y + (a + i) - r .split ≡ from + i
     l1-is = rw (cut, C .from-is) (shift y (r .split) i)
 
-    pub l1-run : Reaches (length main) (r .l1) (r .w) (from + i)
-    l1-run = rw l1-is at (F .l1-reaches (y + (a + i)) (omega (arith, cut)) (omega arith))
-
     l1-room : from + i < 16 * r .w
     l1-room =
         let d : y + (a + i) < r .end = omega arith in

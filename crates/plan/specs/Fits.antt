@@ -74,14 +74,7 @@ module _ (u : ℕ) (p : Page) (main spare ram : ℕ) (F : FlushFits u p main spa
   pub flush-in-bits : (piece : ℕ) → piece ≡ fourthSize u → j * piece + piece ≤ 256
   flush-in-bits piece q = rw q (omega (arith, mul-le-mul-right (fourthSize u) h, F .small))
 
--- sector j of the next set
-pub set-on-flash : (u : ℕ) (set : Set) (s n main spare : ℕ) → NextFits u set s n main spare → (j : ℕ) → j < n
-    → (s + j) * sector u + sector u ≤ main
-set-on-flash u set s n main spare F j h =
-    let l : s + j + 1 ≤ s + n = omega arith in
-    omega (arith, mul-le-mul-right (sector u) l, F .in-main)
-
--- fewer of its sectors
+-- fewer sectors of the next set
 pub fewer : (u : ℕ) (set : Set) (s n main spare : ℕ) → NextFits u set s n main spare → (k : ℕ) → k ≤ n → NextFits u set s k main spare
 fewer u set s n main spare F k h =
     let l : s + k ≤ s + n = omega arith in

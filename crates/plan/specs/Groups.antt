@@ -11,7 +11,7 @@ use lib.Dec.{ltb}
 use Rattle.memory.specs.Cases.{either}
 use Rattle.memory.specs.Lists.{tab, is-tab, tab-ext, length-tab, write, getD-write-before, getD-write-after}
 use Rattle.memory.specs.Numbers.{euclid, div-of, mod-of}
-use Rattle.layout.specs.Geometry.{sectorsPerPage, sector, page, block}
+use Rattle.layout.specs.Geometry.{sectorsPerPage, sector, block}
 use Rattle.layout.specs.Flash.{Flash, Planned, flashOf, program, apply, plannedFrom}
 use Rattle.layout.specs.Index.{Index, setPages, setWidth, setByte}
 use Rattle.laws.specs.Apart.{next-after, set-byte-same}
@@ -247,7 +247,9 @@ module _ (u : ℕ) (set : Set) (s n main spare : ℕ) (F : NextFits u set s n ma
   page-is p e h m sp ys rest k size l z t q =
       let d : k ≡ (p .to - p .from) * sector u = sym (length-tab k _) ∙ (sym (ap length t) ∙ (l ∙ z)) in
       q
-      ∙ (ap (λ (v : List ℕ). programmedRow u (s + p .from) (p .to - p .from) v (flashOf m sp)) (made-are ys rest size l ∙ (t ∙ ap (λ (i : ℕ). tab i (setBytes u (indexOf (set .index)) m (set .«full_sets») (set .rounds) (p .from))) d))
+      ∙ (ap (λ (v : List ℕ). programmedRow u (s + p .from) (p .to - p .from) v (flashOf m sp))
+      (made-are ys rest size l
+      ∙ (t ∙ ap (λ (i : ℕ). tab i (setBytes u (indexOf (set .index)) m (set .«full_sets») (set .rounds) (p .from))) d))
       ∙ sym (row-done u set s n main spare F (flashOf m sp) (p .from) (p .to - p .from) (omega arith)))
 
 -- ---- a turn of a loop over such spans

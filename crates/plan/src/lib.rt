@@ -244,7 +244,8 @@ fn page_part(
 )
     requires { ⌜ NextFits (chip .unit) set s (part .to) (length (now main)) (length (now spare)) × (part .from < part .to) ⌝ }
     requires { ⌜ OfPage (chip .unit) part ⌝ }
-    requires { ⌜ Shares (now main) (pageSource (chip .unit) (indexOf (set .index)) (set .rounds) (part .from / sectorsPerPage)) (now shared) ⌝ }
+    requires { ⌜ Shares (now main) (pageSource (chip .unit) (indexOf (set .index)) (set .rounds) (part .from / sectorsPerPage))
+        (now shared) ⌝ }
     ensures { λ _. ⌜ flashAfter main spare ≡ runOf (chip .unit) (nextSet (chip .unit) set s) part (flashBefore main spare) ⌝ }
 {
     let mut buf = [0u8; BUFFER_SIZE];
@@ -260,7 +261,7 @@ fn group_run(chip: Chip, set: Set, s: usize, part: Span, main: &mut [u8], spare:
     requires { ⌜ Beside (together (setWidth (chip .unit) (set .rounds + 1))) part ⌝ }
     ensures { λ _. ⌜ flashAfter main spare ≡ runOf (chip .unit) (nextSet (chip .unit) set s) part (flashBefore main spare) ⌝ }
 {
-    let mut shared = [0u8; 128];
+    let mut shared = [0u8; sets::FILTERS_PER_ROUND];
     let n = at_once(chip);
     partition::shared_bytes(
         chip,
