@@ -67,6 +67,7 @@ pub enum Decision {
     Change(Geometry, Edit),
 }
 
+// The key that a call names.
 fn key_of(q: Request) -> u32
     ensures { λ r. ⌜ r ≡ keyOf q ⌝ }
 {
@@ -99,6 +100,7 @@ fn of_live(g: Geometry, old: u32, q: Request) -> Decision
     }
 }
 
+// What a call does by what its key resolved to.
 fn decide(q: Request, r: Resolved) -> Decision
     ensures { λ d. ⌜ d ≡ decisionOf q r ⌝ }
 {

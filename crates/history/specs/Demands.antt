@@ -1,5 +1,5 @@
 -- Demands 2 and 3 of document 01, for every hash family and every list of calls after an accepted format.
--- Their words (runs, discipline, agreement, history, image) are defined in Runs and Image; the calls and the map in `layout`.
+-- Their words (runs, program order, agreement, history, image) are defined in Runs and Image; the calls and the map in `layout`.
 use mathlib.Core.Path.{_≡_}
 use mathlib.Core.Bool.{Bool, true, false}
 use mathlib.Core.List.{List, _++_}

@@ -43,7 +43,7 @@ module _ (h : Family) where
   opsOf v [] = []
   opsOf v (c ∷ cs) = call h v c .ops ++ opsOf (call h v c .volume) cs
 
--- ---- the chip's discipline, by the operations alone
+-- ---- the chip's program order, by the operations alone
 
 -- which sectors were programmed since the last erase of their block, after an operation
 abbrev pub programmed : Op → (ℕ → Bool) → ℕ → Bool

@@ -65,6 +65,7 @@ fn keep_filter(chip: Chip, ix: Index, filters: usize, bits: &[u8], ram: &mut [u8
 
 // ---- the items of a change, out of its new bytes
 
+// Deletion d.
 fn keep_deletion(g: Geometry, d: usize, new: &[u8], ram: &mut [u8])
     requires { ⌜ Sound g × (length (now new) ≡ newLength) × (ramSize (shape g) ≤ length (now ram)) ⌝ }
     ensures { λ _. ⌜ after ram ≡ deletionKept (shape g) d (before new) (before ram) ⌝ }
@@ -136,6 +137,7 @@ fn append_item(a: Area, n: usize, item: &[u8], ram: &mut [u8])
     copy_words(&mut ram[at..end], item);
 }
 
+// Deletion d.
 fn append_deletion(g: Geometry, d: usize, new: &[u8], ram: &mut [u8])
     requires { ⌜ Sound g × (length (now new) ≡ newLength) × (ramSize (shape g) ≤ length (now ram)) ⌝ }
     ensures { λ _. ⌜ after ram ≡ deletionAppended (shape g) d (before new) (before ram) ⌝ }

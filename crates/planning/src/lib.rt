@@ -173,6 +173,7 @@ pub enum Slots {
     Update(usize, usize),
 }
 
+// The plan of a change by the places that it takes.
 pub fn of(g: Geometry, e: Slots) -> Plan
     requires { ⌜ Sound g × Room (shape g) e ⌝ }
     ensures { λ r. ⌜ r ≡ numbersOf (shape g) e ⌝ }
@@ -184,6 +185,7 @@ pub fn of(g: Geometry, e: Slots) -> Plan
     }
 }
 
+// Does deletion d fill its page.
 fn deletion_fills(g: Geometry, d: usize) -> bool
     requires { ⌜ Sound g ⌝ }
     ensures { λ r. ⌜ r ≡ layout.fills (DA (shape g)) d ⌝ }
@@ -191,6 +193,7 @@ fn deletion_fills(g: Geometry, d: usize) -> bool
     geometry::deletion_area(g).fills(d)
 }
 
+// Does record n fill its page.
 fn record_fills(g: Geometry, n: usize) -> bool
     requires { ⌜ Sound g ⌝ }
     ensures { λ r. ⌜ r ≡ layout.fills (RA (shape g)) n ⌝ }

@@ -58,7 +58,7 @@ pub record CodeRun (v : Volume) (sizes : Sizes) (first : Effect) (cs : List Call
   -- the chip operations of the list, done in order on the chip handed to the format, give the flash that the last call leaves
   pub flash-is : applyAll (unitOf sizes) (format v sizes .ops ++ opsOf fnvFamily (first .left) cs) (v .flash)
       ≡ lastVolume (first .left) ls .flash
-  -- and keep the chip's discipline
+  -- and keep the chip's program order
   pub in-order : (P : ℕ → Bool) → ProgramOrder (format v sizes .ops ++ opsOf fnvFamily (first .left) cs) P
   pub image : ImageOf fnvFamily (geometry sizes) (historyOf fnvFamily (first .left) emptyHistory cs) v (lastVolume (first .left) ls)
 
