@@ -72,7 +72,17 @@ place w l y b k (inl e) m f h g =
     let m1 : l ≡ k * 1 = rw e at m in
     let f1 : l + 1 ≤ 8 = rw e at f in
     let h1 : y < 16 * 1 = rw e at h in
-    rw e (record { byte = omega arith; low = omega arith; inside = omega arith; eighth = omega arith; within = omega arith; rows = omega arith; bits = omega arith; small = omega arith })
+    rw e
+    (record {
+      byte = omega arith;
+      low = omega arith;
+      inside = omega arith;
+      eighth = omega arith;
+      within = omega arith;
+      rows = omega arith;
+      bits = omega arith;
+      small = omega arith;
+    })
 place w l y b k (inr (inl e)) m f h g =
     let m1 : l ≡ k * 2 = rw e at m in
     let f1 : l + 2 ≤ 8 = rw e at f in

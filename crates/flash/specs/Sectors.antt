@@ -26,7 +26,8 @@ set-write (x ∷ l) (suc i) v = ap (λ (t : List ℕ). x ∷ t) (set-write l i v
 -- a table in two parts
 tab-add : (n m : ℕ) (f : ℕ → ℕ) → tab n f ++ tab m (λ i. f (n + i)) ≡ tab (n + m) f
 tab-add n m f =
-    is-tab (tab n f ++ tab m (λ i. f (n + i))) (n + m) f (length-append (tab n f) (tab m (λ i. f (n + i))) ∙ rw (length-tab n f, length-tab m (λ i. f (n + i))) refl)
+    is-tab (tab n f ++ tab m (λ i. f (n + i))) (n + m) f
+    (length-append (tab n f) (tab m (λ i. f (n + i))) ∙ rw (length-tab n f, length-tab m (λ i. f (n + i))) refl)
     (λ i h. either (lt? i n)
     (λ a. List·getD-append (tab n f) (tab m (λ i. f (n + i))) 0 i (rw (length-tab n f) (a .1)) ∙ getD-tab n f i 0 (a .1))
     (λ a.

@@ -43,7 +43,8 @@ pub item-kept : (g : layout.Geometry) (a : Area) (b : items.Area) (n : ℕ) (ite
     → items.itemRam (g .u) (area a) n item ram ≡ items.itemRam (g .u) b n item ram
 item-kept g a b n item ram d = ap (λ (x : items.Area). items.itemRam (g .u) x n item ram) d
 
-pub item-appended : (a : Area) (b : items.Area) (n : ℕ) (item ram : List ℕ) → area a ≡ b → items.put (area a) n item ram ≡ items.put b n item ram
+pub item-appended : (a : Area) (b : items.Area) (n : ℕ) (item ram : List ℕ) → area a ≡ b
+    → items.put (area a) n item ram ≡ items.put b n item ram
 item-appended a b n item ram d = ap (λ (x : items.Area). items.put x n item ram) d
 
 pub filter-fits : (g : Geometry) → Sound g → (ix : Index) → ix ≡ indexFor (shape g)

@@ -56,7 +56,8 @@ column-at u w p base gap pos N = go N
         )
       where
         eighth : (q r k v : ℕ) → 0 < v → k * v ≡ 8 → r < k → (q * k + r) * v / 8 ≡ q
-        eighth q r k v pv e h = div-of ((q * k + r) * v) 8 q (r * v) (omega (arith, ap (λ (n : ℕ). q * n) e)) (omega (arith, e, mul-le-mul-right v h))
+        eighth q r k v pv e h =
+            div-of ((q * k + r) * v) 8 q (r * v) (omega (arith, ap (λ (n : ℕ). q * n) e)) (omega (arith, e, mul-le-mul-right v h))
 
     go : Narrow w → base + p / (16 * u / w) * gap + p % (16 * u / w) * w / 8 ≡ base + p / (8 / w) / (2 * u) * gap + p / (8 / w) % (2 * u)
     go (inl e) = let d : 16 * u / 1 ≡ 8 * (2 * u) = omega arith in let P = part 8 1 (omega arith) (omega arith) refl in rw (e, d, P .0, P .1)
