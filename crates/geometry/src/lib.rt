@@ -147,9 +147,9 @@ impl Geometry {
         16 * da * size
     }
 
-    pub fn data_size(self) -> usize
+    pub fn main_size(self) -> usize
         requires { ⌜ Sound self ⌝ }
-        ensures { λ r. ⌜ r ≡ layout.dataSize (shape self) ⌝ }
+        ensures { λ r. ⌜ r ≡ layout.mainSize (shape self) ⌝ }
     {
         self.chip.block_address(self.blocks())
     }

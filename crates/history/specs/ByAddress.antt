@@ -11,7 +11,7 @@ use borrow.Author.Tests.{eq-eqb, ne-eqb}
 use Rattle.memory.specs.Cases.{either, lt?, eq?}
 use Rattle.memory.specs.Numbers.{euclid, div-lt}
 use Rattle.layout.specs.Geometry.{Geometry, sectorsPerBlock, page, block, sideBlocks, kaBlocks, kaBlock, daBlock, indexBlock, fullSets}
-use Rattle.layout.specs.Geometry.{blocks, dataSize, spareSize, ramSize, kaRam, daRam, skaRam, workRam}
+use Rattle.layout.specs.Geometry.{blocks, mainSize, spareSize, ramSize, kaRam, daRam, skaRam, workRam}
 use Rattle.layout.specs.Flash.{Flash}
 use Rattle.layout.specs.Hash.{Family}
 use Rattle.layout.specs.Items.{RA, KA, DA}
@@ -138,7 +138,7 @@ module _ (h : Family) (g : Geometry) (e : ℕ) (unit : UnitIs (g .u) e) (H : His
       (λ k x. cond (ltb k (inFull (g .u) N)) 0 255)
       (P .filters .on-spare .l1) (P .filters .on-spare .here) (P .filters .on-spare .there) (P .filters .on-spare .full)
 
-  pub main-by-address : (a : ℕ) → a < dataSize g → getD (C .main) a 0 ≡ mainImage h g H a
+  pub main-by-address : (a : ℕ) → a < mainSize g → getD (C .main) a 0 ≡ mainImage h g H a
   unfolding mainImage
   main-by-address =
       in-volume g (block (g .u)) (C .main) (areaByte (RA g) (raItem H) (recordsIn H)) (areaByte (KA g) (kaItem H) (recordsIn H))

@@ -7,7 +7,7 @@ use Prim.Native.Nat.{ℕ, _+_, _*_, _≤_, _<_}
 use native.Mathlib.Nat.{mul-le-mul-right}
 use native.Mathlib.Omega.{arith}
 use lib.ListN.{length, getD}
-use Rattle.layout.specs.Geometry.{Geometry, page, block, blocks, dataSize, spareSize, ramSize}
+use Rattle.layout.specs.Geometry.{Geometry, page, block, blocks, mainSize, spareSize, ramSize}
 use Rattle.layout.specs.Flash.{Flash, Op, applyAll, allFresh}
 use Rattle.layout.specs.Items.{Area, itemRam}
 use Rattle.layout.specs.Index.{Index, inSka, fullBlock, withFilter, filterRam}
@@ -17,7 +17,7 @@ use Rattle.history.specs.Image.{AreaIs, IndexIs}
 
 -- what lies past the volume, and the lengths, are kept
 pub record Beyond (g : Geometry) (C C′ : Flash) (r r′ : List ℕ) : Type 0 where
-  pub main : (x : ℕ) → dataSize g ≤ x → getD (C′ .main) x 0 ≡ getD (C .main) x 0
+  pub main : (x : ℕ) → mainSize g ≤ x → getD (C′ .main) x 0 ≡ getD (C .main) x 0
   pub spare : (x : ℕ) → spareSize g ≤ x → getD (C′ .spare) x 0 ≡ getD (C .spare) x 0
   pub ram : (x : ℕ) → ramSize g ≤ x → getD r′ x 0 ≡ getD r x 0
   pub main-length : length (C′ .main) ≡ length (C .main)

@@ -150,7 +150,7 @@ module _ (h : Family) (g : Geometry) (H : History) where
   abbrev F : ℕ → ℕ → Bool
   F = keyFilter h g H
 
-  -- byte a of the main area, below `dataSize g`
+  -- byte a of the main area, below `mainSize g`
   unfoldable pub mainImage : ℕ → ℕ
   mainImage a =
       cond (ltb a (kaBlock g * block (g .u))) (areaByte (RA g) (raItem H) (recordsIn H) a)

@@ -11,7 +11,7 @@ use lib.ListN.{length, getD, replicate, length-replicate, getD-replicate, length
 use lib.Dec.{leb}
 use Rattle.memory.specs.Cases.{either, bool?}
 use Rattle.memory.specs.Lists.{write, length-write, getD-write-in, getD-write-after}
-use Rattle.layout.specs.Geometry.{Geometry, geometry, allowed, kaBlocks, blocks, fullSets, recordCapacity, deletionCapacity, dataSize}
+use Rattle.layout.specs.Geometry.{Geometry, geometry, allowed, kaBlocks, blocks, fullSets, recordCapacity, deletionCapacity, mainSize}
 use Rattle.layout.specs.Geometry.{spareSize, ramSize, Sizes, unitOf}
 use Rattle.layout.specs.Flash.{Flash, Op, applyAll, erases}
 use Rattle.layout.specs.Hash.{Family}
@@ -125,7 +125,7 @@ module _ (h : Family) (sizes : Sizes) (ok : SizesSound sizes) (can : allowed siz
     abbrev ram : List ℕ
     ram = write (v .ram) 0 (replicate (ramSize g) 0)
 
-    main-erased : (x : ℕ) → x < dataSize g → getD (C .main) x 0 ≡ 255
+    main-erased : (x : ℕ) → x < mainSize g → getD (C .main) x 0 ≡ 255
     main-erased x l =
         erases-main-in (unitOf sizes) 0 (blocks g) (v .flash) x (omega (arith, long .read .main-fits)) (omega arith) (omega arith)
 

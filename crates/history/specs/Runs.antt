@@ -7,7 +7,7 @@ use mathlib.Core.List.{List, [], _∷_, _++_}
 use Prim.Native.Nat.{ℕ, _+_, _/_, _≤_, _<_}
 use lib.ListN.{length, getD}
 use lib.Dec.{eqb}
-use Rattle.layout.specs.Geometry.{Geometry, geometry, dataSize, spareSize, ramSize, entriesPerPage, Sizes, unitOf, stateOf}
+use Rattle.layout.specs.Geometry.{Geometry, geometry, mainSize, spareSize, ramSize, entriesPerPage, Sizes, unitOf, stateOf}
 use Rattle.layout.specs.Geometry.{sectorsPerPage, sectorsPerBlock}
 use Rattle.layout.specs.Flash.{Op, program, erase}
 use Rattle.layout.specs.Hash.{Family}
@@ -137,10 +137,10 @@ liveReply H (some j) = hits (recordBytes (recordAt H j))
 
 -- the volume v has the bytes of the history's image, and past them those that were handed in
 pub record ImageOf (h : Family) (g : Geometry) (H : History) (handed v : Volume) : Type 0 where
-  pub main : (a : ℕ) → a < dataSize g → getD (v .flash .main) a 0 ≡ mainImage h g H a
+  pub main : (a : ℕ) → a < mainSize g → getD (v .flash .main) a 0 ≡ mainImage h g H a
   pub spare : (x : ℕ) → x < spareSize g → getD (v .flash .spare) x 0 ≡ spareImage g H x
   pub ram : (a : ℕ) → a < ramSize g → getD (v .ram) a 0 ≡ ramImage h g H a
-  pub main-past : (a : ℕ) → dataSize g ≤ a → getD (v .flash .main) a 0 ≡ getD (handed .flash .main) a 0
+  pub main-past : (a : ℕ) → mainSize g ≤ a → getD (v .flash .main) a 0 ≡ getD (handed .flash .main) a 0
   pub spare-past : (x : ℕ) → spareSize g ≤ x → getD (v .flash .spare) x 0 ≡ getD (handed .flash .spare) x 0
   pub ram-past : (a : ℕ) → ramSize g ≤ a → getD (v .ram) a 0 ≡ getD (handed .ram) a 0
   pub main-length : length (v .flash .main) ≡ length (handed .flash .main)

@@ -7,13 +7,13 @@ use lib.ListN.{length}
 use lib.Dec.{ltb}
 use borrow.Author.Tests.{le-ltb, ltb-false}
 use Rattle.memory.specs.Booleans.{or-eq-false-iff}
-use Rattle.layout.specs.Geometry.{Geometry, dataSize, spareSize, ramSize}
+use Rattle.layout.specs.Geometry.{Geometry, mainSize, spareSize, ramSize}
 use Rattle.layout.specs.Flash.{Flash}
 use Rattle.layout.specs.Calls.{tooShort}
 
 -- main area and RAM, all that a search reads
 pub record Readable (g : Geometry) (main ram : List ℕ) : Type 0 where
-  pub main-fits : dataSize g ≤ length main
+  pub main-fits : mainSize g ≤ length main
   pub ram-fits : ramSize g ≤ length ram
 
 -- and the spare area
@@ -25,7 +25,7 @@ module _ (g : Geometry) (flash : Flash) (ram : List ℕ) where
   pub long-of : tooShort g flash ram ≡ false → Long g (flash .main) (flash .spare) ram
   unfolding tooShort
   long-of q =
-      let a = or-eq-false-iff (ltb (length (flash .main)) (dataSize g)) _ .0 q in
+      let a = or-eq-false-iff (ltb (length (flash .main)) (mainSize g)) _ .0 q in
       let b = or-eq-false-iff (ltb (length (flash .spare)) (spareSize g)) _ .0 (a .1) in
       record {
         read = record { main-fits = ltb-false _ _ (a .0); ram-fits = ltb-false _ _ (b .1) };

@@ -8,7 +8,7 @@ use lib.Dec.{ltb, leb, eqb}
 use Rattle.memory.specs.Lists.{write}
 use Rattle.memory.specs.Ranges.{any, memb, allOf}
 use Rattle.layout.specs.Keys.{Key, keyBytes, keyIn, numberIn, keyAt}
-use Rattle.layout.specs.Geometry.{State, Geometry, geometry, Sizes, stateOf, allowed, recordCapacity, deletionCapacity, dataSize}
+use Rattle.layout.specs.Geometry.{State, Geometry, geometry, Sizes, stateOf, allowed, recordCapacity, deletionCapacity, mainSize}
 use Rattle.layout.specs.Geometry.{spareSize, ramSize, blocks, indexBlock, entriesPerPage, kaRam, skaRam, workRam}
 use Rattle.layout.specs.Flash.{Flash, Op, applyAll, erases, Planned, planOps, allFresh}
 use Rattle.layout.specs.Hash.{Family, positions, positionCount}
@@ -63,7 +63,7 @@ badState s =
 
 -- "cells under 64SB, marks under 64B or desk under 20S bytes"
 unfoldable pub tooShort : Geometry → Flash → List ℕ → Bool
-tooShort g c ram = ltb (length (c .main)) (dataSize g) || (ltb (length (c .spare)) (spareSize g) || ltb (length ram) (ramSize g))
+tooShort g c ram = ltb (length (c .main)) (mainSize g) || (ltb (length (c .spare)) (spareSize g) || ltb (length ram) (ramSize g))
 
 -- 1, then 2, then the call's own
 unfoldable pub judgeFirst : Volume → Result → Result

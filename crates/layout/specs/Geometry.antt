@@ -126,8 +126,8 @@ module _ (g : Geometry) where
   deletionCapacity = 16 * g .D * sector (g .u)
 
   -- bytes of data ("cells"), of spare ("marks", one a sector), of RAM ("desk")
-  abbrev pub dataSize : ℕ
-  dataSize = blocks * block (g .u)
+  abbrev pub mainSize : ℕ
+  mainSize = blocks * block (g .u)
 
   abbrev pub spareSize : ℕ
   spareSize = blocks * sectorsPerBlock

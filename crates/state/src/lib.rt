@@ -96,7 +96,7 @@ fn too_short(g: Geometry, main: &[u8], spare: &[u8], ram: &[u8]) -> bool
     requires { ⌜ Sound g ⌝ }
     ensures { λ r. ⌜ r ≡ tooShort (shape g) (flashBefore main spare) (before ram) ⌝ }
 {
-    if main.len() < g.data_size() {
+    if main.len() < g.main_size() {
         return true;
     }
     if spare.len() < g.spare_size() {

@@ -3,22 +3,22 @@ use borrow.Author.Tests.{lt-ltb, le-ltb}
 use native.Mathlib.Omega.{arith}
 use Prim.Native.Nat.{_<_, _≤_}
 use lib.ListN.{length}
-use Rattle.layout.specs.Geometry.{dataSize, spareSize}
+use Rattle.layout.specs.Geometry.{mainSize, spareSize}
 use Rattle.layout.specs.Calls.{tooShort}
 use Rattle.geometry.specs.Shape.{shape}
 use Rattle.state.proofs.too_short.Statement.{statement}
 use Rattle.state.proofs.too_short.Tie as tie
 
 -- src/lib.rt:57:21
-data-size-requires : tie.Need-data-size-requires
-data-size-requires c κs = search needs
+main-size-requires : tie.Need-main-size-requires
+main-size-requires c κs = search needs
 
 -- src/lib.rt:58:9
 returns : tie.Need-returns
 unfolding tooShort
 returns c =
     let x = c .before .before .before .before .before .args in
-    let a : length (x .main .now) < dataSize (shape (x .g)) = omega arith in
+    let a : length (x .main .now) < mainSize (shape (x .g)) = omega arith in
     rw (lt-ltb _ _ a)
 
 -- src/lib.rt:60:22
@@ -30,7 +30,7 @@ returns-2 : tie.Need-returns-2
 unfolding tooShort
 returns-2 c =
     let x = c .before .before .before .before .before .before .before .args in
-    let a : dataSize (shape (x .g)) ≤ length (x .main .now) = omega arith in
+    let a : mainSize (shape (x .g)) ≤ length (x .main .now) = omega arith in
     let b : length (x .spare .now) < spareSize (shape (x .g)) = omega arith in
     rw (le-ltb _ _ a, lt-ltb _ _ b)
 
@@ -43,11 +43,11 @@ returns-3 : tie.Need-returns-3
 unfolding tooShort
 returns-3 c =
     let x = c .before .before .before .before .before .before .before .before .args in
-    let a : dataSize (shape (x .g)) ≤ length (x .main .now) = omega arith in
+    let a : mainSize (shape (x .g)) ≤ length (x .main .now) = omega arith in
     let b : spareSize (shape (x .g)) ≤ length (x .spare .now) = omega arith in
     rw (c .ram-size .ensures, le-ltb _ _ a, le-ltb _ _ b)
 
 pub too-short-spec : {M : Type 1} → statement M
 too-short-spec =
     tie.close
-    (tie.spec data-size-requires returns spare-size-requires returns-2 ram-size-requires returns-3)
+    (tie.spec main-size-requires returns spare-size-requires returns-2 ram-size-requires returns-3)

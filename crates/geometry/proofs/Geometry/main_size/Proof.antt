@@ -2,8 +2,8 @@ use Prim.Native.Nat.{_≤_}
 use native.Mathlib.Omega.{arith}
 use Rattle.geometry.specs.Bounds.{blocks-le, product-le}
 use borrow.Author.Needs.{needs}
-use Rattle.geometry.proofs.Geometry.data_size.Statement.{statement}
-use Rattle.geometry.proofs.Geometry.data_size.Tie as tie
+use Rattle.geometry.proofs.Geometry.main_size.Statement.{statement}
+use Rattle.geometry.proofs.Geometry.main_size.Tie as tie
 
 blocks-requires : tie.Need-blocks-requires
 blocks-requires c κs = search needs
@@ -17,5 +17,5 @@ block-address-requires c κs =
 returns : tie.Need-returns
 returns c = rw (c .block-address .ensures, c .before .blocks2 .ensures)
 
-pub data-size-spec : {M : Type 1} → statement M
-data-size-spec = tie.close (tie.spec blocks-requires block-address-requires returns)
+pub main-size-spec : {M : Type 1} → statement M
+main-size-spec = tie.close (tie.spec blocks-requires block-address-requires returns)
