@@ -1,4 +1,4 @@
-/* Formats a small volume, inserts, updates, deletes and looks up a few levels, and prints what comes back:
+/* Formats a small volume, inserts, updates, deletes, loads and looks up a few levels, and prints what comes back:
  *   rt staticlib capi && mkdir -p target/examples
  *   gcc -std=c11 -Wall -Wextra -Werror -O2 -Iinclude examples/season.c target/staticlib/libcapi.a -o target/examples/season
  */
@@ -17,6 +17,17 @@ static level_store_state report(const char *what, level_store_change c)
     else
         printf("%-8s ok, %u records, %u deletions\n", what, c.state.records, c.state.deletions);
     return c.state;
+}
+
+/* A tab as the spreadsheet exports it: the rows before a malformed one are loaded. */
+static level_store_state load(level_store_state s, const char *tab)
+{
+    level_store_load_result r = level_store_load(s, (const uint8_t *)tab, strlen(tab), data, sizeof data, spare, sizeof spare, ram, sizeof ram);
+    printf("load     %u rows", r.rows);
+    if (r.refusal != LEVEL_STORE_OK)
+        printf(", then refused: %s", level_store_refusal_text(r.refusal));
+    printf(", %u records, %u deletions\n", r.state.records, r.state.deletions);
+    return r.state;
 }
 
 static void look(level_store_state s, uint32_t key)
@@ -46,5 +57,11 @@ int main(void)
     look(s, 3);
     look(s, 7);
     look(s, 9);
+    s = load(s, "level,moves,goal\r\n3,33,350\r\n7,40,\"0900\"\r\n10,25,1200\r\n");
+    s = load(s, "level,moves,goal\n9,38,850\n11,twelve,500\n12,30,400\n");
+    look(s, 3);
+    look(s, 7);
+    look(s, 9);
+    look(s, 12);
     return 0;
 }

@@ -1,8 +1,8 @@
 /* level_store.h - a level store on a flash chip, proved.
  *
  * Every function may be called with any state and any bytes, of the lengths given beside them. A call that cannot be done is
- * refused by a number, and a refused call changes nothing: neither a byte nor the state, which comes back as it was handed in.
- * Nothing is allocated or printed.
+ * refused by a number, and a refused call changes nothing: neither a byte nor the state, which comes back as it was handed in. A
+ * load is a call for each row of its tab, and keeps the rows before a refused one. Nothing is allocated or printed.
  *
  * Lent bytes. Three arrays hold a volume; they need no alignment and must not overlap.
  *   data   the chip's data bytes        at least LEVEL_STORE_DATA_SIZE(S, R, D) bytes
@@ -21,10 +21,10 @@
  *
  * Time. Every call ends, within a time that the size of the volume bounds, not that of the answer: a search tries the records of
  * its level, from the newest on, against the deletions until one is live. A level that was updated often and then deleted takes
- * longest.
+ * longest. A load takes the time of reading its tab and of its rows' calls.
  *
- * Needs. The library is x86-64 code, 36 KB with its constants, and has no other data. Of C it calls memcpy and memset alone. It
- * takes at most 2.9 KB of stack, arguments included (measured: format 0.2, lookup 1.2, delete, insert and update 2.9).
+ * Needs. The library is x86-64 code, 39 KB with its constants, and has no other data. Of C it calls memcpy and memset alone. It
+ * takes at most 3.1 KB of stack, arguments included (measured: format 0.2, lookup 1.2, delete, insert and update 2.9, load 3.1).
  */
 #ifndef LEVEL_STORE_H
 #define LEVEL_STORE_H
@@ -47,7 +47,7 @@ extern "C" {
 /* The major number stands for the bytes of a volume: 1 is the layout of document 01. Where it differs from that of the code which
  * formatted a volume, the volume's data, spare, ram and state do not fit. The minor number rises with any other change. */
 #define LEVEL_STORE_VERSION_MAJOR 1
-#define LEVEL_STORE_VERSION_MINOR 0
+#define LEVEL_STORE_VERSION_MINOR 1
 #define LEVEL_STORE_VERSION (LEVEL_STORE_VERSION_MAJOR * 1000 + LEVEL_STORE_VERSION_MINOR)
 
 /* Sizes, as constant expressions where the arguments are constants. An argument may be evaluated more than once. */
@@ -68,7 +68,7 @@ extern "C" {
 /* Bytes of a record: key, moves, goal, free word, 4 bytes each. */
 #define LEVEL_STORE_RECORD_SIZE 16
 
-/* What a call was refused by, tested in the order 1, 2, 8, 3, 4, 5, 6, 7; the first that applies is given. On a volume that was
+/* What a call was refused by, tested in the order 1, 2, 9, 8, 3, 4, 5, 6, 7; the first that applies is given. On a volume that was
  * formatted, its bytes and state handed on unaltered, 1, 2, 7 and 8 never occur. */
 enum level_store_refusal {
     LEVEL_STORE_OK = 0,             /* accepted */
@@ -79,7 +79,8 @@ enum level_store_refusal {
     LEVEL_STORE_FULL = 5,           /* insert or update without room for a record */
     LEVEL_STORE_DELETIONS_FULL = 6, /* update or delete without room for a deletion */
     LEVEL_STORE_NOT_FRESH = 7,      /* a sector to be programmed is not fresh */
-    LEVEL_STORE_CORRUPT_ENTRY = 8   /* the search met an entry of the level with a record number of n or more */
+    LEVEL_STORE_CORRUPT_ENTRY = 8,  /* the search met an entry of the level with a record number of n or more */
+    LEVEL_STORE_MALFORMED = 9       /* load: no header, or a row that is not three numbers */
 };
 
 /* A refusal in words. */
@@ -95,6 +96,7 @@ LEVEL_STORE_INLINE const char *level_store_refusal_text(uint32_t refusal)
     case LEVEL_STORE_DELETIONS_FULL: return "no room for a deletion";
     case LEVEL_STORE_NOT_FRESH: return "sector not fresh";
     case LEVEL_STORE_CORRUPT_ENTRY: return "entry with a wrong record number";
+    case LEVEL_STORE_MALFORMED: return "header missing or row malformed";
     default: return "unknown refusal";
     }
 }
@@ -124,6 +126,14 @@ typedef struct {
     uint32_t in_ram;
     uint32_t offset;
 } level_store_lookup_result;
+
+/* What a load gives: the number of rows loaded, LEVEL_STORE_OK if these are all rows of the tab, else the refusal of the row behind
+ * them or, with no row loaded, of the state, the lent bytes or the header; and the state after the rows loaded. */
+typedef struct {
+    uint32_t refusal;
+    uint32_t rows;
+    level_store_state state;
+} level_store_load_result;
 
 /* A little-endian number, at any address. */
 LEVEL_STORE_INLINE uint32_t level_store_read32(const uint8_t *bytes)
@@ -159,6 +169,15 @@ level_store_change level_store_delete(level_store_state state, uint32_t key,
 /* Finds a level's newest record. Changes nothing. Refused by 1, 2, 8. */
 level_store_lookup_result level_store_lookup(level_store_state state, uint32_t key,
     const uint8_t *data, size_t data_len, const uint8_t *spare, size_t spare_len, const uint8_t *ram, size_t ram_len);
+
+/* Loads a comma-separated tab (RFC 4180), whose bytes are only read and must not overlap the other arrays: a header
+ * level,moves,goal, then rows, if any, of three decimal numbers below 2^32. Leading zeros are allowed; each field, the header's
+ * too, is quoted or not; lines end in LF or CRLF, the last ending may be missing. A row is an insert, or an update if its level
+ * is there, with word 0. The load ends at the first row that is malformed or refused; that row changes nothing, the rows before
+ * it remain. Refused by 1, 2 and, without the header, 9, all with rows 0; at a row by 9, 8, 5, 6, 7. An empty tab has no header;
+ * with a length of 0 nothing is read at tab. */
+level_store_load_result level_store_load(level_store_state state, const uint8_t *tab, size_t tab_len,
+    uint8_t *data, size_t data_len, uint8_t *spare, size_t spare_len, uint8_t *ram, size_t ram_len);
 
 #ifdef __cplusplus
 }

@@ -21,7 +21,8 @@ HOLDS(ram_of_terms, LEVEL_STORE_RAM_SIZE(8 + 8) == 320);
 HOLDS(largest, LEVEL_STORE_DATA_SIZE(512, 4096, 4096) == 352354304 && LEVEL_STORE_SPARE_SIZE(512, 4096, 4096) == 688192);
 HOLDS(largest_counts, LEVEL_STORE_RECORD_CAPACITY(512, 4096) == 8388608 && LEVEL_STORE_DELETION_CAPACITY(512, 4096) == 33554432);
 HOLDS(sizes_are_size_t, sizeof LEVEL_STORE_BLOCKS(16, 1, 1) == sizeof(size_t) && sizeof LEVEL_STORE_RAM_SIZE(16) == sizeof(size_t));
-HOLDS(layouts, sizeof(level_store_state) == 20 && sizeof(level_store_change) == 24 && sizeof(level_store_lookup_result) == 20);
+HOLDS(layouts, sizeof(level_store_state) == 20 && sizeof(level_store_change) == 24 && sizeof(level_store_lookup_result) == 20
+    && sizeof(level_store_load_result) == 28);
 #if LEVEL_STORE_VERSION != LEVEL_STORE_VERSION_MAJOR * 1000 + LEVEL_STORE_VERSION_MINOR || LEVEL_STORE_VERSION < 1000
 #error "version"
 #endif
@@ -80,6 +81,16 @@ static uint32_t format(uint32_t S, uint32_t R, uint32_t D) { return after(level_
 static uint32_t insert(uint32_t key) { return after(level_store_insert(state, key, 40, 0, 0, LENT)); }
 static uint32_t update(uint32_t key) { return after(level_store_update(state, key, 41, 0, 0, LENT)); }
 static uint32_t take_out(uint32_t key) { return after(level_store_delete(state, key, LENT)); }
+
+/* The refusal of a load; its state is handed on, and so many rows were loaded. */
+static uint32_t rows;
+static uint32_t load(const char *tab)
+{
+    level_store_load_result r = level_store_load(state, (const uint8_t *)tab, strlen(tab), LENT);
+    state = r.state;
+    rows = r.rows;
+    return r.refusal;
+}
 
 /* Run time: the same examples of document 01. */
 static void check_blocks(void)
@@ -147,16 +158,58 @@ static void check_refusals(void)
     give_back();
 }
 
+/* A load: whole, ended by a malformed row and by a row of each refusal that a row can get, and refused at once. */
+static void check_load(void)
+{
+    level_store_lookup_result r;
+    uint32_t i;
+    lend(16, 5, 1);
+    memset(&state, 0, sizeof state);
+    CHECK(load("level") == LEVEL_STORE_BAD_STATE && rows == 0);
+    CHECK(format(16, 5, 1) == LEVEL_STORE_OK);
+    ram_len--;
+    CHECK(load("level") == LEVEL_STORE_TOO_SHORT && rows == 0);
+    ram_len++;
+    CHECK(load("") == LEVEL_STORE_MALFORMED && rows == 0);
+    CHECK(load("level,moves\n1,2\n") == LEVEL_STORE_MALFORMED && rows == 0);
+    CHECK(load("level,moves,goal") == LEVEL_STORE_OK && rows == 0 && state.records == 0);
+    CHECK(load("level,\"moves\",goal\r\n1,2,3\n\"4294967295\",0031,\"0\"\r\n1,40,300") == LEVEL_STORE_OK && rows == 3);
+    CHECK(state.records == 3 && state.deletions == 1);
+    r = level_store_lookup(state, 1, LENT);
+    CHECK(r.found == 1 && r.in_ram == 1);
+    CHECK(level_store_record_moves(ram + r.offset) == 40 && level_store_record_goal(ram + r.offset) == 300);
+    CHECK(level_store_record_word(ram + r.offset) == 0);
+    CHECK(load("level,moves,goal\n5,5,5\n6,6,4294967296\n7,7,7\n") == LEVEL_STORE_MALFORMED && rows == 1);
+    CHECK(state.records == 4 && level_store_lookup(state, 7, LENT).found == 0);
+    spare[64] = 0; /* sector 64 is the first of the second block, for records 64 and up */
+    for (i = 0; i < 63; i++)
+        CHECK(insert(1000 + i) == LEVEL_STORE_OK);
+    CHECK(load("level,moves,goal\n") == LEVEL_STORE_OK && rows == 0 && state.records == 67);
+    CHECK(load("level,moves,goal\n8,8,8\n9,9,9\n") == LEVEL_STORE_NOT_FRESH && rows == 0 && state.records == 67);
+    spare[64] = 0xFF;
+    CHECK(load("level,moves,goal\n8,8,8\n9,9,9\n") == LEVEL_STORE_OK && rows == 2 && state.records == 69);
+    ram[4 * 16 + 4 * 8 + 4] = 200; /* entry 4 of the second page of ram is level 9's */
+    CHECK(load("level,moves,goal\n10,1,1\n9,9,9\n") == LEVEL_STORE_CORRUPT_ENTRY && rows == 1 && state.records == 70);
+    CHECK(format(16, 5, 1) == LEVEL_STORE_OK && insert(7) == LEVEL_STORE_OK);
+    for (i = 0; i < LEVEL_STORE_DELETION_CAPACITY(16, 1); i++)
+        CHECK(load("level,moves,goal\n7,1,1") == LEVEL_STORE_OK && rows == 1);
+    CHECK(load("level,moves,goal\n8,1,1\n7,1,1\n") == LEVEL_STORE_DELETIONS_FULL && rows == 1 && state.deletions == 256);
+    while (state.records < LEVEL_STORE_RECORD_CAPACITY(16, 5) && insert(2000 + state.records) == LEVEL_STORE_OK)
+        ;
+    CHECK(load("level,moves,goal\n9,1,1") == LEVEL_STORE_FULL && rows == 0 && state.records == 320);
+    give_back();
+}
+
 /* Every refusal has a text of its own, and so have all other numbers together. */
 static void check_texts(void)
 {
     uint32_t i, j;
-    for (i = 0; i <= 9; i++) {
+    for (i = 0; i <= 10; i++) {
         CHECK(level_store_refusal_text(i) != NULL && level_store_refusal_text(i)[0] != '\0');
         for (j = 0; j < i; j++)
             CHECK(strcmp(level_store_refusal_text(i), level_store_refusal_text(j)) != 0);
     }
-    CHECK(strcmp(level_store_refusal_text(0xFFFFFFFF), level_store_refusal_text(9)) == 0);
+    CHECK(strcmp(level_store_refusal_text(0xFFFFFFFF), level_store_refusal_text(10)) == 0);
 }
 
 /* The accessors read what an insert wrote: in ram, on the chip, and at an odd address. */
@@ -199,6 +252,7 @@ int main(void)
     check_sizes(32, 300, 5);
     check_sizes(512, 2048, 1);
     check_refusals();
+    check_load();
     check_texts();
     check_accessors();
     printf("header: %u checks, %u failed\n", checks, failures);

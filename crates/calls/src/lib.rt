@@ -4,6 +4,7 @@ ghost use mathlib.Core.Path.{_≡_};
 ghost use Rattle.layout.specs.Hash.{fnvFamily};
 ghost use Rattle.layout.specs.Calls as layout;
 ghost use Rattle.layout.specs.Calls.{call};
+ghost use Rattle.layout.specs.Several.{putCall};
 ghost use Rattle.state.specs.Contract.{recordIs, given, effectOf, effectBy};
 ghost use Rattle.calls.specs.Resolve.{resolvedOf, ResolvedFits};
 ghost use Rattle.calls.specs.Request.{callOf, keyOf, ofAbsent, ofLive, decisionOf};
@@ -54,11 +55,12 @@ pub fn resolve(s: State, key: u32, main: &[u8], spare: &[u8], ram: &[u8]) -> Res
 
 // ---- a changing call
 
-// A call and its arguments other than state and lent bytes.
+// A call and its arguments other than state and lent bytes; a put inserts a level that is not there and updates one that is.
 pub enum Request {
     Insert(Record),
     Update(Record),
     Delete(u32),
+    Put(Record),
 }
 
 // A refusal, or what is to be changed.
@@ -75,6 +77,7 @@ fn key_of(q: Request) -> u32
         Request::Insert(record) => record.key,
         Request::Update(record) => record.key,
         Request::Delete(key) => key,
+        Request::Put(record) => record.key,
     }
 }
 
@@ -86,6 +89,7 @@ fn of_absent(g: Geometry, q: Request) -> Decision
         Request::Insert(record) => Decision::Change(g, Edit::Insert(record)),
         Request::Update(_) => Decision::Refused(state::ABSENT),
         Request::Delete(_) => Decision::Refused(state::ABSENT),
+        Request::Put(record) => Decision::Change(g, Edit::Insert(record)),
     }
 }
 
@@ -97,6 +101,7 @@ fn of_live(g: Geometry, old: u32, q: Request) -> Decision
         Request::Insert(_) => Decision::Refused(state::PRESENT),
         Request::Update(record) => Decision::Change(g, Edit::Replace(old, record)),
         Request::Delete(_) => Decision::Change(g, Edit::Delete(old)),
+        Request::Put(record) => Decision::Change(g, Edit::Replace(old, record)),
     }
 }
 
@@ -113,7 +118,7 @@ fn decide(q: Request, r: Resolved) -> Decision
 
 // A changing call.
 pub fn perform(s: State, q: Request, main: &mut [u8], spare: &mut [u8], ram: &mut [u8]) -> Change
-    ensures { λ r. ⌜ effectBy r main spare ram ≡ effectOf (call fnvFamily (given s main spare ram) (callOf q)) ⌝ }
+    ensures { λ r. ⌜ effectBy r main spare ram ≡ effectOf (call fnvFamily (given s main spare ram) (callOf (given s main spare ram) q)) ⌝ }
 {
     match decide(q, resolve(s, key_of(q), main, spare, ram)) {
         Decision::Refused(i) => {
@@ -125,7 +130,7 @@ pub fn perform(s: State, q: Request, main: &mut [u8], spare: &mut [u8], ram: &mu
     }
 }
 
-// ---- the three calls
+// ---- the calls
 
 // A new level.
 pub fn insert(s: State, record: Record, main: &mut [u8], spare: &mut [u8], ram: &mut [u8]) -> Change
@@ -146,4 +151,12 @@ pub fn delete(s: State, key: u32, main: &mut [u8], spare: &mut [u8], ram: &mut [
     ensures { λ r. ⌜ effectBy r main spare ram ≡ effectOf (call fnvFamily (given s main spare ram) (layout.delete key)) ⌝ }
 {
     perform(s, Request::Delete(key), main, spare, ram)
+}
+
+// A row of a tab: a new level, or new values for one that is there, by one search.
+pub fn put(s: State, record: Record, main: &mut [u8], spare: &mut [u8], ram: &mut [u8]) -> Change
+    ensures { λ r. ⌜ effectBy r main spare ram
+        ≡ effectOf (call fnvFamily (given s main spare ram) (putCall fnvFamily (given s main spare ram) (recordIs «record»))) ⌝ }
+{
+    perform(s, Request::Put(record), main, spare, ram)
 }

@@ -1,13 +1,17 @@
 // The level store for firmware in C: include/level_store.h. Each function is the store's call; any state and
 // any bytes may be handed in.
 ghost use mathlib.Core.Path.{_≡_};
+ghost use Rattle.memory.specs.Lent.{before};
 ghost use Rattle.layout.specs.Geometry.{sizesOf};
 ghost use Rattle.layout.specs.Hash.{fnvFamily};
 ghost use Rattle.layout.specs.Items.{recordOf};
 ghost use Rattle.layout.specs.Calls.{format, insert, update, delete, lookup, call};
 ghost use Rattle.state.specs.Contract.{effectOf, given, effectBy};
+ghost use Rattle.load.specs.Load.{load};
+ghost use Rattle.load.specs.Contract.{loadedBy};
 ghost use Rattle.lookup.specs.Results.{lookupOf};
 use geometry::Sizes;
+use load::Loaded;
 use lookup::LookupResult;
 use state::Change;
 use state::Record;
@@ -104,4 +108,17 @@ pub extern "C" fn level_store_lookup(
     ensures { λ r. ⌜ r ≡ lookupOf (call fnvFamily (given state «data» spare ram) (lookup key)) ⌝ }
 {
     lookup::find(state, key, data, spare, ram)
+}
+
+#[no_mangle]
+pub extern "C" fn level_store_load(
+    state: State,
+    tab: &[u8],
+    data: &mut [u8],
+    spare: &mut [u8],
+    ram: &mut [u8],
+) -> Loaded
+    ensures { λ r. ⌜ loadedBy r «data» spare ram ≡ load fnvFamily (given state «data» spare ram) (before tab) ⌝ }
+{
+    load::load(state, tab, data, spare, ram)
 }

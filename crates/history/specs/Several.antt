@@ -7,29 +7,11 @@ use lib.ListN.{length, take}
 use Rattle.layout.specs.Geometry.{Sizes, Geometry, geometry}
 use Rattle.layout.specs.Hash.{Family}
 use Rattle.layout.specs.Calls.{Volume, Call, Outcome, accepted, hit, miss, refused, call}
+use Rattle.layout.specs.Several.{Several, ended, goOn}
 use Rattle.layout.specs.FiniteMap.{Map, accepts, mapOf}
 use Rattle.history.specs.Runs.{KeyWords, after, replyOf}
 use Rattle.history.specs.Every.{refusal-keeps}
 use Rattle.history.specs.Reached.{Reached, reach-call, reach-says, mapAfter}
-
--- how it ended, the calls done before that, and the volume then
-pub record Several : Type 0 where
-  pub outcome : Outcome
-  pub done : ℕ
-  pub volume : Volume
-
-abbrev pub ended : Outcome → Volume → Several
-ended o v = record { outcome = o; done = 0; volume = v }
-
--- one call more was done before
-abbrev pub oneMore : Several → Several
-oneMore s = record { outcome = s .outcome; done = suc (s .done); volume = s .volume }
-
-abbrev pub goOn : Outcome → Volume → Several → Several
-goOn accepted v rest = oneMore rest
-goOn (hit place bytes) v rest = oneMore rest
-goOn miss v rest = oneMore rest
-goOn (refused i) v rest = ended (refused i) v
 
 abbrev pub callAll : Family → Volume → List Call → Several
 callAll h v [] = ended accepted v

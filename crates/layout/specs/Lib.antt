@@ -7,6 +7,7 @@ pub mod Index
 pub mod Search
 pub mod Refusals
 pub mod Calls
+pub mod Several
 pub mod FiniteMap
 pub mod Examples
 pub mod Checks

@@ -32,3 +32,7 @@ notFresh = 7
 -- "the search meets its key with a record number of n or more"
 abbrev pub corruptEntry : ℕ
 corruptEntry = 8
+
+-- document 02, request 1: "9, header missing or row malformed"
+abbrev pub malformed : ℕ
+malformed = 9

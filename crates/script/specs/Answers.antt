@@ -4,7 +4,7 @@ use mathlib.Core.List.{List, [], _∷_, _++_}
 use Prim.Native.Char.{code}
 use Prim.Native.Nat.{ℕ, zero, suc, _+_, _/_, _%_}
 use lib.Dec.{ltb}
-use Rattle.script.specs.Text.{ascii}
+use Rattle.text.specs.Text.{ascii}
 
 -- "`ok n d`, `hit moves count`, `miss count` or `no number` answers each; other lines answer `bad`"
 pub data Answer : Type 0 where

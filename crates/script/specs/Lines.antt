@@ -1,10 +1,11 @@
 -- The lines of a script. Document 01, "Replay program".
-use mathlib.Core.Bool.{Bool, _&&_, cond}
+use mathlib.Core.Bool.{cond}
 use mathlib.Core.Option.{Option, none, some}
 use mathlib.Core.List.{List, [], _∷_}
 use Prim.Native.Char.{code}
-use Prim.Native.Nat.{ℕ, _+_, _*_, _-_, _^_}
-use lib.Dec.{ltb, leb, eqb}
+use Prim.Native.Nat.{ℕ, _^_}
+use lib.Dec.{ltb, eqb}
+use Rattle.text.specs.Text.{digitsFrom}
 use Rattle.layout.specs.Items.{recordOf}
 use Rattle.layout.specs.Calls.{Call, insert, update, delete, lookup}
 
@@ -15,15 +16,6 @@ pub data Request : Type 0 where
   bad : Request
 
 -- ---- numbers
-
--- the digits 0 to 9
-abbrev pub isDigit : ℕ → Bool
-isDigit c = leb (code "0") c && leb c (code "9")
-
--- the number that decimal digits make after those that made v; none where a byte is no digit
-unfoldable pub digitsFrom : ℕ → List ℕ → Option ℕ
-digitsFrom v [] = some v
-digitsFrom v (c ∷ cs) = cond (isDigit c) (digitsFrom (v * 10 + (c - code "0")) cs) none
 
 -- "below 2^32"
 abbrev pub small : Option ℕ → Option ℕ

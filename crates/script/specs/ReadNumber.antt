@@ -12,7 +12,8 @@ use borrow.Author.Tests.{le-leb, lt-leb, lt-ltb, le-ltb, eq-eqb, ne-eqb}
 use lib.ListN.{length, getD, drop, drop-of-length-le}
 use lib.Seq.{drop-cons}
 use Rattle.memory.specs.Cases.{either, le?, eq?}
-use Rattle.script.specs.Lines.{isDigit, digitsFrom, small, number}
+use Rattle.text.specs.Text.{isDigit, digitsFrom}
+use Rattle.script.specs.Lines.{small, number}
 
 -- ---- digits
 

@@ -5,7 +5,7 @@ ghost use Prim.Native.Nat.{_+_, _≤_};
 ghost use lib.ListN.{length};
 ghost use Rattle.memory.specs.Lists.{write};
 ghost use Rattle.memory.specs.Lent.{before, after};
-ghost use Rattle.script.specs.Text.{ascii};
+ghost use Rattle.text.specs.Text.{ascii};
 ghost use Rattle.script.specs.Answers.{decimal, text};
 ghost use Rattle.script.specs.Values.{answerOf};
 
@@ -50,7 +50,7 @@ fn put_decimal(n: u32, at: usize, out: &mut [u8]) -> usize
 }
 
 // Writes a number and the byte that ends it from `at` on; gives where they end.
-fn put_number(n: u32, terminator: u8, at: usize, out: &mut [u8]) -> usize
+pub fn put_number(n: u32, terminator: u8, at: usize, out: &mut [u8]) -> usize
     requires { ⌜ at + 11 ≤ length (now out) ⌝ }
     ensures end { λ r. ⌜ (r ≡ at + length (decimal n ++ (terminator ∷ []))) × (r ≤ at + 11) ⌝ }
     ensures bytes { λ _. ⌜ after out ≡ write (before out) at (decimal n ++ (terminator ∷ [])) ⌝ }

@@ -3,10 +3,11 @@
 pub mod answers;
 
 ghost use mathlib.Core.Path.{_≡_};
-ghost use Prim.Native.Nat.{_+_, _-_, _≤_, _<_};
+ghost use Prim.Native.Nat.{_+_, _≤_, _<_};
 ghost use lib.ListN.{length, take, drop};
 ghost use Rattle.memory.specs.Lent.{before};
-ghost use Rattle.script.specs.Lines.{digitsFrom, small, number, fields, oneNumber, twoNumbers, threeNumbers, letterRequest, request};
+ghost use Rattle.text.specs.Text.{digitsFrom};
+ghost use Rattle.script.specs.Lines.{small, number, fields, oneNumber, twoNumbers, threeNumbers, letterRequest, request};
 ghost use Rattle.script.specs.FirstWord.{wordLength};
 ghost use Rattle.script.specs.Values.{numberOf, requestOf};
 
@@ -28,14 +29,6 @@ enum Number {
     Value(u32),
 }
 
-// The value of a digit.
-fn digit_value(c: u8) -> u64
-    requires { ⌜ (48 ≤ c) × (c ≤ 57) ⌝ }
-    ensures { λ r. ⌜ (r ≡ c - 48) × (r < 10) ⌝ }
-{
-    (c - b'0') as u64
-}
-
 // The value of a word of digits, if it is below 2^32. It stops at 2^32, so that no word is too long.
 fn read_digits(word: &[u8]) -> Number
     ensures { λ r. ⌜ numberOf r ≡ small (digitsFrom 0 (before word)) ⌝ }
@@ -50,7 +43,7 @@ fn read_digits(word: &[u8]) -> Number
         if c > b'9' {
             return Number::No;
         }
-        v = v * 10 + digit_value(c);
+        v = v * 10 + text::digit_value(c);
         if v >= 4294967296 {
             return Number::No;
         }

@@ -59,6 +59,8 @@ pub const NOT_FRESH: u32 = 7;
 
 pub const CORRUPT_ENTRY: u32 = 8;
 
+pub const MALFORMED: u32 = 9;
+
 // A refusal hands the state back.
 pub fn refuse(s: State, i: u32) -> Change
     ensures { λ r. ⌜ r ≡ record { refusal = i; state = s } ⌝ }

@@ -5,8 +5,8 @@ use Prim.Native.Nat.{ℕ}
 use lib.ListN.{replicate}
 use Rattle.layout.specs.Geometry.{sizesOf, stateOf}
 use Rattle.layout.specs.Calls.{Volume}
-use Rattle.script.specs.Text.{ascii}
-use Rattle.script.specs.Lines.{digitsFrom, number, fields, request}
+use Rattle.text.specs.Text.{ascii, digitsFrom}
+use Rattle.script.specs.Lines.{number, fields, request}
 use Rattle.script.specs.Answers.{digits, text}
 use Rattle.script.specs.Script.{perform, endLine, advance, feed, prints}
 use Rattle.worked_examples.specs.Computing.{calls}

@@ -2,3 +2,4 @@ pub mod Computing
 pub mod Example
 pub mod Trace
 pub mod FirstFilter
+pub mod LoadExample

@@ -6,6 +6,7 @@
 
 mod count;
 mod curve;
+mod load;
 mod measure;
 mod tables;
 mod volume;
@@ -16,7 +17,8 @@ use std::process::ExitCode;
 const USAGE: &str = "usage: bench [--most N] [--csv FILE] | --count STORE S CALL N
 With --most, only the sizes of up to N records. With --csv, lookups are measured at more sizes,
 and their times and pages opened are written to the file. With --count, one round of the calls
-`lookup hit`, `lookup miss`, `insert`, `update` or `set` by one store, for docs/counts.py.";
+`lookup hit`, `lookup miss`, `insert`, `update` or `set` by one store, or the N rows of a tab by `load`
+or by `inserts`, for docs/counts.py.";
 
 fn main() -> ExitCode {
     let mut most = usize::MAX;
@@ -42,6 +44,7 @@ fn main() -> ExitCode {
     tables::pages(most);
     tables::operations(most);
     tables::longest(most);
+    tables::loads(most);
     if let Some(file) = csv {
         if let Err(error) = curve::write(&file, most) {
             eprintln!("{file}: {error}");

@@ -6,12 +6,13 @@ use std::time::{Duration, Instant};
 use store::{FastStore, LookupResult, ModelStore, Store};
 
 #[cfg(feature = "proved")]
-const SUBJECT: &dyn Store = &store::ProvedStore;
+pub const SUBJECT: &dyn Store = &store::ProvedStore;
 #[cfg(not(feature = "proved"))]
-const SUBJECT: &dyn Store = &ModelStore;
+pub const SUBJECT: &dyn Store = &ModelStore;
+pub const FAST: &dyn Store = &FastStore;
 
 /// The stores, in the order of all columns.
-pub const STORES: [&dyn Store; 3] = [SUBJECT, &ModelStore, &FastStore];
+pub const STORES: [&dyn Store; 3] = [SUBJECT, &ModelStore, FAST];
 
 /// How many rounds at least, and how long: short rounds are repeated, so that one of them is undisturbed.
 #[derive(Clone, Copy)]
@@ -33,7 +34,7 @@ impl Effort {
         }
     }
 
-    fn run(self, mut round: impl FnMut()) {
+    pub fn run(self, mut round: impl FnMut()) {
         let start = Instant::now();
         let mut done = 0;
         while done < self.rounds || start.elapsed() < self.time {

@@ -1,6 +1,7 @@
 //! The tables of a run, in Markdown.
 
-use crate::measure::{changes, lookups, measure, Call, Effort, STORES};
+use crate::load::Load;
+use crate::measure::{changes, lookups, measure, Call, Effort, FAST, STORES, SUBJECT};
 use crate::volume::{geometry, Keys, Volume, ROOM};
 use store::{Geometry, State};
 
@@ -28,12 +29,15 @@ fn head_with_times(title: &str, first: &[&str], last: &[String]) {
     head(title, &first.iter().copied().chain(more).collect::<Vec<_>>());
 }
 
-fn times_and_ratios([proved, model, fast]: [f64; 3]) -> Vec<String> {
-    let digits = |number: f64| match number {
+fn digits(number: f64) -> String {
+    match number {
         0.0..10.0 => format!("{number:.2}"),
         10.0..100.0 => format!("{number:.1}"),
         _ => format!("{number:.0}"),
-    };
+    }
+}
+
+fn times_and_ratios([proved, model, fast]: [f64; 3]) -> Vec<String> {
     [proved, model, fast, model / proved, proved / fast]
         .map(digits)
         .to_vec()
@@ -193,4 +197,33 @@ fn longest_row(sector_size: u32, number: usize, n: usize) {
     let first = [sector_size as usize, number, pages, width, n].map(|number| number.to_string());
     let cells = first.into_iter().chain([earlier.to_string()]);
     row(cells.chain(times_and_ratios(changes(&volume, Call::Insert, 1, effort))));
+}
+
+/// A row of a tab that is loaded into an empty volume, beside the same insert by the call.
+pub fn loads(most: usize) {
+    const ROWS: usize = 10_000;
+    if ROWS > most {
+        return;
+    }
+    let [proved, fast] = [SUBJECT, FAST].map(|store| store.name());
+    let mut columns = vec!["S".to_string(), "rows".to_string()];
+    for name in [proved, fast] {
+        columns.extend(["load us", "insert us", "load/insert"].map(|what| format!("{name} {what}")));
+    }
+    columns.push(format!("{proved}/{fast}"));
+    head(
+        "Loading a tab, a row",
+        &columns.iter().map(String::as_str).collect::<Vec<_>>(),
+    );
+    for sector_size in SECTOR_SIZES {
+        let load = Load::new(sector_size, ROWS).expect("room for the rows");
+        let [proved, fast] = load.measure();
+        let cells = [proved, fast]
+            .map(|[load, insert]| [load, insert, load / insert])
+            .concat();
+        let first = [sector_size as usize, ROWS].map(|number| number.to_string());
+        row(first
+            .into_iter()
+            .chain(cells.into_iter().chain([proved[0] / fast[0]]).map(digits)));
+    }
 }

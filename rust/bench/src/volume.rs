@@ -73,7 +73,8 @@ impl Volume {
         Some(volume)
     }
 
-    fn formatted(sector_size: u32, n: usize, room: usize, keys: Keys) -> Option<Volume> {
+    /// An empty volume with room for `n` records and so many changes more.
+    pub fn formatted(sector_size: u32, n: usize, room: usize, keys: Keys) -> Option<Volume> {
         let (r, d) = geometry(sector_size, n, room)?;
         let geometry = Geometry::new(sector_size, r, d)?;
         let mut data = vec![0; geometry.data_bytes()];

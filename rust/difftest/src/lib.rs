@@ -3,6 +3,8 @@
 
 #![forbid(unsafe_code)]
 
+pub mod loads;
 pub mod pair;
 pub mod random;
 pub mod scenarios;
+pub mod tabs;

@@ -50,7 +50,7 @@ fn main() -> ExitCode {
         }
     }
     let limit = Duration::from_secs(seconds.unwrap_or(if long { 1800 } else { 120 }));
-    let list: Vec<_> = scenarios::all()
+    let mut list: Vec<_> = scenarios::all()
         .into_iter()
         .filter(|scenario| (long || !scenario.long) && scenario.name.starts_with(&only))
         .collect();
@@ -67,6 +67,7 @@ fn main() -> ExitCode {
     }
     let start = Instant::now();
     let first_round = round;
+    let scenarios = list.len();
     let mut total = Counts::default();
     let mut runs = 0;
     'rounds: loop {
@@ -80,9 +81,10 @@ fn main() -> ExitCode {
                 Ok(counts) => {
                     if round == first_round {
                         println!(
-                            "{:20} {:7} calls, {:3} sets, {:6.2} s",
+                            "{:20} {:7} calls, {:7} rows, {:3} sets, {:6.2} s",
                             scenario.name,
                             counts.calls,
+                            counts.rows,
                             counts.sets,
                             scenario_start.elapsed().as_secs_f64()
                         );
@@ -98,11 +100,14 @@ fn main() -> ExitCode {
             }
         }
         round += 1;
+        list.retain(|scenario| !scenario.once);
+        if list.is_empty() {
+            break;
+        }
     }
     println!("{total}");
     println!(
-        "no difference in {runs} runs of {} scenarios, {:.0} s",
-        list.len(),
+        "no difference in {runs} runs of {scenarios} scenarios, {:.0} s",
         start.elapsed().as_secs_f64()
     );
     ExitCode::SUCCESS

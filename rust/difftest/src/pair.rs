@@ -1,10 +1,10 @@
 //! Two stores side by side: each call is made on both, and everything is compared.
 
 use std::fmt;
-use store::{Change, Geometry, LookupResult, State, Store};
+use store::{Change, Geometry, LoadResult, LookupResult, State, Store};
 
 #[derive(Clone, Copy, Debug, PartialEq, Eq)]
-pub enum Call {
+pub enum Call<'t> {
     Format {
         sector_size: u32,
         ra_blocks: u32,
@@ -28,12 +28,25 @@ pub enum Call {
     Lookup {
         key: u32,
     },
+    Load {
+        tab: &'t [u8],
+    },
+}
+
+impl fmt::Display for Call<'_> {
+    fn fmt(&self, f: &mut fmt::Formatter) -> fmt::Result {
+        match self {
+            Call::Load { tab } => write!(f, "Load \"{}\"", tab.escape_ascii()),
+            other => write!(f, "{other:?}"),
+        }
+    }
 }
 
 #[derive(Clone, Copy, Debug, PartialEq, Eq)]
 pub enum Answer {
     Change(Change),
     Lookup(LookupResult),
+    Load(LoadResult),
 }
 
 impl Answer {
@@ -45,6 +58,16 @@ impl Answer {
         match self {
             Answer::Change(change) => change.refusal,
             Answer::Lookup(result) => result.refusal,
+            Answer::Load(result) => result.refusal,
+        }
+    }
+
+    /// The state that it hands out; a lookup hands out none.
+    fn state(self) -> Option<State> {
+        match self {
+            Answer::Change(change) => Some(change.state),
+            Answer::Lookup(_) => None,
+            Answer::Load(result) => Some(result.state),
         }
     }
 }
@@ -54,7 +77,7 @@ impl Answer {
 pub struct Difference {
     /// Number of the call in its scenario, from 1.
     pub number: u64,
-    pub call: Call,
+    pub call: String,
     pub state: State,
     /// Lengths of data, spare and ram.
     pub lengths: [usize; 3],
@@ -64,7 +87,7 @@ pub struct Difference {
 impl fmt::Display for Difference {
     fn fmt(&self, f: &mut fmt::Formatter) -> fmt::Result {
         let [data, spare, ram] = self.lengths;
-        writeln!(f, "call {}: {:?}", self.number, self.call)?;
+        writeln!(f, "call {}: {}", self.number, self.call)?;
         writeln!(f, "  on {:?}", self.state)?;
         writeln!(f, "  lent {data} data, {spare} spare, {ram} ram bytes")?;
         write!(f, "  {}", self.what)
@@ -78,8 +101,10 @@ pub struct Counts {
     pub accepted: u64,
     pub hits: u64,
     pub misses: u64,
+    /// Rows loaded, also by loads that were refused at a later row.
+    pub rows: u64,
     /// By refusal number, from 1 at index 1.
-    pub refusals: [u64; 9],
+    pub refusals: [u64; 10],
     pub sets: u64,
     pub full_sets: u64,
 }
@@ -90,6 +115,7 @@ impl Counts {
         self.accepted += other.accepted;
         self.hits += other.hits;
         self.misses += other.misses;
+        self.rows += other.rows;
         for (sum, count) in self.refusals.iter_mut().zip(other.refusals) {
             *sum += count;
         }
@@ -102,19 +128,18 @@ impl Counts {
         match answer {
             Answer::Lookup(result) if result.refusal == 0 && result.found == 1 => self.hits += 1,
             Answer::Lookup(result) if result.refusal == 0 => self.misses += 1,
-            Answer::Change(change) if change.refusal == 0 => {
-                self.accepted += 1;
-                // A set is built when 128 full pages more are there, the last one of S/4 is full.
-                let round = 64 * u64::from(before.sector_size);
-                let records = u64::from(change.state.records);
-                if change.state.records > before.records && records % round == 0 {
-                    self.sets += 1;
-                    if (records / round) % u64::from(before.sector_size / 4) == 0 {
-                        self.full_sets += 1;
-                    }
-                }
-            }
-            _ => self.refusals[answer.refusal().min(8) as usize] += 1,
+            Answer::Change(_) | Answer::Load(_) if answer.accepted() => self.accepted += 1,
+            _ => self.refusals[answer.refusal().min(9) as usize] += 1,
+        }
+        if let Answer::Load(result) = answer {
+            self.rows += u64::from(result.rows);
+        }
+        if let Some(state) = answer.state().filter(|state| state.records > before.records) {
+            // A set is built when 128 full pages more are there, the last one of S/4 is full.
+            let round = 64 * before.sector_size;
+            let cycle = round * (before.sector_size / 4);
+            self.sets += u64::from(state.records / round - before.records / round);
+            self.full_sets += u64::from(state.records / cycle - before.records / cycle);
         }
     }
 }
@@ -123,10 +148,10 @@ impl fmt::Display for Counts {
     fn fmt(&self, f: &mut fmt::Formatter) -> fmt::Result {
         write!(
             f,
-            "{} calls: {} accepted, {} hits, {} misses",
-            self.calls, self.accepted, self.hits, self.misses
+            "{} calls: {} accepted, {} hits, {} misses, {} rows loaded",
+            self.calls, self.accepted, self.hits, self.misses, self.rows
         )?;
-        for number in 1..=8 {
+        for number in 1..=9 {
             write!(f, ", {} refused by {number}", self.refusals[number])?;
         }
         write!(f, "; {} sets built, {} of them full", self.sets, self.full_sets)
@@ -208,6 +233,7 @@ impl Volume {
             } => Answer::Change(store.update(state, key, moves, goal, word, data, spare, ram)),
             Call::Delete { key } => Answer::Change(store.delete(state, key, data, spare, ram)),
             Call::Lookup { key } => Answer::Lookup(store.lookup(state, key, data, spare, ram)),
+            Call::Load { tab } => Answer::Load(store.load(state, tab, data, spare, ram)),
         }
     }
 }
@@ -335,18 +361,23 @@ impl<'a> Pair<'a> {
             Some(format!("expected {expected:?}\n  got      {got:?}"))
         };
         if let Some(what) = what {
-            return Err(Difference {
-                number: self.counts.calls,
-                call,
-                state,
-                lengths: self.lengths(),
-                what,
-            });
+            return Err(self.difference(call, state, what));
         }
-        if let Answer::Change(change) = got {
-            self.state = change.state;
+        if let Some(next) = got.state() {
+            self.state = next;
         }
         Ok(got)
+    }
+
+    /// Of the last call, which was made on this state.
+    pub fn difference(&self, call: Call, state: State, what: String) -> Difference {
+        Difference {
+            number: self.counts.calls,
+            call: call.to_string(),
+            state,
+            lengths: self.lengths(),
+            what,
+        }
     }
 }
 

@@ -1,7 +1,9 @@
 //! Scenarios: lists of calls made from a seed.
 
+use crate::loads;
 use crate::pair::{Answer, Call, Counts, Difference, Pair};
 use crate::random::Random;
+use crate::tabs::{self, Row};
 use store::{Geometry, State, Store, SECTOR_SIZES};
 
 type Run = dyn Fn(&mut Test) -> Result<(), Difference>;
@@ -11,11 +13,13 @@ pub struct Scenario {
     pub name: String,
     /// Only with `--long`.
     pub long: bool,
+    /// Only in the first round.
+    pub once: bool,
     run: Box<Run>,
 }
 
 impl Scenario {
-    fn new(
+    pub(crate) fn new(
         name: String,
         long: bool,
         run: impl Fn(&mut Test) -> Result<(), Difference> + 'static,
@@ -23,8 +27,13 @@ impl Scenario {
         Scenario {
             name,
             long,
+            once: false,
             run: Box::new(run),
         }
+    }
+
+    pub(crate) fn once(self) -> Scenario {
+        Scenario { once: true, ..self }
     }
 
     /// The same seed makes the same calls.
@@ -39,9 +48,9 @@ impl Scenario {
 }
 
 /// A scenario under way.
-struct Test<'a> {
-    pair: Pair<'a>,
-    random: Random,
+pub(crate) struct Test<'a> {
+    pub pair: Pair<'a>,
+    pub random: Random,
 }
 
 /// All scenarios, the short ones first.
@@ -139,10 +148,29 @@ pub fn all() -> Vec<Scenario> {
             move |test| boundaries(test, s, r, d, times),
         ));
     }
+    list.extend(loads::all());
     list
 }
 
-fn geometry(s: u32, r: u32, d: u32) -> Geometry {
+/// A fresh volume in slices of its own, with random bytes before the format.
+pub(crate) fn format(test: &mut Test, s: u32, r: u32, d: u32) -> Result<(), Difference> {
+    let (extra, shift) = (test.random.below(12), test.random.below(16));
+    test.pair.lend_for(geometry(s, r, d), extra, shift);
+    let random = &mut test.random;
+    test.pair.fill(|data, spare, ram| {
+        random.fill(data);
+        random.fill(spare);
+        random.fill(ram);
+    });
+    test.pair.call(Call::Format {
+        sector_size: s,
+        ra_blocks: r,
+        da_blocks: d,
+    })?;
+    Ok(())
+}
+
+pub(crate) fn geometry(s: u32, r: u32, d: u32) -> Geometry {
     Geometry::new(s, r, d).expect("the scenarios' sizes are allowed")
 }
 
@@ -185,6 +213,13 @@ impl Keys {
             self.inserted.push(key);
         }
     }
+
+    fn note_rows(&mut self, rows: &[Row], answer: Answer) {
+        if let Answer::Load(result) = answer {
+            let loaded = rows.iter().take(result.rows as usize);
+            self.inserted.extend(loaded.map(|[level, ..]| level));
+        }
+    }
 }
 
 /// How many of 20 calls are inserts, updates and deletes; the rest are lookups.
@@ -211,7 +246,7 @@ const MANY_DELETES: Mix = Mix {
     deletes: 8,
 };
 
-fn insert_of(random: &mut Random, key: u32) -> Call {
+fn insert_of(random: &mut Random, key: u32) -> Call<'static> {
     Call::Insert {
         key,
         moves: random.next_u32(),
@@ -220,7 +255,7 @@ fn insert_of(random: &mut Random, key: u32) -> Call {
     }
 }
 
-fn update_of(random: &mut Random, key: u32) -> Call {
+fn update_of(random: &mut Random, key: u32) -> Call<'static> {
     Call::Update {
         key,
         moves: random.next_u32(),
@@ -229,7 +264,36 @@ fn update_of(random: &mut Random, key: u32) -> Call {
     }
 }
 
-fn some_call(random: &mut Random, mix: Mix, keys: &Keys) -> Call {
+/// A call of the mix; now and then a load.
+fn call_some(test: &mut Test, mix: Mix, keys: &mut Keys) -> Result<Answer, Difference> {
+    if test.random.chance(1, 50) {
+        let count = test.random.below(10);
+        let levels: Vec<u32> = (0..count).map(|_| keys.any(&mut test.random)).collect();
+        return load_levels(test, &levels, keys);
+    }
+    let call = some_call(&mut test.random, mix, keys);
+    let answer = test.pair.call(call)?;
+    keys.note(call, answer);
+    Ok(answer)
+}
+
+/// A tab with a row for each of these levels, now and then with a wrong byte.
+fn load_levels(test: &mut Test, levels: &[u32], keys: &mut Keys) -> Result<Answer, Difference> {
+    let random = &mut test.random;
+    let rows: Vec<Row> = levels
+        .iter()
+        .map(|&level| [level, random.next_u32(), random.next_u32()])
+        .collect();
+    let mut tab = tabs::with_rows(random, &rows);
+    if random.chance(1, 4) {
+        tabs::spoil(random, &mut tab);
+    }
+    let answer = test.pair.call(Call::Load { tab: &tab })?;
+    keys.note_rows(&rows, answer);
+    Ok(answer)
+}
+
+fn some_call(random: &mut Random, mix: Mix, keys: &Keys) -> Call<'static> {
     let choice = random.below(20);
     if choice < mix.inserts {
         let key = if random.chance(1, 12) {
@@ -250,32 +314,28 @@ fn some_call(random: &mut Random, mix: Mix, keys: &Keys) -> Call {
     }
 }
 
-/// Any of the four calls, with this key.
-fn some_call_of(random: &mut Random, key: u32) -> Call {
-    match random.below(5) {
+/// Any of the calls, with this key.
+fn call_any(test: &mut Test, key: u32, keys: &mut Keys) -> Result<Answer, Difference> {
+    let random = &mut test.random;
+    let call = match random.below(6) {
         0 => insert_of(random, key),
         1 => update_of(random, key),
         2 => Call::Delete { key },
+        3 => {
+            let levels = [keys.any(random), key, keys.any(random)];
+            return load_levels(test, &levels, keys);
+        }
         _ => Call::Lookup { key },
-    }
+    };
+    let answer = test.pair.call(call)?;
+    keys.note(call, answer);
+    Ok(answer)
 }
 
 /// From a format to capacity and some calls beyond.
 fn history(test: &mut Test, s: u32, r: u32, d: u32) -> Result<(), Difference> {
     let geometry = geometry(s, r, d);
-    let (extra, shift) = (test.random.below(12), test.random.below(16));
-    test.pair.lend_for(geometry, extra, shift);
-    let random = &mut test.random;
-    test.pair.fill(|data, spare, ram| {
-        random.fill(data);
-        random.fill(spare);
-        random.fill(ram);
-    });
-    test.pair.call(Call::Format {
-        sector_size: s,
-        ra_blocks: r,
-        da_blocks: d,
-    })?;
+    format(test, s, r, d)?;
     let mix = test.random.pick(&[MANY_INSERTS, MANY_UPDATES, MANY_DELETES]);
     let capacity = geometry.record_capacity();
     let mut keys = Keys::below(2 * capacity as u32);
@@ -284,15 +344,11 @@ fn history(test: &mut Test, s: u32, r: u32, d: u32) -> Result<(), Difference> {
         // Once deletions are full, inserts go on.
         let deletions_full = test.pair.state.deletions as usize == geometry.deletion_capacity();
         let mix = if deletions_full { MANY_INSERTS } else { mix };
-        let call = some_call(&mut test.random, mix, &keys);
-        let answer = test.pair.call(call)?;
-        keys.note(call, answer);
+        call_some(test, mix, &mut keys)?;
         calls += 1;
     }
     for _ in 0..100 {
-        let call = some_call(&mut test.random, MANY_DELETES, &keys);
-        let answer = test.pair.call(call)?;
-        keys.note(call, answer);
+        call_some(test, MANY_DELETES, &mut keys)?;
     }
     Ok(())
 }
@@ -323,12 +379,10 @@ fn damaged(test: &mut Test, s: u32, r: u32, d: u32, calls: usize) -> Result<(), 
         if number > quiet && test.random.chance(1, 12) {
             test.pair.state = altered_state(&mut test.random, geometry, handed_in);
         }
-        let call = match damaged_key {
-            Some(key) if test.random.chance(3, 4) => some_call_of(&mut test.random, key),
-            _ => some_call(&mut test.random, MANY_INSERTS, &keys),
+        let answer = match damaged_key {
+            Some(key) if test.random.chance(3, 4) => call_any(test, key, &mut keys)?,
+            _ => call_some(test, MANY_INSERTS, &mut keys)?,
         };
-        let answer = test.pair.call(call)?;
-        keys.note(call, answer);
         // An altered state is kept if it goes on, and now and then if it does not.
         if !answer.accepted() && test.random.chance(9, 10) {
             test.pair.state = handed_in;
@@ -544,17 +598,17 @@ fn wild_states(test: &mut Test) -> Result<(), Difference> {
             if random.chance(3, 4) {
                 test.pair.state = wild_state(random);
             }
-            let call = if random.chance(1, 6) {
-                Call::Format {
+            if random.chance(1, 6) {
+                let call = Call::Format {
                     sector_size: wild_sector_size(random),
                     ra_blocks: wild_blocks(random),
                     da_blocks: wild_blocks(random),
-                }
+                };
+                test.pair.call(call)?;
             } else {
                 let bound = random.pick(&[20, 5000, u32::MAX]);
-                some_call(random, MANY_INSERTS, &Keys::below(bound))
-            };
-            test.pair.call(call)?;
+                call_some(test, MANY_INSERTS, &mut Keys::below(bound))?;
+            }
         }
     }
     Ok(())
@@ -606,9 +660,7 @@ fn lengths(test: &mut Test, s: u32) -> Result<(), Difference> {
         test.pair.state = start;
         let mut keys = Keys::below(s);
         for _ in 0..40 {
-            let call = some_call(&mut test.random, MANY_INSERTS, &keys);
-            let answer = test.pair.call(call)?;
-            keys.note(call, answer);
+            call_some(test, MANY_INSERTS, &mut keys)?;
         }
     }
     Ok(())
@@ -620,7 +672,7 @@ fn boundaries(test: &mut Test, s: u32, r: u32, d: u32, times: usize) -> Result<(
     let (extra, shift) = (test.random.below(9), test.random.below(16));
     test.pair.lend_for(geometry, extra, shift);
     for _ in 0..times {
-        let keys = Keys::below(test.random.pick(&[4, 200, 5000, 1 << 20]));
+        let mut keys = Keys::below(test.random.pick(&[4, 200, 5000, 1 << 20]));
         let state = due_state(&mut test.random, geometry, s, r, d);
         let random = &mut test.random;
         test.pair.fill(|data, spare, ram| {
@@ -629,18 +681,30 @@ fn boundaries(test: &mut Test, s: u32, r: u32, d: u32, times: usize) -> Result<(
         test.pair.state = state;
         for _ in 0..10 {
             let random = &mut test.random;
-            // A key above the others is not there and can be inserted.
-            let call = if random.chance(1, 2) {
-                let key = 0x4000_0000 + random.below_u32(1 << 30);
-                insert_of(random, key)
-            } else {
-                let mix = random.pick(&[MANY_INSERTS, MANY_UPDATES, MANY_DELETES]);
-                some_call(random, mix, &keys)
-            };
-            test.pair.call(call)?;
+            match random.below(5) {
+                0 | 1 => {
+                    let key = absent_key(random);
+                    let call = insert_of(random, key);
+                    test.pair.call(call)?;
+                }
+                2 => {
+                    let levels = [(); 6].map(|()| absent_key(random));
+                    let count = random.below(levels.len() + 1);
+                    load_levels(test, &levels[..count], &mut keys)?;
+                }
+                _ => {
+                    let mix = random.pick(&[MANY_INSERTS, MANY_UPDATES, MANY_DELETES]);
+                    call_some(test, mix, &mut keys)?;
+                }
+            }
         }
     }
     Ok(())
+}
+
+/// A key above the others is not there and can be inserted.
+fn absent_key(random: &mut Random) -> u32 {
+    0x4000_0000 + random.below_u32(1 << 30)
 }
 
 /// n up to three below a multiple of a page, a flush, a round or a cycle; d below a page of deletions or anything.

@@ -1,8 +1,8 @@
 //! The test sees broken stores: the model with one fault each, the likeliest to slip through among them.
 
 use difftest::pair::{Counts, Difference};
-use difftest::scenarios;
-use store::{Change, Geometry, LookupResult, ModelStore, State, Store};
+use difftest::{loads, scenarios};
+use store::{Change, Geometry, LoadResult, LookupResult, ModelStore, State, Store};
 
 #[derive(Clone, Copy, Debug)]
 enum Fault {
@@ -43,6 +43,55 @@ enum Fault {
     StopsAtDeleted,
     /// The lengths of the slices are not looked at closely.
     OneByteShort,
+    /// A live level of a tab is refused by 3.
+    LoadInserts,
+    /// A malformed row is left out.
+    LoadGoesOn,
+    /// The whole tab is read before its first row is loaded.
+    LoadReadsFirst,
+    /// A refused load hands out the state handed in.
+    LoadStateKept,
+    /// A refused load gives no number of rows.
+    LoadRowsForgotten,
+    /// Refusal 9 before 1 and 2.
+    LoadNineFirst,
+    /// Another tab than the one lent is read.
+    LoadReads(Reader),
+}
+
+/// The tab that is read of the one lent.
+type Reader = fn(&[u8]) -> Vec<u8>;
+
+/// Readers that take more or less than the grammar.
+const READERS: [(&str, Reader); 9] = [
+    ("capital letters", |tab| tab.to_ascii_lowercase()),
+    ("blanks", |tab| without(tab, b" ")),
+    ("CR anywhere", |tab| without(tab, b"\r")),
+    ("quotes anywhere", |tab| without(tab, b"\"")),
+    ("zeros left out", |tab| replaced(tab, "00", "0")),
+    ("empty lines", |tab| replaced(tab, "\n\n", "\n")),
+    ("a comma behind the row", |tab| replaced(tab, ",\n", "\n")),
+    ("numbers of 2^32", |tab| replaced(tab, "4294967296", "0")),
+    ("no row without an ending", |tab| {
+        let end = tab.iter().rposition(|&byte| byte == b'\n');
+        tab[..end.map_or(0, |end| end + 1)].to_vec()
+    }),
+];
+
+fn without(tab: &[u8], left_out: &[u8]) -> Vec<u8> {
+    tab.iter()
+        .copied()
+        .filter(|byte| !left_out.contains(byte))
+        .collect()
+}
+
+/// Byte by byte, so that any bytes can be handled as text.
+fn replaced(tab: &[u8], from: &str, to: &str) -> Vec<u8> {
+    let text: String = tab.iter().map(|&byte| char::from(byte)).collect();
+    text.replace(from, to)
+        .chars()
+        .map(|letter| letter as u8)
+        .collect()
 }
 
 struct Broken {
@@ -99,6 +148,26 @@ impl Broken {
             _ => {}
         }
         change
+    }
+
+    /// The load of the lines behind those loaded and the malformed one.
+    fn go_on(
+        &self,
+        first: LoadResult,
+        tab: &[u8],
+        data: &mut [u8],
+        spare: &mut [u8],
+        ram: &mut [u8],
+    ) -> LoadResult {
+        let mut lines = tab.split_inclusive(|&byte| byte == b'\n');
+        let header = lines.next().unwrap_or(b"");
+        let rest: Vec<&[u8]> = lines.skip(first.rows as usize + 1).collect();
+        let shorter = [header, &rest.concat()].concat();
+        let second = ModelStore.load(first.state, &shorter, data, spare, ram);
+        LoadResult {
+            rows: first.rows + second.rows,
+            ..second
+        }
     }
 }
 
@@ -211,29 +280,81 @@ impl Store for Broken {
             _ => result,
         }
     }
+
+    fn load(
+        &self,
+        state: State,
+        tab: &[u8],
+        data: &mut [u8],
+        spare: &mut [u8],
+        ram: &mut [u8],
+    ) -> LoadResult {
+        if let Fault::LoadReads(read) = self.fault {
+            return ModelStore.load(state, &read(tab), data, spare, ram);
+        }
+        let before = (data.to_vec(), spare.to_vec(), ram.to_vec());
+        let result = ModelStore.load(state, tab, data, spare, ram);
+        let refused = result.refusal != 0;
+        match self.fault {
+            Fault::LoadInserts if result.state.deletions > state.deletions => {
+                LoadResult { refusal: 3, ..result }
+            }
+            Fault::LoadGoesOn if result.refusal == 9 => self.go_on(result, tab, data, spare, ram),
+            Fault::LoadReadsFirst if result.refusal == 9 => {
+                data.copy_from_slice(&before.0);
+                spare.copy_from_slice(&before.1);
+                ram.copy_from_slice(&before.2);
+                LoadResult {
+                    rows: 0,
+                    state,
+                    ..result
+                }
+            }
+            Fault::LoadStateKept if refused => LoadResult { state, ..result },
+            Fault::LoadRowsForgotten if refused => LoadResult { rows: 0, ..result },
+            Fault::LoadNineFirst if result.refusal <= 2 && !tab.starts_with(b"level") => {
+                LoadResult { refusal: 9, ..result }
+            }
+            _ => result,
+        }
+    }
 }
 
-/// The scenarios of S = 16 and 32 once, until the first difference.
-fn run(fault: Fault) -> Result<Counts, Difference> {
+/// Once the scenarios that have one of these in their name, until the first difference.
+fn run(fault: Fault, parts: &[&str]) -> Result<Counts, Difference> {
     let broken = Broken { fault };
     let mut total = Counts::default();
-    for scenario in scenarios::all() {
-        let small = ["-16", "-32", "wild"]
-            .iter()
-            .any(|part| scenario.name.contains(part));
-        if small && !scenario.long {
+    for scenario in scenarios::all().into_iter().chain([loads::strings(5_000)]) {
+        let chosen = parts.iter().any(|part| scenario.name.contains(part));
+        if chosen && !scenario.long && !scenario.once {
             total.add(&scenario.run(&ModelStore, &broken, 7)?);
         }
     }
     Ok(total)
 }
 
+/// The scenarios of S = 16 and 32.
+const SMALL: [&str; 3] = ["-16", "-32", "wild"];
+/// Those of loads.
+const LOADS: [&str; 1] = ["tab"];
+
+fn assert_reported(name: &str, fault: Fault, parts: &[&str]) {
+    match run(fault, parts) {
+        Ok(_) => panic!("{name} is not reported"),
+        Err(difference) => {
+            assert!(difference.number > 0);
+            assert!(difference.to_string().contains(&difference.what));
+        }
+    }
+}
+
 #[test]
 fn the_model_does_not_differ_from_itself() {
-    let counts = run(Fault::None).unwrap_or_else(|difference| panic!("{difference}"));
+    let parts = [SMALL.as_slice(), &LOADS].concat();
+    let counts = run(Fault::None, &parts).unwrap_or_else(|difference| panic!("{difference}"));
     // Every answer occurs, and sets of all kinds are built.
-    assert!(counts.accepted > 0 && counts.hits > 0 && counts.misses > 0);
-    for number in 1..=8 {
+    assert!(counts.accepted > 0 && counts.hits > 0 && counts.misses > 0 && counts.rows > 0);
+    for number in 1..=9 {
         assert!(counts.refusals[number] > 0, "no refusal {number}");
     }
     assert!(counts.sets > counts.full_sets && counts.full_sets > 0);
@@ -262,12 +383,23 @@ fn broken_stores_are_reported() {
         Fault::StopsAtDeleted,
         Fault::OneByteShort,
     ] {
-        match run(fault) {
-            Ok(_) => panic!("{fault:?} is not reported"),
-            Err(difference) => {
-                assert!(difference.number > 0);
-                assert!(difference.to_string().contains(&difference.what));
-            }
-        }
+        assert_reported(&format!("{fault:?}"), fault, &SMALL);
+    }
+}
+
+#[test]
+fn broken_loads_are_reported() {
+    for fault in [
+        Fault::LoadInserts,
+        Fault::LoadGoesOn,
+        Fault::LoadReadsFirst,
+        Fault::LoadStateKept,
+        Fault::LoadRowsForgotten,
+        Fault::LoadNineFirst,
+    ] {
+        assert_reported(&format!("{fault:?}"), fault, &LOADS);
+    }
+    for (name, reader) in READERS {
+        assert_reported(name, Fault::LoadReads(reader), &LOADS);
     }
 }

@@ -2,7 +2,7 @@
 
 use difftest::pair::{Call, Difference, Pair};
 use difftest::random::Random;
-use difftest::scenarios;
+use difftest::{loads, scenarios};
 use store::{FastStore, Geometry, ModelStore, State};
 
 /// The scenarios but those whose volumes take long to compare; the next test has their sets.
@@ -16,8 +16,8 @@ fn scenarios_agree() {
         "lengths-512",
         "full-sets-32",
     ];
-    for scenario in scenarios::all() {
-        if scenario.long || slow.iter().any(|part| scenario.name.contains(part)) {
+    for scenario in scenarios::all().into_iter().chain([loads::strings(100_000)]) {
+        if scenario.long || scenario.once || slow.iter().any(|part| scenario.name.contains(part)) {
             continue;
         }
         if let Err(difference) = scenario.run(&ModelStore, &FastStore, 0xFA57) {

@@ -1,9 +1,10 @@
-//! The five calls and their refusals, checked in the order 1, 2, 8, 3, 4, 5, 6, 7.
+//! The calls and their refusals, checked in the order 1, 2, 9, 8, 3, 4, 5, 6, 7.
 
 use crate::change::{change, Lent, Record};
 use crate::layout::{Layout, RECORD};
 use crate::search::{search, Ending, Found};
-use model::{Change, LookupResult, State};
+use crate::tab::Tab;
+use model::{Change, LoadResult, LookupResult, State};
 
 const NOT_ALLOWED: u32 = 1;
 const TOO_SHORT: u32 = 2;
@@ -13,6 +14,7 @@ const RECORDS_FULL: u32 = 5;
 const DELETIONS_FULL: u32 = 6;
 const NOT_FRESH: u32 = 7;
 const WRONG_RECORD_NUMBER: u32 = 8;
+const MALFORMED: u32 = 9;
 
 /// The call compiled for this sector size; another size is refused.
 macro_rules! for_size {
@@ -103,6 +105,19 @@ pub fn lookup(state: State, key: u32, data: &[u8], spare: &[u8], ram: &[u8]) -> 
     }
 }
 
+pub fn load(state: State, tab: &[u8], data: &mut [u8], spare: &mut [u8], ram: &mut [u8]) -> LoadResult {
+    let lent = Lent { data, spare, ram };
+    let mut loaded = LoadResult {
+        refusal: 0,
+        rows: 0,
+        state,
+    };
+    if let Err(refusal) = for_size!(state.sector_size, load_rows(&mut loaded, tab, lent)) {
+        loaded.refusal = refusal;
+    }
+    loaded
+}
+
 /// An insert without its search; with a record number to be deleted, an update. It makes the volume of a history
 /// that is known to be accepted: nobody asks whether the key is live.
 pub fn append(
@@ -149,6 +164,34 @@ fn replace<const S: usize>(state: State, key: u32, record: Option<Record>, lent:
     };
     room(&layout, state, true, record.is_some())?;
     change(&layout, state, Some(old), record, lent).ok_or(NOT_FRESH)
+}
+
+/// The rows of a tab; `loaded` counts those accepted.
+fn load_rows<const S: usize>(loaded: &mut LoadResult, tab: &[u8], lent: Lent) -> Result<(), u32> {
+    let layout = judge::<S>(loaded.state, lent.data, lent.spare, lent.ram)?;
+    let mut tab = Tab::behind_header(tab).ok_or(MALFORMED)?;
+    while !tab.at_end() {
+        let [level, moves, goal] = tab.row().ok_or(MALFORMED)?;
+        let lent = Lent {
+            data: &mut *lent.data,
+            spare: &mut *lent.spare,
+            ram: &mut *lent.ram,
+        };
+        loaded.state = set(&layout, loaded.state, [level, moves, goal, 0], lent)?;
+        loaded.rows += 1;
+    }
+    Ok(())
+}
+
+/// An insert, or an update if the key is live, with one search.
+fn set<const S: usize>(layout: &Layout<S>, state: State, record: Record, lent: Lent) -> Result<State, u32> {
+    let old = match search(layout, state, record[0], lent.data, lent.ram).ending {
+        Some(Ending::WrongRecordNumber) => return Err(WRONG_RECORD_NUMBER),
+        Some(Ending::Live(number)) => Some(number),
+        None => None,
+    };
+    room(layout, state, old.is_some(), true)?;
+    change(layout, state, old, Some(record), lent).ok_or(NOT_FRESH)
 }
 
 fn append_known<const S: usize>(

@@ -6,7 +6,8 @@
 //!   and a page has a length that the compiler knows;
 //! - filters are walked place by place (RAM page, L1, current set, full sets), up to 64 filters a word, see `walk`;
 //! - deletions and keys are compared without an exit inside a block, which the compiler turns into vector code, see `scan`;
-//! - a set is rebuilt by copies of bytes and merges of words, straight from flash to flash, see `rebuild`.
+//! - a set is rebuilt by copies of bytes and merges of words, straight from flash to flash, see `rebuild`;
+//! - a tab is read in place, and each of its rows needs one search.
 //!
 //! No `unsafe`: slices are cut before a loop, so that no test of a bound is left inside. The one that is left for
 //! each page opened was measured against `get_unchecked`: no difference beyond that of two runs.
@@ -21,7 +22,8 @@ mod layout;
 mod rebuild;
 mod scan;
 mod search;
+mod tab;
 mod walk;
 
-pub use calls::{append, delete, format, insert, lookup, update};
-pub use model::{Change, LookupResult, State};
+pub use calls::{append, delete, format, insert, load, lookup, update};
+pub use model::{Change, LoadResult, LookupResult, State};

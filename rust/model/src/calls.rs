@@ -1,4 +1,4 @@
-//! The five calls and their refusals, "checked in the order 1, 2, 8, 3, 4, 5, 6, 7".
+//! The five calls of document 01 and their refusals, "checked in the order 1, 2, 8, 3, 4, 5, 6, 7".
 
 use crate::change::{change, Record};
 use crate::flash::erase_block;
@@ -165,7 +165,7 @@ pub fn lookup(state: State, key: u32, data: &[u8], spare: &[u8], ram: &[u8]) -> 
 }
 
 /// Refusals 1 and 2. Nothing is multiplied before S, R and D are known to be allowed.
-fn judge(state: State, data: &[u8], spare: &[u8], ram: &[u8]) -> Result<Geometry, u32> {
+pub fn judge(state: State, data: &[u8], spare: &[u8], ram: &[u8]) -> Result<Geometry, u32> {
     let geometry = Geometry::of_state(state).ok_or(NOT_ALLOWED)?;
     // "n or d above capacity; d above n".
     if state.records as usize > geometry.record_capacity()

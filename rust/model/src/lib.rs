@@ -1,6 +1,6 @@
-//! Plain model of the level store, written from the sentences of document 01.
+//! Plain model of the level store, written from the sentences of document 01 and of the requests after it.
 //!
-//! Five calls, on any state and any slices: `data`, `spare` and `ram` are the
+//! Six calls, on any state and any slices: `data`, `spare` and `ram` are the
 //! bytes that the document calls cells, marks and desk. Nothing is kept between
 //! calls; filter bits are read from the lent bytes, and sets are built from the
 //! bits as they stand.
@@ -13,13 +13,17 @@ mod filter;
 mod flash;
 mod geometry;
 mod hash;
+mod load;
 mod search;
+mod tab;
 
 pub use calls::{delete, format, insert, lookup, update};
 pub use change::operations;
 pub use filter::{set_page_count, Set};
 pub use geometry::{Geometry, SECTOR_SIZES};
 pub use hash::{fnv1a, positions};
+pub use load::load;
+pub use tab::{read_tab, Reading, Row};
 
 /// The state S, R, D, n, d.
 #[repr(C)]
@@ -55,4 +59,14 @@ pub struct LookupResult {
     pub count: u32,
     pub in_ram: u32,
     pub offset: u32,
+}
+
+/// The answer of load: the refusal that ended it (0: none, all rows are loaded), the rows loaded, and the
+/// state after them.
+#[repr(C)]
+#[derive(Clone, Copy, Debug, Default, PartialEq, Eq)]
+pub struct LoadResult {
+    pub refusal: u32,
+    pub rows: u32,
+    pub state: State,
 }

@@ -1,10 +1,10 @@
-//! The five calls as a trait, so that tests and benchmarks can run any implementation.
+//! The six calls as a trait, so that tests and benchmarks can run any implementation.
 
 #[cfg(feature = "proved")]
 mod proved_store;
 mod rust_stores;
 
-pub use model::{Change, Geometry, LookupResult, State, SECTOR_SIZES};
+pub use model::{Change, Geometry, LoadResult, LookupResult, State, SECTOR_SIZES};
 #[cfg(feature = "proved")]
 pub use proved_store::ProvedStore;
 pub use rust_stores::{FastStore, ModelStore};
@@ -51,6 +51,10 @@ pub trait Store {
     fn delete(&self, state: State, key: u32, data: &mut [u8], spare: &mut [u8], ram: &mut [u8]) -> Change;
 
     fn lookup(&self, state: State, key: u32, data: &[u8], spare: &[u8], ram: &[u8]) -> LookupResult;
+
+    /// Each row of a comma-separated tab is an insert, or an update if the level is live.
+    fn load(&self, state: State, tab: &[u8], data: &mut [u8], spare: &mut [u8], ram: &mut [u8])
+        -> LoadResult;
 }
 
 /// The store of a name: `model`, `fast`, and `proved` with the feature.

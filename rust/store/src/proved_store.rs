@@ -1,9 +1,9 @@
 use crate::Store;
-use model::{Change, LookupResult, State};
+use model::{Change, LoadResult, LookupResult, State};
 
 /// The C interface of the static library. The structs are `#[repr(C)]`; a slice is a pointer and a length.
 mod c {
-    use model::{Change, LookupResult, State};
+    use model::{Change, LoadResult, LookupResult, State};
 
     extern "C" {
         pub fn level_store_format(
@@ -68,14 +68,26 @@ mod c {
             ram: *const u8,
             ram_len: usize,
         ) -> LookupResult;
+
+        pub fn level_store_load(
+            state: State,
+            tab: *const u8,
+            tab_len: usize,
+            data: *mut u8,
+            data_len: usize,
+            spare: *mut u8,
+            spare_len: usize,
+            ram: *mut u8,
+            ram_len: usize,
+        ) -> LoadResult;
     }
 }
 
 /// The store of the static library.
 pub struct ProvedStore;
 
-// Each call lends three distinct slices with their lengths for its duration; the library takes
-// any state, any numbers and slices of any length.
+// Each call lends distinct slices with their lengths for its duration; the library takes any state,
+// any numbers and slices of any length.
 impl Store for ProvedStore {
     fn name(&self) -> &'static str {
         "proved"
@@ -188,6 +200,29 @@ impl Store for ProvedStore {
                 spare.as_ptr(),
                 spare.len(),
                 ram.as_ptr(),
+                ram.len(),
+            )
+        }
+    }
+
+    fn load(
+        &self,
+        state: State,
+        tab: &[u8],
+        data: &mut [u8],
+        spare: &mut [u8],
+        ram: &mut [u8],
+    ) -> LoadResult {
+        unsafe {
+            c::level_store_load(
+                state,
+                tab.as_ptr(),
+                tab.len(),
+                data.as_mut_ptr(),
+                data.len(),
+                spare.as_mut_ptr(),
+                spare.len(),
+                ram.as_mut_ptr(),
                 ram.len(),
             )
         }

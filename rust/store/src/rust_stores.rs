@@ -1,6 +1,6 @@
 //! The stores in Rust: each call is the function of that name of a crate.
 
-use crate::{Change, LookupResult, State, Store};
+use crate::{Change, LoadResult, LookupResult, State, Store};
 
 macro_rules! store_over {
     ($(#[$about:meta])* $store:ident, $calls:ident) => {
@@ -59,6 +59,17 @@ macro_rules! store_over {
 
             fn lookup(&self, state: State, key: u32, data: &[u8], spare: &[u8], ram: &[u8]) -> LookupResult {
                 $calls::lookup(state, key, data, spare, ram)
+            }
+
+            fn load(
+                &self,
+                state: State,
+                tab: &[u8],
+                data: &mut [u8],
+                spare: &mut [u8],
+                ram: &mut [u8],
+            ) -> LoadResult {
+                $calls::load(state, tab, data, spare, ram)
             }
         }
     };

@@ -1,4 +1,5 @@
-//! The vectors of a folder against a store: `trace/*.trace` with `*.out`, and `replay/*.in` with `*.out`.
+//! The vectors of a folder against a store: `trace/*.trace` with `*.out`, and `replay/*.in` with `*.out`;
+//! the same in `requests/L`, after the requests 1 to L.
 
 #![forbid(unsafe_code)]
 
@@ -53,6 +54,21 @@ impl fmt::Display for Failure {
 pub struct Summary {
     pub files: usize,
     pub lines: usize,
+}
+
+/// The parts of a folder, each with `trace` and `replay`: itself, and each folder in `requests`.
+pub fn parts(folder: &Path) -> Vec<PathBuf> {
+    let requests = Path::new("requests");
+    let mut parts = vec![PathBuf::new()];
+    for entry in fs::read_dir(folder.join(requests))
+        .into_iter()
+        .flatten()
+        .flatten()
+    {
+        parts.push(requests.join(entry.file_name()));
+    }
+    parts.sort();
+    parts
 }
 
 /// All `*.trace` of a folder, in the order of their names.

@@ -4,11 +4,11 @@ use std::env;
 use std::path::{Path, PathBuf};
 use std::process::ExitCode;
 use std::time::Instant;
-use vectors::{run_replays, run_traces, Failure, Summary};
+use vectors::{parts, run_replays, run_traces, Failure, Summary};
 
 const USAGE: &str = "usage: vectors [--store model|fast|proved] [FOLDER]
-FOLDER (tests/vectors if not given) holds trace/ and replay/; it is looked for
-from the current folder upwards. The store proved needs the feature proved.";
+FOLDER (tests/vectors if not given) holds trace/ and replay/, also in requests/*; it is
+looked for from the current folder upwards. The store proved needs the feature proved.";
 
 fn main() -> ExitCode {
     let mut store_name = "model".to_string();
@@ -32,11 +32,15 @@ fn main() -> ExitCode {
     };
     type Run = fn(&dyn store::Store, &Path) -> Result<Summary, Failure>;
     let runs: [(&str, Run); 2] = [("trace", run_traces), ("replay", run_replays)];
-    for (name, run) in runs {
+    let parts = parts(&folder);
+    let all = parts.iter().flat_map(|part| runs.map(|run| (part, run)));
+    for (part, (kind, run)) in all {
+        let name = part.join(kind);
         let start = Instant::now();
-        match run(&*store, &folder.join(name)) {
+        match run(&*store, &folder.join(&name)) {
             Ok(summary) => println!(
-                "{name}: {} files, {} lines agree with store {} ({:.1} s)",
+                "{}: {} files, {} lines agree with store {} ({:.1} s)",
+                name.display(),
                 summary.files,
                 summary.lines,
                 store.name(),

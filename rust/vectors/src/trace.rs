@@ -1,6 +1,6 @@
 //! The commands of a trace (the README of the vectors has the format).
 
-use store::{Change, LookupResult, State, Store};
+use store::{Change, LoadResult, LookupResult, State, Store};
 
 /// Lent slices, state and settings of a trace under way.
 pub struct Runner<'a> {
@@ -33,6 +33,9 @@ impl<'a> Runner<'a> {
     pub fn command(&mut self, line: &str) -> Result<Option<String>, String> {
         let mut words = line.split(' ');
         let name = words.next().unwrap_or("");
+        if name == "LOAD" {
+            return self.load(words.next().unwrap_or("")).map(Some);
+        }
         let mut numbers = Vec::new();
         for word in words {
             let number: u32 = word.parse().map_err(|_| format!("not a number: {word}"))?;
@@ -94,6 +97,15 @@ impl<'a> Runner<'a> {
             _ => return Err("not a command".to_string()),
         };
         Ok(Some(self.output_line(&answer)))
+    }
+
+    /// `LOAD hexbytes`, `-` for no bytes.
+    fn load(&mut self, hex: &str) -> Result<String, String> {
+        let tab = bytes_of(hex)?;
+        let (data, spare, ram) = (&mut self.data, &mut self.spare, &mut self.ram);
+        let LoadResult { refusal, rows, state } = self.store.load(self.state, &tab, data, spare, ram);
+        let ending = self.take(Change { refusal, state });
+        Ok(self.output_line(&format!("rows {rows} {ending}")))
     }
 
     /// The new state is handed in from here on.
@@ -176,6 +188,24 @@ fn as_byte(number: u32) -> Result<u8, String> {
     u8::try_from(number).map_err(|_| format!("not a byte: {number}"))
 }
 
+/// Bytes in hexadecimal; `-` is none.
+fn bytes_of(hex: &str) -> Result<Vec<u8>, String> {
+    if hex == "-" {
+        return Ok(Vec::new());
+    }
+    match hex
+        .chars()
+        .map(|digit| digit.to_digit(16))
+        .collect::<Option<Vec<u32>>>()
+    {
+        Some(digits) if !digits.is_empty() && digits.len().is_multiple_of(2) => Ok(digits
+            .chunks(2)
+            .map(|pair| (16 * pair[0] + pair[1]) as u8)
+            .collect()),
+        _ => Err(format!("not bytes: {hex}")),
+    }
+}
+
 /// The bytes digested last and their digest: bytes that did not change are not digested again.
 #[derive(Default)]
 struct Digest {
@@ -219,6 +249,16 @@ mod tests {
         assert_eq!(run("L 7"), Ok(Some(hit.to_string())));
         assert_eq!(run("L 8"), Ok(Some("miss 0 | 16 1 1 1 0".to_string())));
         assert_eq!(run("D 8"), Ok(Some("no 4 | 16 1 1 1 0".to_string())));
+        // Two rows, the second one malformed.
+        let tab = "6c6576656c2c6d6f7665732c676f616c0a372c312c320a372c0a";
+        assert_eq!(
+            run(&format!("LOAD {tab}")),
+            Ok(Some("rows 1 no 9 | 16 1 1 2 1".to_string()))
+        );
+        assert_eq!(run("LOAD -"), Ok(Some("rows 0 no 9 | 16 1 1 2 1".to_string())));
+        for bad in ["LOAD", "LOAD 6", "LOAD +6", "LOAD 6g"] {
+            assert!(run(bad).is_err(), "{bad}");
+        }
         assert!(run("X 8").is_err());
         assert!(run("PD 320 0").is_err());
         assert!(run("PD 0 256").is_err());

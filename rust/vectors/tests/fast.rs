@@ -12,12 +12,16 @@ fn folder(name: &str) -> PathBuf {
 
 #[test]
 fn traces() {
-    let summary = run_traces(&FastStore, &folder("trace")).unwrap_or_else(|f| panic!("{f}"));
-    assert_eq!(summary.files, 18);
+    for (name, files) in [("trace", 18), ("requests/1/trace", 11)] {
+        let summary = run_traces(&FastStore, &folder(name)).unwrap_or_else(|f| panic!("{f}"));
+        assert_eq!(summary.files, files);
+    }
 }
 
 #[test]
 fn replays() {
-    let summary = run_replays(&FastStore, &folder("replay")).unwrap_or_else(|f| panic!("{f}"));
-    assert_eq!(summary.files, 6);
+    for (name, files) in [("replay", 6), ("requests/1/replay", 4)] {
+        let summary = run_replays(&FastStore, &folder(name)).unwrap_or_else(|f| panic!("{f}"));
+        assert_eq!(summary.files, files);
+    }
 }

@@ -1,8 +1,8 @@
 //! The model passes all vectors of the repository, and a wrong answer is seen.
 
 use std::path::Path;
-use store::{Change, LookupResult, ModelStore, State, Store};
-use vectors::{run_replays, run_traces, Failure};
+use store::{Change, LoadResult, LookupResult, ModelStore, State, Store};
+use vectors::{parts, run_replays, run_traces, Failure};
 
 fn folder(name: &str) -> std::path::PathBuf {
     Path::new(env!("CARGO_MANIFEST_DIR"))
@@ -12,18 +12,31 @@ fn folder(name: &str) -> std::path::PathBuf {
 
 #[test]
 fn traces() {
-    let summary = run_traces(&ModelStore, &folder("trace")).unwrap_or_else(|f| panic!("{f}"));
-    assert_eq!(summary.files, 18);
+    for (name, files) in [("trace", 18), ("requests/1/trace", 11)] {
+        let summary = run_traces(&ModelStore, &folder(name)).unwrap_or_else(|f| panic!("{f}"));
+        assert_eq!(summary.files, files);
+    }
 }
 
 #[test]
 fn replays() {
-    let summary = run_replays(&ModelStore, &folder("replay")).unwrap_or_else(|f| panic!("{f}"));
-    assert_eq!(summary.files, 6);
+    for (name, files) in [("replay", 6), ("requests/1/replay", 4)] {
+        let summary = run_replays(&ModelStore, &folder(name)).unwrap_or_else(|f| panic!("{f}"));
+        assert_eq!(summary.files, files);
+    }
 }
 
-/// Opens pages and reports none.
-struct NoCount;
+/// The program runs all of them.
+#[test]
+fn all_parts() {
+    assert_eq!(parts(&folder("")), [Path::new(""), Path::new("requests/1")]);
+}
+
+/// Opens pages and reports none, or loads rows and reports none.
+enum NoCount {
+    Pages,
+    Rows,
+}
 
 impl Store for NoCount {
     fn name(&self) -> &'static str {
@@ -76,18 +89,35 @@ impl Store for NoCount {
     }
 
     fn lookup(&self, state: State, key: u32, data: &[u8], spare: &[u8], ram: &[u8]) -> LookupResult {
-        LookupResult {
-            count: 0,
-            ..ModelStore.lookup(state, key, data, spare, ram)
+        let mut result = ModelStore.lookup(state, key, data, spare, ram);
+        if let NoCount::Pages = self {
+            result.count = 0;
         }
+        result
+    }
+
+    fn load(
+        &self,
+        state: State,
+        tab: &[u8],
+        data: &mut [u8],
+        spare: &mut [u8],
+        ram: &mut [u8],
+    ) -> LoadResult {
+        let mut result = ModelStore.load(state, tab, data, spare, ram);
+        if let NoCount::Rows = self {
+            result.rows = 0;
+        }
+        result
     }
 }
 
 #[test]
 fn a_wrong_count_is_seen() {
     for result in [
-        run_traces(&NoCount, &folder("trace")),
-        run_replays(&NoCount, &folder("replay")),
+        run_traces(&NoCount::Pages, &folder("trace")),
+        run_traces(&NoCount::Rows, &folder("requests/1/trace")),
+        run_replays(&NoCount::Pages, &folder("replay")),
     ] {
         match result {
             Err(Failure::Difference { expected, got, .. }) => assert_ne!(expected, got),

@@ -4,7 +4,8 @@ use mathlib.Core.Path.{_≡_, refl, sym, ap, _∙_}
 use Prim.Native.Nat.{_+_, _*_, _-_, _≤_, _<_}
 use borrow.Author.Tests.{lt-ltb}
 use lib.ListN.{length, drop}
-use Rattle.script.specs.Lines.{digitsFrom, small}
+use Rattle.text.specs.Text.{digitsFrom}
+use Rattle.script.specs.Lines.{small}
 use Rattle.script.specs.ReadNumber.{digits-more, digits-low, digits-high, digits-end, stays-large}
 use Rattle.script.proofs.read_digits.Statement.{statement}
 use Rattle.script.proofs.read_digits.Tie as tie

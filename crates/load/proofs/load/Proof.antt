@@ -1,0 +1,134 @@
+-- 1 and 2, the header, then the rows.
+use borrow.Author.Needs.{needs}
+use mathlib.Core.Path.{_≡_, sym, ap, subst, _∙_}
+use Rattle.layout.specs.Hash.{fnvFamily}
+use Rattle.layout.specs.Calls.{Volume}
+use Rattle.state.specs.Contract.{volume}
+use Rattle.state.specs.Judge.{VolumeFits, GoodFits}
+use Rattle.state.specs.declared.Judgement.{Judgement}
+use Rattle.reader.specs.Contract.{headerIn}
+use Rattle.reader.specs.declared.Header.{Header}
+use Rattle.load.specs.Load.{loadLines, load}
+use Rattle.load.proofs.Steps.{load-judged, load-good}
+use Rattle.load.proofs.load.Statement.{statement}
+use Rattle.load.proofs.load.Tie as tie
+
+-- the volume that is handed in
+abbrev handed : tie.Start → Volume
+handed c = volume (c .args .s) (c .args .main .now) (c .args .spare .now) (c .args .ram .now)
+
+abbrev start-of : tie.After-judge → tie.Start
+start-of j = j .before .before .before .before .before .before .before .before
+
+-- neither 1 nor 2 applies
+abbrev good-at : tie.After-header-at → tie.After-enum-told
+good-at h = h .before
+
+abbrev judge-at : tie.After-enum-told → tie.After-judge
+judge-at g = g .before .before
+
+fits : (g : tie.After-enum-told) → VolumeFits (handed (start-of (judge-at g))) (g .enum-told .given .0 .0)
+fits g =
+    let j = judge-at g in
+    subst (λ (r : Judgement). GoodFits (handed (start-of j)) r) (g .enum-told .given .1) (j .judge .ensures .1)
+
+good : (h : tie.After-header-at) → let s = start-of (judge-at (good-at h)) in
+    load fnvFamily (handed s) (s .args .tab .now) ≡ loadLines fnvFamily (handed s) (headerIn (s .args .tab .now) (h .header-at .result))
+good h =
+    let g = good-at h in
+    let j = judge-at g in
+    let s = start-of j in
+    load-good fnvFamily (handed s) (s .args .tab .now) (g .enum-told .given .0 .0) (fits g) ∙ ap (loadLines fnvFamily (handed s)) (sym (h .header-at .ensures))
+
+judge-requires : tie.Need-judge-requires
+judge-requires c κs = search needs
+
+enum-known-i : tie.Need-enum-known-i
+enum-known-i c = search needs
+
+same-length : tie.Need-same-length
+same-length c = search needs
+
+same-length-2 : tie.Need-same-length-2
+same-length-2 c = search needs
+
+same-length-3 : tie.Need-same-length-3
+same-length-3 c = search needs
+
+returns : tie.Need-returns
+returns c =
+    let i = c .before in
+    let j = i .before .before in
+    let s = start-of j in
+    sym (load-judged fnvFamily (handed s) (s .args .tab .now) (i .i .given .0 .0) (sym (j .judge .ensures .0) ∙ i .i .given .1))
+
+enum-told : tie.Need-enum-told
+enum-told c = search needs
+
+header-at-requires : tie.Need-header-at-requires
+header-at-requires c κs = search needs
+
+enum-told-2 : tie.Need-enum-told-2
+enum-told-2 c = search needs
+
+same-length-4 : tie.Need-same-length-4
+same-length-4 c = search needs
+
+same-length-5 : tie.Need-same-length-5
+same-length-5 c = search needs
+
+same-length-6 : tie.Need-same-length-6
+same-length-6 c = search needs
+
+returns-2 : tie.Need-returns-2
+returns-2 c =
+    let h = c .before .before in
+    let s = start-of (judge-at (good-at h)) in
+    sym (good h ∙ ap (λ (r : Header). loadLines fnvFamily (handed s) (headerIn (s .args .tab .now) r)) (c .enum-told2 .given .1))
+
+enum-known-next : tie.Need-enum-known-next
+enum-known-next c = search needs
+
+load-rows-requires : tie.Need-load-rows-requires
+load-rows-requires c κs = search needs
+
+same-length-7 : tie.Need-same-length-7
+same-length-7 c = search needs
+
+same-length-8 : tie.Need-same-length-8
+same-length-8 c = search needs
+
+same-length-9 : tie.Need-same-length-9
+same-length-9 c = search needs
+
+returns-3 : tie.Need-returns-3
+returns-3 c =
+    let l = c .before .before .before .before .before .before in
+    let n = l .before .before .before .before .before in
+    let h = n .before .before in
+    let s = start-of (judge-at (good-at h)) in
+    l .load-rows .ensures ∙ sym (good h ∙ ap (λ (r : Header). loadLines fnvFamily (handed s) (headerIn (s .args .tab .now) r)) (n .next .given .1))
+
+pub load-spec : {M : Type 1} → statement M
+load-spec =
+    tie.close
+    (tie.spec
+    judge-requires
+    enum-known-i
+    same-length
+    same-length-2
+    same-length-3
+    returns
+    enum-told
+    header-at-requires
+    enum-told-2
+    same-length-4
+    same-length-5
+    same-length-6
+    returns-2
+    enum-known-next
+    load-rows-requires
+    same-length-7
+    same-length-8
+    same-length-9
+    returns-3)

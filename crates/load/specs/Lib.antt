@@ -1,0 +1,4 @@
+pub mod Contract
+pub mod Load
+pub mod LoadLaws
+pub mod LoadRefusals

@@ -1,0 +1,102 @@
+// Loading a tab: its rows, one put after the other, up to the first that is malformed or refused. Document 02, request 1.
+ghost use mathlib.Core.Path.{_≡_};
+ghost use lib.ListN.{drop};
+ghost use Rattle.memory.specs.Lent.{before};
+ghost use Rattle.layout.specs.Hash.{fnvFamily};
+ghost use Rattle.state.specs.Contract.{given};
+ghost use Rattle.tab.specs.Reader.{rowsOf};
+ghost use Rattle.load.specs.Load.{loadRead, load};
+ghost use Rattle.load.specs.Contract.{loadedBy};
+use reader::Header;
+use reader::Parsed;
+use state::Judgement;
+use state::Record;
+use state::State;
+
+// The answer of a load: a refusal's number or `ACCEPTED`, the rows that were loaded, and the state after them.
+#[repr(C)]
+pub struct Loaded {
+    pub refusal: u32,
+    pub rows: u32,
+    pub state: State,
+}
+
+// The rows from a place of the tab on. A row that is loaded is one more record, so they can be counted.
+fn load_rows(
+    s: State,
+    tab: &[u8],
+    at: usize,
+    main: &mut [u8],
+    spare: &mut [u8],
+    ram: &mut [u8],
+) -> Loaded
+    ensures { λ r. ⌜ loadedBy r main spare ram ≡ loadRead fnvFamily (given s main spare ram) (rowsOf (drop at (before tab))) ⌝ }
+{
+    let mut state = s;
+    let mut place = at;
+    let mut rows: u32 = 0;
+    while place < tab.len() {
+        match reader::row_at(tab, place) {
+            Parsed::Malformed => {
+                return Loaded {
+                    refusal: state::MALFORMED,
+                    rows,
+                    state,
+                };
+            }
+            Parsed::Numbers(key, moves, goal, next) => {
+                let record = Record {
+                    key,
+                    moves,
+                    goal,
+                    free: 0,
+                };
+                let c = calls::put(state, record, main, spare, ram);
+                state = c.state;
+                if c.refusal != state::ACCEPTED {
+                    return Loaded {
+                        refusal: c.refusal,
+                        rows,
+                        state,
+                    };
+                }
+                rows += 1;
+                place = next;
+            }
+        }
+    }
+    Loaded {
+        refusal: state::ACCEPTED,
+        rows,
+        state,
+    }
+}
+
+// Loads a tab: refusals 1 and 2, then its header, then its rows.
+pub fn load(s: State, tab: &[u8], main: &mut [u8], spare: &mut [u8], ram: &mut [u8]) -> Loaded
+    ensures { λ r. ⌜ loadedBy r main spare ram ≡ load fnvFamily (given s main spare ram) (before tab) ⌝ }
+{
+    match state::judge(s, main, spare, ram) {
+        Judgement::Refused(i) => {
+            return Loaded {
+                refusal: i,
+                rows: 0,
+                state: s,
+            };
+        }
+        Judgement::Good(_) => {
+            match reader::header_at(tab) {
+                Header::Missing => {
+                    return Loaded {
+                        refusal: state::MALFORMED,
+                        rows: 0,
+                        state: s,
+                    };
+                }
+                Header::Lines(next) => {
+                    return load_rows(s, tab, next, main, spare, ram);
+                }
+            }
+        }
+    }
+}

@@ -1,0 +1,3 @@
+pub mod LoadCalls
+pub mod LoadMap
+pub mod Moves

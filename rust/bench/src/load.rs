@@ -1,0 +1,95 @@
+//! A tab loaded into an empty volume, beside the same inserts by the call.
+
+use crate::measure::{Effort, FAST, SUBJECT};
+use crate::volume::{Keys, Volume};
+use std::time::{Duration, Instant};
+use store::Store;
+
+/// Of every row, in digits that a designer would write.
+const MOVES: u32 = 40;
+const GOAL: u32 = 1200;
+/// A load writes this free word.
+const WORD: u32 = 0;
+
+const EFFORT: Effort = Effort {
+    rounds: 3,
+    time: Duration::from_millis(1500),
+};
+
+/// An empty volume with room for the keys, and the tab that has a row for each.
+pub struct Load {
+    pub volume: Volume,
+    keys: Vec<u32>,
+    tab: Vec<u8>,
+}
+
+impl Load {
+    /// Nothing if no volume has room for so many rows.
+    pub fn new(sector_size: u32, rows: usize) -> Option<Load> {
+        let volume = Volume::formatted(sector_size, rows, 0, Keys::Random)?;
+        let keys: Vec<u32> = (0..rows).map(|i| volume.keys.key(i)).collect();
+        let mut tab = "level,moves,goal\n".to_string();
+        for key in &keys {
+            tab += &format!("{key},{MOVES},{GOAL}\n");
+        }
+        Some(Load {
+            volume,
+            keys,
+            tab: tab.into_bytes(),
+        })
+    }
+
+    pub fn rows(&self) -> usize {
+        self.keys.len()
+    }
+
+    /// The tab in one load.
+    pub fn load(&self, store: &dyn Store, volume: &mut Volume) {
+        let Volume {
+            state,
+            data,
+            spare,
+            ram,
+            ..
+        } = volume;
+        let result = store.load(*state, &self.tab, data, spare, ram);
+        assert_eq!((result.refusal, result.rows as usize), (0, self.rows()));
+        *state = result.state;
+    }
+
+    /// Its rows, an insert each.
+    pub fn inserts(&self, store: &dyn Store, volume: &mut Volume) {
+        let Volume {
+            state,
+            data,
+            spare,
+            ram,
+            ..
+        } = volume;
+        for &key in &self.keys {
+            let change = store.insert(*state, key, MOVES, GOAL, WORD, data, spare, ram);
+            assert_eq!(change.refusal, 0, "key {key}");
+            *state = change.state;
+        }
+    }
+
+    /// Microseconds a row of the load and of the inserts, by the proved store and by the store for speed.
+    pub fn measure(&self) -> [[f64; 2]; 2] {
+        let stores = [SUBJECT, FAST];
+        let ways = [Load::load, Load::inserts];
+        let mut best = [[f64::INFINITY; 2]; 2];
+        let mut copies = [(); 4].map(|()| self.volume.copy());
+        EFFORT.run(|| {
+            for (i, copy) in copies.iter_mut().enumerate() {
+                copy.restore(&self.volume);
+                let start = Instant::now();
+                ways[i % 2](self, stores[i / 2], copy);
+                let seconds = start.elapsed().as_secs_f64();
+                best[i / 2][i % 2] = seconds.min(best[i / 2][i % 2]);
+            }
+            let [first, others @ ..] = &copies;
+            assert!(others.iter().all(|other| first.same(other)), "the bytes differ");
+        });
+        best.map(|times| times.map(|seconds| seconds * 1e6 / self.rows() as f64))
+    }
+}
