@@ -48,6 +48,8 @@ def rows():
                 yield size, call, n
         for n in SETS[size]:
             yield size, "set", n
+        for call in ("load", "inserts"):
+            yield size, call, 10000
 
 
 def main():
