@@ -118,7 +118,8 @@ fn decide(q: Request, r: Resolved) -> Decision
 
 // A changing call.
 pub fn perform(s: State, q: Request, main: &mut [u8], spare: &mut [u8], ram: &mut [u8]) -> Change
-    ensures { λ r. ⌜ effectBy r main spare ram ≡ effectOf (call fnvFamily (given s main spare ram) (callOf (given s main spare ram) q)) ⌝ }
+    ensures { λ r. ⌜ effectBy r main spare ram
+        ≡ effectOf (call fnvFamily (given s main spare ram) (callOf (given s main spare ram) q)) ⌝ }
 {
     match decide(q, resolve(s, key_of(q), main, spare, ram)) {
         Decision::Refused(i) => {
@@ -134,14 +135,16 @@ pub fn perform(s: State, q: Request, main: &mut [u8], spare: &mut [u8], ram: &mu
 
 // A new level.
 pub fn insert(s: State, record: Record, main: &mut [u8], spare: &mut [u8], ram: &mut [u8]) -> Change
-    ensures { λ r. ⌜ effectBy r main spare ram ≡ effectOf (call fnvFamily (given s main spare ram) (layout.insert (recordIs «record»))) ⌝ }
+    ensures { λ r. ⌜ effectBy r main spare ram
+        ≡ effectOf (call fnvFamily (given s main spare ram) (layout.insert (recordIs «record»))) ⌝ }
 {
     perform(s, Request::Insert(record), main, spare, ram)
 }
 
 // New values for a level that is there: its record is deleted, and another inserted.
 pub fn update(s: State, record: Record, main: &mut [u8], spare: &mut [u8], ram: &mut [u8]) -> Change
-    ensures { λ r. ⌜ effectBy r main spare ram ≡ effectOf (call fnvFamily (given s main spare ram) (layout.update (recordIs «record»))) ⌝ }
+    ensures { λ r. ⌜ effectBy r main spare ram
+        ≡ effectOf (call fnvFamily (given s main spare ram) (layout.update (recordIs «record»))) ⌝ }
 {
     perform(s, Request::Update(record), main, spare, ram)
 }

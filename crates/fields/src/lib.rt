@@ -30,7 +30,8 @@ fn copy_run(bytes: &[u8], s: Source, w: usize, y: usize, out: &mut [u8])
 
 // Runs of n bytes, `stride` bytes from one to the next, the first from byte `at` on: bytes from their byte y on, where a run begins.
 fn whole_runs(bytes: &[u8], at: usize, stride: usize, n: usize, y: usize, out: &mut [u8])
-    requires { ⌜ (0 < n) × (stride < 2 ^ 61) × (0 < length (now out)) × Runs (length (now bytes)) at stride n y (length (now out)) ⌝ }
+    requires { ⌜ (0 < n) × (stride < 2 ^ 61) × (0 < length (now out))
+        × Runs (length (now bytes)) at stride n y (length (now out)) ⌝ }
     requires { ⌜ Whole n y × Whole n (length (now out)) ⌝ }
     ensures { λ _. ⌜ after out ≡ tab (length (before out)) (λ (i : ℕ). runByte (before bytes) at stride n (y + i)) ⌝ }
 {

@@ -129,7 +129,8 @@ fn copy_words(dst: &mut [u8], src: &[u8])
 
 // Item n to its place.
 fn append_item(a: Area, n: usize, item: &[u8], ram: &mut [u8])
-    requires { ⌜ AreaSound a × (length (now item) ≡ a .size) × (a .size % 4 ≡ 0) × (a .ram + a .«per_page» * a .size ≤ length (now ram)) ⌝ }
+    requires { ⌜ AreaSound a × (length (now item) ≡ a .size) × (a .size % 4 ≡ 0)
+        × (a .ram + a .«per_page» * a .size ≤ length (now ram)) ⌝ }
     ensures { λ _. ⌜ after ram ≡ put (area a) n (before item) (before ram) ⌝ }
 {
     let at = a.ram + n % a.per_page * a.size;

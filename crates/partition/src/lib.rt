@@ -113,7 +113,8 @@ pub fn shared_bytes(chip: Chip, set: Set, p: usize, main: &[u8], out: &mut [u8])
     requires { ⌜ p < setPages (set .rounds + 1) ⌝ }
     requires { ⌜ fullBlock (chip .unit) (indexOf (set .index)) 0 * block (chip .unit) ≤ length (now main) ⌝ }
     requires { ⌜ length (now out) ≡ 128 ⌝ }
-    ensures { λ _. ⌜ after out ≡ sharedBytes (before main) (pageSource (chip .unit) (indexOf (set .index)) (set .rounds) p) (before out) ⌝ }
+    ensures { λ _. ⌜ after out
+        ≡ sharedBytes (before main) (pageSource (chip .unit) (indexOf (set .index)) (set .rounds) p) (before out) ⌝ }
 {
     let r = page_source(chip, set, p);
     let w = r.w;

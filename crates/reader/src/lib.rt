@@ -14,7 +14,7 @@ pub struct Reader<'a> {
     at: usize,
 }
 
-// The next field. The reader goes on to the one after it; at a malformed field it stays.
+// The next field. The reader goes on to the place that the field tells: of a well-formed one, that of the field after it.
 fn field<'s, 'a>(r: &'s mut Reader<'a>, c: Column, header: bool) -> Field
     ensures { λ f. ⌜ ReadOn (now (r .entry)) c header f (now (r .exit)) ⌝ }
 {

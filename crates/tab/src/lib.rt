@@ -26,7 +26,8 @@ enum Token {
     Value(u32, usize),
 }
 
-// A field: whether it is well-formed, its number, and the place of the next one; of a malformed field its own.
+// A field: whether it is well-formed, its number, and the place of the next one. Of a malformed field nothing but that
+// is told.
 pub struct Field {
     pub good: bool,
     pub value: u32,
