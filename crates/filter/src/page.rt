@@ -7,6 +7,7 @@ ghost use lib.ListN.{length, replicate};
 ghost use Rattle.memory.specs.Lent.{before, after};
 ghost use Rattle.memory.specs.Ranges.{memb};
 ghost use Rattle.layout.specs.Geometry.{page};
+ghost use Rattle.laws.specs.Units.{UnitSound};
 ghost use Rattle.filter.specs.Filter.{arrayBit, PositionsIn, withKey};
 use geometry::Chip;
 use geometry::areas;
@@ -48,7 +49,7 @@ fn no_bits() -> [u8; 256]
 // The bloom filter of the page of entries from byte `at` on, whose last entry, with the key, is not in RAM yet: the positions of all its
 // keys set, and no other of the 2048 bits.
 pub fn new_filter(chip: Chip, at: usize, key: u32, ram: &[u8]) -> [u8; 256]
-    requires { ⌜ (0 < chip .unit) × (chip .unit ≤ 32) × (at + page (chip .unit) ≤ length (now ram)) ⌝ }
+    requires { ⌜ UnitSound (chip .unit) × (at + page (chip .unit) ≤ length (now ram)) ⌝ }
     ensures { λ r. ⌜ ((x : ℕ) → x < 2048 → arrayBit r x ≡ withKey (chip .unit) at key (before ram) x) ⌝ }
 {
     let last = chip.entries_per_page() - 1;

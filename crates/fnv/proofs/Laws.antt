@@ -7,7 +7,9 @@ use lib.Bits.{bitXor}
 use lib.ListN.{length, drop, getD, drop-of-length-le}
 use lib.Seq.{drop-cons}
 use Rattle.memory.specs.Lists.{tab, tabFrom}
+use Rattle.memory.specs.Power.{PowerOfTwo}
 use Rattle.layout.specs.Hash.{fnvFrom, Family, positions, positionCount}
+use Rattle.laws.specs.Units.{UnitSound, unit-times}
 
 -- from h over what is left, with the byte at i absorbed
 pub fnv-more : (h i : ℕ) (l : List ℕ) → i < length l → fnvFrom h (drop i l) ≡ fnvFrom (bitXor h (getD l i 0) * 16777619 % 2 ^ 32) (drop (i + 1) l)
@@ -29,6 +31,10 @@ pub fnv-five : (h x a b c d : ℕ) {r₀ r₁ r₂ r₃ r₄ : ℕ}
     → r₄ ≡ fnvFrom h (x ∷ a ∷ b ∷ c ∷ d ∷ [])
 unfolding fnvFrom
 fnv-five h x a b c d e₀ e₁ e₂ e₃ e₄ = rw (e₄, e₃, e₂, e₁, e₀)
+
+-- a fourth of a filter has as many bits as a sector has bytes
+pub fourth-power : (u size : ℕ) → UnitSound u → size ≡ 16 * u → PowerOfTwo size
+fourth-power u size s e = rw e (unit-times 4 u s)
 
 -- the three positions from the four hashes, the first of which gives where the fourth starts
 pub three : (f : Family) (u : ℕ) (l : List ℕ) {h₀ base h₁ h₂ h₃ a b c : ℕ}

@@ -3,9 +3,11 @@ ghost use mathlib.Core.Path.{_≡_};
 ghost use Prim.Native.Nat.{_+_, _*_, _%_, _^_, _<_, _≤_};
 ghost use lib.Bits.{bitXor};
 ghost use lib.ListN.{getD};
+ghost use Rattle.memory.specs.Power.{PowerOfTwo};
 ghost use Rattle.memory.specs.Words.{bytes4};
 ghost use Rattle.layout.specs.Geometry.{filterBits};
 ghost use Rattle.layout.specs.Hash.{fnv1a, fnvFamily, positions, positionCount};
+ghost use Rattle.laws.specs.Units.{UnitSound};
 use geometry::Chip;
 
 // What FNV-1a starts from.
@@ -79,17 +81,17 @@ fn fourth(size: u32, h: u32) -> u32
     h % 4 * size
 }
 
-// The bit that a hash picks in the fourth that starts at `base`.
+// The bit that a hash picks in the fourth that starts at `base`; its size is a power of two, so that a mask does.
 fn within(base: u32, size: u32, h: u32) -> u32
-    requires { ⌜ (0 < size) × (size ≤ 512) × (base ≤ 3 * size) ⌝ }
+    requires { ⌜ PowerOfTwo size × (size ≤ 512) × (base ≤ 3 * size) ⌝ }
     ensures { λ r. ⌜ (r ≡ base + h % size) × (r < 4 * size) ⌝ }
 {
-    base + h % size
+    base + (h & (size - 1))
 }
 
 // The three positions of a key in a filter of 4S bits: (h0 mod 4) S + (hj mod S).
 pub fn positions(chip: Chip, key: u32) -> [u32; 3]
-    requires { ⌜ (0 < chip .unit) × (chip .unit ≤ 32) ⌝ }
+    requires { ⌜ UnitSound (chip .unit) ⌝ }
     ensures equal { λ r. ⌜ r ≡ positions fnvFamily positionCount (chip .unit) (bytes4 key) ⌝ }
     ensures below { λ r. ⌜ (getD r 0 0 < filterBits (chip .unit)) × (getD r 1 0 < filterBits (chip .unit))
         × (getD r 2 0 < filterBits (chip .unit)) ⌝ }

@@ -1,8 +1,9 @@
 -- The unit of an allowed chip, S/16: a power of two up to 32.
 use mathlib.Core.Path.{_≡_}
-use Prim.Native.Nat.{ℕ, _^_, _<_, _≤_}
+use Prim.Native.Nat.{ℕ, _*_, _^_, _<_, _≤_}
 use native.Mathlib.Omega.{arith}
 use lib.Pow.{pow-pos, pow-mono}
+use Rattle.memory.specs.Power.{PowerOfTwo, power-times}
 
 -- the unit is 2 ^ e; its bounds follow
 pub record UnitIs (u e : ℕ) : Type 0 where
@@ -20,3 +21,7 @@ unit-is u e small power =
 -- the unit is one of the six allowed
 abbrev pub UnitSound : ℕ → Type 0
 UnitSound u = (e : ℕ) × UnitIs u e
+
+-- sizes that are a power of two of units are powers of two
+pub unit-times : (k u : ℕ) → UnitSound u → PowerOfTwo (2 ^ k * u)
+unit-times k u (e, s) = power-times k u (e, s .power)

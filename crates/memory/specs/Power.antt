@@ -1,13 +1,28 @@
--- Powers of two: the least exponent that reaches a number, and the same by leading zeros.
+-- Powers of two: remainders by them, the least exponent that reaches a number, and the same by leading zeros.
 use mathlib.Core.Path.{_≡_, refl, sym, ap, _∙_}
 use mathlib.Core.Logic.{⊎-elim}
 use mathlib.Core.Bool.{cond}
-use Prim.Native.Nat.{ℕ, zero, suc, _+_, _-_, _*_, _^_, _≤_, _<_, zero-le}
+use Prim.Native.Nat.{ℕ, zero, suc, _+_, _-_, _*_, _%_, _^_, _≤_, _<_, zero-le}
 use native.Mathlib.Omega.{arith}
+use lib.Bits.{bitAnd, and-mask}
 use lib.Pow.{pow-pos, pow-add}
 use lib.Count.{leadingZeros, leading-unique}
 use lib.Dec.{ltb}
 use Rattle.memory.specs.Cases.{either, lt?, by-lt}
+
+abbrev pub PowerOfTwo : ℕ → Type 0
+PowerOfTwo n = (e : ℕ) × (n ≡ 2 ^ e)
+
+pub power-some : (n : ℕ) → PowerOfTwo n → 0 < n
+power-some n (e, p) = omega (arith, pow-pos e)
+
+-- the remainder by one is a mask
+pub power-mask : (x n : ℕ) → PowerOfTwo n → bitAnd x (n - 1) ≡ x % n
+power-mask x n (e, p) = rw p (and-mask x e)
+
+-- the product with another is one
+pub power-times : (k n : ℕ) → PowerOfTwo n → PowerOfTwo (2 ^ k * n)
+power-times k n (e, p) = (k + e, rw p (sym (pow-add 2 k e)))
 
 -- the least c with n ≤ 2 ^ c, step by step
 

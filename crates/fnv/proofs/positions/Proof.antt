@@ -2,7 +2,7 @@
 use native.Mathlib.Omega.{arith}
 use Prim.Native.Nat.{ℕ, _+_, _*_, _%_}
 use mathlib.Core.Path.{ap, _∙_}
-use Rattle.fnv.proofs.Laws.{three}
+use Rattle.fnv.proofs.Laws.{fourth-power, three}
 use Rattle.layout.specs.Hash.{fnvFamily}
 use Rattle.memory.specs.Words.{bytes4}
 use borrow.Author.Needs.{needs}
@@ -25,19 +25,25 @@ hash-requires-2 : tie.Need-hash-requires-2
 hash-requires-2 c κs = search needs
 
 within-requires : tie.Need-within-requires
-within-requires c κs = search needs
+within-requires c κs =
+    let z = c .before .before .before in
+    (fourth-power (z .before .args .chip .unit) (z .sector-size .result) (z .before .pre) (z .sector-size .ensures), omega arith, search needs)
 
 hash-requires-3 : tie.Need-hash-requires-3
 hash-requires-3 c κs = search needs
 
 within-requires-2 : tie.Need-within-requires-2
-within-requires-2 c κs = search needs
+within-requires-2 c κs =
+    let z = c .before .before .before .before .before in
+    (fourth-power (z .before .args .chip .unit) (z .sector-size .result) (z .before .pre) (z .sector-size .ensures), omega arith, search needs)
 
 hash-requires-4 : tie.Need-hash-requires-4
 hash-requires-4 c κs = search needs
 
 within-requires-3 : tie.Need-within-requires-3
-within-requires-3 c κs = search needs
+within-requires-3 c κs =
+    let z = c .before .before .before .before .before .before .before in
+    (fourth-power (z .before .args .chip .unit) (z .sector-size .result) (z .before .pre) (z .sector-size .ensures), omega arith, search needs)
 
 returns : tie.Need-returns
 returns c =
