@@ -3,6 +3,7 @@ use Prim.Native.Nat.{_<_, _≤_}
 use Prim.{Unit}
 use mathlib.Core.Path.{_≡_}
 use mathlib.Core.Bool.{Bool, cond}
+use Rattle.memory.specs.Power.{PowerOfTwo}
 use Rattle.layout.specs.Geometry as layout
 use Rattle.layout.specs.Items as items
 use Rattle.laws.specs.Units.{UnitSound}
@@ -64,6 +65,7 @@ place p = record { inRam = p .«in_ram»; at = p .at }
 -- sizes of an area of a sound geometry
 pub record AreaSound (a : Area) : Type 0 where
   pub size-most : a .size ≤ 16
+  pub power : PowerOfTwo (a .«per_page»)
   pub some : 0 < a .«per_page»
   pub most : a .«per_page» ≤ 512
   pub first-most : a .first ≤ 8192

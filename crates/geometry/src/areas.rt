@@ -1,6 +1,7 @@
 // Areas that grow at their end, and the places of their items. Document 01, "Records, entries, deletions".
 ghost use mathlib.Core.Path.{_≡_};
-ghost use Prim.Native.Nat.{_<_};
+ghost use Prim.Native.Nat.{_*_, _/_, _%_, _<_};
+ghost use Rattle.memory.specs.Power.{PowerOfTwo};
 ghost use Rattle.layout.specs.Items as layout;
 ghost use Rattle.layout.specs.Items.{RA, KA, DA, itemPlace};
 ghost use Rattle.geometry.specs.Shape.{shape, Sound, area, place, AreaSound};
@@ -21,6 +22,26 @@ pub const MOVES_AT: usize = WORD_SIZE;
 
 pub const NUMBER_AT: usize = WORD_SIZE;
 
+// ---- pages of items, whose number is a power of two, so that a mask does for a division
+
+// The place of item n in its page.
+pub fn slot(per_page: usize, n: usize) -> usize
+    requires { ⌜ PowerOfTwo «per_page» ⌝ }
+    ensures { λ r. ⌜ (r ≡ n % «per_page») × (r < «per_page») ⌝ }
+{
+    n & (per_page - 1)
+}
+
+// Those of n items that lie in full pages.
+pub fn in_full_pages(per_page: usize, n: usize) -> usize
+    requires { ⌜ PowerOfTwo «per_page» ⌝ }
+    ensures { λ r. ⌜ r ≡ n / «per_page» * «per_page» ⌝ }
+{
+    n - slot(per_page, n)
+}
+
+// ---- areas
+
 // Items of `size` bytes, `per_page` to a page, from block `first` on; the page that is not full is in RAM from byte `ram` on.
 pub struct Area {
     pub size: usize,
@@ -36,7 +57,7 @@ impl Area {
         ensures { λ r. ⌜ r ≡ layout.fills (area self) n ⌝ }
     {
         let q = self.per_page;
-        n % q + 1 == q
+        slot(q, n) + 1 == q
     }
 }
 
@@ -96,11 +117,10 @@ pub fn item_place(g: Geometry, a: Area, n: usize, j: usize) -> Place
     let per_page = a.per_page;
     let first = a.first;
     let ram = a.ram;
-    let full = n / per_page * per_page;
-    if j < full {
+    if j < in_full_pages(per_page, n) {
         let at = g.chip.block_address(first) + j * size;
         return Place { in_ram: false, at };
     }
-    let at = ram + j % per_page * size;
+    let at = ram + slot(per_page, j) * size;
     Place { in_ram: true, at }
 }

@@ -14,6 +14,7 @@ ghost use Rattle.kept.specs.Appended.{deletionAppended, recordAppended, 
 use geometry::Area;
 use geometry::Chip;
 use geometry::Geometry;
+use geometry::areas;
 use geometry::sets;
 use geometry::sets::Index;
 use planning::Slots;
@@ -24,7 +25,7 @@ fn keep_item(chip: Chip, a: Area, n: usize, item: &[u8], ram: &mut [u8])
     requires { ⌜ (length (now item) ≡ a .size) × (a .ram + page (chip .unit) ≤ length (now ram)) ⌝ }
     ensures { λ _. ⌜ after ram ≡ itemRam (chip .unit) (area a) n (before item) (before ram) ⌝ }
 {
-    let i = n % a.per_page;
+    let i = areas::slot(a.per_page, n);
     words::copy_at(ram, a.ram + i * a.size, item);
     if !a.fills(n) {
         return;
@@ -133,7 +134,7 @@ fn append_item(a: Area, n: usize, item: &[u8], ram: &mut [u8])
         × (a .ram + a .«per_page» * a .size ≤ length (now ram)) ⌝ }
     ensures { λ _. ⌜ after ram ≡ put (area a) n (before item) (before ram) ⌝ }
 {
-    let at = a.ram + n % a.per_page * a.size;
+    let at = a.ram + areas::slot(a.per_page, n) * a.size;
     let end = at + item.len();
     copy_words(&mut ram[at..end], item);
 }

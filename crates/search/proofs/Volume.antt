@@ -19,6 +19,7 @@ use Rattle.layout.specs.Items.{Area, KA, itemWord}
 use Rattle.layout.specs.Index.{inFull}
 use Rattle.layout.specs.Search.{Stop, reply, ramFirst, scan, searchPages, tryEntry}
 use Rattle.layout.specs.Calls.{keyIndex, keyPositions, isDeleted, entryWord, tryAt, maybeIn, searchAt}
+use Rattle.laws.specs.Units.{unit-times}
 use Rattle.geometry.specs.declared.Geometry.{Geometry}
 use Rattle.geometry.specs.Shape.{shape, AreaSound}
 use Rattle.geometry.specs.declared.areas.Area as items
@@ -173,6 +174,7 @@ module _ (v : View) (main ram : List ℕ) (R : Ready v main ram) where
       sound : AreaSound (deletionsFrom (v .g .chip .unit) first)
       sound = record {
         size-most = omega arith;
+        power = unit-times 4 (v .g .chip .unit) (R .sound .unit);
         some = omega (arith, R .sound .unit .1 .some);
         most = omega (arith, R .sound .unit .1 .most);
         first-most = omega (arith, is, R .sound .ra-most);

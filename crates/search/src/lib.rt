@@ -79,8 +79,7 @@ fn deleted(chip: Chip, first: usize, d: usize, d0: usize, j: u32, main: &[u8], r
     ensures { λ r. ⌜ r ≡ amongFirst (chip .unit) first d (before main) (before ram) d0 j ⌝ }
 {
     let start = chip.block_address(first);
-    let per_page = chip.deletions_per_page();
-    let full = d / per_page * per_page;
+    let full = areas::in_full_pages(chip.deletions_per_page(), d);
     if d0 <= full {
         return items::has_word(start, d0, j, main);
     }

@@ -1,8 +1,8 @@
 use native.Mathlib.Omega.{arith}
-use native.Mathlib.Nat.{mod-lt, mul-le-mul-right}
+use native.Mathlib.Nat.{mul-le-mul-right}
 use mathlib.Core.Path.{refl, sym, ap, _∙_}
 use mathlib.Core.List.{List}
-use Prim.Native.Nat.{ℕ}
+use Prim.Native.Nat.{ℕ, _+_, _*_, _≤_}
 use Rattle.layout.specs.Items.{put, zeroPage}
 use Rattle.planning.specs.Computed.{not-taken, not-left}
 use Rattle.kept.specs.Pieces.{zero-at}
@@ -10,29 +10,31 @@ use borrow.Author.Needs.{needs}
 use Rattle.kept.proofs.keep_item.Statement.{statement}
 use Rattle.kept.proofs.keep_item.Tie as tie
 
-rem-i : tie.Need-rem-i
-rem-i c = search needs
+slot-requires : tie.Need-slot-requires
+slot-requires c κs = search needs
+
+-- the item's place lies within the page
+inside : (c : tie.After-slot) → let x = c .before .before .before .args in c .slot .result * x .a .size + x .a .size ≤ x .a .«per_page» * x .a .size
+inside c =
+    let x = c .before .before .before .args in
+    omega (arith, mul-le-mul-right (x .a .size) (c .slot .ensures .1))
 
 mul-copy-at : tie.Need-mul-copy-at
 mul-copy-at c =
-    let x = c .before .before .before .before .before .args in
-    let P = c .before .before .before .before .before .pre in
-    let i = mul-le-mul-right (x .a .size) (mod-lt (x .n) {m = x .a .«per_page»} (P .0 .0 .some)) in
-    omega (arith, i, P .0 .2)
+    let b = c .before .before in
+    omega (arith, inside b, b .before .before .before .pre .0 .2)
 
 add-copy-at : tie.Need-add-copy-at
 add-copy-at c =
-    let x = c .before .before .before .before .before .before .args in
-    let P = c .before .before .before .before .before .before .pre in
-    let i = mul-le-mul-right (x .a .size) (mod-lt (x .n) {m = x .a .«per_page»} (P .0 .0 .some)) in
-    omega (arith, i, P .0 .2, P .1 .1)
+    let b = c .before .before .before in
+    let P = b .before .before .before .pre in
+    omega (arith, inside b, P .0 .2, P .1 .1)
 
 copy-at-requires : tie.Need-copy-at-requires
 copy-at-requires c κs =
-    let x = c .before .before .before .before .before .before .args in
-    let P = c .before .before .before .before .before .before .pre in
-    let i = mul-le-mul-right (x .a .size) (mod-lt (x .n) {m = x .a .«per_page»} (P .0 .0 .some)) in
-    omega (arith, i, P .0 .2, P .1 .0, P .1 .1)
+    let b = c .before .before .before in
+    let P = b .before .before .before .pre in
+    omega (arith, inside b, P .0 .2, P .1 .0, P .1 .1)
 
 fills-requires : tie.Need-fills-requires
 fills-requires c κs = search needs
@@ -42,7 +44,9 @@ same-length c = search needs
 
 returns : tie.Need-returns
 unfolding put
-returns c = rw (sym (c .before .fills .ensures) ∙ not-taken _ (c .if1 .taken)) (c .before .before .before .before .copy-at .ensures)
+returns c =
+    let w = c .before .before .before .before in
+    rw (sym (c .before .fills .ensures) ∙ not-taken _ (c .if1 .taken)) (rw (w .before .before .before .before .slot .ensures .0) at (w .copy-at .ensures))
 
 page-size-requires : tie.Need-page-size-requires
 page-size-requires c κs = search needs
@@ -65,13 +69,13 @@ returns-2 c =
     let x = b5 .args in
     rw (sym (f .fills .ensures) ∙ not-left _ (b3 .if1 .left))
     (b1 .fill-at .ensures ∙ zero-at (x .chip .unit) (x .a .ram) (x .a .ram) (b2 .page-size .result) _ refl (b2 .page-size .ensures)
-    ∙ ap (λ (r : List ℕ). zeroPage (x .chip .unit) (x .a .ram) r) (b4 .copy-at .ensures))
+    ∙ ap (λ (r : List ℕ). zeroPage (x .chip .unit) (x .a .ram) r) (rw (b4 .before .before .before .before .slot .ensures .0) at (b4 .copy-at .ensures)))
 
 pub keep-item-spec : {M : Type 1} → statement M
 keep-item-spec =
     tie.close
     (tie.spec
-    rem-i
+    slot-requires
     mul-copy-at
     add-copy-at
     copy-at-requires
