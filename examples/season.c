@@ -6,7 +6,7 @@
 #include <string.h>
 #include "level_store.h"
 
-enum { S = 16, R = 1, D = 1 };
+enum { S = 16, R = 1, D = 1, K = 3 };
 
 static uint8_t data[LEVEL_STORE_DATA_SIZE(S, R, D)], spare[LEVEL_STORE_SPARE_SIZE(S, R, D)], ram[LEVEL_STORE_RAM_SIZE(S)];
 
@@ -47,7 +47,7 @@ int main(void)
 {
     level_store_state s;
     memset(&s, 0, sizeof s);
-    s = report("format", level_store_format(s, S, R, D, data, sizeof data, spare, sizeof spare, ram, sizeof ram));
+    s = report("format", level_store_format(s, S, R, D, K, data, sizeof data, spare, sizeof spare, ram, sizeof ram));
     for (uint32_t key = 1; key <= 9; key++)
         s = report("insert", level_store_insert(s, key, 30 + key, 100 * key, 0, data, sizeof data, spare, sizeof spare, ram, sizeof ram));
     s = report("insert", level_store_insert(s, 7, 41, 0, 0, data, sizeof data, spare, sizeof spare, ram, sizeof ram));

@@ -12,6 +12,9 @@
  * records, D blocks the deletions; both are 1 to 4096. Longer arrays are allowed; bytes past these sizes never change. All
  * lengths are in bytes. Multi-byte numbers in the arrays are little-endian.
  *
+ * Filters. A level sets k bits in the filter of its page of keys, and a search opens the pages whose filter has all k of its
+ * level's. k is 1 to 8, named by the format; it decides how many pages are opened, and no other answer.
+ *
  * Power. The chip alone does not give a volume back: the pages that are not full yet (records, entries, deletions, filters) are in
  * ram only, and the counts in the state only. Save both, of the same moment, across power cycles. Where one of them is lost, so is
  * what it held; calls stay safe, but what they answer is no longer what was stored. A call cut short is not recovered.
@@ -44,10 +47,11 @@
 extern "C" {
 #endif
 
-/* The major number stands for the bytes of a volume: 1 is the layout of document 01. Where it differs from that of the code which
- * formatted a volume, the volume's data, spare, ram and state do not fit. The minor number rises with any other change. */
-#define LEVEL_STORE_VERSION_MAJOR 1
-#define LEVEL_STORE_VERSION_MINOR 1
+/* The major number stands for the bytes of a volume and the words of its state. Where it differs from that of the code which
+ * formatted a volume, they do not fit. The minor number rises with any other change. A volume of version 1, document 01's, has the
+ * bytes of one formatted with hash_count 3: it fits version 2 once its state has a 3 between D and n. */
+#define LEVEL_STORE_VERSION_MAJOR 2
+#define LEVEL_STORE_VERSION_MINOR 0
 #define LEVEL_STORE_VERSION (LEVEL_STORE_VERSION_MAJOR * 1000 + LEVEL_STORE_VERSION_MINOR)
 
 /* Sizes, as constant expressions where the arguments are constants. An argument may be evaluated more than once. */
@@ -72,7 +76,7 @@ extern "C" {
  * formatted, its bytes and state handed on unaltered, 1, 2, 7 and 8 never occur. */
 enum level_store_refusal {
     LEVEL_STORE_OK = 0,             /* accepted */
-    LEVEL_STORE_BAD_STATE = 1,      /* S, R or D not allowed, or n or d above its capacity, or d above n */
+    LEVEL_STORE_BAD_STATE = 1,      /* S, R, D or k not allowed, or n or d above its capacity, or d above n */
     LEVEL_STORE_TOO_SHORT = 2,      /* data, spare or ram too short */
     LEVEL_STORE_PRESENT = 3,        /* insert of a level that is there */
     LEVEL_STORE_ABSENT = 4,         /* update or delete of a level that is not there */
@@ -101,11 +105,12 @@ LEVEL_STORE_INLINE const char *level_store_refusal_text(uint32_t refusal)
     }
 }
 
-/* S, R, D, n, d. The caller keeps it and hands in what the last call gave back; before any format it may be all zero. */
+/* S, R, D, k, n, d. The caller keeps it and hands in what the last call gave back; before any format it may be all zero. */
 typedef struct {
     uint32_t sector_size; /* S, bytes */
     uint32_t ra_blocks;   /* R, blocks of records */
     uint32_t da_blocks;   /* D, blocks of deletions */
+    uint32_t hash_count;  /* k, filter bits of a level, 1 to 8 */
     uint32_t records;     /* n, records accepted since the format */
     uint32_t deletions;   /* d, deletions accepted since the format; n - d levels are live */
 } level_store_state;
@@ -150,8 +155,10 @@ LEVEL_STORE_INLINE uint32_t level_store_record_moves(const uint8_t *record) { re
 LEVEL_STORE_INLINE uint32_t level_store_record_goal(const uint8_t *record) { return level_store_read32(record + 8); }
 LEVEL_STORE_INLINE uint32_t level_store_record_word(const uint8_t *record) { return level_store_read32(record + 12); }
 
-/* Starts an empty volume: erases its blocks and zeroes ram. `old` is not judged; it comes back on a refusal. Refused by 1, 2. */
-level_store_change level_store_format(level_store_state old, uint32_t sector_size, uint32_t ra_blocks, uint32_t da_blocks,
+/* Starts an empty volume of S, R, D and k: erases its blocks and zeroes ram. `old` is not judged; it comes back on a refusal.
+ * Refused by 1, 2. */
+level_store_change level_store_format(level_store_state old,
+    uint32_t sector_size, uint32_t ra_blocks, uint32_t da_blocks, uint32_t hash_count,
     uint8_t *data, size_t data_len, uint8_t *spare, size_t spare_len, uint8_t *ram, size_t ram_len);
 
 /* A new level. Refused by 1, 2, 8, 3, 5, 7. */

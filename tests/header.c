@@ -21,8 +21,10 @@ HOLDS(ram_of_terms, LEVEL_STORE_RAM_SIZE(8 + 8) == 320);
 HOLDS(largest, LEVEL_STORE_DATA_SIZE(512, 4096, 4096) == 352354304 && LEVEL_STORE_SPARE_SIZE(512, 4096, 4096) == 688192);
 HOLDS(largest_counts, LEVEL_STORE_RECORD_CAPACITY(512, 4096) == 8388608 && LEVEL_STORE_DELETION_CAPACITY(512, 4096) == 33554432);
 HOLDS(sizes_are_size_t, sizeof LEVEL_STORE_BLOCKS(16, 1, 1) == sizeof(size_t) && sizeof LEVEL_STORE_RAM_SIZE(16) == sizeof(size_t));
-HOLDS(layouts, sizeof(level_store_state) == 20 && sizeof(level_store_change) == 24 && sizeof(level_store_lookup_result) == 20
-    && sizeof(level_store_load_result) == 28);
+HOLDS(layouts, sizeof(level_store_state) == 24 && sizeof(level_store_change) == 28 && sizeof(level_store_lookup_result) == 20
+    && sizeof(level_store_load_result) == 32);
+HOLDS(state_words, offsetof(level_store_state, da_blocks) == 8 && offsetof(level_store_state, hash_count) == 12
+    && offsetof(level_store_state, records) == 16 && offsetof(level_store_state, deletions) == 20);
 #if LEVEL_STORE_VERSION != LEVEL_STORE_VERSION_MAJOR * 1000 + LEVEL_STORE_VERSION_MINOR || LEVEL_STORE_VERSION < 1000
 #error "version"
 #endif
@@ -77,7 +79,8 @@ static uint32_t after(level_store_change c)
     return c.refusal;
 }
 
-static uint32_t format(uint32_t S, uint32_t R, uint32_t D) { return after(level_store_format(state, S, R, D, LENT)); }
+static uint32_t format_k(uint32_t S, uint32_t R, uint32_t D, uint32_t k) { return after(level_store_format(state, S, R, D, k, LENT)); }
+static uint32_t format(uint32_t S, uint32_t R, uint32_t D) { return format_k(S, R, D, 3); }
 static uint32_t insert(uint32_t key) { return after(level_store_insert(state, key, 40, 0, 0, LENT)); }
 static uint32_t update(uint32_t key) { return after(level_store_update(state, key, 41, 0, 0, LENT)); }
 static uint32_t take_out(uint32_t key) { return after(level_store_delete(state, key, LENT)); }
@@ -115,7 +118,8 @@ static void check_sizes(uint32_t S, uint32_t R, uint32_t D)
     CHECK(format(S, R, D) == LEVEL_STORE_TOO_SHORT);
     ram_len++;
     CHECK(format(S, R, D) == LEVEL_STORE_OK);
-    CHECK(state.sector_size == S && state.ra_blocks == R && state.da_blocks == D && state.records == 0 && state.deletions == 0);
+    CHECK(state.sector_size == S && state.ra_blocks == R && state.da_blocks == D && state.hash_count == 3);
+    CHECK(state.records == 0 && state.deletions == 0);
     CHECK(spare[spare_len - 1] == 0xFF && data[data_len - 1] == 0xFF && ram[ram_len - 1] == 0);
     give_back();
 }
@@ -155,6 +159,49 @@ static void check_refusals(void)
         CHECK(take_out(i) == LEVEL_STORE_OK);
     CHECK(state.deletions == 256);
     CHECK(take_out(i) == LEVEL_STORE_DELETIONS_FULL);
+    give_back();
+}
+
+/* A k outside 1 to 8 is refused by each call, which leaves the state as it was. */
+static void check_wrong_hash_count(uint32_t k)
+{
+    level_store_state good = state, bad = state;
+    CHECK(format_k(16, 4, 1, k) == LEVEL_STORE_BAD_STATE && memcmp(&state, &good, sizeof state) == 0);
+    bad.hash_count = k;
+    state = bad;
+    CHECK(insert(1000) == LEVEL_STORE_BAD_STATE && update(0) == LEVEL_STORE_BAD_STATE && take_out(0) == LEVEL_STORE_BAD_STATE);
+    CHECK(load("level,moves,goal\n1,2,3\n") == LEVEL_STORE_BAD_STATE && rows == 0);
+    CHECK(level_store_lookup(state, 0, LENT).refusal == LEVEL_STORE_BAD_STATE);
+    CHECK(memcmp(&state, &bad, sizeof state) == 0);
+    state = good;
+}
+
+/* Every k: each call hands it on, all levels are found, and as many pages are opened as in the model. */
+static void check_hash_counts(void)
+{
+    static const uint32_t opened[] = {3148, 1799, 1109, 783, 903, 1100, 1372, 1740};
+    const uint32_t step = 0x9E3779B1; /* keys without an order; those in order are alike in their filters */
+    uint32_t k, i;
+    lend(16, 4, 1);
+    for (k = 1; k <= 8; k++) {
+        uint32_t count = 0;
+        CHECK(format_k(16, 4, 1, k) == LEVEL_STORE_OK && state.hash_count == k);
+        for (i = 0; i < 200; i++)
+            CHECK(insert(i * step) == LEVEL_STORE_OK);
+        CHECK(update(7 * step) == LEVEL_STORE_OK && take_out(8 * step) == LEVEL_STORE_OK);
+        CHECK(load("level,moves,goal\n0,2,3") == LEVEL_STORE_OK);
+        CHECK(state.hash_count == k && state.records == 202 && state.deletions == 3);
+        for (i = 0; i < 400; i++) {
+            level_store_lookup_result r = level_store_lookup(state, i * step, LENT);
+            CHECK(r.refusal == LEVEL_STORE_OK && r.found == (i < 200 && i != 8));
+            count += r.count;
+        }
+        CHECK(count == opened[k - 1]);
+        check_wrong_hash_count(0);
+        check_wrong_hash_count(9);
+        check_wrong_hash_count(k + 256);
+        check_wrong_hash_count(0xFFFFFFFF);
+    }
     give_back();
 }
 
@@ -252,6 +299,7 @@ int main(void)
     check_sizes(32, 300, 5);
     check_sizes(512, 2048, 1);
     check_refusals();
+    check_hash_counts();
     check_load();
     check_texts();
     check_accessors();

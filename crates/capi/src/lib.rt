@@ -23,17 +23,19 @@ pub extern "C" fn level_store_format(
     sector_size: u32,
     ra_blocks: u32,
     da_blocks: u32,
+    hash_count: u32,
     data: &mut [u8],
     spare: &mut [u8],
     ram: &mut [u8],
 ) -> Change
     ensures { λ r. ⌜ effectBy r «data» spare ram
-        ≡ effectOf (format (given old «data» spare ram) (sizesOf «sector_size» «ra_blocks» «da_blocks»)) ⌝ }
+        ≡ effectOf (format (given old «data» spare ram) (sizesOf «sector_size» «ra_blocks» «da_blocks» «hash_count»)) ⌝ }
 {
     let sizes = Sizes {
         sector_size,
         ra_blocks,
         da_blocks,
+        hash_count,
     };
     format::format(old, sizes, data, spare, ram)
 }

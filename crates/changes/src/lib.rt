@@ -159,7 +159,7 @@ fn entry_bits(g: Geometry, n: usize, key: u32, ram: &[u8]) -> [u8; 256]
     if !geometry::entry_area(g).fills(n) {
         return [0u8; 256];
     }
-    filter::new_filter(g.chip, g.ka_ram(), key, ram)
+    filter::new_filter(g.chip, g.hashes, g.ka_ram(), key, ram)
 }
 
 // The filter of the entry that takes a place; no bits where none does.

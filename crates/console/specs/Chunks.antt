@@ -27,7 +27,7 @@ FeedsPrefix r k chunk l =
 
 -- "Before any format the state is all zero"
 abbrev pub noState : State
-noState = record { sizes = record { «sector_size» = 0; «ra_blocks» = 0; «da_blocks» = 0 }; records = 0; deletions = 0 }
+noState = record { sizes = record { «sector_size» = 0; «ra_blocks» = 0; «da_blocks» = 0; «hash_count» = 0 }; records = 0; deletions = 0 }
 
 abbrev pub unformatted : List ℕ → List ℕ → List ℕ → Volume
 unformatted main spare ram = volume noState main spare ram

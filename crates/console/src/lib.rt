@@ -36,6 +36,7 @@ fn begin() -> Progress
         sector_size: 0,
         ra_blocks: 0,
         da_blocks: 0,
+        hash_count: 0,
     };
     let state = State {
         sizes,

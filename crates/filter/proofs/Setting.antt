@@ -2,7 +2,7 @@
 use mathlib.Core.Path.{_≡_, refl, sym, ap, _∙_}
 use mathlib.Core.Logic.{_≢_}
 use mathlib.Core.Bool.{Bool, true, false, _||_, or-comm}
-use mathlib.Core.List.{List, [], _∷_}
+use mathlib.Core.List.{List}
 use Prim.Native.Nat.{ℕ, zero, suc, _+_, _*_, _/_, _%_, _^_, _<_}
 use native.Mathlib.Numerals.{add-one}
 use native.Mathlib.Omega.{arith}
@@ -14,8 +14,11 @@ use lib.Seq.{getD-set-same, getD-set-other}
 use borrow.Author.Tests.{eq-eqb, ne-eqb}
 use Rattle.memory.specs.Bits.{bit, bit-zero, bit-or}
 use Rattle.memory.specs.Cases.{either, eq?}
-use Rattle.memory.specs.Ranges.{memb, any}
-use Rattle.filter.specs.Filter.{arrayBit}
+use Rattle.memory.specs.Ranges.{any, any-ext, any-memb}
+use Rattle.memory.specs.Words.{bytes4}
+use Rattle.layout.specs.Hash.{fnvFamily, positions}
+use Rattle.laws.specs.Positions.{length-positions, positionArray, position-at}
+use Rattle.filter.specs.Filter.{arrayBit, keyBit}
 
 -- the number 2 ^ k has bit k alone
 pub bit-power : (k i : ℕ) → bit (2 ^ k) i ≡ eqb k i
@@ -52,22 +55,23 @@ set-one l p x len h =
         (λ c. rw (c .0) (eq-eqb (p % 8) (x % 8) (omega arith)))
         (λ c. let n : p ≢ x = c .1 in rw (c .0) (ne-eqb (p % 8) (x % 8) (λ q. n (omega arith))))
 
--- three bits set, the last first
-pub set-three : (ps : List ℕ) (x : ℕ) (o o₁ o₂ o₃ : Bool) → length ps ≡ 3
-    → o₁ ≡ (eqb (getD ps 2 0) x || o) → o₂ ≡ (eqb (getD ps 1 0) x || o₁) → o₃ ≡ (eqb (getD ps 0 0) x || o₂)
-    → o₃ ≡ (memb x ps || o)
-unfolding memb
-set-three [] x o o₁ o₂ o₃ h e₁ e₂ e₃ = absurd (omega arith)
-set-three (a ∷ []) x o o₁ o₂ o₃ h e₁ e₂ e₃ = absurd (omega arith)
-set-three (a ∷ b ∷ []) x o o₁ o₂ o₃ h e₁ e₂ e₃ = absurd (omega arith)
-set-three (a ∷ b ∷ c ∷ []) x o o₁ o₂ o₃ h e₁ e₂ e₃ = rw (e₃, e₂, e₁) (join (eqb a x) (eqb b x) (eqb c x) o)
+-- one bit more: those of the first i positions are set, then that of position i
+pub set-next : (f : ℕ → Bool) (i : ℕ) (o o₁ o₂ : Bool) → o₁ ≡ (any f i || o) → o₂ ≡ (f i || o₁) → o₂ ≡ (any f (i + 1) || o)
+unfolding any
+set-next f i o o₁ o₂ e₁ e₂ = rw (e₂, e₁, add-one) (join (f i) (any f i) o)
   where
-    join : (a b c o : Bool) → (a || (b || (c || o))) ≡ (a || (b || (c || false)) || o)
-    join true b c o = refl
-    join false true c o = refl
-    join false false true o = refl
-    join false false false o = refl
-set-three (a ∷ b ∷ c ∷ d ∷ ps) x o o₁ o₂ o₃ h e₁ e₂ e₃ = absurd (omega arith)
+    join : (a b c : Bool) → (a || (b || c)) ≡ (a || b || c)
+    join true b c = refl
+    join false b c = refl
+
+-- is x one of the first k of an array with a key's positions
+pub any-position : (u k key x : ℕ) (ps : List ℕ) → ps ≡ positionArray fnvFamily k u (bytes4 key)
+    → any (λ i. eqb (getD ps i 0) x) k ≡ keyBit u k key x
+any-position u k key x ps e =
+    let l : List ℕ = positions fnvFamily k u (bytes4 key) in
+    any-ext (λ i. eqb (getD ps i 0) x) (λ i. eqb (getD l i 0) x) k
+    (λ i h. ap (λ (y : ℕ). eqb y x) (ap (λ (z : List ℕ). getD z i 0) e ∙ position-at fnvFamily k u (bytes4 key) i h))
+    ∙ ap (any (λ i. eqb (getD l i 0) x)) (sym (length-positions fnvFamily k u (bytes4 key))) ∙ any-memb x l
 
 -- no bit is set
 pub none-set : (n x : ℕ) → x / 8 < n → arrayBit (replicate n 0) x ≡ false

@@ -9,7 +9,7 @@ use Rattle.memory.specs.Ranges.{any, memb}
 use Rattle.memory.specs.Words.{word, bytes4}
 use Rattle.layout.specs.Geometry.{page, block, entriesPerPage, fullSets}
 use Rattle.layout.specs.Index.{Index, fullBlock}
-use Rattle.layout.specs.Hash.{fnvFamily, positions, positionCount}
+use Rattle.layout.specs.Hash.{fnvFamily, positions}
 use Rattle.layout.specs.Calls.{keyIndex}
 use Rattle.laws.specs.Lengths.{Readable}
 use Rattle.laws.specs.Units.{UnitSound}
@@ -21,17 +21,13 @@ use Rattle.geometry.specs.Bounds.{index-le}
 unfoldable pub arrayBit : List ℕ → ℕ → Bool
 arrayBit a x = bit (getD a (x / 8) 0) (x % 8)
 
--- the three positions of a key are bits of a filter of m bits
-abbrev pub PositionsIn : ℕ → List ℕ → Type 0
-PositionsIn m ps = (getD ps 0 0 < m) × (getD ps 1 0 < m) × (getD ps 2 0 < m)
-
--- is x a position of the key
-abbrev pub keyBit : ℕ → ℕ → ℕ → Bool
-keyBit u key x = memb x (positions fnvFamily positionCount u (bytes4 key))
+-- is x one of the k positions of the key
+abbrev pub keyBit : ℕ → ℕ → ℕ → ℕ → Bool
+keyBit u k key x = memb x (positions fnvFamily k u (bytes4 key))
 
 -- bit x of the filter of the page of entries from byte `at` on: of its entries but the last, and of a key
-abbrev pub withKey : ℕ → ℕ → ℕ → List ℕ → ℕ → Bool
-withKey u at key ram x = keyBit u key x || any (λ i. keyBit u (word ram (at + i * 8)) x) (entriesPerPage u - 1)
+abbrev pub withKey : ℕ → ℕ → ℕ → ℕ → List ℕ → ℕ → Bool
+withKey u k at key ram x = keyBit u k key x || any (λ i. keyBit u k (word ram (at + i * 8)) x) (entriesPerPage u - 1)
 
 -- the unit is one of the six allowed; the index lies within the flash with Z full sets, its SKA page within the RAM
 pub record IndexFits (u : ℕ) (ix : Index) (Z : ℕ) (main ram : List ℕ) : Type 0 where

@@ -42,7 +42,7 @@ module _ (key n at : ℕ) (ram : List ℕ) (small : key < 2 ^ 32) (fits : at + 8
 
 -- entry n fills its page: it is the last of 8 u
 pub new-filter-is : (g : Geometry) (n key : ℕ) (ram : List ℕ) → 0 < g .u → fills (KA g) n ≡ true → key < 2 ^ 32
-    → kaRam (g .u) + page (g .u) ≤ length ram → (x : ℕ) → withKey (g .u) (kaRam (g .u)) key ram x ≡ newFilter fnvFamily g n key ram x
+    → kaRam (g .u) + page (g .u) ≤ length ram → (x : ℕ) → withKey (g .u) (g .k) (kaRam (g .u)) key ram x ≡ newFilter fnvFamily g n key ram x
 unfolding pageFilter put any
 new-filter-is g n key ram pos full small fits x =
     let last : ℕ = 8 * g .u - 1 in
@@ -50,15 +50,15 @@ new-filter-is g n key ram pos full small fits x =
     let at : ℕ = kaRam (g .u) + (8 * g .u - 1) * 8 in
     let more : 8 * g .u ≡ suc (8 * g .u - 1) = omega (arith, pos) in
     let R : List ℕ = write ram (kaRam (g .u) + (8 * g .u - 1) * 8) (entryBytes key n) in
-    let f : ℕ → Bool = λ i. keyBit (g .u) (word R (kaRam (g .u) + i * 8)) x in
-    let new : keyBit (g .u) key x ≡ f last
-    = ap (λ (k : ℕ). keyBit (g .u) k x) (sym (new-word key n at ram small (omega (arith, fits, pos)))) in
-    let old : any (λ i. keyBit (g .u) (word ram (kaRam (g .u) + i * 8)) x) last ≡ any f last
-    = any-ext (λ i. keyBit (g .u) (word ram (kaRam (g .u) + i * 8)) x) f last
-    (λ i l. ap (λ (k : ℕ). keyBit (g .u) k x)
+    let f : ℕ → Bool = λ i. keyBit (g .u) (g .k) (word R (kaRam (g .u) + i * 8)) x in
+    let new : keyBit (g .u) (g .k) key x ≡ f last
+    = ap (λ (k : ℕ). keyBit (g .u) (g .k) k x) (sym (new-word key n at ram small (omega (arith, fits, pos)))) in
+    let old : any (λ i. keyBit (g .u) (g .k) (word ram (kaRam (g .u) + i * 8)) x) last ≡ any f last
+    = any-ext (λ i. keyBit (g .u) (g .k) (word ram (kaRam (g .u) + i * 8)) x) f last
+    (λ i l. ap (λ (k : ℕ). keyBit (g .u) (g .k) k x)
     (sym (old-word key n at ram small (omega (arith, fits, pos)) (kaRam (g .u) + i * 8) (omega (arith, l))))) in
     (λ q. new q || old q)
     ∙ ap (any f) (sym more)
     ∙ ap
-    (λ (k : ℕ). any (λ i. keyBit (g .u) (word (write ram (kaRam (g .u) + k * 8) (entryBytes key n)) (kaRam (g .u) + i * 8)) x) (8 * g .u))
+    (λ (k : ℕ). any (λ i. keyBit (g .u) (g .k) (word (write ram (kaRam (g .u) + k * 8) (entryBytes key n)) (kaRam (g .u) + i * 8)) x) (8 * g .u))
     (sym e)

@@ -5,10 +5,9 @@ ghost use Prim.Native.Nat.{ℕ, _+_, _%_, _<_, _≤_};
 ghost use lib.Dec.{eqb};
 ghost use lib.ListN.{length, replicate};
 ghost use Rattle.memory.specs.Lent.{before, after};
-ghost use Rattle.memory.specs.Ranges.{memb};
 ghost use Rattle.layout.specs.Geometry.{page};
 ghost use Rattle.laws.specs.Units.{UnitSound};
-ghost use Rattle.filter.specs.Filter.{arrayBit, PositionsIn, withKey};
+ghost use Rattle.filter.specs.Filter.{arrayBit, keyBit, withKey};
 use geometry::Chip;
 use geometry::areas;
 
@@ -30,13 +29,17 @@ fn set_bit(p: u32, bits: &mut [u8])
 }
 
 // Sets the bits of a key's positions.
-fn set_positions(ps: [u32; 3], bits: &mut [u8])
-    requires { ⌜ (length (now bits) ≡ 256) × PositionsIn 2048 ps ⌝ }
-    ensures { λ _. ⌜ ((x : ℕ) → x < 2048 → arrayBit (after bits) x ≡ (memb x ps || arrayBit (before bits) x)) ⌝ }
+fn set_key(chip: Chip, count: usize, key: u32, bits: &mut [u8])
+    requires { ⌜ UnitSound (chip .unit) × (count ≤ 8) × (length (now bits) ≡ 256) ⌝ }
+    ensures { λ _. ⌜ ((x : ℕ) → x < 2048
+        → arrayBit (after bits) x ≡ (keyBit (chip .unit) count key x || arrayBit (before bits) x)) ⌝ }
 {
-    set_bit(ps[2], bits);
-    set_bit(ps[1], bits);
-    set_bit(ps[0], bits);
+    let ps = fnv::positions(chip, count, key);
+    let mut i = 0;
+    while i < count {
+        set_bit(ps[i], bits);
+        i += 1;
+    }
 }
 
 // A filter with no bit set.
@@ -47,21 +50,19 @@ fn no_bits() -> [u8; 256]
 }
 
 // The bloom filter of the page of entries from byte `at` on, whose last entry, with the key, is not in RAM yet: the positions of all its
-// keys set, and no other of the 2048 bits.
-pub fn new_filter(chip: Chip, at: usize, key: u32, ram: &[u8]) -> [u8; 256]
-    requires { ⌜ UnitSound (chip .unit) × (at + page (chip .unit) ≤ length (now ram)) ⌝ }
-    ensures { λ r. ⌜ ((x : ℕ) → x < 2048 → arrayBit r x ≡ withKey (chip .unit) at key (before ram) x) ⌝ }
+// keys set, `count` of each, and no other of the 2048 bits.
+pub fn new_filter(chip: Chip, count: usize, at: usize, key: u32, ram: &[u8]) -> [u8; 256]
+    requires { ⌜ UnitSound (chip .unit) × (count ≤ 8) × (at + page (chip .unit) ≤ length (now ram)) ⌝ }
+    ensures { λ r. ⌜ ((x : ℕ) → x < 2048 → arrayBit r x ≡ withKey (chip .unit) count at key (before ram) x) ⌝ }
 {
     let last = chip.entries_per_page() - 1;
     let mut bits = no_bits();
     let mut i = 0;
     while i < last {
         let old = words::get32(ram, at + i * areas::ENTRY_SIZE);
-        let ps = fnv::positions(chip, old);
-        set_positions(ps, &mut bits);
+        set_key(chip, count, old, &mut bits);
         i += 1;
     }
-    let ps = fnv::positions(chip, key);
-    set_positions(ps, &mut bits);
+    set_key(chip, count, key, &mut bits);
     bits
 }

@@ -1,12 +1,13 @@
 // FNV-1a at 32 bits, the hash family of a key and a key's positions in a filter. Document 01, "Filters".
 ghost use mathlib.Core.Path.{_≡_};
-ghost use Prim.Native.Nat.{_+_, _*_, _%_, _^_, _<_, _≤_};
+ghost use Prim.Native.Nat.{ℕ, _+_, _*_, _%_, _^_, _<_, _≤_};
 ghost use lib.Bits.{bitXor};
 ghost use lib.ListN.{getD};
 ghost use Rattle.memory.specs.Power.{PowerOfTwo};
 ghost use Rattle.memory.specs.Words.{bytes4};
 ghost use Rattle.layout.specs.Geometry.{filterBits};
-ghost use Rattle.layout.specs.Hash.{fnv1a, fnvFamily, positions, positionCount};
+ghost use Rattle.layout.specs.Hash.{fnv1a, fnvFamily};
+ghost use Rattle.laws.specs.Positions.{positionArray};
 ghost use Rattle.laws.specs.Units.{UnitSound};
 use geometry::Chip;
 
@@ -89,17 +90,19 @@ fn within(base: u32, size: u32, h: u32) -> u32
     base + (h & (size - 1))
 }
 
-// The three positions of a key in a filter of 4S bits: (h0 mod 4) S + (hj mod S).
-pub fn positions(chip: Chip, key: u32) -> [u32; 3]
-    requires { ⌜ UnitSound (chip .unit) ⌝ }
-    ensures equal { λ r. ⌜ r ≡ positions fnvFamily positionCount (chip .unit) (bytes4 key) ⌝ }
-    ensures below { λ r. ⌜ (getD r 0 0 < filterBits (chip .unit)) × (getD r 1 0 < filterBits (chip .unit))
-        × (getD r 2 0 < filterBits (chip .unit)) ⌝ }
+// The `count` positions of a key in a filter of 4S bits, (h0 mod 4) S + (hj mod S) for j = 1 to `count`, and zeros after them.
+pub fn positions(chip: Chip, count: usize, key: u32) -> [u32; 8]
+    requires { ⌜ UnitSound (chip .unit) × (count ≤ 8) ⌝ }
+    ensures equal { λ r. ⌜ r ≡ positionArray fnvFamily count (chip .unit) (bytes4 key) ⌝ }
+    ensures below { λ r. ⌜ ((i : ℕ) → i < count → getD r i 0 < filterBits (chip .unit)) ⌝ }
 {
     let size = chip.sector_size() as u32;
     let base = fourth(size, hash(0, key));
-    let a = within(base, size, hash(1, key));
-    let b = within(base, size, hash(2, key));
-    let c = within(base, size, hash(3, key));
-    [a, b, c]
+    let mut ps = [0u32; 8];
+    let mut i = 0;
+    while i < count {
+        ps[i] = within(base, size, hash((i + 1) as u8, key));
+        i += 1;
+    }
+    ps
 }

@@ -1,7 +1,7 @@
--- Which sector sizes, and counts of blocks, are allowed: by the table, and that what is allowed is sound.
+-- Which sector sizes, counts of blocks and of hash functions are allowed: by the table, and that what is allowed is sound.
 use Prim.Native.Nat.{ℕ, _+_, _<_, _≤_}
 use mathlib.Core.Path.{_≡_, refl}
-use mathlib.Core.Bool.{Bool, true, false, _&&_}
+use mathlib.Core.Bool.{Bool, true, false}
 use mathlib.Core.List.{List, [], _∷_}
 use native.Mathlib.Numerals.{add-one}
 use native.Mathlib.Omega.{arith}
@@ -14,7 +14,7 @@ use Rattle.laws.specs.Sound.{sound, unit}
 use Rattle.geometry.specs.declared.table.SizeRow.{SizeRow}
 use Rattle.geometry.specs.declared.Shaped.the-variants.{Bad}
 use Rattle.geometry.specs.Rows.{row, rows, rowOf}
-use Rattle.geometry.specs.Shape.{Sound, geometryFor, shapedBy, shapedOf, GoodSound}
+use Rattle.geometry.specs.Shape.{Sound, geometryFor, restAllowed, shapedBy, shapedOf, GoodSound}
 
 -- ---- looking a sector size up
 
@@ -40,7 +40,7 @@ from-end S i h = rw (drop-of-length-le rows {i = i} h)
 
 -- what is answered to a sector size that is in the table, and to one that is not
 pub shaped-hit : (sizes : layout.Sizes) → fromRow (sizes .sectorSize) 0 ≡ true
-    → shapedOf sizes ≡ shapedBy (layout.blocksAllowed (sizes .raBlocks) && layout.blocksAllowed (sizes .daBlocks)) sizes
+    → shapedOf sizes ≡ shapedBy (restAllowed sizes) sizes
 unfolding layout.allowed
 shaped-hit sizes e = rw e
 
@@ -62,6 +62,8 @@ allowed-sound sizes e =
       ra-most = ok .R-le;
       da-some = ok .D-pos;
       da-most = ok .D-le;
+      k-some = ok .k-pos;
+      k-most = ok .k-le;
     }
 
 -- a geometry that is answered is sound

@@ -2,7 +2,7 @@
 use Prim.Native.Nat.{_<_, _≤_}
 use Prim.{Unit}
 use mathlib.Core.Path.{_≡_}
-use mathlib.Core.Bool.{Bool, cond}
+use mathlib.Core.Bool.{Bool, _&&_, cond}
 use Rattle.memory.specs.Power.{PowerOfTwo}
 use Rattle.layout.specs.Geometry as layout
 use Rattle.layout.specs.Items as items
@@ -17,16 +17,16 @@ use Rattle.geometry.specs.declared.areas.Place.{Place}
 use Rattle.geometry.specs.Rows.{rowFor}
 
 abbrev pub sizesIs : Sizes → layout.Sizes
-sizesIs s = layout.sizesOf (s .«sector_size») (s .«ra_blocks») (s .«da_blocks»)
+sizesIs s = layout.sizesOf (s .«sector_size») (s .«ra_blocks») (s .«da_blocks») (s .«hash_count»)
 
 abbrev pub shape : Geometry → layout.Geometry
-shape g = record { u = g .chip .unit; R = g .ra; D = g .da }
+shape g = record { u = g .chip .unit; R = g .ra; D = g .da; k = g .hashes }
 
 -- the chip of a volume
 abbrev pub chipOf : layout.Geometry → Chip
 chipOf g = record { unit = g .u }
 
--- the unit is a power of two up to 32, the row is the table's, and areas of records and deletions have 1 to 4096 blocks
+-- the unit is a power of two up to 32, the row is the table's, areas of records and deletions have 1 to 4096 blocks, and k is 1 to 8
 pub record Sound (g : Geometry) : Type 0 where
   pub unit : UnitSound (g .chip .unit)
   pub records : g .row .records ≡ layout.recordsPerPage (g .chip .unit)
@@ -36,12 +36,25 @@ pub record Sound (g : Geometry) : Type 0 where
   pub ra-most : g .ra ≤ 4096
   pub da-some : 1 ≤ g .da
   pub da-most : g .da ≤ 4096
+  pub k-some : 1 ≤ g .hashes
+  pub k-most : g .hashes ≤ 8
 
--- ---- from S, R and D
+-- ---- from S, R, D and k
 
 abbrev pub geometryFor : layout.Sizes → Geometry
 geometryFor sizes =
-    record { chip = chipOf (layout.geometry sizes); row = rowFor (sizes .sectorSize); ra = sizes .raBlocks; da = sizes .daBlocks }
+    record {
+      chip = chipOf (layout.geometry sizes);
+      row = rowFor (sizes .sectorSize);
+      ra = sizes .raBlocks;
+      da = sizes .daBlocks;
+      hashes = sizes .hashCount;
+    }
+
+-- are R, D and k allowed
+abbrev pub restAllowed : layout.Sizes → Bool
+restAllowed sizes =
+    layout.blocksAllowed (sizes .raBlocks) && (layout.blocksAllowed (sizes .daBlocks) && layout.hashesAllowed (sizes .hashCount))
 
 -- what is answered to sizes, of which a test says whether they are allowed
 abbrev pub shapedBy : Bool → layout.Sizes → Shaped

@@ -13,27 +13,31 @@ pub use areas::record_area;
 pub use chip::Chip;
 pub use table::SizeRow;
 ghost use mathlib.Core.Path.{_≡_};
-ghost use mathlib.Core.Bool.{_&&_};
 ghost use Rattle.layout.specs.Geometry as layout;
 ghost use Rattle.geometry.specs.Rows.{rowFor};
-ghost use Rattle.geometry.specs.Shape.{sizesIs, shape, Sound, shapedBy, shapedOf, GoodSound};
+ghost use Rattle.geometry.specs.Shape.{sizesIs, shape, Sound, restAllowed, shapedBy, shapedOf, GoodSound};
 
 // ---- the shape of a volume
 
-// What a format names: the sector size in bytes, the blocks of records and of deletions.
+// What a format names: the sector size in bytes, the blocks of records and of deletions, the hash functions beside the first.
 #[repr(C)]
 pub struct Sizes {
     pub sector_size: u32,
     pub ra_blocks: u32,
     pub da_blocks: u32,
+    pub hash_count: u32,
 }
 
-// A volume's chip, its row of the table, and the blocks of records and of deletions.
+// The hash functions of a volume whose format names none.
+pub const DEFAULT_HASH_COUNT: u32 = 3;
+
+// A volume's chip, its row of the table, the blocks of records and of deletions, and the positions of a key in a filter.
 pub struct Geometry {
     pub chip: Chip,
     pub row: SizeRow,
     pub ra: usize,
     pub da: usize,
+    pub hashes: usize,
 }
 
 impl Geometry {
@@ -219,11 +223,16 @@ fn blocks_allowed(b: u32) -> bool
     1 <= b && b <= 4096
 }
 
+fn hashes_allowed(k: u32) -> bool
+    ensures { λ r. ⌜ r ≡ layout.hashesAllowed k ⌝ }
+{
+    1 <= k && k <= 8
+}
+
 // What is left to test once the row of the sector size is found.
 fn with_blocks(row: SizeRow, sizes: Sizes) -> Shaped
     requires { ⌜ row ≡ rowFor (sizes .«sector_size») ⌝ }
-    ensures { λ r. ⌜ r
-        ≡ shapedBy (layout.blocksAllowed (sizes .«ra_blocks») && layout.blocksAllowed (sizes .«da_blocks»)) (sizesIs sizes) ⌝ }
+    ensures { λ r. ⌜ r ≡ shapedBy (restAllowed (sizesIs sizes)) (sizesIs sizes) ⌝ }
 {
     if !blocks_allowed(sizes.ra_blocks) {
         return Shaped::Bad;
@@ -231,11 +240,15 @@ fn with_blocks(row: SizeRow, sizes: Sizes) -> Shaped
     if !blocks_allowed(sizes.da_blocks) {
         return Shaped::Bad;
     }
+    if !hashes_allowed(sizes.hash_count) {
+        return Shaped::Bad;
+    }
     Shaped::Good(Geometry {
         chip: Chip::with_sectors(row.sector as usize),
         row,
         ra: sizes.ra_blocks as usize,
         da: sizes.da_blocks as usize,
+        hashes: sizes.hash_count as usize,
     })
 }
 

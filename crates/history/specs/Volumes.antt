@@ -126,7 +126,7 @@ module _ (h : Family) (sizes : Sizes) (ok : SizesSound sizes) where
     pub position-lt : (k : Key) (x : ℕ) → memb x (keyPositions h g k) ≡ true → x < filterBits (unitOf sizes)
     unfolding positions
     position-lt k x q =
-        memb-tab-all (λ y. y < 64 * (unitOf sizes)) 3
+        memb-tab-all (λ y. y < 64 * (unitOf sizes)) (g .k)
         (λ j. h 0 (keyBytes k) % 4 * (16 * (unitOf sizes)) + h (j + 1) (keyBytes k) % (16 * (unitOf sizes)))
         (λ j l.
         let a : h 0 (keyBytes k) % 4 * (16 * (unitOf sizes)) + h (j + 1) (keyBytes k) % (16 * (unitOf sizes)) < 4 * (16 * (unitOf sizes))

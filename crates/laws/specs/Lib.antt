@@ -6,3 +6,4 @@ pub mod Units
 pub mod Sound
 pub mod Lengths
 pub mod LentFlash
+pub mod Positions

@@ -18,6 +18,8 @@ pub record SizesSound (sizes : Sizes) : Type 0 where
   pub R-le : (sizes .raBlocks) ≤ 4096
   pub D-pos : 1 ≤ (sizes .daBlocks)
   pub D-le : (sizes .daBlocks) ≤ 4096
+  pub k-pos : 1 ≤ (sizes .hashCount)
+  pub k-le : (sizes .hashCount) ≤ 8
 
 -- the table's sizes are 16 times the first six powers of two
 table-is : sectorSizes ≡ tab 6 (λ e. 16 * 2 ^ e)
@@ -36,7 +38,9 @@ sound sizes q =
     = memb-tab-all SizeIs 6 (λ e. 16 * 2 ^ e) (λ e l. (e, l, refl)) (sizes .sectorSize) (rw table-is at m) in
     let r = and-eq-true-iff ((leb 1 (sizes .raBlocks)) && (leb (sizes .raBlocks) 4096)) _ .0 (p .1) in
     let rR = and-eq-true-iff (leb 1 (sizes .raBlocks)) _ .0 (r .0) in
-    let rD = and-eq-true-iff (leb 1 (sizes .daBlocks)) _ .0 (r .1) in
+    let t = and-eq-true-iff ((leb 1 (sizes .daBlocks)) && (leb (sizes .daBlocks) 4096)) _ .0 (r .1) in
+    let rD = and-eq-true-iff (leb 1 (sizes .daBlocks)) _ .0 (t .0) in
+    let rk = and-eq-true-iff (leb 1 (sizes .hashCount)) _ .0 (t .1) in
     record {
       e = s .0;
       e-lt = s .1;
@@ -45,6 +49,8 @@ sound sizes q =
       R-le = leb-true (sizes .raBlocks) 4096 (rR .1);
       D-pos = leb-true 1 (sizes .daBlocks) (rD .0);
       D-le = leb-true (sizes .daBlocks) 4096 (rD .1);
+      k-pos = leb-true 1 (sizes .hashCount) (rk .0);
+      k-le = leb-true (sizes .hashCount) 8 (rk .1);
     }
 
 module _ (sizes : Sizes) (ok : SizesSound sizes) where

@@ -11,7 +11,7 @@ use Rattle.layout.specs.Keys.{Key, keyBytes, keyIn, numberIn, keyAt}
 use Rattle.layout.specs.Geometry.{State, Geometry, geometry, Sizes, stateOf, allowed, recordCapacity, deletionCapacity, mainSize}
 use Rattle.layout.specs.Geometry.{spareSize, ramSize, blocks, indexBlock, entriesPerPage, kaRam, skaRam, workRam}
 use Rattle.layout.specs.Flash.{Flash, Op, applyAll, erases, Planned, planOps, allFresh}
-use Rattle.layout.specs.Hash.{Family, positions, positionCount}
+use Rattle.layout.specs.Hash.{Family, positions}
 use Rattle.layout.specs.Index.{Index, filterBit, withFilter, filterPlan, filterRam, inSka}
 use Rattle.layout.specs.Items.{RA, KA, DA, Record, recordBytes, entryBytes, deletionBytes, Place, itemPlace, bytesAt, itemWord, put}
 use Rattle.layout.specs.Items.{recordSize, entrySize, fills, itemPlan, itemRam, zeroPage}
@@ -122,9 +122,9 @@ tryAt g v n₀ d₀ key j = tryEntry n₀ (isDeleted g v d₀) key (keyIn (entry
 unfoldable pub maybeIn : Geometry → Volume → List ℕ → ℕ → Bool
 maybeIn g v ps f = allOf (filterBit (g .u) (keyIndex g) (v .flash .main) (v .ram) (keyFilters g (v .state .records)) f) ps
 
--- the positions of a key
+-- the k positions of a key
 abbrev pub keyPositions : Family → Geometry → Key → List ℕ
-keyPositions h g key = positions h positionCount (g .u) (keyBytes key)
+keyPositions h g key = positions h (g .k) (g .u) (keyBytes key)
 
 -- pages that n₀ records fill are opened by their filters; the entries past
 -- them are tried first, as those in RAM are, wherever they lie by now

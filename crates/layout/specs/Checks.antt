@@ -14,7 +14,7 @@ use Rattle.memory.specs.Ranges.{any, memb}
 use Rattle.layout.specs.Keys.{sameKey}
 use Rattle.layout.specs.Geometry.{State, sizesOf, stateOf, geometry, allowed, indexBlock, sector, page, block}
 use Rattle.layout.specs.Flash.{flashOf, program, fresh, apply, Planned, known, made, wipe, planOps}
-use Rattle.layout.specs.Hash.{fnvFrom, fnvFamily, positions, positionCount}
+use Rattle.layout.specs.Hash.{fnvFrom, fnvFamily, positions}
 use Rattle.layout.specs.Index.{BitPlace, rowBit, rowByte, withFilter, filterPlace, filterPlan, flushAndBuild}
 use Rattle.layout.specs.Items.{recordOf, recordBytes, entryBytes, deletionBytes, itemWord}
 use Rattle.layout.specs.Search.{Stop, found, corrupt, tryEntry, scan, searchPages, searchFrom}
@@ -35,10 +35,10 @@ beforeErase (wipe b ∷ ps) = 0
 -- set 3 is built when filter 255 is there, at S = 16, R = 32: 4 sectors of the
 -- flush and 32 pages on side B, then L1 and the one block of set 2 on side A
 abbrev third : List Planned
-third = filterPlan 1 (keyIndex (geometry (sizesOf 16 32 1))) 255 []
+third = filterPlan 1 (keyIndex (geometry (sizesOf 16 32 1 3))) 255 []
 
 abbrev L1 : ℕ
-L1 = indexBlock (geometry (sizesOf 16 32 1))
+L1 = indexBlock (geometry (sizesOf 16 32 1 3))
 
 pub build-order : beforeErase third ∷ length (sectorsOf third) ∷ getD (sectorsOf third) 4 0 ∷ getD (sectorsOf third) 131 0 ∷ blocksOf third
     ≡ (4 + 32 * 4) ∷ (4 + 32 * 4) ∷ ((L1 + 5) * 64) ∷ ((L1 + 5) * 64 + 127) ∷ L1 ∷ (L1 + 1) ∷ []
@@ -47,13 +47,13 @@ build-order = refl
 
 -- the fifth set at S = 16 is full: it goes to the first place for full sets and frees the four blocks of set 4 on side A
 abbrev fifth : List Planned
-fifth = filterPlan 1 (keyIndex (geometry (sizesOf 16 64 1))) 511 []
+fifth = filterPlan 1 (keyIndex (geometry (sizesOf 16 64 1 3))) 511 []
 
 pub full-set : length (sectorsOf fifth) ∷ getD (sectorsOf fifth) 4 0 ∷ blocksOf fifth
-    ≡ (4 + 64 * 4) ∷ ((indexBlock (geometry (sizesOf 16 64 1)) + 9) * 64) ∷ indexBlock (geometry (sizesOf 16 64 1))
-    ∷ (indexBlock (geometry (sizesOf 16 64 1)) + 1)
-    ∷ (indexBlock (geometry (sizesOf 16 64 1)) + 2) ∷ (indexBlock (geometry (sizesOf 16 64 1)) + 3)
-    ∷ (indexBlock (geometry (sizesOf 16 64 1)) + 4) ∷ []
+    ≡ (4 + 64 * 4) ∷ ((indexBlock (geometry (sizesOf 16 64 1 3)) + 9) * 64) ∷ indexBlock (geometry (sizesOf 16 64 1 3))
+    ∷ (indexBlock (geometry (sizesOf 16 64 1 3)) + 1)
+    ∷ (indexBlock (geometry (sizesOf 16 64 1 3)) + 2) ∷ (indexBlock (geometry (sizesOf 16 64 1 3)) + 3)
+    ∷ (indexBlock (geometry (sizesOf 16 64 1 3)) + 4) ∷ []
 unfolding log2up flushAndBuild
 full-set = refl
 
@@ -130,14 +130,14 @@ search-shut = refl
 abbrev nine : Volume
 nine =
     record {
-      state = stateOf (sizesOf 16 1 1) 9 1;
+      state = stateOf (sizesOf 16 1 1 3) 9 1;
       flash = flashOf (write (replicate 2048 255) 1024
           (wordsBytes (7 ∷ 0 ∷ 7 ∷ 1 ∷ 7 ∷ 2 ∷ 9 ∷ 5 ∷ 1 ∷ 4 ∷ 2 ∷ 5 ∷ 7 ∷ 6 ∷ 3 ∷ 7 ∷ []))) [];
       ram = write (replicate 320 0) 128 (wordsBytes (2 ∷ []));
     }
 
 abbrev among : ℕ → ℕ → ℕ → Option Stop
-among n₀ d₀ key = searchAt fnvFamily (geometry (sizesOf 16 1 1)) nine n₀ d₀ key .stop
+among n₀ d₀ key = searchAt fnvFamily (geometry (sizesOf 16 1 1 3)) nine n₀ d₀ key .stop
 
 -- the last of the first n₀ entries is on flash by now; a deletion of later does not count, nor does a record
 pub search-among : among 3 0 7 ∷ among 3 1 7 ∷ among 7 1 7 ∷ among 4 0 9 ∷ among 6 0 9 ∷ among 3 1 9 ∷ []
@@ -148,7 +148,10 @@ search-among = refl
 -- ---- refusals 1 and 2: n and d may be at capacity, "under" is strict
 
 abbrev state : ℕ → ℕ → ℕ → ℕ → ℕ → State
-state S R D n d = stateOf (sizesOf S R D) n d
+state S R D n d = stateOf (sizesOf S R D 3) n d
+
+abbrev hashed : ℕ → State
+hashed k = stateOf (sizesOf 16 1 1 k) 0 0
 
 abbrev bads : List State → List ℕ
 bads [] = []
@@ -160,8 +163,13 @@ pub states : bads (state 16 1 1 64 64 ∷ state 16 1 1 65 0 ∷ state 16 5 1 320
 unfolding badState allowed memb
 states = refl
 
+-- k is 1 to 8
+pub hash-counts : bads (hashed 0 ∷ hashed 1 ∷ hashed 3 ∷ hashed 8 ∷ hashed 9 ∷ []) ≡ 1 ∷ 0 ∷ 0 ∷ 0 ∷ 1 ∷ []
+unfolding badState allowed memb
+hash-counts = refl
+
 abbrev shorts : ℕ → ℕ → ℕ → ℕ
-shorts main spare ram = cond (tooShort (geometry (sizesOf 16 1 1)) (flashOf (replicate main 0) (replicate spare 0)) (replicate ram 0)) 1 0
+shorts main spare ram = cond (tooShort (geometry (sizesOf 16 1 1 3)) (flashOf (replicate main 0) (replicate spare 0)) (replicate ram 0)) 1 0
 
 pub lengths : shorts 12288 768 320 ∷ shorts 12287 768 320 ∷ shorts 12288 767 320 ∷ shorts 12288 768 319 ∷ [] ≡ 0 ∷ 1 ∷ 1 ∷ 1 ∷ []
 unfolding tooShort
@@ -196,17 +204,25 @@ pub deletions : deletionBytes 772 ≡ 4 ∷ 3 ∷ 0 ∷ 0 ∷ []
 unfolding deletionBytes wordsBytes
 deletions = refl
 
--- ---- the positions of a key at S = 16, 512 and 64
+-- ---- the positions of a key: three at S = 16, 512 and 64, one and eight at S = 16
 
-pub positions-7 : positions fnvFamily positionCount 1 (bytes4 7) ≡ 11 ∷ 2 ∷ 5 ∷ []
+pub positions-7 : positions fnvFamily 3 1 (bytes4 7) ≡ 11 ∷ 2 ∷ 5 ∷ []
 unfolding positions tab tabFrom fnvFrom
 positions-7 = refl
 
-pub positions-7-wide : positions fnvFamily positionCount 32 (bytes4 7) ≡ 315 ∷ 98 ∷ 261 ∷ []
+pub positions-7-one : positions fnvFamily 1 1 (bytes4 7) ≡ 11 ∷ []
+unfolding positions tab tabFrom fnvFrom
+positions-7-one = refl
+
+pub positions-7-eight : positions fnvFamily 8 1 (bytes4 7) ≡ 11 ∷ 2 ∷ 5 ∷ 4 ∷ 7 ∷ 14 ∷ 1 ∷ 0 ∷ []
+unfolding positions tab tabFrom fnvFrom
+positions-7-eight = refl
+
+pub positions-7-wide : positions fnvFamily 3 32 (bytes4 7) ≡ 315 ∷ 98 ∷ 261 ∷ []
 unfolding positions tab tabFrom fnvFrom
 positions-7-wide = refl
 
-pub positions-bytes : positions fnvFamily positionCount 4 (bytes4 16909060) ≡ 232 ∷ 213 ∷ 230 ∷ []
+pub positions-bytes : positions fnvFamily 3 4 (bytes4 16909060) ≡ 232 ∷ 213 ∷ 230 ∷ []
 unfolding positions tab tabFrom fnvFrom
 positions-bytes = refl
 
@@ -216,7 +232,7 @@ abbrev keyPage : List ℕ
 keyPage = write (replicate 320 0) 64 (wordsBytes (1 ∷ 0 ∷ 2 ∷ 1 ∷ 3 ∷ 2 ∷ 4 ∷ 3 ∷ 5 ∷ 4 ∷ 6 ∷ 5 ∷ 7 ∷ 6 ∷ 8 ∷ 7 ∷ []))
 
 abbrev pageBit : ℕ → ℕ
-pageBit x = num (pageFilter fnvFamily (geometry (sizesOf 16 1 1)) keyPage x)
+pageBit x = num (pageFilter fnvFamily (geometry (sizesOf 16 1 1 3)) keyPage x)
 
 pub filter-bits : pageBit 0 ∷ pageBit 1 ∷ pageBit 52 ∷ pageBit 53 ∷ [] ≡ 0 ∷ 1 ∷ 1 ∷ 0 ∷ []
 unfolding write wordsBytes pageFilter any memb positions tab tabFrom fnvFrom

@@ -30,7 +30,7 @@ expected [] = []
 expected (r ∷ rs) = r .says ∷ expected rs
 
 abbrev B : ℕ → ℕ → ℕ → ℕ
-B S R D = blocks (geometry (sizesOf S R D))
+B S R D = blocks (geometry (sizesOf S R D 3))
 
 -- the sectors that a plan programs, and the blocks that it erases, in order
 abbrev pub sectorsOf : List Planned → List ℕ
@@ -62,11 +62,11 @@ flushRead = l1Place 1 index 48 (2 * sector 1) .row / sector 1
 
 -- record j of n at S = 16
 abbrev recordAt : ℕ → ℕ → Place
-recordAt n j = itemPlace 1 (RA (geometry (sizesOf 16 1 1))) n j
+recordAt n j = itemPlace 1 (RA (geometry (sizesOf 16 1 1 3))) n j
 
 -- S = 16, R = 16, n = 1023: its filters, and what one more insert does
 abbrev g16 : Geometry
-g16 = geometry (sizesOf 16 16 1)
+g16 = geometry (sizesOf 16 16 1 3)
 
 abbrev filters : ℕ
 filters = keyFilters g16 1023
@@ -82,7 +82,7 @@ examples h key bytes =
     ∷ line (fnv1a (97 ∷ [])) 0xE40C292C
     -- S = 16, D = 1: B, and the capacity at R = 1
     ∷ line (B 16 1 1) 12
-    ∷ line (recordCapacity (geometry (sizesOf 16 1 1))) 64
+    ∷ line (recordCapacity (geometry (sizesOf 16 1 1 3))) 64
     ∷ line (B 16 32 1) 58
     ∷ line (B 16 63 1) 105
     ∷ line (B 16 64 1) 110

@@ -1,4 +1,4 @@
--- Sizes, areas and capacities. Document 01, "The chip and the desk".
+-- Sizes, areas and capacities. Document 01, "The chip and the desk"; the number of hash functions, document 02, §2.
 -- Every allowed sector size is a multiple of 16, so all sizes are counted in units of a sixteenth of a sector:
 -- with S = 16 u, the table's S/4, S/2 and 4S are 4 u, 8 u and 64 u (`Examples.rows` shows it for each row).
 use mathlib.Core.Bool.{Bool, _&&_}
@@ -7,16 +7,21 @@ use Prim.Native.Nat.{ℕ, _+_, _*_, _/_}
 use lib.Dec.{leb}
 use Rattle.memory.specs.Ranges.{memb}
 
--- what a format names: S, R, D
+-- what a format names: S, R, D, k
 pub record Sizes : Type 0 where
   pub sectorSize : ℕ
   pub raBlocks : ℕ
   pub daBlocks : ℕ
+  pub hashCount : ℕ
 
-abbrev pub sizesOf : ℕ → ℕ → ℕ → Sizes
-sizesOf S R D = record { sectorSize = S; raBlocks = R; daBlocks = D }
+abbrev pub sizesOf : ℕ → ℕ → ℕ → ℕ → Sizes
+sizesOf S R D k = record { sectorSize = S; raBlocks = R; daBlocks = D; hashCount = k }
 
--- "The state is S, R, D, n, d"
+-- k where a format does not name it: "Volumes and replays of document 01 have k = 3"
+abbrev pub defaultHashCount : ℕ
+defaultHashCount = 3
+
+-- "The state is S, R, D, n, d"; §2: "k joins S, R and D in the state"
 pub record State : Type 0 where
   pub sizes : Sizes
   pub records : ℕ
@@ -25,17 +30,18 @@ pub record State : Type 0 where
 abbrev pub stateOf : Sizes → ℕ → ℕ → State
 stateOf sizes n d = record { sizes = sizes; records = n; deletions = d }
 
--- a volume's shape: u = S/16, R and D
+-- a volume's shape: u = S/16, R, D and k
 pub record Geometry : Type 0 where
   pub u : ℕ
   pub R : ℕ
   pub D : ℕ
+  pub k : ℕ
 
 abbrev pub unitOf : Sizes → ℕ
 unitOf sizes = sizes .sectorSize / 16
 
 abbrev pub geometry : Sizes → Geometry
-geometry sizes = record { u = unitOf sizes; R = sizes .raBlocks; D = sizes .daBlocks }
+geometry sizes = record { u = unitOf sizes; R = sizes .raBlocks; D = sizes .daBlocks; k = sizes .hashCount }
 
 -- "S takes one row of this table; R and D are 1 to 4096"
 abbrev pub sectorSizes : List ℕ
@@ -44,8 +50,15 @@ sectorSizes = 16 ∷ 32 ∷ 64 ∷ 128 ∷ 256 ∷ 512 ∷ []
 abbrev pub blocksAllowed : ℕ → Bool
 blocksAllowed b = leb 1 b && leb b 4096
 
+-- §2: "k, 1 to 8 hash functions beside h0"
+abbrev pub hashesAllowed : ℕ → Bool
+hashesAllowed k = leb 1 k && leb k 8
+
+-- "S, R or D not allowed"; §2: "A k outside the range falls under refusal 1"
 unfoldable pub allowed : Sizes → Bool
-allowed sizes = memb (sizes .sectorSize) sectorSizes && (blocksAllowed (sizes .raBlocks) && blocksAllowed (sizes .daBlocks))
+allowed sizes =
+    memb (sizes .sectorSize) sectorSizes
+    && (blocksAllowed (sizes .raBlocks) && (blocksAllowed (sizes .daBlocks) && hashesAllowed (sizes .hashCount)))
 
 -- ---- sizes: "A page is always four sectors, a block always sixteen pages"
 

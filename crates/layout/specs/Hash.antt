@@ -18,14 +18,10 @@ fnv1a xs = fnvFrom 2166136261 xs
 abbrev pub Family : Type 0
 Family = ℕ → List ℕ → ℕ
 
--- "Hash j (0 to 3) is FNV-1a over five bytes: j, then the key"
+-- "Hash j (0 to 3) is FNV-1a over five bytes: j, then the key"; §2: "h0 to hk"
 abbrev pub fnvFamily : Family
 fnvFamily j bytes = fnv1a (j ∷ bytes)
 
--- the k positions of some bytes: "(h0 mod 4) × S + (hj mod S) for j = 1, 2, 3"
+-- the k positions of some bytes: "(h0 mod 4) × S + (hj mod S) for j = 1, 2, 3"; §2: with k "wherever 01 says three"
 unfoldable pub positions : Family → ℕ → ℕ → List ℕ → List ℕ
 positions h k u bytes = tab k (λ j. h 0 bytes % 4 * sector u + h (j + 1) bytes % sector u)
-
--- k in document 01
-abbrev pub positionCount : ℕ
-positionCount = 3

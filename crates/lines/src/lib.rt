@@ -84,6 +84,7 @@ pub fn perform(s: State, q: Request, main: &mut [u8], spare: &mut [u8], ram: &mu
                 sector_size,
                 ra_blocks,
                 da_blocks,
+                hash_count: geometry::DEFAULT_HASH_COUNT,
             };
             let c = format::format(s, sizes, main, spare, ram);
             return after_change(c);

@@ -66,6 +66,7 @@ fn load_new(tab: &[u8]) {
         sector_size: 64,
         ra_blocks: 32,
         da_blocks: 32,
+        hash_count: geometry::DEFAULT_HASH_COUNT,
     };
     let none = State {
         sizes,

@@ -5,7 +5,7 @@ use Prim.Native.Char.{code}
 use Prim.Native.Nat.{ℕ}
 use lib.Dec.{eqb}
 use Rattle.memory.specs.Words.{word}
-use Rattle.layout.specs.Geometry.{sizesOf}
+use Rattle.layout.specs.Geometry.{sizesOf, defaultHashCount}
 use Rattle.layout.specs.Hash.{fnvFamily}
 use Rattle.layout.specs.Calls as calls
 use Rattle.script.specs.Lines.{Request, format, call, bad, request}
@@ -29,7 +29,7 @@ resultReply r = record { answer = resultAnswer r (r .outcome); volume = r .volum
 
 -- a request on a volume; a bad line changes nothing
 unfoldable pub perform : calls.Volume → Request → Reply
-perform v (format S R D) = resultReply (calls.format v (sizesOf S R D))
+perform v (format S R D) = resultReply (calls.format v (sizesOf S R D defaultHashCount))
 perform v (call c) = resultReply (calls.call fnvFamily v c)
 perform v bad = record { answer = answers.bad; volume = v }
 

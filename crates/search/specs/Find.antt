@@ -42,7 +42,7 @@ whole g n d = record { g = g; n = n; d = d; n0 = n; d0 = d }
 
 -- a volume with these bytes; a search reads nothing else of it
 abbrev pub viewed : View → List ℕ → List ℕ → Volume
-viewed v main ram = record { state = layout.stateOf (layout.sizesOf 0 0 0) (v .n) (v .d); flash = flashOf main []; ram = ram }
+viewed v main ram = record { state = layout.stateOf (layout.sizesOf 0 0 0 0) (v .n) (v .d); flash = flashOf main []; ram = ram }
 
 -- the lent bytes hold a volume of a sound geometry, of which no more is searched than there is
 pub record Ready (v : View) (main ram : List ℕ) : Type 0 where

@@ -5,10 +5,10 @@ ghost use Prim.Native.Nat.{_+_, _*_, _/_, _%_, _≤_, _<_};
 ghost use lib.ListN.{length, take};
 ghost use Rattle.memory.specs.Words.{word};
 ghost use Rattle.memory.specs.Lent.{before};
-ghost use Rattle.layout.specs.Keys.{wordSize, keyBytes, numberIn};
+ghost use Rattle.layout.specs.Keys.{wordSize, numberIn};
 ghost use Rattle.layout.specs.Geometry.{page, block, entriesPerPage, kaBlock};
 ghost use Rattle.layout.specs.Items.{entrySize};
-ghost use Rattle.layout.specs.Hash.{fnvFamily, positions, positionCount};
+ghost use Rattle.layout.specs.Hash.{fnvFamily};
 ghost use Rattle.layout.specs.Calls.{searchAt};
 ghost use Rattle.layout.specs.Search.{scan};
 ghost use Rattle.geometry.specs.Shape.{shape, Sound};
@@ -258,19 +258,6 @@ fn in_pages(v: View, key: u32, ps: [u32; 8], count: usize, main: &[u8], ram: &[u
 
 // ---- all of it
 
-// Positions of a key.
-const POSITIONS: usize = 3;
-
-// They, as the filters take them.
-fn positions_of(g: Geometry, key: u32) -> [u32; 8]
-    requires { ⌜ Sound g ⌝ }
-    ensures { λ r. ⌜ (take positionCount r ≡ positions fnvFamily positionCount (g .chip .unit) (keyBytes key))
-        × Low g positionCount r ⌝ }
-{
-    let p = fnv::positions(g.chip, key);
-    [p[0], p[1], p[2], 0, 0, 0, 0, 0]
-}
-
 pub fn search(v: View, key: u32, main: &[u8], ram: &[u8]) -> Found
     requires { ⌜ Ready v (now main) (now ram) ⌝ }
     ensures { λ r. ⌜ foundOf r ≡ searchAt fnvFamily (shape (v .g)) (viewed v (before main) (before ram)) (v .n0) (v .d0) key ⌝ }
@@ -284,7 +271,8 @@ pub fn search(v: View, key: u32, main: &[u8], ram: &[u8]) -> Found
                     opened: 0,
                 }; // without a full page there is no filter, and the key is not hashed
             }
-            return in_pages(v, key, positions_of(v.g, key), POSITIONS, main, ram);
+            let count = v.g.hashes;
+            return in_pages(v, key, fnv::positions(v.g.chip, count, key), count, main, ram);
         }
         End::Live(j) => {
             return Found {

@@ -16,7 +16,7 @@ use geometry::Sizes;
 
 // ---- values
 
-// S, R and D of the format, n and d: records and deletions accepted.
+// S, R, D and k of the format, n and d: records and deletions accepted.
 #[repr(C)]
 pub struct State {
     pub sizes: Sizes,

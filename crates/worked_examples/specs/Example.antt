@@ -15,7 +15,7 @@ use Rattle.worked_examples.specs.Computing.{calls}
 abbrev pub unformatted : ℕ → ℕ → ℕ → ℕ → Volume
 unformatted byte main spare ram =
     record {
-      state = stateOf (sizesOf 0 0 0) 0 0;
+      state = stateOf (sizesOf 0 0 0 0) 0 0;
       flash = record { main = replicate main byte; spare = replicate spare byte };
       ram = replicate ram byte;
     }

@@ -15,7 +15,7 @@ use Rattle.worked_examples.specs.Computing.{calls}
 abbrev sevenEntries : Volume
 sevenEntries =
     record {
-      state = stateOf (sizesOf 16 1 1) 7 0;
+      state = stateOf (sizesOf 16 1 1 3) 7 0;
       flash = record { main = replicate 12288 255; spare = replicate 768 255 };
       ram = write (replicate 320 0) 64 (wordsBytes (1 ∷ 0 ∷ 2 ∷ 1 ∷ 3 ∷ 2 ∷ 4 ∷ 3 ∷ 5 ∷ 4 ∷ 6 ∷ 5 ∷ 7 ∷ 6 ∷ []));
     }

@@ -18,7 +18,7 @@ use Rattle.worked_examples.specs.Example.{unformatted}
 
 -- a volume of 64 records
 abbrev start : Volume
-start = format (unformatted 0 19456 1216 320) (sizesOf 16 1 1) .volume
+start = format (unformatted 0 19456 1216 320) (sizesOf 16 1 1 3) .volume
 
 abbrev loaded : String → Several
 loaded text = load fnvFamily start (ascii text)
@@ -33,7 +33,7 @@ answer s = record { outcome = s .outcome; rows = s .done; state = s .volume .sta
 
 -- two inserts, and an update of the first level
 pub three-rows : answer (loaded "level,moves,goal\n7,40,1\n\"8\",041,2\r\n7,42,3")
-    ≡ record { outcome = accepted; rows = 3; state = stateOf (sizesOf 16 1 1) 3 1 }
+    ≡ record { outcome = accepted; rows = 3; state = stateOf (sizesOf 16 1 1 3) 3 1 }
 unfolding calls digits decimal word bare quoted lineEnd field line rowsIn putCall loadRows load
 three-rows = refl
 
@@ -44,11 +44,11 @@ three-rows-show = refl
 
 -- the third line is no row: the two before it remain
 pub malformed-row : answer (loaded "level,moves,goal\n7,40,1\n8,41,2\n7,42\n9,0,0\n")
-    ≡ record { outcome = refused 9; rows = 2; state = stateOf (sizesOf 16 1 1) 2 0 }
+    ≡ record { outcome = refused 9; rows = 2; state = stateOf (sizesOf 16 1 1 3) 2 0 }
 unfolding calls digits decimal word bare quoted lineEnd field line rowsIn putCall loadRows load
 malformed-row = refl
 
 -- no header, no row
-pub no-header : answer (loaded "7,40,1\n") ≡ record { outcome = refused 9; rows = 0; state = stateOf (sizesOf 16 1 1) 0 0 }
+pub no-header : answer (loaded "7,40,1\n") ≡ record { outcome = refused 9; rows = 0; state = stateOf (sizesOf 16 1 1 3) 0 0 }
 unfolding calls digits decimal word bare quoted lineEnd field line rowsIn putCall loadRows load
 no-header = refl

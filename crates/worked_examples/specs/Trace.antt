@@ -34,13 +34,13 @@ history =
     ∷ insert (recordOf 256 81 3170616314 17) ∷ update (recordOf 17 59 2916559411 11) ∷ insert (recordOf 16 12 60750187 78)
     ∷ insert (recordOf 21 42 1484101577 51) ∷ update (recordOf 4 521511664 3 2883145565) ∷ delete 14 ∷ []
 
-pub trace : run (format (unformatted 255 13319 832 331) (sizesOf 16 2 1) .volume) history
+pub trace : run (format (unformatted 255 13319 832 331) (sizesOf 16 2 1 3) .volume) history
     ≡ no 4 ∷ ok 1 0 ∷ ok 2 0 ∷ no 4 ∷ ok 3 0 ∷ no 4 ∷ ok 4 0 ∷ no 4 ∷ ok 5 0 ∷ ok 6 0 ∷ no 4 ∷ no 4 ∷ []
 unfolding calls
 trace = refl
 
 abbrev last : Volume
-last = end (format (unformatted 255 13319 832 331) (sizesOf 16 2 1) .volume) history
+last = end (format (unformatted 255 13319 832 331) (sizesOf 16 2 1 3) .volume) history
 
 pub trace-ram : digest 0xcbf29ce484222325 (last .ram) ≡ 0x24024ad97ecc2dcc
 unfolding calls

@@ -1,7 +1,7 @@
 //! Lookups against n, for a plot.
 
 use crate::measure::{lookups, Call, Effort, STORES};
-use crate::volume::{Keys, Volume, ROOM};
+use crate::volume::{Keys, Kind, Volume, ROOM};
 use std::fs::File;
 use std::io::{self, BufWriter, Write};
 
@@ -17,7 +17,7 @@ pub fn write(file: &str, most: usize) -> io::Result<()> {
         for call in [Call::Hit, Call::Miss] {
             for n in RECORDS.into_iter().filter(|&n| n <= most) {
                 // No line where no volume has room for so many.
-                let Some(volume) = Volume::filled(sector_size, n, ROOM, Keys::Random) else {
+                let Some(volume) = Volume::filled(Kind::of(sector_size), n, ROOM, Keys::Random) else {
                     continue;
                 };
                 let ([proved, model, fast], opened) = lookups(&volume, call, Effort::TIMED);

@@ -1,7 +1,7 @@
 //! A tab loaded into an empty volume, beside the same inserts by the call.
 
 use crate::measure::{Effort, FAST, SUBJECT};
-use crate::volume::{Keys, Volume};
+use crate::volume::{Keys, Kind, Volume};
 use std::time::{Duration, Instant};
 use store::Store;
 
@@ -25,8 +25,8 @@ pub struct Load {
 
 impl Load {
     /// Nothing if no volume has room for so many rows.
-    pub fn new(sector_size: u32, rows: usize) -> Option<Load> {
-        let volume = Volume::formatted(sector_size, rows, 0, Keys::Random)?;
+    pub fn new(kind: Kind, rows: usize) -> Option<Load> {
+        let volume = Volume::formatted(kind, rows, 0, Keys::Random)?;
         let keys: Vec<u32> = (0..rows).map(|i| volume.keys.key(i)).collect();
         let mut tab = "level,moves,goal\n".to_string();
         for key in &keys {

@@ -13,6 +13,7 @@ mod volume;
 
 use std::env;
 use std::process::ExitCode;
+use volume::Kind;
 
 const USAGE: &str = "usage: bench [--most N] [--csv FILE] | --count STORE S CALL N
 With --most, only the sizes of up to N records. With --csv, lookups are measured at more sizes,
@@ -24,9 +25,9 @@ fn main() -> ExitCode {
     let mut most = usize::MAX;
     let mut csv = None;
     let words: Vec<String> = env::args().skip(1).collect();
-    if let [first, store, sector_size, call, n] = words.as_slice() {
+    if let [first, store, sector_size, call, n, hash_count @ ..] = words.as_slice() {
         if first == "--count" {
-            return counted(store, sector_size, call, n);
+            return counted(store, sector_size, call, n, hash_count);
         }
     }
     let mut arguments = words.into_iter();
@@ -54,11 +55,20 @@ fn main() -> ExitCode {
     ExitCode::SUCCESS
 }
 
-fn counted(store: &str, sector_size: &str, call: &str, n: &str) -> ExitCode {
+fn counted(store: &str, sector_size: &str, call: &str, n: &str, hash_count: &[String]) -> ExitCode {
     let (Ok(sector_size), Ok(n)) = (sector_size.parse(), n.parse()) else {
         return usage();
     };
-    match count::run(store, sector_size, call, n) {
+    let mut kind = Kind::of(sector_size);
+    match hash_count {
+        [] => {}
+        [text] => match text.parse() {
+            Ok(hash_count) => kind.hash_count = hash_count,
+            Err(_) => return usage(),
+        },
+        _ => return usage(),
+    }
+    match count::run(store, kind, call, n) {
         Some(calls) => {
             println!("{calls}");
             ExitCode::SUCCESS

@@ -2,8 +2,8 @@
 
 use crate::load::Load;
 use crate::measure::{changes, lookups, measure, Call, Effort, FAST, STORES, SUBJECT};
-use crate::volume::{geometry, Keys, Volume, ROOM};
-use store::{Geometry, State};
+use crate::volume::{geometry, Keys, Kind, Volume, ROOM};
+use store::{Geometry, State, HASH_COUNT_01};
 
 const SECTOR_SIZES: [u32; 3] = [16, 64, 512];
 const RECORDS: [usize; 3] = [1_000, 10_000, 100_000];
@@ -51,7 +51,7 @@ pub fn calls(most: usize) {
         let volumes: Vec<Volume> = RECORDS
             .into_iter()
             .filter(|&n| n <= most)
-            .filter_map(|n| Volume::filled(sector_size, n, ROOM, Keys::Random))
+            .filter_map(|n| Volume::filled(Kind::of(sector_size), n, ROOM, Keys::Random))
             .collect();
         for call in Call::ALL {
             let mut before: Option<[f64; 3]> = None;
@@ -84,8 +84,9 @@ pub fn pages(most: usize) {
     head("Pages opened by a lookup", &columns);
     for sector_size in SECTOR_SIZES {
         for n in RECORDS.into_iter().filter(|&n| n <= most) {
+            let kind = Kind::of(sector_size);
             let volumes = [Keys::Random, Keys::InOrder]
-                .map(|keys| Volume::filled(sector_size, n, ROOM, keys).expect("the sizes are allowed"));
+                .map(|keys| Volume::filled(kind, n, ROOM, keys).expect("the sizes are allowed"));
             let opened =
                 |which: usize, call| format!("{:.2}", lookups(&volumes[which], call, Effort::rounds(1)).1);
             row([
@@ -144,12 +145,13 @@ fn round_operations(sector_size: u32, number: usize) -> (usize, usize) {
     let round = 64 * sector_size;
     let end = round * (number as u32 - 1);
     let (ra_blocks, da_blocks) = geometry(sector_size, end as usize, 0).expect("a full set fits");
-    let geometry = Geometry::new(sector_size, ra_blocks, da_blocks).expect("allowed");
+    let geometry = Geometry::new(sector_size, ra_blocks, da_blocks, HASH_COUNT_01).expect("allowed");
     let of_insert = |records| {
         let state = State {
             sector_size,
             ra_blocks,
             da_blocks,
+            hash_count: HASH_COUNT_01,
             records,
             deletions: 0,
         };
@@ -186,7 +188,7 @@ fn longest_row(sector_size: u32, number: usize, n: usize) {
         _ if number == sector_size as usize / 4 + 1 => "same w, full set",
         _ => "same w",
     };
-    let volume = Volume::filled(sector_size, n - 1, 1, Keys::Random).expect("a full set fits");
+    let volume = Volume::filled(Kind::of(sector_size), n - 1, 1, Keys::Random).expect("a full set fits");
     // Bit by bit the largest take a second.
     let effort = if n > 1_000_000 {
         Effort::rounds(2)
@@ -216,7 +218,7 @@ pub fn loads(most: usize) {
         &columns.iter().map(String::as_str).collect::<Vec<_>>(),
     );
     for sector_size in SECTOR_SIZES {
-        let load = Load::new(sector_size, ROWS).expect("room for the rows");
+        let load = Load::new(Kind::of(sector_size), ROWS).expect("room for the rows");
         let [proved, fast] = load.measure();
         let cells = [proved, fast]
             .map(|[load, insert]| [load, insert, load / insert])

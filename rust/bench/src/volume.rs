@@ -1,10 +1,27 @@
 //! Volumes with a known history: every tenth record is an update, so that d = n/10.
 
 use difftest::random::Random;
-use store::{FastStore, Geometry, State, Store};
+use store::{FastStore, Geometry, State, Store, HASH_COUNT_01};
 
 /// Changes in a round, and room for them in a volume.
 pub const ROOM: usize = 64;
+
+/// S and k of a volume; R and D follow from its records.
+#[derive(Clone, Copy, Debug, PartialEq, Eq)]
+pub struct Kind {
+    pub sector_size: u32,
+    pub hash_count: u32,
+}
+
+impl Kind {
+    /// Document 01's k.
+    pub const fn of(sector_size: u32) -> Kind {
+        Kind {
+            sector_size,
+            hash_count: HASH_COUNT_01,
+        }
+    }
+}
 
 /// Which keys are inserted.
 #[derive(Clone, Copy, Debug, PartialEq, Eq)]
@@ -48,13 +65,13 @@ pub fn geometry(sector_size: u32, n: usize, room: usize) -> Option<(u32, u32)> {
     let s = sector_size as usize;
     let ra_blocks = (n + room).div_ceil(4 * s) as u32;
     let da_blocks = (n / 10 + room).div_ceil(16 * s).max(1) as u32;
-    Geometry::new(sector_size, ra_blocks, da_blocks).map(|_| (ra_blocks, da_blocks))
+    Geometry::new(sector_size, ra_blocks, da_blocks, HASH_COUNT_01).map(|_| (ra_blocks, da_blocks))
 }
 
 impl Volume {
     /// A volume with `n` records. The history is known to be accepted, so its changes need no search.
-    pub fn filled(sector_size: u32, n: usize, room: usize, keys: Keys) -> Option<Volume> {
-        let mut volume = Volume::formatted(sector_size, n, room, keys)?;
+    pub fn filled(kind: Kind, n: usize, room: usize, keys: Keys) -> Option<Volume> {
+        let mut volume = Volume::formatted(kind, n, room, keys)?;
         let mut random = Random::new(0xF111);
         for number in 0..n as u32 {
             let (i, deleted) = volume.next_record(number, &mut random);
@@ -74,14 +91,18 @@ impl Volume {
     }
 
     /// An empty volume with room for `n` records and so many changes more.
-    pub fn formatted(sector_size: u32, n: usize, room: usize, keys: Keys) -> Option<Volume> {
-        let (r, d) = geometry(sector_size, n, room)?;
-        let geometry = Geometry::new(sector_size, r, d)?;
+    pub fn formatted(kind: Kind, n: usize, room: usize, keys: Keys) -> Option<Volume> {
+        let Kind {
+            sector_size: s,
+            hash_count: k,
+        } = kind;
+        let (r, d) = geometry(s, n, room)?;
+        let geometry = Geometry::new(s, r, d, k)?;
         let mut data = vec![0; geometry.data_bytes()];
         let mut spare = vec![0; geometry.spare_bytes()];
         let mut ram = vec![0; geometry.ram_bytes()];
         let old = State::default();
-        let change = FastStore.format(old, sector_size, r, d, &mut data, &mut spare, &mut ram);
+        let change = FastStore.format(old, s, r, d, k, &mut data, &mut spare, &mut ram);
         assert_eq!(change.refusal, 0, "format");
         Some(Volume {
             state: change.state,
@@ -142,8 +163,8 @@ mod tests {
     use store::ModelStore;
 
     /// The same history by calls of the model.
-    fn by_calls(sector_size: u32, n: usize, keys: Keys) -> Volume {
-        let mut volume = Volume::formatted(sector_size, n, 0, keys).expect("allowed");
+    fn by_calls(kind: Kind, n: usize, keys: Keys) -> Volume {
+        let mut volume = Volume::formatted(kind, n, 0, keys).expect("allowed");
         let mut random = Random::new(0xF111);
         for number in 0..n as u32 {
             let (i, deleted) = volume.next_record(number, &mut random);
@@ -161,15 +182,22 @@ mod tests {
 
     #[test]
     fn volumes_of_the_calls() {
-        for (sector_size, n, keys) in [
-            (16, 5000, Keys::Random),
-            (16, 5000, Keys::InOrder),
-            (64, 8300, Keys::Random),
-            (512, 2500, Keys::Random),
+        for (sector_size, hash_count, n, keys) in [
+            (16, 3, 5000, Keys::Random),
+            (16, 3, 5000, Keys::InOrder),
+            (16, 8, 5000, Keys::Random),
+            (64, 3, 8300, Keys::Random),
+            (64, 1, 4200, Keys::Random),
+            (512, 3, 2500, Keys::Random),
         ] {
-            let filled = Volume::filled(sector_size, n, 0, keys).expect("allowed");
+            let kind = Kind {
+                sector_size,
+                hash_count,
+            };
+            let filled = Volume::filled(kind, n, 0, keys).expect("allowed");
             assert_eq!(filled.state.deletions as usize, n / 10);
-            assert!(filled.same(&by_calls(sector_size, n, keys)), "S = {sector_size}");
+            assert_eq!(filled.state.hash_count, hash_count);
+            assert!(filled.same(&by_calls(kind, n, keys)), "{kind:?}");
         }
     }
 }

@@ -321,6 +321,9 @@ fn state_and_lengths_first(test: &mut Test) -> Result<(), Difference> {
         test.pair.state.ra_blocks = 0;
         load(test, tab, 0, 1)?;
         test.pair.state = state;
+        test.pair.state.hash_count = 9;
+        load(test, tab, 0, 1)?;
+        test.pair.state = state;
     }
     test.pair.lend_for(geometry(16, 1, 1), 0, 1);
     let lengths = test.pair.lengths();

@@ -77,7 +77,7 @@ fn main() -> ExitCode {
                 break 'rounds;
             }
             let scenario_start = Instant::now();
-            match scenario.run(&ModelStore, &*subject, seed(&scenario.name, round)) {
+            match scenario.run(&ModelStore, &*subject, round) {
                 Ok(counts) => {
                     if round == first_round {
                         println!(
@@ -116,11 +116,4 @@ fn main() -> ExitCode {
 fn usage(problem: &str) -> ExitCode {
     eprintln!("{problem}\n{USAGE}");
     ExitCode::from(2)
-}
-
-/// A fixed seed for each scenario and round.
-fn seed(name: &str, round: u64) -> u64 {
-    name.bytes().fold(0x5EED + round, |seed, byte| {
-        seed.wrapping_mul(0x100000001B3) ^ u64::from(byte)
-    })
 }

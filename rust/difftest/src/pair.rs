@@ -9,6 +9,7 @@ pub enum Call<'t> {
         sector_size: u32,
         ra_blocks: u32,
         da_blocks: u32,
+        hash_count: u32,
     },
     Insert {
         key: u32,
@@ -105,6 +106,8 @@ pub struct Counts {
     pub rows: u64,
     /// By refusal number, from 1 at index 1.
     pub refusals: [u64; 10],
+    /// Changes accepted and lookups answered on a volume of k hash functions, at index k.
+    pub hash_counts: [u64; 9],
     pub sets: u64,
     pub full_sets: u64,
 }
@@ -119,6 +122,9 @@ impl Counts {
         for (sum, count) in self.refusals.iter_mut().zip(other.refusals) {
             *sum += count;
         }
+        for (sum, count) in self.hash_counts.iter_mut().zip(other.hash_counts) {
+            *sum += count;
+        }
         self.sets += other.sets;
         self.full_sets += other.full_sets;
     }
@@ -130,6 +136,10 @@ impl Counts {
             Answer::Lookup(result) if result.refusal == 0 => self.misses += 1,
             Answer::Change(_) | Answer::Load(_) if answer.accepted() => self.accepted += 1,
             _ => self.refusals[answer.refusal().min(9) as usize] += 1,
+        }
+        if answer.accepted() {
+            let state = answer.state().unwrap_or(before);
+            self.hash_counts[state.hash_count.min(8) as usize] += 1;
         }
         if let Answer::Load(result) = answer {
             self.rows += u64::from(result.rows);
@@ -153,6 +163,9 @@ impl fmt::Display for Counts {
         )?;
         for number in 1..=9 {
             write!(f, ", {} refused by {number}", self.refusals[number])?;
+        }
+        for k in 1..=8 {
+            write!(f, ", {} done with k = {k}", self.hash_counts[k])?;
         }
         write!(f, "; {} sets built, {} of them full", self.sets, self.full_sets)
     }
@@ -218,7 +231,17 @@ impl Volume {
                 sector_size,
                 ra_blocks,
                 da_blocks,
-            } => Answer::Change(store.format(state, sector_size, ra_blocks, da_blocks, data, spare, ram)),
+                hash_count,
+            } => Answer::Change(store.format(
+                state,
+                sector_size,
+                ra_blocks,
+                da_blocks,
+                hash_count,
+                data,
+                spare,
+                ram,
+            )),
             Call::Insert {
                 key,
                 moves,

@@ -4,7 +4,7 @@ use crate::loads;
 use crate::pair::{Answer, Call, Counts, Difference, Pair};
 use crate::random::Random;
 use crate::tabs::{self, Row};
-use store::{Geometry, State, Store, SECTOR_SIZES};
+use store::{Geometry, State, Store, HASH_COUNT_01, SECTOR_SIZES};
 
 type Run = dyn Fn(&mut Test) -> Result<(), Difference>;
 
@@ -36,14 +36,21 @@ impl Scenario {
         Scenario { once: true, ..self }
     }
 
-    /// The same seed makes the same calls.
-    pub fn run(&self, reference: &dyn Store, subject: &dyn Store, seed: u64) -> Result<Counts, Difference> {
+    /// The same round makes the same calls.
+    pub fn run(&self, reference: &dyn Store, subject: &dyn Store, round: u64) -> Result<Counts, Difference> {
         let mut test = Test {
             pair: Pair::new(reference, subject),
-            random: Random::new(seed),
+            random: Random::new(self.seed(round)),
         };
         (self.run)(&mut test)?;
         Ok(test.pair.counts)
+    }
+
+    /// Another one for each scenario and round.
+    fn seed(&self, round: u64) -> u64 {
+        self.name.bytes().fold(0x5EED + round, |seed, byte| {
+            seed.wrapping_mul(0x100000001B3) ^ u64::from(byte)
+        })
     }
 }
 
@@ -152,7 +159,7 @@ pub fn all() -> Vec<Scenario> {
     list
 }
 
-/// A fresh volume in slices of its own, with random bytes before the format.
+/// A fresh volume of any k in slices of its own, with random bytes before the format.
 pub(crate) fn format(test: &mut Test, s: u32, r: u32, d: u32) -> Result<(), Difference> {
     let (extra, shift) = (test.random.below(12), test.random.below(16));
     test.pair.lend_for(geometry(s, r, d), extra, shift);
@@ -162,16 +169,24 @@ pub(crate) fn format(test: &mut Test, s: u32, r: u32, d: u32) -> Result<(), Diff
         random.fill(spare);
         random.fill(ram);
     });
+    let hash_count = hash_count(&mut test.random);
     test.pair.call(Call::Format {
         sector_size: s,
         ra_blocks: r,
         da_blocks: d,
+        hash_count,
     })?;
     Ok(())
 }
 
+/// Sizes and addresses of a volume, which do not depend on k.
 pub(crate) fn geometry(s: u32, r: u32, d: u32) -> Geometry {
-    Geometry::new(s, r, d).expect("the scenarios' sizes are allowed")
+    Geometry::new(s, r, d, HASH_COUNT_01).expect("the scenarios' sizes are allowed")
+}
+
+/// Any that is allowed.
+fn hash_count(random: &mut Random) -> u32 {
+    1 + random.below_u32(8)
 }
 
 /// Keys that a hasty reader of bytes gets wrong.
@@ -359,12 +374,16 @@ fn damaged(test: &mut Test, s: u32, r: u32, d: u32, calls: usize) -> Result<(), 
     let mut keys = Keys::below(geometry.record_capacity().min(calls) as u32);
     let (extra, shift) = (test.random.below(3), test.random.below(16));
     test.pair.lend_for(geometry, extra, shift);
-    let format = Call::Format {
-        sector_size: s,
-        ra_blocks: r,
-        da_blocks: d,
+    let format = |test: &mut Test| {
+        let hash_count = hash_count(&mut test.random);
+        test.pair.call(Call::Format {
+            sector_size: s,
+            ra_blocks: r,
+            da_blocks: d,
+            hash_count,
+        })
     };
-    test.pair.call(format)?;
+    format(test)?;
     // No damage at first, so that there is something to damage.
     let quiet = calls / 4;
     for number in 0..calls {
@@ -373,7 +392,7 @@ fn damaged(test: &mut Test, s: u32, r: u32, d: u32, calls: usize) -> Result<(), 
             damaged_key = damage(test, geometry);
         }
         if number > quiet && test.random.chance(1, 400) {
-            test.pair.call(format)?;
+            format(test)?;
         }
         let handed_in = test.pair.state;
         if number > quiet && test.random.chance(1, 12) {
@@ -491,7 +510,7 @@ fn altered_state(random: &mut Random, geometry: Geometry, state: State) -> State
     let mut altered = state;
     let capacity = geometry.record_capacity() as u32;
     let deletion_capacity = geometry.deletion_capacity() as u32;
-    match random.below(8) {
+    match random.below(9) {
         0 => altered.records = random.below_u32(capacity + 2),
         1 => altered.deletions = random.below_u32(deletion_capacity + 2),
         2 => altered.records = altered.records.wrapping_add(1),
@@ -502,6 +521,7 @@ fn altered_state(random: &mut Random, geometry: Geometry, state: State) -> State
             altered.records = random.below_u32(capacity + 1);
             altered.deletions = random.below_u32(altered.records.min(deletion_capacity) + 1);
         }
+        7 => altered.hash_count = wild_hash_count(random),
         _ => altered = wild_state(random),
     }
     altered
@@ -548,13 +568,22 @@ fn wild_blocks(random: &mut Random) -> u32 {
     }
 }
 
+fn wild_hash_count(random: &mut Random) -> u32 {
+    match random.below(6) {
+        0 => wild_number(random),
+        1 => random.pick(&[0, 9, 256 + HASH_COUNT_01]),
+        _ => hash_count(random),
+    }
+}
+
 /// Any numbers, with those at the edges of what is allowed more often.
 fn wild_state(random: &mut Random) -> State {
     let sector_size = wild_sector_size(random);
     let ra_blocks = wild_blocks(random);
     let da_blocks = wild_blocks(random);
+    let hash_count = wild_hash_count(random);
     let (mut records, mut deletions) = (wild_number(random), wild_number(random));
-    if let Some(geometry) = Geometry::new(sector_size, ra_blocks, da_blocks) {
+    if let Some(geometry) = Geometry::new(sector_size, ra_blocks, da_blocks, HASH_COUNT_01) {
         let near = |random: &mut Random, capacity: usize| match random.below(4) {
             0 => wild_number(random),
             1 => (capacity as u32 + 1).saturating_sub(random.below_u32(4)),
@@ -571,6 +600,7 @@ fn wild_state(random: &mut Random) -> State {
         sector_size,
         ra_blocks,
         da_blocks,
+        hash_count,
         records,
         deletions,
     }
@@ -603,6 +633,7 @@ fn wild_states(test: &mut Test) -> Result<(), Difference> {
                     sector_size: wild_sector_size(random),
                     ra_blocks: wild_blocks(random),
                     da_blocks: wild_blocks(random),
+                    hash_count: wild_hash_count(random),
                 };
                 test.pair.call(call)?;
             } else {
@@ -643,10 +674,12 @@ fn lengths(test: &mut Test, s: u32) -> Result<(), Difference> {
             random.fill(spare);
             random.fill(ram);
         });
+        let hash_count = hash_count(random);
         let start = State {
             sector_size: s,
             ra_blocks: r,
             da_blocks: d,
+            hash_count,
             records: 0,
             deletions: 0,
         };
@@ -655,6 +688,7 @@ fn lengths(test: &mut Test, s: u32) -> Result<(), Difference> {
             sector_size: s,
             ra_blocks: r,
             da_blocks: d,
+            hash_count,
         })?;
         // On slices too short for a format the others are refused as well.
         test.pair.state = start;
@@ -732,6 +766,7 @@ fn due_state(random: &mut Random, geometry: Geometry, s: u32, r: u32, d: u32) ->
         sector_size: s,
         ra_blocks: r,
         da_blocks: d,
+        hash_count: hash_count(random),
         records: records as u32,
         deletions: deletions as u32,
     }

@@ -2,7 +2,7 @@
 
 use difftest::pair::{Counts, Difference};
 use difftest::{loads, scenarios};
-use store::{Change, Geometry, LoadResult, LookupResult, ModelStore, State, Store};
+use store::{Change, Geometry, LoadResult, LookupResult, ModelStore, State, Store, HASH_COUNT_01};
 
 #[derive(Clone, Copy, Debug)]
 enum Fault {
@@ -57,6 +57,39 @@ enum Fault {
     LoadNineFirst,
     /// Another tab than the one lent is read.
     LoadReads(Reader),
+    /// Another k than the one handed in is used; the state handed out has the right one.
+    HashCount(HashCount),
+    /// An update hands out document 01's k.
+    HashCountLost,
+}
+
+/// The k that is used of the one handed in.
+type HashCount = fn(u32) -> u32;
+
+/// Hash counts that are wrong for some k.
+const HASH_COUNTS: [(&str, HashCount); 6] = [
+    ("always three positions", |k| if is_allowed(k) { 3 } else { k }),
+    ("one position too few", |k| {
+        if is_allowed(k) {
+            (k - 1).max(1)
+        } else {
+            k
+        }
+    }),
+    ("one position too many", |k| {
+        if is_allowed(k) {
+            (k + 1).min(8)
+        } else {
+            k
+        }
+    }),
+    ("nine allowed", |k| if k == 9 { 8 } else { k }),
+    ("none allowed", |k| k.max(1)),
+    ("the lowest byte counts", |k| k % 256),
+];
+
+fn is_allowed(k: u32) -> bool {
+    (1..=8).contains(&k)
 }
 
 /// The tab that is read of the one lent.
@@ -99,6 +132,15 @@ struct Broken {
 }
 
 impl Broken {
+    /// The state with the k that is used.
+    fn used(&self, state: State) -> State {
+        let hash_count = match self.fault {
+            Fault::HashCount(used) => used(state.hash_count),
+            _ => state.hash_count,
+        };
+        State { hash_count, ..state }
+    }
+
     fn after_change(
         &self,
         before: State,
@@ -107,10 +149,11 @@ impl Broken {
         spare: &mut [u8],
         ram: &mut [u8],
     ) -> Change {
-        let Some(geometry) = Geometry::new(before.sector_size, before.ra_blocks, before.da_blocks) else {
+        let mut change = change;
+        change.state.hash_count = before.hash_count;
+        let Some(geometry) = Geometry::of_state(before) else {
             return change;
         };
-        let mut change = change;
         let accepted = change.refusal == 0;
         let grown = accepted && change.state.records > before.records;
         let records = change.state.records as usize;
@@ -182,14 +225,20 @@ impl Store for Broken {
         s: u32,
         r: u32,
         d: u32,
+        k: u32,
         data: &mut [u8],
         spare: &mut [u8],
         ram: &mut [u8],
     ) -> Change {
-        let mut change = ModelStore.format(old, s, r, d, data, spare, ram);
+        let named = State { hash_count: k, ..old };
+        let used = self.used(named).hash_count;
+        let mut change = ModelStore.format(old, s, r, d, used, data, spare, ram);
+        if change.refusal == 0 {
+            change.state.hash_count = k;
+        }
         match self.fault {
             Fault::FormatTooLong if change.refusal == 0 => {
-                if let Some(geometry) = Geometry::new(s, r, d) {
+                if let Some(geometry) = Geometry::of_state(change.state) {
                     if let Some(byte) = data.get_mut(geometry.data_bytes()) {
                         *byte = 0xFF;
                     }
@@ -222,7 +271,7 @@ impl Store for Broken {
             }
             _ => {}
         }
-        let change = ModelStore.insert(state, key, moves, goal, word, data, spare, ram);
+        let change = ModelStore.insert(self.used(state), key, moves, goal, word, data, spare, ram);
         if let (Fault::FullTooEarly, 0) = (self.fault, change.refusal) {
             // Accepted, so that the product is small.
             if change.state.records == 4 * state.sector_size * state.ra_blocks {
@@ -243,17 +292,21 @@ impl Store for Broken {
         spare: &mut [u8],
         ram: &mut [u8],
     ) -> Change {
-        let change = ModelStore.update(state, key, moves, goal, word, data, spare, ram);
-        self.after_change(state, change, data, spare, ram)
+        let change = ModelStore.update(self.used(state), key, moves, goal, word, data, spare, ram);
+        let mut change = self.after_change(state, change, data, spare, ram);
+        if let (Fault::HashCountLost, 0) = (self.fault, change.refusal) {
+            change.state.hash_count = HASH_COUNT_01;
+        }
+        change
     }
 
     fn delete(&self, state: State, key: u32, data: &mut [u8], spare: &mut [u8], ram: &mut [u8]) -> Change {
-        let change = ModelStore.delete(state, key, data, spare, ram);
+        let change = ModelStore.delete(self.used(state), key, data, spare, ram);
         self.after_change(state, change, data, spare, ram)
     }
 
     fn lookup(&self, state: State, key: u32, data: &[u8], spare: &[u8], ram: &[u8]) -> LookupResult {
-        let result = ModelStore.lookup(state, key, data, spare, ram);
+        let result = ModelStore.lookup(self.used(state), key, data, spare, ram);
         match self.fault {
             Fault::CountZero => LookupResult { count: 0, ..result },
             Fault::MissAlways => LookupResult {
@@ -293,7 +346,8 @@ impl Store for Broken {
             return ModelStore.load(state, &read(tab), data, spare, ram);
         }
         let before = (data.to_vec(), spare.to_vec(), ram.to_vec());
-        let result = ModelStore.load(state, tab, data, spare, ram);
+        let mut result = ModelStore.load(self.used(state), tab, data, spare, ram);
+        result.state.hash_count = state.hash_count;
         let refused = result.refusal != 0;
         match self.fault {
             Fault::LoadInserts if result.state.deletions > state.deletions => {
@@ -358,6 +412,9 @@ fn the_model_does_not_differ_from_itself() {
         assert!(counts.refusals[number] > 0, "no refusal {number}");
     }
     assert!(counts.sets > counts.full_sets && counts.full_sets > 0);
+    for k in 1..=8 {
+        assert!(counts.hash_counts[k] > 0, "nothing done with k = {k}");
+    }
 }
 
 #[test]
@@ -385,6 +442,14 @@ fn broken_stores_are_reported() {
     ] {
         assert_reported(&format!("{fault:?}"), fault, &SMALL);
     }
+}
+
+#[test]
+fn wrong_hash_counts_are_reported() {
+    for (name, used) in HASH_COUNTS {
+        assert_reported(name, Fault::HashCount(used), &SMALL);
+    }
+    assert_reported("k lost by an update", Fault::HashCountLost, &SMALL);
 }
 
 #[test]

@@ -3,7 +3,7 @@
 use difftest::pair::{Call, Difference, Pair};
 use difftest::random::Random;
 use difftest::{loads, scenarios};
-use store::{FastStore, Geometry, ModelStore, State};
+use store::{FastStore, Geometry, ModelStore, State, HASH_COUNT_01};
 
 /// The scenarios but those whose volumes take long to compare; the next test has their sets.
 #[test]
@@ -20,7 +20,7 @@ fn scenarios_agree() {
         if scenario.long || scenario.once || slow.iter().any(|part| scenario.name.contains(part)) {
             continue;
         }
-        if let Err(difference) = scenario.run(&ModelStore, &FastStore, 0xFA57) {
+        if let Err(difference) = scenario.run(&ModelStore, &FastStore, 0) {
             panic!("{}: {difference}", scenario.name);
         }
     }
@@ -45,10 +45,10 @@ fn sets_of_every_width() {
     }
 }
 
-/// The insert that builds the set, and lookups before and after it.
+/// The insert that builds the set, and lookups of every k before and after it: the bits are random.
 fn set(sector_size: u32, number: u32) -> Result<(), Difference> {
     let (ra_blocks, da_blocks) = (16 * (number - 1), 1);
-    let geometry = Geometry::new(sector_size, ra_blocks, da_blocks).expect("allowed");
+    let geometry = Geometry::new(sector_size, ra_blocks, da_blocks, HASH_COUNT_01).expect("allowed");
     let mut random = Random::new(u64::from(sector_size + number));
     let mut pair = Pair::new(&ModelStore, &FastStore);
     pair.lend_for(geometry, 3, 5);
@@ -61,6 +61,7 @@ fn set(sector_size: u32, number: u32) -> Result<(), Difference> {
         sector_size,
         ra_blocks,
         da_blocks,
+        hash_count: HASH_COUNT_01,
         records: 64 * sector_size * (number - 1) - 1,
         deletions: sector_size + 3,
     };
@@ -76,10 +77,15 @@ fn set(sector_size: u32, number: u32) -> Result<(), Difference> {
 }
 
 fn lookups(pair: &mut Pair, random: &mut Random) -> Result<(), Difference> {
-    for _ in 0..3 {
-        pair.call(Call::Lookup {
-            key: random.next_u32(),
-        })?;
+    let state = pair.state;
+    for hash_count in 1..=8 {
+        pair.state.hash_count = hash_count;
+        for _ in 0..2 {
+            pair.call(Call::Lookup {
+                key: random.next_u32(),
+            })?;
+        }
     }
+    pair.state = state;
     Ok(())
 }

@@ -36,6 +36,7 @@ pub fn format(
     sector_size: u32,
     ra_blocks: u32,
     da_blocks: u32,
+    hash_count: u32,
     data: &mut [u8],
     spare: &mut [u8],
     ram: &mut [u8],
@@ -44,6 +45,7 @@ pub fn format(
         sector_size,
         ra_blocks,
         da_blocks,
+        hash_count,
         records: 0,
         deletions: 0,
     };

@@ -1,6 +1,6 @@
 //! What an accepted change programs, erases and leaves in RAM.
 
-use crate::hash::positions;
+use crate::hash::{for_hash_count, positions};
 use crate::layout::{Layout, DELETION, ENTRY, FILTERS_PER_FLUSH, FILTERS_PER_ROUND, RECORD};
 use crate::rebuild::rebuild;
 use model::State;
@@ -124,7 +124,7 @@ impl Plan {
         }
         if let Some(page) = self.entries {
             let slot = state.records as usize / Layout::<S>::ENTRIES % FILTERS_PER_FLUSH;
-            write_filter::<S>(slot, ram);
+            for_hash_count!(state.hash_count, K => write_filter::<S, K>(slot, ram));
             program_page::<S>(page, Layout::<S>::RAM_ENTRIES, data, spare, ram);
         }
         if let Some(flush) = self.flush {
@@ -187,7 +187,7 @@ fn erase<const S: usize>(start: usize, bytes: usize, data: &mut [u8], spare: &mu
 }
 
 /// The filter of RAM's full page of entries replaces what its place in RAM's filters held.
-fn write_filter<const S: usize>(slot: usize, ram: &mut [u8]) {
+fn write_filter<const S: usize, const K: usize>(slot: usize, ram: &mut [u8]) {
     let (before, filters) = ram.split_at_mut(Layout::<S>::RAM_FILTERS);
     let (entries, _) = before[Layout::<S>::RAM_ENTRIES..][..Layout::<S>::PAGE].as_chunks::<ENTRY>();
     let filters = &mut filters[..Layout::<S>::PAGE];
@@ -195,7 +195,7 @@ fn write_filter<const S: usize>(slot: usize, ram: &mut [u8]) {
         sector[slot * S / 8..][..S / 8].fill(0);
     }
     for &[a, b, c, d, ..] in entries {
-        for position in positions::<S>(u32::from_le_bytes([a, b, c, d])) {
+        for position in positions::<S, K>(u32::from_le_bytes([a, b, c, d])) {
             let sector = position / S * S;
             filters[sector + (slot * S + position % S) / 8] |= 1 << (position % 8);
         }

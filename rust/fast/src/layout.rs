@@ -4,6 +4,7 @@ use model::State;
 
 const SECTORS_PER_BLOCK: usize = 64;
 const MOST_BLOCKS: u32 = 4096;
+const MOST_HASHES: u32 = 8;
 
 pub const FILTERS_PER_FLUSH: usize = 8;
 pub const FILTERS_PER_ROUND: usize = 128;
@@ -75,7 +76,8 @@ impl<const S: usize> Layout<S> {
     /// The layout of a state whose numbers fit it; S is looked at by the caller.
     pub fn of_state(state: State) -> Option<Self> {
         let layout = Self::new(state.ra_blocks, state.da_blocks)?;
-        let fits = state.records as usize <= layout.record_capacity
+        let fits = (1..=MOST_HASHES).contains(&state.hash_count)
+            && state.records as usize <= layout.record_capacity
             && state.deletions as usize <= layout.deletion_capacity
             && state.deletions <= state.records;
         fits.then_some(layout)

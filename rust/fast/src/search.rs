@@ -1,6 +1,6 @@
 //! The search: RAM's entries newest first, then the full pages whose filter passes, newest first.
 
-use crate::hash::positions;
+use crate::hash::{for_hash_count, positions};
 use crate::layout::{Layout, DELETION, ENTRY, FILTERS_PER_FLUSH, FILTERS_PER_ROUND};
 use crate::scan::{contains, last_with_key, number_of};
 use crate::walk;
@@ -27,6 +27,7 @@ type Step = ControlFlow<Ending>;
 /// A search under way.
 struct Search<'a, const S: usize, const PAGE: usize> {
     key: u32,
+    hash_count: u32,
     records: u32,
     /// Full pages of entries; as arrays, for one test of a bound is left when a page is opened.
     pages: &'a [[u8; PAGE]],
@@ -60,6 +61,7 @@ impl<'a, const S: usize, const PAGE: usize> Search<'a, S, PAGE> {
         let in_ram = deletions % Layout::<S>::DELETIONS;
         Search {
             key,
+            hash_count: state.hash_count,
             records: state.records,
             pages: data[layout.entries..][..full_pages * PAGE].as_chunks().0,
             deletions: [
@@ -85,8 +87,13 @@ impl<'a, const S: usize, const PAGE: usize> Search<'a, S, PAGE> {
         let in_ram = self.records as usize % Layout::<S>::ENTRIES;
         let entries = &ram[Layout::<S>::RAM_ENTRIES..][..in_ram * ENTRY];
         self.entries(entries.as_chunks().0)?;
+        for_hash_count!(self.hash_count, K => self.full_pages::<K>(layout, data, ram))
+    }
 
-        let positions = positions::<S>(self.key);
+    /// The full pages by the filters of K positions.
+    #[inline(never)]
+    fn full_pages<const K: usize>(&mut self, layout: &Layout<S>, data: &[u8], ram: &[u8]) -> Step {
+        let positions = positions::<S, K>(self.key);
         let filters = self.records as usize / Layout::<S>::ENTRIES;
         self.not_flushed(&ram[Layout::<S>::RAM_FILTERS..], positions, filters)?;
         self.level_one(&data[layout.l1..], positions, filters)?;
@@ -95,7 +102,7 @@ impl<'a, const S: usize, const PAGE: usize> Search<'a, S, PAGE> {
     }
 
     /// Filters in RAM: eight in each sector, S bits wide, a sector for each group of S positions.
-    fn not_flushed(&mut self, page: &[u8], positions: [usize; 3], filters: usize) -> Step {
+    fn not_flushed<const K: usize>(&mut self, page: &[u8], positions: [usize; K], filters: usize) -> Step {
         let count = filters % FILTERS_PER_FLUSH;
         let first = filters - count;
         let row = &page[positions[0] / S * S..][..count * S / 8];
@@ -103,24 +110,30 @@ impl<'a, const S: usize, const PAGE: usize> Search<'a, S, PAGE> {
         let open = |filter| self.open(first + filter);
         if S == 16 {
             // Not whole words.
-            walk::bytes::<2, _>([row; 3], places, open)
+            walk::bytes::<2, K, _>([row; K], places, open)
         } else {
-            walk::filters([row; 3], places, S.ilog2(), open)
+            walk::filters([row; K], places, S.ilog2(), open)
         }
     }
 
     /// Filters of the present round, S bits wide. The sixteen sectors of a group of S positions lie in a row,
     /// in the order of the flushes.
-    fn level_one(&mut self, block: &[u8], positions: [usize; 3], filters: usize) -> Step {
+    fn level_one<const K: usize>(&mut self, block: &[u8], positions: [usize; K], filters: usize) -> Step {
         let first = filters - filters % FILTERS_PER_ROUND;
         let count = filters % FILTERS_PER_ROUND / FILTERS_PER_FLUSH * FILTERS_PER_FLUSH;
         let row = &block[positions[0] / S * 16 * S..][..count * S / 8];
         let places = positions.map(|position| position % S);
-        walk::filters([row; 3], places, S.ilog2(), |filter| self.open(first + filter))
+        walk::filters([row; K], places, S.ilog2(), |filter| self.open(first + filter))
     }
 
     /// The newest set, if this cycle has one: all filters of the cycle's earlier rounds.
-    fn set(&mut self, layout: &Layout<S>, data: &[u8], positions: [usize; 3], filters: usize) -> Step {
+    fn set<const K: usize>(
+        &mut self,
+        layout: &Layout<S>,
+        data: &[u8],
+        positions: [usize; K],
+        filters: usize,
+    ) -> Step {
         let first = filters - filters % Layout::<S>::CYCLE;
         let rounds = (filters - first) / FILTERS_PER_ROUND;
         if rounds == 0 {
@@ -139,7 +152,7 @@ impl<'a, const S: usize, const PAGE: usize> Search<'a, S, PAGE> {
     }
 
     /// Full sets: one bit for a filter, so that a position has a page of its own.
-    fn full_sets(&mut self, sets: &[u8], positions: [usize; 3], filters: usize) -> Step {
+    fn full_sets<const K: usize>(&mut self, sets: &[u8], positions: [usize; K], filters: usize) -> Step {
         for set in (0..filters / Layout::<S>::CYCLE).rev() {
             let pages = &sets[set * Layout::<S>::SIDE..][..Layout::<S>::SIDE];
             let rows = positions.map(|position| &pages[position * PAGE..][..PAGE]);

@@ -16,12 +16,13 @@ const NOT_FRESH: u32 = 7;
 const WRONG_RECORD_NUMBER: u32 = 8;
 
 /// "Format takes the old state, which it does not judge, and S, R, D, erases the volume,
-/// zeroes the desk and gives n = d = 0."
+/// zeroes the desk and gives n = d = 0." From request 2 on it takes k too.
 pub fn format(
     old: State,
     sector_size: u32,
     ra_blocks: u32,
     da_blocks: u32,
+    hash_count: u32,
     data: &mut [u8],
     spare: &mut [u8],
     ram: &mut [u8],
@@ -30,6 +31,7 @@ pub fn format(
         sector_size,
         ra_blocks,
         da_blocks,
+        hash_count,
         records: 0,
         deletions: 0,
     };
@@ -164,7 +166,8 @@ pub fn lookup(state: State, key: u32, data: &[u8], spare: &[u8], ram: &[u8]) -> 
     }
 }
 
-/// Refusals 1 and 2. Nothing is multiplied before S, R and D are known to be allowed.
+/// Refusals 1 and 2. Nothing is multiplied before S, R and D are known to be allowed; "a k outside the range
+/// falls under refusal 1".
 pub fn judge(state: State, data: &[u8], spare: &[u8], ram: &[u8]) -> Result<Geometry, u32> {
     let geometry = Geometry::of_state(state).ok_or(NOT_ALLOWED)?;
     // "n or d above capacity; d above n".

@@ -139,7 +139,7 @@ pub fn write_filter(geometry: Geometry, slot: usize, page: &[u8], ska_page: &mut
         ska_page[start..start + slot_bytes].fill(0);
     }
     for entry in page.chunks_exact(ENTRY_BYTES) {
-        for position in positions(sector_size, read_number(entry, 0)) {
+        for position in positions(sector_size, geometry.hash_count(), read_number(entry, 0)) {
             let sector = position / sector_size * sector_size;
             set_bit(
                 &mut ska_page[sector..],

@@ -13,6 +13,9 @@ pub const SECTOR_SIZES: [u32; 6] = [16, 32, 64, 128, 256, 512];
 /// "R and D are 1 to 4096."
 const MOST_BLOCKS: u32 = 4096;
 
+/// "A format may now name k, 1 to 8 hash functions beside h0."
+const MOST_HASHES: u32 = 8;
+
 /// "A record is 16 bytes", "a KA entry of 8 bytes", "the 4-byte record number".
 pub const RECORD_BYTES: usize = 16;
 pub const ENTRY_BYTES: usize = 8;
@@ -35,29 +38,41 @@ pub enum RamPage {
 }
 const RAM_PAGES: usize = 5;
 
-/// Allowed S, R and D. Made by `Geometry::new` only, so that no product below overflows.
+/// Allowed S, R, D and k. Made by `Geometry::new` only, so that no product below overflows.
 #[derive(Clone, Copy, Debug, PartialEq, Eq)]
 pub struct Geometry {
     sector_size: usize,
     ra_blocks: usize,
     da_blocks: usize,
+    hash_count: usize,
 }
 
 impl Geometry {
-    /// Nothing if S, R or D is not allowed (refusal 1).
-    pub fn new(sector_size: u32, ra_blocks: u32, da_blocks: u32) -> Option<Geometry> {
+    /// Nothing if S, R, D or k is not allowed (refusal 1).
+    pub fn new(sector_size: u32, ra_blocks: u32, da_blocks: u32, hash_count: u32) -> Option<Geometry> {
         let allowed = SECTOR_SIZES.contains(&sector_size)
             && (1..=MOST_BLOCKS).contains(&ra_blocks)
-            && (1..=MOST_BLOCKS).contains(&da_blocks);
+            && (1..=MOST_BLOCKS).contains(&da_blocks)
+            && (1..=MOST_HASHES).contains(&hash_count);
         allowed.then_some(Geometry {
             sector_size: sector_size as usize,
             ra_blocks: ra_blocks as usize,
             da_blocks: da_blocks as usize,
+            hash_count: hash_count as usize,
         })
     }
 
     pub fn of_state(state: State) -> Option<Geometry> {
-        Geometry::new(state.sector_size, state.ra_blocks, state.da_blocks)
+        Geometry::new(
+            state.sector_size,
+            state.ra_blocks,
+            state.da_blocks,
+            state.hash_count,
+        )
+    }
+
+    pub fn hash_count(self) -> usize {
+        self.hash_count
     }
 
     // The table: S/4, S/2 and 4S.

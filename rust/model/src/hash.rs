@@ -10,14 +10,17 @@ pub fn fnv1a(bytes: &[u8]) -> u32 {
     hash
 }
 
-/// "Hash j (0 to 3) is FNV-1a over five bytes: j, then the key", the key's lowest byte first.
-fn key_hash(j: u8, key: u32) -> usize {
+/// "Hash j is FNV-1a over five bytes: j, then the key", the key's lowest byte first; from request 2 on
+/// "h0 to hk".
+fn key_hash(j: usize, key: u32) -> usize {
     let [a, b, c, d] = key.to_le_bytes();
-    fnv1a(&[j, a, b, c, d]) as usize
+    fnv1a(&[j as u8, a, b, c, d]) as usize
 }
 
-/// "(h0 mod 4) × S + (hj mod S) for j = 1, 2, 3; they may coincide."
-pub fn positions(sector_size: usize, key: u32) -> [usize; 3] {
+/// "(h0 mod 4) × S + (hj mod S)" for j = 1 to k; "they may coincide".
+pub fn positions(sector_size: usize, hash_count: usize, key: u32) -> Vec<usize> {
     let first = (key_hash(0, key) % 4) * sector_size;
-    [1, 2, 3].map(|j| first + key_hash(j, key) % sector_size)
+    (1..=hash_count)
+        .map(|j| first + key_hash(j, key) % sector_size)
+        .collect()
 }

@@ -25,7 +25,10 @@ pub use hash::{fnv1a, positions};
 pub use load::load;
 pub use tab::{read_tab, Reading, Row};
 
-/// The state S, R, D, n, d.
+/// "Volumes and replays of document 01 have k = 3."
+pub const HASH_COUNT_01: u32 = 3;
+
+/// The state S, R, D, k, n, d: "k joins S, R and D in the state".
 #[repr(C)]
 #[derive(Clone, Copy, Debug, Default, PartialEq, Eq)]
 pub struct State {
@@ -35,6 +38,8 @@ pub struct State {
     pub ra_blocks: u32,
     /// D: blocks of the deletion area.
     pub da_blocks: u32,
+    /// k: hash functions beside h0.
+    pub hash_count: u32,
     /// n: records accepted.
     pub records: u32,
     /// d: deletions accepted.

@@ -20,7 +20,7 @@ pub enum SearchResult {
 }
 
 /// "First the desk's entries, newest first; then full pages, newest first, opening a page
-/// only if its filter, read from the bytes lent, has all three bits."
+/// only if its filter, read from the bytes lent, has all three bits": all k "wherever 01 says three".
 pub fn search(geometry: Geometry, state: State, key: u32, data: &[u8], ram: &[u8]) -> SearchResult {
     let entries_per_page = geometry.entries_per_page();
     let in_ram = state.records as usize % entries_per_page;
@@ -32,7 +32,7 @@ pub fn search(geometry: Geometry, state: State, key: u32, data: &[u8], ram: &[u8
         return result;
     }
 
-    let key_positions = positions(geometry.sector_size(), key);
+    let key_positions = positions(geometry.sector_size(), geometry.hash_count(), key);
     let mut count = 0;
     for page in (0..full_pages).rev() {
         let place = place_of_filter(geometry, page, full_pages);

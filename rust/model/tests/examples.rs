@@ -1,6 +1,8 @@
-//! The examples of document 01 and the published hash vectors.
+//! The examples of document 01, the published hash vectors, and request 2's k.
 
-use model::{delete, fnv1a, format, insert, operations, set_page_count, Geometry, State};
+use model::{
+    delete, fnv1a, format, insert, operations, positions, set_page_count, Geometry, State, HASH_COUNT_01,
+};
 
 #[test]
 fn published_hash_vectors() {
@@ -19,6 +21,10 @@ fn published_hash_vectors() {
     assert!(lines >= 28);
 }
 
+fn geometry(s: u32, r: u32, d: u32) -> Geometry {
+    Geometry::new(s, r, d, HASH_COUNT_01).expect("allowed")
+}
+
 #[test]
 fn block_counts() {
     for (s, r, d, blocks) in [
@@ -28,13 +34,13 @@ fn block_counts() {
         (16, 64, 1, 110),
         (512, 2048, 1, 3458),
     ] {
-        assert_eq!(Geometry::new(s, r, d).expect("allowed").blocks(), blocks);
+        assert_eq!(geometry(s, r, d).blocks(), blocks);
     }
-    assert_eq!(Geometry::new(16, 1, 1).expect("allowed").record_capacity(), 64);
-    assert_eq!(Geometry::new(512, 4096, 4096).expect("allowed").blocks(), 10753);
-    assert_eq!(Geometry::new(24, 1, 1), None);
-    assert_eq!(Geometry::new(16, 0, 1), None);
-    assert_eq!(Geometry::new(16, 1, 4097), None);
+    assert_eq!(geometry(16, 1, 1).record_capacity(), 64);
+    assert_eq!(geometry(512, 4096, 4096).blocks(), 10753);
+    assert_eq!(Geometry::new(24, 1, 1, HASH_COUNT_01), None);
+    assert_eq!(Geometry::new(16, 0, 1, HASH_COUNT_01), None);
+    assert_eq!(Geometry::new(16, 1, 4097, HASH_COUNT_01), None);
 }
 
 #[test]
@@ -45,7 +51,7 @@ fn pages_of_sets() {
 
 #[test]
 fn flush_sector() {
-    let geometry = Geometry::new(16, 1, 1).expect("allowed");
+    let geometry = geometry(16, 1, 1);
     let first = geometry.l1_block() * 64;
     assert_eq!(geometry.l1_sector(6, 2) - first, 9 * 4 + 2);
 }
@@ -59,7 +65,7 @@ struct Volume {
 
 impl Volume {
     fn new(s: u32, r: u32, d: u32) -> Volume {
-        let geometry = Geometry::new(s, r, d).expect("allowed");
+        let geometry = geometry(s, r, d);
         let mut volume = Volume {
             state: State::default(),
             data: vec![0x5A; geometry.data_bytes()],
@@ -71,6 +77,7 @@ impl Volume {
             s,
             r,
             d,
+            HASH_COUNT_01,
             &mut volume.data,
             &mut volume.spare,
             &mut volume.ram,
@@ -144,7 +151,7 @@ fn deletion_capacity() {
 #[test]
 fn first_set() {
     let mut volume = Volume::new(16, 16, 1);
-    let geometry = Geometry::new(16, 16, 1).expect("allowed");
+    let geometry = geometry(16, 16, 1);
     for key in 0..1023 {
         assert_eq!(volume.insert(key), 0);
     }
@@ -198,6 +205,7 @@ fn wild_states_are_refused() {
                             sector_size,
                             ra_blocks,
                             da_blocks,
+                            hash_count: HASH_COUNT_01,
                             records,
                             deletions,
                         };
@@ -211,11 +219,73 @@ fn wild_states_are_refused() {
                     records: 9,
                     ..State::default()
                 };
-                let change = format(old, sector_size, ra_blocks, da_blocks, data, spare, ram);
+                let change = format(
+                    old,
+                    sector_size,
+                    ra_blocks,
+                    da_blocks,
+                    HASH_COUNT_01,
+                    data,
+                    spare,
+                    ram,
+                );
                 assert!(change.refusal == 1 || change.refusal == 2);
                 assert_eq!(change.state, old);
             }
         }
+    }
+}
+
+/// k positions, each beside the key's others in one group of S; fewer are the first of more.
+#[test]
+fn positions_of_a_key() {
+    for sector_size in [16, 32, 512] {
+        for key in [0, 7, 255, 256, 65_536, u32::MAX] {
+            let all = positions(sector_size, 8, key);
+            let group = fnv1a(&[&[0], key.to_le_bytes().as_slice()].concat()) as usize % 4;
+            for k in 1..=8 {
+                assert_eq!(positions(sector_size, k, key), all[..k]);
+                let hash = fnv1a(&[&[k as u8], key.to_le_bytes().as_slice()].concat()) as usize;
+                assert_eq!(all[k - 1], group * sector_size + hash % sector_size);
+            }
+        }
+    }
+    assert_eq!(positions(16, 8, 7), [11, 2, 5, 4, 7, 14, 1, 0]);
+    assert_eq!(positions(512, 8, 7), [315, 98, 261, 20, 183, 478, 369, 176]);
+}
+
+#[test]
+fn hash_counts_that_are_allowed() {
+    let volume = Volume::new(16, 1, 1);
+    let Volume {
+        state,
+        mut data,
+        mut spare,
+        mut ram,
+    } = volume;
+    for k in [0, 9, 10, 16, 255, 256, 259, 1 << 31, u32::MAX] {
+        assert_eq!(Geometry::new(16, 1, 1, k), None);
+        let before = (data.clone(), spare.clone(), ram.clone());
+        let change = format(state, 16, 1, 1, k, &mut data, &mut spare, &mut ram);
+        assert_eq!((change.refusal, change.state), (1, state));
+        let handed_in = State {
+            hash_count: k,
+            ..state
+        };
+        let change = insert(handed_in, 7, 1, 2, 3, &mut data, &mut spare, &mut ram);
+        assert_eq!((change.refusal, change.state), (1, handed_in));
+        assert_eq!(model::lookup(handed_in, 7, &data, &spare, &ram).refusal, 1);
+        assert_eq!(before, (data.clone(), spare.clone(), ram.clone()));
+        // Before the lengths are looked at.
+        assert_eq!(model::lookup(handed_in, 7, &[], &[], &[]).refusal, 1);
+    }
+    for k in 1..=8 {
+        let change = format(state, 16, 1, 1, k, &mut data, &mut spare, &mut ram);
+        let formatted = State {
+            hash_count: k,
+            ..state
+        };
+        assert_eq!((change.refusal, change.state), (0, formatted));
     }
 }
 
@@ -224,7 +294,7 @@ fn wild_states_are_refused() {
 fn operations_of_inserts() {
     const BLOCK: usize = 64;
     let mut volume = Volume::new(16, 80, 1);
-    let geometry = Geometry::new(16, 80, 1).expect("allowed");
+    let geometry = geometry(16, 80, 1);
     for key in 0..4 * 1024 {
         let (sectors, blocks) = operations(geometry, volume.state, false, true);
         let before = volume.spare.clone();

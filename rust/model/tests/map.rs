@@ -27,13 +27,13 @@ fn pages_fill_in_order(spare: &[u8]) -> bool {
         .all(|page| page.windows(2).all(|pair| !(pair[0] == 0xFF && pair[1] == 0)))
 }
 
-fn run(s: u32, r: u32, d: u32, keys: u32, calls: u32, seed: u64) {
-    let geometry = Geometry::new(s, r, d).expect("allowed");
+fn run([s, r, d]: [u32; 3], k: u32, keys: u32, calls: u32, seed: u64) {
+    let geometry = Geometry::new(s, r, d, k).expect("allowed");
     let mut random = Random(seed);
     let mut data = vec![0x5A; geometry.data_bytes()];
     let mut spare = vec![0x5A; geometry.spare_bytes()];
     let mut ram = vec![0x5A; geometry.ram_bytes()];
-    let start = format(State::default(), s, r, d, &mut data, &mut spare, &mut ram);
+    let start = format(State::default(), s, r, d, k, &mut data, &mut spare, &mut ram);
     assert_eq!(start.refusal, 0);
     let mut state = start.state;
 
@@ -107,6 +107,7 @@ fn run(s: u32, r: u32, d: u32, keys: u32, calls: u32, seed: u64) {
             sector_size: s,
             ra_blocks: r,
             da_blocks: d,
+            hash_count: k,
             records: n as u32,
             deletions: deletions as u32,
         };
@@ -118,12 +119,21 @@ fn run(s: u32, r: u32, d: u32, keys: u32, calls: u32, seed: u64) {
 
 #[test]
 fn histories_agree_with_the_map() {
-    run(16, 1, 1, 40, 1000, 1);
-    run(16, 6, 1, 200, 3000, 2);
-    run(16, 20, 2, 1500, 4000, 3);
-    run(16, 80, 20, 5000, 12000, 4);
-    run(32, 3, 1, 300, 2000, 5);
-    run(64, 2, 1, 400, 2000, 6);
-    run(128, 1, 1, 400, 1500, 7);
-    run(256, 1, 1, 800, 2000, 8);
+    run([16, 1, 1], 3, 40, 1000, 1);
+    run([16, 6, 1], 3, 200, 3000, 2);
+    run([16, 20, 2], 3, 1500, 4000, 3);
+    run([16, 80, 20], 3, 5000, 12000, 4);
+    run([32, 3, 1], 3, 300, 2000, 5);
+    run([64, 2, 1], 3, 400, 2000, 6);
+    run([128, 1, 1], 3, 400, 1500, 7);
+    run([256, 1, 1], 3, 800, 2000, 8);
+}
+
+#[test]
+fn histories_agree_for_every_hash_count() {
+    for k in 1..=8 {
+        run([16, 6, 1], k, 200, 2000, 9);
+        run([16, 20, 2], k, 1500, 3000, 10);
+        run([64, 2, 1], k, 400, 1500, 11);
+    }
 }

@@ -1,6 +1,8 @@
 //! Tabs by the RFC's grammar, and loads: the rows that a tab gives, and the calls that a load is.
 
-use model::{format, insert, load, read_tab, update, Change, Geometry, LoadResult, Reading, Row, State};
+use model::{
+    format, insert, load, read_tab, update, Change, Geometry, LoadResult, Reading, Row, State, HASH_COUNT_01,
+};
 
 const HEADER: &str = "level,moves,goal\n";
 
@@ -93,11 +95,20 @@ struct Volume {
 
 impl Volume {
     fn formatted(r: u32) -> Volume {
-        let geometry = Geometry::new(16, r, 1).expect("allowed");
+        let geometry = Geometry::new(16, r, 1, HASH_COUNT_01).expect("allowed");
         let mut data = vec![0x5A; geometry.data_bytes()];
         let mut spare = vec![0x5A; geometry.spare_bytes()];
         let mut ram = vec![0x5A; geometry.ram_bytes()];
-        let change = format(State::default(), 16, r, 1, &mut data, &mut spare, &mut ram);
+        let change = format(
+            State::default(),
+            16,
+            r,
+            1,
+            HASH_COUNT_01,
+            &mut data,
+            &mut spare,
+            &mut ram,
+        );
         assert_eq!(change.refusal, 0);
         Volume {
             state: change.state,

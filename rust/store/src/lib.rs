@@ -4,7 +4,7 @@
 mod proved_store;
 mod rust_stores;
 
-pub use model::{Change, Geometry, LoadResult, LookupResult, State, SECTOR_SIZES};
+pub use model::{Change, Geometry, LoadResult, LookupResult, State, HASH_COUNT_01, SECTOR_SIZES};
 #[cfg(feature = "proved")]
 pub use proved_store::ProvedStore;
 pub use rust_stores::{FastStore, ModelStore};
@@ -19,6 +19,7 @@ pub trait Store {
         sector_size: u32,
         ra_blocks: u32,
         da_blocks: u32,
+        hash_count: u32,
         data: &mut [u8],
         spare: &mut [u8],
         ram: &mut [u8],

@@ -18,11 +18,21 @@ macro_rules! store_over {
                 sector_size: u32,
                 ra_blocks: u32,
                 da_blocks: u32,
+                hash_count: u32,
                 data: &mut [u8],
                 spare: &mut [u8],
                 ram: &mut [u8],
             ) -> Change {
-                $calls::format(old, sector_size, ra_blocks, da_blocks, data, spare, ram)
+                $calls::format(
+                    old,
+                    sector_size,
+                    ra_blocks,
+                    da_blocks,
+                    hash_count,
+                    data,
+                    spare,
+                    ram,
+                )
             }
 
             fn insert(

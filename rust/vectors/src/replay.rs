@@ -1,6 +1,6 @@
 //! The replay program of document 01 over a store.
 
-use store::{State, Store};
+use store::{State, Store, HASH_COUNT_01};
 
 /// "It lends 59,392 cells, 3,712 marks and a desk of 640 bytes."
 pub const LENT: [usize; 3] = [59_392, 3_712, 640];
@@ -86,9 +86,9 @@ impl Volume<'_> {
         };
         let (store, state) = (self.store, self.state);
         let (data, spare, ram) = (&mut self.data, &mut self.spare, &mut self.ram);
-        // "Goal and free word are 0."
+        // "Goal and free word are 0"; "replays of document 01 have k = 3".
         let change = match command {
-            Command::Format { s, r, d } => store.format(state, s, r, d, data, spare, ram),
+            Command::Format { s, r, d } => store.format(state, s, r, d, HASH_COUNT_01, data, spare, ram),
             Command::Insert { key, moves } => store.insert(state, key, moves, 0, 0, data, spare, ram),
             Command::Update { key, moves } => store.update(state, key, moves, 0, 0, data, spare, ram),
             Command::Delete { key } => store.delete(state, key, data, spare, ram),

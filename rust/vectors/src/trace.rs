@@ -1,10 +1,15 @@
 //! The commands of a trace (the README of the vectors has the format).
 
-use store::{Change, LoadResult, LookupResult, State, Store};
+use store::{Change, LoadResult, LookupResult, State, Store, HASH_COUNT_01};
+
+/// From this request on a trace names k.
+const NAMES_HASH_COUNT: u32 = 2;
 
 /// Lent slices, state and settings of a trace under way.
 pub struct Runner<'a> {
     store: &'a dyn Store,
+    /// The trace is of the store after the requests up to this one; 0 for document 01's.
+    request: u32,
     state: State,
     data: Vec<u8>,
     spare: Vec<u8>,
@@ -16,9 +21,10 @@ pub struct Runner<'a> {
 
 impl<'a> Runner<'a> {
     /// No slices lent, the state all zero, digests on.
-    pub fn new(store: &'a dyn Store) -> Runner<'a> {
+    pub fn new(store: &'a dyn Store, request: u32) -> Runner<'a> {
         Runner {
             store,
+            request,
             state: State::default(),
             data: Vec::new(),
             spare: Vec::new(),
@@ -41,6 +47,9 @@ impl<'a> Runner<'a> {
             let number: u32 = word.parse().map_err(|_| format!("not a number: {word}"))?;
             numbers.push(number);
         }
+        if self.request < NAMES_HASH_COUNT {
+            add_hash_count(name, &mut numbers)?;
+        }
         let (data, spare, ram) = (&mut self.data, &mut self.spare, &mut self.ram);
         let answer = match (name, numbers.as_slice()) {
             ("FILL", &[byte]) => {
@@ -56,11 +65,12 @@ impl<'a> Runner<'a> {
             ("PC", &[offset, value]) => return alter(data, offset, value),
             ("PM", &[offset, value]) => return alter(spare, offset, value),
             ("PD", &[offset, value]) => return alter(ram, offset, value),
-            ("PS", &[sector_size, ra_blocks, da_blocks, records, deletions]) => {
+            ("PS", &[sector_size, ra_blocks, da_blocks, hash_count, records, deletions]) => {
                 self.state = State {
                     sector_size,
                     ra_blocks,
                     da_blocks,
+                    hash_count,
                     records,
                     deletions,
                 };
@@ -70,8 +80,8 @@ impl<'a> Runner<'a> {
                 self.digests = on != 0;
                 return Ok(None);
             }
-            ("F", &[s, r, d]) => {
-                let change = self.store.format(self.state, s, r, d, data, spare, ram);
+            ("F", &[s, r, d, k]) => {
+                let change = self.store.format(self.state, s, r, d, k, data, spare, ram);
                 self.take(change)
             }
             ("I", &[key, moves, goal, word]) => {
@@ -122,10 +132,15 @@ impl<'a> Runner<'a> {
             sector_size,
             ra_blocks,
             da_blocks,
+            hash_count,
             records,
             deletions,
         } = self.state;
-        let mut line = format!("{answer} | {sector_size} {ra_blocks} {da_blocks} {records} {deletions}");
+        let mut line = format!("{answer} | {sector_size} {ra_blocks} {da_blocks}");
+        if self.request >= NAMES_HASH_COUNT {
+            line += &format!(" {hash_count}");
+        }
+        line += &format!(" {records} {deletions}");
         if self.digests {
             let [data, spare, ram] = &mut self.last_digests;
             let data = data.of(&self.data);
@@ -135,6 +150,17 @@ impl<'a> Runner<'a> {
         }
         line
     }
+}
+
+/// "Volumes and replays of document 01 have k = 3": in a trace that does not name k, it stands behind the S, R and D
+/// of a format or a state.
+fn add_hash_count(name: &str, numbers: &mut Vec<u32>) -> Result<(), String> {
+    match (name, numbers.len()) {
+        ("F", 3) | ("PS", 5) => numbers.insert(3, HASH_COUNT_01),
+        ("F" | "PS", _) => return Err("not a command".to_string()),
+        _ => {}
+    }
+    Ok(())
 }
 
 fn lookup_answer(result: LookupResult, data: &[u8], ram: &[u8]) -> String {
@@ -239,7 +265,7 @@ mod tests {
 
     #[test]
     fn a_short_trace() {
-        let mut runner = Runner::new(&ModelStore);
+        let mut runner = Runner::new(&ModelStore, 1);
         assert_eq!(runner.command("LEND 12288 768 320"), Ok(None));
         let mut run = |line: &str| runner.command(line);
         assert_eq!(run("DIG 0"), Ok(None));
@@ -262,6 +288,41 @@ mod tests {
         assert!(run("X 8").is_err());
         assert!(run("PD 320 0").is_err());
         assert!(run("PD 0 256").is_err());
+    }
+
+    #[test]
+    fn a_trace_with_hash_counts() {
+        let mut runner = Runner::new(&ModelStore, 2);
+        assert_eq!(runner.command("LEND 12288 768 320"), Ok(None));
+        let mut run = |line: &str| runner.command(line);
+        assert_eq!(run("DIG 0"), Ok(None));
+        assert_eq!(run("L 7"), Ok(Some("no 1 | 0 0 0 0 0 0".to_string())));
+        assert_eq!(run("F 16 1 1 9"), Ok(Some("no 1 | 0 0 0 0 0 0".to_string())));
+        assert_eq!(run("F 16 1 1 8"), Ok(Some("ok | 16 1 1 8 0 0".to_string())));
+        assert_eq!(run("PS 16 1 1 0 0 0"), Ok(None));
+        assert_eq!(run("I 7 40 2 3"), Ok(Some("no 1 | 16 1 1 0 0 0".to_string())));
+        // Document 01's forms.
+        for bad in ["F 16 1 1", "PS 16 1 1 0 0"] {
+            assert!(run(bad).is_err(), "{bad}");
+        }
+    }
+
+    #[test]
+    fn document_01_names_no_hash_count() {
+        for request in [0, 1] {
+            let mut runner = Runner::new(&ModelStore, request);
+            assert_eq!(runner.command("LEND 12288 768 320"), Ok(None));
+            let mut run = |line: &str| runner.command(line);
+            assert_eq!(run("DIG 0"), Ok(None));
+            assert_eq!(run("L 7"), Ok(Some("no 1 | 0 0 0 0 0".to_string())));
+            assert_eq!(run("PS 16 1 1 2 1"), Ok(None));
+            assert_eq!(run("L 7"), Ok(Some("miss 0 | 16 1 1 2 1".to_string())));
+            for bad in ["F 16 1 1 3", "PS 16 1 1 3 0 0"] {
+                assert!(run(bad).is_err(), "{bad}");
+            }
+            assert_eq!(run("F 16 1 1"), Ok(Some("ok | 16 1 1 0 0".to_string())));
+            assert_eq!(runner.state.hash_count, 3);
+        }
     }
 
     #[test]

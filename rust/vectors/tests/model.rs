@@ -12,7 +12,7 @@ fn folder(name: &str) -> std::path::PathBuf {
 
 #[test]
 fn traces() {
-    for (name, files) in [("trace", 18), ("requests/1/trace", 11)] {
+    for (name, files) in [("trace", 18), ("requests/1/trace", 11), ("requests/2/trace", 11)] {
         let summary = run_traces(&ModelStore, &folder(name)).unwrap_or_else(|f| panic!("{f}"));
         assert_eq!(summary.files, files);
     }
@@ -20,7 +20,7 @@ fn traces() {
 
 #[test]
 fn replays() {
-    for (name, files) in [("replay", 6), ("requests/1/replay", 4)] {
+    for (name, files) in [("replay", 6), ("requests/1/replay", 4), ("requests/2/replay", 4)] {
         let summary = run_replays(&ModelStore, &folder(name)).unwrap_or_else(|f| panic!("{f}"));
         assert_eq!(summary.files, files);
     }
@@ -29,7 +29,10 @@ fn replays() {
 /// The program runs all of them.
 #[test]
 fn all_parts() {
-    assert_eq!(parts(&folder("")), [Path::new(""), Path::new("requests/1")]);
+    assert_eq!(
+        parts(&folder("")),
+        ["", "requests/1", "requests/2"].map(Path::new)
+    );
 }
 
 /// Opens pages and reports none, or loads rows and reports none.
@@ -49,11 +52,12 @@ impl Store for NoCount {
         s: u32,
         r: u32,
         d: u32,
+        k: u32,
         data: &mut [u8],
         spare: &mut [u8],
         ram: &mut [u8],
     ) -> Change {
-        ModelStore.format(old, s, r, d, data, spare, ram)
+        ModelStore.format(old, s, r, d, k, data, spare, ram)
     }
 
     fn insert(

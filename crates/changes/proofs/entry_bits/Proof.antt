@@ -29,7 +29,7 @@ ka-ram-requires c κs = search needs
 new-filter-requires : tie.Need-new-filter-requires
 new-filter-requires c κs =
     let s = c .before .before .before .before .before in
-    (s .pre .0 .unit, rw (c .ka-ram .ensures) (omega (arith, s .pre .1)))
+    (s .pre .0 .unit, s .pre .0 .k-most, rw (c .ka-ram .ensures) (omega (arith, s .pre .1)))
 
 returns-2 : tie.Need-returns-2
 returns-2 c =

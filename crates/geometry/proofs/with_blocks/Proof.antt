@@ -25,6 +25,22 @@ returns-2 c =
       not-true (c .before .blocks-allowed2 .result) (c .if2 .taken),
     )
 
+hashes-allowed-requires : tie.Need-hashes-allowed-requires
+hashes-allowed-requires c κs = search needs
+
+returns-3 : tie.Need-returns-3
+returns-3 c =
+    let d = c .before .before .before in
+    let b = d .before .before in
+    rw (
+      ← b .blocks-allowed .ensures,
+      ← d .blocks-allowed2 .ensures,
+      ← c .before .hashes-allowed .ensures,
+      not-false (b .blocks-allowed .result) (d .before .if1 .left),
+      not-false (d .blocks-allowed2 .result) (c .before .before .if2 .left),
+      not-true (c .before .hashes-allowed .result) (c .if3 .taken),
+    )
+
 cast-with-sectors : tie.Need-cast-with-sectors
 cast-with-sectors c = search needs
 
@@ -37,20 +53,27 @@ cast-t7 c = search needs
 cast-t8 : tie.Need-cast-t8
 cast-t8 c = search needs
 
-returns-3 : tie.Need-returns-3
-returns-3 c =
-    let w = c .before .before in
-    let d = w .before .before in
+cast-t9 : tie.Need-cast-t9
+cast-t9 c = search needs
+
+returns-4 : tie.Need-returns-4
+returns-4 c =
+    let w = c .before .before .before in
+    let k = w .before .before in
+    let d = k .before .before in
     let b = d .before .before .before in
+    let s = b .before .args .sizes in
     let e = b .before .pre in
     let u = w .with-sectors .ensures ∙ ap (λ (r : SizeRow). r .sector / 16) e in
     rw (
       ← b .blocks-allowed .ensures,
       ← d .before .blocks-allowed2 .ensures,
+      ← k .before .hashes-allowed .ensures,
       not-false (b .blocks-allowed .result) (d .before .before .if1 .left),
       not-false (d .before .blocks-allowed2 .result) (d .if2 .left),
+      not-false (k .before .hashes-allowed .result) (k .if3 .left),
     )
-    (λ i. Good (record { chip = record { unit = u i }; row = e i; ra = b .before .args .sizes .«ra_blocks»; da = b .before .args .sizes .«da_blocks» }))
+    (λ i. Good (record { chip = record { unit = u i }; row = e i; ra = s .«ra_blocks»; da = s .«da_blocks»; hashes = s .«hash_count» }))
 
 pub with-blocks-spec : {M : Type 1} → statement M
-with-blocks-spec = tie.close (tie.spec blocks-allowed-requires returns blocks-allowed-requires-2 returns-2 cast-with-sectors with-sectors-requires cast-t7 cast-t8 returns-3)
+with-blocks-spec = tie.close (tie.spec blocks-allowed-requires returns blocks-allowed-requires-2 returns-2 hashes-allowed-requires returns-3 cast-with-sectors with-sectors-requires cast-t7 cast-t8 cast-t9 returns-4)

@@ -1,6 +1,6 @@
 -- Each request is its call's.
 use mathlib.Core.Path.{ap, _∙_}
-use Rattle.layout.specs.Geometry.{sizesOf}
+use Rattle.layout.specs.Geometry.{sizesOf, defaultHashCount}
 use Rattle.layout.specs.Hash.{fnvFamily}
 use Rattle.layout.specs.Items.{Record, recordOf}
 use Rattle.layout.specs.Calls as calls
@@ -37,7 +37,7 @@ returns c =
     let x = c .before .before .before .before .before .before .before .before .before .before .before .before .before .before .before .before .before .args in
     let g = c .before .before .before .before .before .before .before .before .before .before .before .before .q .given in
     let v = volume (x .s) (x .main .now) (x .spare .now) (x .ram .now) in
-    rw (g .1) (change-reply (c .after-change .result) (k .result) (k .last .1 .1 .0) (k .last .1 .1 .1 .0) (k .last .1 .1 .1 .1 .0) (calls.format v (sizesOf (g .0 .0) (g .0 .1 .0) (g .0 .1 .1 .0))) (c .after-change .ensures) (k .ensures))
+    rw (g .1) (change-reply (c .after-change .result) (k .result) (k .last .1 .1 .0) (k .last .1 .1 .1 .0) (k .last .1 .1 .1 .1 .0) (calls.format v (sizesOf (g .0 .0) (g .0 .1 .0) (g .0 .1 .1 .0) defaultHashCount)) (c .after-change .ensures) (k .ensures))
 
 enum-known-q-2 : tie.Need-enum-known-q-2
 enum-known-q-2 c = search needs

@@ -2,7 +2,10 @@
 use native.Mathlib.Omega.{arith}
 use mathlib.Core.Path.{_∙_}
 use mathlib.Core.Option.{none, some}
+use Rattle.memory.specs.Words.{bytes4}
+use Rattle.layout.specs.Hash.{fnvFamily}
 use Rattle.layout.specs.Search.{found, corrupt}
+use Rattle.laws.specs.Positions.{take-positions}
 use Rattle.search.proofs.Volume.{search-is, search-open}
 use borrow.Author.Needs.{needs}
 use Rattle.search.proofs.search.Statement.{statement}
@@ -27,11 +30,15 @@ returns c =
     search-open (x .v) (x .main .now) (x .ram .now) (x .key) (omega (arith, s .pre .sound .unit .1 .some))
     (rw (Q .entries-per-page .ensures) at (c .if1 .taken)) e
 
-positions-of-requires : tie.Need-positions-of-requires
-positions-of-requires c κs = search needs
+positions-requires : tie.Need-positions-requires
+positions-requires c κs =
+    let sound = c .before .before .before .before .before .before .before .before .pre .sound in
+    (sound .unit, sound .k-most)
 
 in-pages-requires : tie.Need-in-pages-requires
-in-pages-requires c κs = search needs
+in-pages-requires c κs =
+    let pre = c .before .before .before .before .before .before .before .before .before .pre in
+    (pre, record { some = pre .sound .k-some; few = pre .sound .k-most; within = c .positions .ensures .1 })
 
 returns-2 : tie.Need-returns-2
 returns-2 c =
@@ -40,7 +47,7 @@ returns-2 c =
     let O = Q .before .before .before in
     let x = O .before .before .before .args in
     let e = rw (Q .before .enum-told .given .1) at (O .in-open .ensures) in
-    let f = rw (P .positions-of .ensures .0) at (c .in-pages .ensures) in
+    let f = rw (P .positions .ensures .0, take-positions fnvFamily (x .v .g .hashes) (x .v .g .chip .unit) (bytes4 (x .key))) at (c .in-pages .ensures) in
     f ∙ search-is (x .v) (x .main .now) (x .ram .now) (x .key) none e
 
 enum-known-end : tie.Need-enum-known-end
@@ -71,7 +78,7 @@ search-spec =
     enum-told
     entries-per-page-requires
     returns
-    positions-of-requires
+    positions-requires
     in-pages-requires
     returns-2
     enum-known-end

@@ -12,11 +12,11 @@ use Rattle.filter.proofs.page.new_filter.Statement.{statement}
 use Rattle.filter.proofs.page.new_filter.Tie as tie
 
 abbrev Inv-loop : tie.InvT-loop
-Inv-loop chip at key ram last bits₀ i₀ bits i =
-    (i ≤ last) × (length bits ≡ 256) × ((x : ℕ) → x < 2048 → arrayBit bits x ≡ any (λ j. keyBit (chip .unit) (word ram (at + j * 8)) x) i)
+Inv-loop chip count at key ram last bits₀ i₀ bits i =
+    (i ≤ last) × (length bits ≡ 256) × ((x : ℕ) → x < 2048 → arrayBit bits x ≡ any (λ j. keyBit (chip .unit) count (word ram (at + j * 8)) x) i)
 
 abbrev μ-loop : tie.MeasureT-loop
-μ-loop chip at key ram last bits₀ i₀ bits i = last - i
+μ-loop chip count at key ram last bits₀ i₀ bits i = last - i
 
 entries-per-page-requires : tie.Need-entries-per-page-requires Inv-loop μ-loop
 entries-per-page-requires c κs = search needs
@@ -44,17 +44,11 @@ add-get32 c = omega (arith, c .before .before .before .entries-per-page .ensures
 get32-requires : tie.Need-get32-requires Inv-loop μ-loop
 get32-requires c κs = omega (arith, c .before .before .before .entries-per-page .ensures)
 
-positions-requires : tie.Need-positions-requires Inv-loop μ-loop
-positions-requires c κs = search needs
+slice-aggregate-set-key : tie.Need-slice-aggregate-set-key Inv-loop μ-loop
+slice-aggregate-set-key c = sym (c .before .before .before .loop .inv .1)
 
-slice-aggregate-set-positions : tie.Need-slice-aggregate-set-positions Inv-loop μ-loop
-slice-aggregate-set-positions c = sym (c .before .before .before .before .loop .inv .1)
-
-set-positions-requires : tie.Need-set-positions-requires Inv-loop μ-loop
-set-positions-requires c κs =
-    let p = c .before .positions .ensures .1 in
-    let m = c .before .before .before .before .before .before .before .before .pre .1 in
-    (c .before .before .before .before .loop .inv .1, (omega (arith, p .0, m), omega (arith, p .1, m), omega (arith, p .2, m)))
+set-key-requires : tie.Need-set-key-requires Inv-loop μ-loop
+set-key-requires c κs = let pre = c .before .before .before .before .before .before .before .pre in (pre .0, pre .1, c .before .before .before .loop .inv .1)
 
 add-i : tie.Need-add-i Inv-loop μ-loop
 add-i c = omega arith
@@ -64,36 +58,30 @@ loop-less c = omega arith
 
 loop-again : tie.Need-loop-again Inv-loop μ-loop
 loop-again c =
-    let x = c .before .before .before .before .before .before .before .before .before .before .args in
-    let l = c .before .before .before .before .before .before .loop in
-    let s = c .before .set-positions in (
+    let x = c .before .before .before .before .before .before .before .before .before .args in
+    let l = c .before .before .before .before .before .loop in
+    let s = c .before .set-key in (
       omega arith,
-      s .kept .1 .0 ∙ l .inv .1,
+      s .kept .1 .1 .1 .0 ∙ l .inv .1,
       λ y h.
           s .ensures y h
-          ∙ rw (l .inv .2 y h, c .before .before .before .positions .ensures .0, c .before .before .before .before .get32 .ensures)
-          (any-more (λ j. keyBit (x .chip .unit) (word (x .ram .now) (x .at + j * 8)) y) (l .i)),
+          ∙ rw (l .inv .2 y h, c .before .before .before .get32 .ensures)
+          (any-more (λ j. keyBit (x .chip .unit) (x .count) (word (x .ram .now) (x .at + j * 8)) y) (l .i)),
     )
 
-positions-requires-2 : tie.Need-positions-requires-2 Inv-loop μ-loop
-positions-requires-2 c κs = search needs
+slice-aggregate-set-key-2 : tie.Need-slice-aggregate-set-key-2 Inv-loop μ-loop
+slice-aggregate-set-key-2 c = sym (c .before .before .loop .inv .1)
 
-slice-aggregate-set-positions-2 : tie.Need-slice-aggregate-set-positions-2 Inv-loop μ-loop
-slice-aggregate-set-positions-2 c = sym (c .before .before .before .loop .inv .1)
-
-set-positions-requires-2 : tie.Need-set-positions-requires-2 Inv-loop μ-loop
-set-positions-requires-2 c κs =
-    let p = c .before .positions2 .ensures .1 in
-    let m = c .before .before .before .before .before .before .before .pre .1 in
-    (c .before .before .before .loop .inv .1, (omega (arith, p .0, m), omega (arith, p .1, m), omega (arith, p .2, m)))
+set-key-requires-2 : tie.Need-set-key-requires-2 Inv-loop μ-loop
+set-key-requires-2 c κs = let pre = c .before .before .before .before .before .before .pre in (pre .0, pre .1, c .before .before .loop .inv .1)
 
 returns : tie.Need-returns Inv-loop μ-loop
 returns c =
-    let x = c .before .before .before .before .before .before .before .before .before .args in
-    let l = c .before .before .before .before .before .loop in
-    let s = c .before .set-positions2 in
-    let e : l .i ≡ 8 * x .chip .unit - 1 = omega (arith, c .before .before .before .before .before .before .before .entries-per-page .ensures) in
-    λ y h. s .ensures y h ∙ rw (l .inv .2 y h, c .before .before .before .positions2 .ensures .0, e)
+    let x = c .before .before .before .before .before .before .before .before .args in
+    let l = c .before .before .before .before .loop in
+    let s = c .before .set-key2 in
+    let e : l .i ≡ 8 * x .chip .unit - 1 = omega (arith, c .before .before .before .before .before .before .entries-per-page .ensures) in
+    λ y h. s .ensures y h ∙ rw (l .inv .2 y h, e)
 
 pub new-filter-spec : {M : Type 1} → statement M
 new-filter-spec =
@@ -108,13 +96,11 @@ new-filter-spec =
     mul-get32
     add-get32
     get32-requires
-    positions-requires
-    slice-aggregate-set-positions
-    set-positions-requires
+    slice-aggregate-set-key
+    set-key-requires
     add-i
     loop-less
     loop-again
-    positions-requires-2
-    slice-aggregate-set-positions-2
-    set-positions-requires-2
+    slice-aggregate-set-key-2
+    set-key-requires-2
     returns)
