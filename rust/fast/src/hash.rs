@@ -28,21 +28,16 @@ pub(crate) use for_hash_count;
 pub fn positions<const S: usize, const K: usize>(key: u32) -> [usize; K] {
     let mut positions = [0; K];
     if K <= 3 {
-        let [h0, others @ ..] = hashes([0, 1, 2, 3], key);
-        place::<S>(h0, others, &mut positions);
+        let [h0, h1, h2, h3] = hashes([0, 1, 2, 3], key).map(usize::from);
+        let group = h0 % 4 * S;
+        let all = [group + h1 % S, group + h2 % S, group + h3 % S];
+        positions.copy_from_slice(&all[..K]);
     } else {
-        let [h0] = hashes([0], key);
-        place::<S>(h0, hashes([1, 2, 3, 4, 5, 6, 7, 8], key), &mut positions);
+        let [h0] = hashes([0], key).map(usize::from);
+        let all = hashes([1, 2, 3, 4, 5, 6, 7, 8], key).map(|hash| h0 % 4 * S + usize::from(hash) % S);
+        positions.copy_from_slice(&all[..K]);
     }
     positions
-}
-
-#[inline(always)]
-fn place<const S: usize>(h0: u16, others: impl IntoIterator<Item = u16>, positions: &mut [usize]) {
-    let group = usize::from(h0) % 4 * S;
-    for (position, hash) in positions.iter_mut().zip(others) {
-        *position = group + usize::from(hash) % S;
-    }
 }
 
 const START: u32 = 2166136261;

@@ -27,7 +27,6 @@ type Step = ControlFlow<Ending>;
 /// A search under way.
 struct Search<'a, const S: usize, const PAGE: usize> {
     key: u32,
-    hash_count: u32,
     records: u32,
     /// Full pages of entries; as arrays, for one test of a bound is left when a page is opened.
     pages: &'a [[u8; PAGE]],
@@ -36,13 +35,15 @@ struct Search<'a, const S: usize, const PAGE: usize> {
     opened: u32,
 }
 
-#[inline]
+#[inline(always)]
 pub fn search<const S: usize>(layout: &Layout<S>, state: State, key: u32, data: &[u8], ram: &[u8]) -> Found {
     // A type cannot say 4S, so the page's length is written out. The compiler leaves one of these.
     macro_rules! with_page {
         ($page:literal) => {
-            Search::<S, $page>::new(layout, state, key, data, ram).found(layout, data, ram)
-        };
+{
+            let search = Search::<S, $page>::new(layout, state, key, data, ram);
+            for_hash_count!(state.hash_count, K => search.found::<K>(layout, data, ram))
+        }        };
     }
     match S {
         16 => with_page!(64),
@@ -61,7 +62,6 @@ impl<'a, const S: usize, const PAGE: usize> Search<'a, S, PAGE> {
         let in_ram = deletions % Layout::<S>::DELETIONS;
         Search {
             key,
-            hash_count: state.hash_count,
             records: state.records,
             pages: data[layout.entries..][..full_pages * PAGE].as_chunks().0,
             deletions: [
@@ -72,8 +72,10 @@ impl<'a, const S: usize, const PAGE: usize> Search<'a, S, PAGE> {
         }
     }
 
-    fn found(mut self, layout: &Layout<S>, data: &[u8], ram: &[u8]) -> Found {
-        let ending = match self.run(layout, data, ram) {
+    /// The search with K positions of the key.
+    #[inline(never)]
+    fn found<const K: usize>(mut self, layout: &Layout<S>, data: &[u8], ram: &[u8]) -> Found {
+        let ending = match self.run::<K>(layout, data, ram) {
             Break(ending) => Some(ending),
             Continue(()) => None,
         };
@@ -83,16 +85,11 @@ impl<'a, const S: usize, const PAGE: usize> Search<'a, S, PAGE> {
         }
     }
 
-    fn run(&mut self, layout: &Layout<S>, data: &[u8], ram: &[u8]) -> Step {
+    fn run<const K: usize>(&mut self, layout: &Layout<S>, data: &[u8], ram: &[u8]) -> Step {
         let in_ram = self.records as usize % Layout::<S>::ENTRIES;
         let entries = &ram[Layout::<S>::RAM_ENTRIES..][..in_ram * ENTRY];
         self.entries(entries.as_chunks().0)?;
-        for_hash_count!(self.hash_count, K => self.full_pages::<K>(layout, data, ram))
-    }
 
-    /// The full pages by the filters of K positions.
-    #[inline(never)]
-    fn full_pages<const K: usize>(&mut self, layout: &Layout<S>, data: &[u8], ram: &[u8]) -> Step {
         let positions = positions::<S, K>(self.key);
         let filters = self.records as usize / Layout::<S>::ENTRIES;
         self.not_flushed(&ram[Layout::<S>::RAM_FILTERS..], positions, filters)?;
@@ -143,11 +140,13 @@ impl<'a, const S: usize, const PAGE: usize> Search<'a, S, PAGE> {
         let width_log = Layout::<S>::width_log(number);
         let count = rounds * FILTERS_PER_ROUND;
         let pages = &data[layout.set(number, 0)..];
-        let rows = positions.map(|position| {
-            let page = &pages[(position >> width_log) * PAGE..][..PAGE];
-            &page[..count << width_log >> 3]
-        });
-        let places = positions.map(|position| position & ((1 << width_log) - 1));
+        let mut rows = [&[] as &[u8]; K];
+        let mut places = positions;
+        for i in 0..K {
+            let page = &pages[(positions[i] >> width_log) * PAGE..][..PAGE];
+            rows[i] = &page[..count << width_log >> 3];
+            places[i] &= (1 << width_log) - 1;
+        }
         walk::filters(rows, places, width_log, |filter| self.open(first + filter))
     }
 
@@ -155,7 +154,10 @@ impl<'a, const S: usize, const PAGE: usize> Search<'a, S, PAGE> {
     fn full_sets<const K: usize>(&mut self, sets: &[u8], positions: [usize; K], filters: usize) -> Step {
         for set in (0..filters / Layout::<S>::CYCLE).rev() {
             let pages = &sets[set * Layout::<S>::SIDE..][..Layout::<S>::SIDE];
-            let rows = positions.map(|position| &pages[position * PAGE..][..PAGE]);
+            let mut rows = [&[] as &[u8]; K];
+            for i in 0..K {
+                rows[i] = &pages[positions[i] * PAGE..][..PAGE];
+            }
             walk::bits(rows, |filter| self.open(set * Layout::<S>::CYCLE + filter))?;
         }
         Continue(())

@@ -4,14 +4,21 @@
 //! Whether a filter passes is as good as random, and a branch that cannot be foreseen costs as much as testing
 //! several filters. So each walk puts up to 64 filters into one word without a branch, and then visits the bits set.
 //! `open` gets the filters that pass, counted from the row's first; the walk goes on until it breaks.
+//!
+//! Rows are made and read by plain loops: the compiler unrolls these and sees that all rows are of one length. `map` and
+//! `fold` leave tests of bounds, up to a tenth of a lookup's instructions.
 
 use crate::bits::squeeze;
 use std::ops::ControlFlow::{self, Continue};
+use std::ops::Range;
 
 /// One row for each position of the key, all of one length.
 pub type Rows<'a, const K: usize> = [&'a [u8]; K];
 
 const WORD: usize = 8;
+
+/// Rows that `bytes` reads of every filter. It reads the others of those that pass here, one in four or fewer.
+const READ_OF_ALL: usize = 3;
 
 /// Filters of 2^width_log bits; `places` are the positions' bits within a filter's bits.
 #[inline(always)]
@@ -41,9 +48,12 @@ pub fn bits<const K: usize, B>(
     rows: Rows<K>,
     mut open: impl FnMut(usize) -> ControlFlow<B>,
 ) -> ControlFlow<B> {
-    let rows = words(rows);
+    let rows: [&[[u8; WORD]]; K] = chunks(rows);
     for at in (0..rows[0].len()).rev() {
-        let passed = rows.iter().fold(u64::MAX, |all, row| all & word(&row[at]));
+        let mut passed = u64::MAX;
+        for row in rows {
+            passed &= word(&row[at]);
+        }
         each(passed, |bit| open(at * 64 + bit))?;
     }
     Continue(())
@@ -56,16 +66,16 @@ fn fields<const W: usize, const K: usize, B>(
     places: [usize; K],
     mut open: impl FnMut(usize) -> ControlFlow<B>,
 ) -> ControlFlow<B> {
-    let rows = words(rows);
+    let rows: [&[[u8; WORD]]; K] = chunks(rows);
     let mut above = rows[0].len();
     while above > 0 {
         let first = (above - 1) / W * W;
         let mut passed = 0;
         for at in (first..above).rev() {
-            let all = rows
-                .iter()
-                .zip(places)
-                .fold(u64::MAX, |all, (row, place)| all & word(&row[at]) >> place);
+            let mut all = u64::MAX;
+            for i in 0..K {
+                all &= word(&rows[i][at]) >> places[i];
+            }
             passed = passed << (64 / W) | squeeze(all, 1, W as u32);
         }
         each(passed, |bit| open(first * (64 / W) + bit))?;
@@ -81,25 +91,43 @@ pub fn bytes<const W: usize, const K: usize, B>(
     places: [usize; K],
     mut open: impl FnMut(usize) -> ControlFlow<B>,
 ) -> ControlFlow<B> {
-    let rows = rows.map(|row| row.as_chunks::<W>().0);
-    let columns = places.map(|place| place / 8 % W);
-    let others = places.map(|place| !(1u8 << (place % 8)));
+    let rows: [&[[u8; W]]; K] = chunks(rows);
     let mut above = rows[0].len();
     while above > 0 {
         let first = (above - 1) / 64 * 64;
-        let group = rows.map(|row| &row[first..above]);
+        let mut group = rows;
+        for row in &mut group {
+            *row = &row[first..above];
+        }
         let mut passed = 0;
         for at in (0..above - first).rev() {
-            let mut all = 0xFF;
-            for i in 0..K {
-                all &= group[i][at][columns[i]] | others[i];
-            }
-            passed = passed << 1 | u64::from(all == 0xFF);
+            let bits = conjunction(group, places, at, 0..K.min(READ_OF_ALL));
+            passed = passed << 1 | u64::from(bits == 0xFF);
         }
-        each(passed, |bit| open(first + bit))?;
+        each(passed, |bit| {
+            match conjunction(group, places, bit, READ_OF_ALL..K) {
+                0xFF => open(first + bit),
+                _ => Continue(()),
+            }
+        })?;
         above = first;
     }
     Continue(())
+}
+
+/// Of some rows: 0xFF if filter `at` has all their bits.
+#[inline(always)]
+fn conjunction<const W: usize, const K: usize>(
+    rows: [&[[u8; W]]; K],
+    places: [usize; K],
+    at: usize,
+    which: Range<usize>,
+) -> u8 {
+    let mut all = 0xFF;
+    for i in which {
+        all &= rows[i][at][places[i] / 8 % W] | !(1 << (places[i] % 8));
+    }
+    all
 }
 
 /// The bits that are set, highest first.
@@ -113,12 +141,15 @@ fn each<B>(mut word: u64, mut visit: impl FnMut(usize) -> ControlFlow<B>) -> Con
     Continue(())
 }
 
-/// The rows as words, all as long as the first: no test of a bound is left in a loop over them.
+/// The rows in parts of N bytes, all as many as the first has: no test of a bound is left in a loop over them.
 #[inline(always)]
-fn words<'a, const K: usize>(rows: Rows<'a, K>) -> [&'a [[u8; WORD]]; K] {
-    let rows = rows.map(|row| row.as_chunks().0);
-    let len = rows[0].len();
-    rows.map(|row| &row[..len])
+fn chunks<'a, const N: usize, const K: usize>(rows: Rows<'a, K>) -> [&'a [[u8; N]]; K] {
+    let mut chunks: [&[[u8; N]]; K] = [&[]; K];
+    chunks[0] = rows[0].as_chunks().0;
+    for i in 1..K {
+        chunks[i] = &rows[i].as_chunks().0[..chunks[0].len()];
+    }
+    chunks
 }
 
 #[inline(always)]
