@@ -1,9 +1,9 @@
 #!/usr/bin/env python3
-"""counts.py [--before FOLDER] [--rows TEXT] [--most N]: instructions of a call, by valgrind's callgrind.
+"""counts.py [--before FOLDER] [--rows TEXT] [--most N] [--hashes K]: instructions of a call, by valgrind's callgrind.
 
 Prints a table of the proved store beside the optimised Rust, as document PERFORMANCE.md has it. With --before, FOLDER
-holds another libcapi.a, whose instructions stand in a column of their own. With --rows, only rows that begin with TEXT,
-as `16 insert`; with --most, only those of up to N records. Counts do not depend on what else the machine does, so one run is enough.
+holds another libcapi.a of the same C interface, whose instructions stand in a column of their own. With --rows, only rows that begin with TEXT,
+as `16 insert`; with --most, only those of up to N records. With --hashes, volumes of K hash functions (3). Counts do not depend on what else the machine does, so one run is enough.
 """
 
 import argparse
@@ -29,13 +29,13 @@ def bench(folder):
     return target / "release" / "bench"
 
 
-def instructions(program, store, size, call, n):
+def instructions(program, store, size, call, n, hashes):
     """Instructions of one call, the average of a round."""
     with tempfile.TemporaryDirectory() as folder:
         out = pathlib.Path(folder) / "out"
         command = ["valgrind", "--tool=callgrind", "--toggle-collect=counted_round", "--collect-atstart=no", f"--callgrind-out-file={out}"]
         run = subprocess.run(
-            command + [str(program), "--count", store, str(size), call, str(n)], capture_output=True, text=True, check=True
+            command + [str(program), "--count", store, str(size), call, str(n), str(hashes)], capture_output=True, text=True, check=True
         )
         total = re.search(r"^(?:summary|totals): (\d+)", out.read_text(), re.M)
     return int(total.group(1)) / int(run.stdout)
@@ -57,6 +57,7 @@ def main():
     arguments.add_argument("--before", type=pathlib.Path)
     arguments.add_argument("--rows", default="")
     arguments.add_argument("--most", type=int, default=1 << 32)
+    arguments.add_argument("--hashes", type=int, default=3)
     options = arguments.parse_args()
     after = bench(ROOT / "target" / "staticlib")
     before = bench(options.before) if options.before else None
@@ -66,11 +67,11 @@ def main():
     for size, call, n in rows():
         if n > options.most or not f"{size} {call} {n}".startswith(options.rows):
             continue
-        proved = instructions(after, "proved", size, call, n)
-        fast = instructions(after, "fast", size, call, n)
+        proved = instructions(after, "proved", size, call, n, options.hashes)
+        fast = instructions(after, "fast", size, call, n, options.hashes)
         cells = [f"{size}", call, f"{n}"]
         if before:
-            old = instructions(before, "proved", size, call, n)
+            old = instructions(before, "proved", size, call, n, options.hashes)
             cells += [f"{old:,.0f}", f"{proved:,.0f}", f"{proved / old:.3f}"]
         else:
             cells += [f"{proved:,.0f}"]

@@ -1,21 +1,27 @@
 #!/usr/bin/env python3
-"""plot.py [CSV [SVG]]: lookup times and pages opened against n, from the file that `bench --csv` writes.
+"""plot.py: draws lookup.svg and hashes.svg out of lookup.csv and hashes.csv, all beside this file.
 
-A column of panels for each S, hits above misses, both axes logarithmic. Without arguments, lookup.csv and
-lookup.svg beside this file.
+lookup: times of a lookup and pages opened against n, from the file that `bench --csv` writes. A column of panels for each S,
+hits above misses, both axes logarithmic. hashes: pages opened against k, from the file that `bench --hashes` writes.
+A panel for each S.
 """
 
 import csv
 import math
 import pathlib
-import sys
 
-# What is drawn: name in the legend, colour, dashes, mark.
-SERIES = [
+# What is drawn: column, name in the legend, colour, dashes, mark.
+LOOKUPS = [
     ("proved_us", "proved store, us", "#0072b2", "", "circle"),
     ("model_us", "plain model, us", "#d55e00", "", "square"),
     ("fast_us", "optimised Rust, us", "#009e73", "", "triangle"),
     ("pages_opened", "pages opened", "#666666", "5 4", "diamond"),
+]
+HASHES = [
+    ("lookup miss, in order", "miss, keys 1, 2, ..", "#d55e00", "", "square"),
+    ("lookup miss, random", "miss, random keys", "#0072b2", "", "circle"),
+    ("lookup hit, in order", "hit, keys 1, 2, ..", "#d55e00", "5 4", "diamond"),
+    ("lookup hit, random", "hit, random keys", "#0072b2", "5 4", "triangle"),
 ]
 CALLS = [("lookup hit", "hit"), ("lookup miss", "miss")]
 
@@ -38,8 +44,24 @@ class Axis:
         part = (math.log10(value) - self.first) / (self.last - self.first)
         return self.low + part * (self.high - self.low)
 
-    def powers(self):
-        return range(self.first, self.last + 1)
+    def marks(self):
+        """Pixels of the grid's lines, and what stands beside them."""
+        return [(self.at(10.0**exponent), power(exponent)) for exponent in range(self.first, self.last + 1)]
+
+
+class Steps:
+    """Whole numbers, from the least to the greatest with half a step on both sides."""
+
+    def __init__(self, values, low, high):
+        self.values = sorted(set(values))
+        self.low, self.high = low, high
+
+    def at(self, value):
+        part = (value - self.values[0] + 0.5) / (self.values[-1] - self.values[0] + 1)
+        return self.low + part * (self.high - self.low)
+
+    def marks(self):
+        return [(self.at(value), f"{value}") for value in self.values]
 
 
 def text(x, y, words, size=12, anchor="middle", more=""):
@@ -77,82 +99,98 @@ def curve(points, colour, dashes, kind):
     return [lines] + [mark(kind, x, y, colour) for x, y in points]
 
 
-def legend(width):
+def legend(series, width):
     parts = []
-    step = (width - LEFT - RIGHT) / len(SERIES)
-    for i, (_, name, colour, dashes, kind) in enumerate(SERIES):
+    step = (width - LEFT - RIGHT) / len(series)
+    for i, (_, name, colour, dashes, kind) in enumerate(series):
         x = LEFT + i * step
         parts += curve([(x, 46), (x + 34, 46)], colour, dashes, kind)
         parts.append(text(x + 42, 50, name, anchor="start"))
     return parts
 
 
-def panel(rows, x_axis, y_axis, labels_left, labels_below):
-    """Grid, labels and curves of one S and one kind of lookup."""
+def panel(points, axes, labels_left, labels_below):
+    """Grid, labels and curves; `points` has a list for each of the series."""
+    x_axis, y_axis = axes
     parts = []
-    for exponent in x_axis.powers():
-        x = x_axis.at(10.0**exponent)
+    for x, label in x_axis.marks():
         parts.append(line(x, y_axis.low, x, y_axis.high, "#dddddd"))
         if labels_below:
-            parts.append(text(x, y_axis.low + 18, power(exponent)))
-    for exponent in y_axis.powers():
-        y = y_axis.at(10.0**exponent)
+            parts.append(text(x, y_axis.low + 18, label))
+    for y, label in y_axis.marks():
         parts.append(line(x_axis.low, y, x_axis.high, y, "#dddddd"))
         if labels_left:
-            parts.append(text(x_axis.low - 8, y + 4, power(exponent), anchor="end"))
+            parts.append(text(x_axis.low - 8, y + 4, label, anchor="end"))
     parts.append(
         f"<rect x='{x_axis.low}' y='{y_axis.high}' width='{WIDTH}' height='{HEIGHT}' fill='none' stroke='#444444'/>"
     )
-    for column, _, colour, dashes, kind in SERIES:
-        # No lookup of a small volume may open a page.
-        points = [(x_axis.at(row["n"]), y_axis.at(row[column])) for row in rows if row[column] > 0]
-        parts += curve(points, colour, dashes, kind)
+    for (_, _, colour, dashes, kind), own in points:
+        parts += curve([(x_axis.at(x), y_axis.at(y)) for x, y in own], colour, dashes, kind)
     return parts
 
 
-def draw(rows):
-    sizes = sorted({row["S"] for row in rows})
-    width = LEFT + len(sizes) * WIDTH + (len(sizes) - 1) * GAP_X + RIGHT
-    height = TOP + len(CALLS) * HEIGHT + (len(CALLS) - 1) * GAP_Y + BOTTOM
-    values = [row[column] for row in rows for column, *_ in SERIES if row[column] > 0]
+def draw(title, series, panels, x_kind, names):
+    """`panels` has a row of panels for each line of them: a heading, and rows of a table. `names` are those of the axes."""
+    x_name, x_words, y_words = names
+    width = LEFT + len(panels[0]) * WIDTH + (len(panels[0]) - 1) * GAP_X + RIGHT
+    height = TOP + len(panels) * HEIGHT + (len(panels) - 1) * GAP_Y + BOTTOM
+    rows = [row for line_of in panels for _, own in line_of for row in own]
+    # No lookup of a small volume may open a page.
+    values = [row[column] for row in rows for column, *_ in series if row[column] > 0]
     parts = [
         f"<svg xmlns='http://www.w3.org/2000/svg' width='{width}' height='{height}' viewBox='0 0 {width} {height}'>",
         f"<rect width='{width}' height='{height}' fill='white'/>",
-        text(width / 2, 24, "A lookup against the number of records n (every tenth an update)", size=15),
+        text(width / 2, 24, title, size=15),
     ]
-    parts += legend(width)
-    for down, (call, name) in enumerate(CALLS):
+    parts += legend(series, width)
+    for down, line_of in enumerate(panels):
         top = TOP + down * (HEIGHT + GAP_Y)
-        for across, size in enumerate(sizes):
+        for across, (heading, own) in enumerate(line_of):
             left = LEFT + across * (WIDTH + GAP_X)
-            x_axis = Axis([row["n"] for row in rows], left, left + WIDTH)
-            y_axis = Axis(values, top + HEIGHT, top)
-            own = [row for row in rows if row["S"] == size and row["call"] == call]
-            parts += panel(own, x_axis, y_axis, across == 0, down == len(CALLS) - 1)
-            parts.append(text(left + WIDTH / 2, top - 8, f"S = {size}, {name}", size=13))
+            axes = x_kind([row[x_name] for row in rows], left, left + WIDTH), Axis(values, top + HEIGHT, top)
+            points = [(one, [(row[x_name], row[one[0]]) for row in own if row[one[0]] > 0]) for one in series]
+            parts += panel(points, axes, across == 0, down == len(panels) - 1)
+            parts.append(text(left + WIDTH / 2, top - 8, heading, size=13))
         middle = top + HEIGHT / 2
         turn = f"transform='rotate(-90 18 {middle})'"
-        parts.append(text(18, middle, "microseconds; pages", size=13, more=turn))
-    parts.append(text(LEFT + (width - LEFT - RIGHT) / 2, height - 12, "records n", size=13))
+        parts.append(text(18, middle, y_words, size=13, more=turn))
+    parts.append(text(LEFT + (width - LEFT - RIGHT) / 2, height - 12, x_words, size=13))
     return "\n".join(parts + ["</svg>", ""])
 
 
 def read(file):
     with open(file, newline="") as lines:
-        rows = list(csv.DictReader(lines))
+        return list(csv.DictReader(lines))
+
+
+def lookups(file):
+    rows = read(file)
     for row in rows:
-        for name in ["S", "n"]:
-            row[name] = int(row[name])
-        for name, *_ in SERIES:
+        row["n"] = int(row["n"])
+        for name, *_ in LOOKUPS:
             row[name] = float(row[name])
-    return rows
+    sizes = sorted({row["S"] for row in rows}, key=int)
+    own = lambda size, call: [row for row in rows if row["S"] == size and row["call"] == call]
+    panels = [[(f"S = {size}, {name}", own(size, call)) for size in sizes] for call, name in CALLS]
+    title = "A lookup against the number of records n (every tenth an update)"
+    return draw(title, LOOKUPS, panels, Axis, ("n", "records n", "microseconds; pages"))
+
+
+def hashes(file):
+    """The rows of one S and k become one, with a column for each kind of lookup and of keys."""
+    found = {}
+    for row in read(file):
+        of_k = found.setdefault(row["S"], {}).setdefault(int(row["k"]), {"k": int(row["k"])})
+        of_k[f"{row['call']}, {row['keys']}"] = float(row["pages_opened"])
+    panels = [[(f"S = {size}", list(found[size].values())) for size in sorted(found, key=int)]]
+    title = "Pages opened by a lookup against the number of hash functions k (100,000 records)"
+    return draw(title, HASHES, panels, Steps, ("k", "hash functions k", "pages opened"))
 
 
 def main():
     beside = pathlib.Path(__file__).resolve().parent
-    source = sys.argv[1] if len(sys.argv) > 1 else beside / "lookup.csv"
-    target = sys.argv[2] if len(sys.argv) > 2 else beside / "lookup.svg"
-    pathlib.Path(target).write_text(draw(read(source)), encoding="utf-8")
+    for name, plot in [("lookup", lookups), ("hashes", hashes)]:
+        (beside / f"{name}.svg").write_text(plot(beside / f"{name}.csv"), encoding="utf-8")
 
 
 main()

@@ -9,19 +9,19 @@ const SECTOR_SIZES: [u32; 3] = [16, 64, 512];
 const RECORDS: [usize; 3] = [1_000, 10_000, 100_000];
 
 /// A row with these cells.
-fn row(cells: impl IntoIterator<Item = String>) {
+pub fn row(cells: impl IntoIterator<Item = String>) {
     let cells: Vec<String> = cells.into_iter().collect();
     println!("| {} |", cells.join(" | "));
 }
 
-fn head(title: &str, columns: &[&str]) {
+pub fn head(title: &str, columns: &[&str]) {
     println!("\n{title}\n");
     row(columns.iter().map(|column| column.to_string()));
     println!("|{}", "---|".repeat(columns.len()));
 }
 
 /// Columns of times in microseconds and their ratios, between other ones.
-fn head_with_times(title: &str, first: &[&str], last: &[String]) {
+pub fn times_head(title: &str, first: &[&str], last: &[String]) {
     let times = STORES.map(|store| format!("{} us", store.name()));
     let [proved, model, fast] = STORES.map(|store| store.name());
     let ratios = [format!("{model}/{proved}"), format!("{proved}/{fast}")];
@@ -29,7 +29,7 @@ fn head_with_times(title: &str, first: &[&str], last: &[String]) {
     head(title, &first.iter().copied().chain(more).collect::<Vec<_>>());
 }
 
-fn digits(number: f64) -> String {
+pub fn digits(number: f64) -> String {
     match number {
         0.0..10.0 => format!("{number:.2}"),
         10.0..100.0 => format!("{number:.1}"),
@@ -37,7 +37,7 @@ fn digits(number: f64) -> String {
     }
 }
 
-fn times_and_ratios([proved, model, fast]: [f64; 3]) -> Vec<String> {
+pub fn times_and_ratios([proved, model, fast]: [f64; 3]) -> Vec<String> {
     [proved, model, fast, model / proved, proved / fast]
         .map(digits)
         .to_vec()
@@ -46,7 +46,7 @@ fn times_and_ratios([proved, model, fast]: [f64; 3]) -> Vec<String> {
 /// Every call at every size, and growth: x is how many times the time of the size before.
 pub fn calls(most: usize) {
     let growth = STORES.map(|store| format!("{} x", store.name()));
-    head_with_times("Calls", &["S", "call", "n"], &growth);
+    times_head("Calls", &["S", "call", "n"], &growth);
     for sector_size in SECTOR_SIZES {
         let volumes: Vec<Volume> = RECORDS
             .into_iter()
@@ -165,7 +165,7 @@ fn round_operations(sector_size: u32, number: usize) -> (usize, usize) {
 /// The longest call: the insert that completes a round builds a set. The model does it bit by bit.
 pub fn longest(most: usize) {
     let first = ["S", "set", "pages", "w", "n", "earlier filters"];
-    head_with_times("The insert that completes a set (model: bit by bit)", &first, &[]);
+    times_head("The insert that completes a set (model: bit by bit)", &first, &[]);
     for (sector_size, numbers) in [
         (16, [2, 3, 4, 5].as_slice()),
         (64, &[2, 3, 10, 16, 17]),
