@@ -197,15 +197,15 @@ def filter_of_page(x, y):
         box(x, y + 16, 240, 34, ENTRIES),
         text(x + 120, y + 38, "S/2 entries, in RAM", size=12),
         arrow(x + 120, y + 52, x + 120, y + 78),
-        text(x + 128, y + 70, "three bits for each key", size=12, anchor="start"),
+        text(x + 128, y + 70, "k bits for each key", size=12, anchor="start"),
     ]
     for i, colour in enumerate(FOURTHS):
         parts += [box(x + i * 60, y + 82, 60, 34, colour), text(x + i * 60 + 30, y + 132, f"i = {i}", size=11)]
-    for at in (131, 149, 171):  # a key's three bits, all in the fourth that its first hash picks
+    for at in (131, 149, 171):  # a key's bits with k = 3, all in the fourth that its first hash picks
         parts.append(line(x + at, y + 84, x + at, y + 114, INK, 2.4))
     parts += [
         text(x, y + 152, "one filter: m = 4S bits, four fourths;", size=12, anchor="start"),
-        text(x, y + 168, "a key's three bits lie in the same fourth", size=12, anchor="start"),
+        text(x, y + 168, "a key's k bits lie in the same fourth", size=12, anchor="start"),
     ]
     return parts
 
