@@ -85,7 +85,7 @@ HandedOn (refused i) v v′ = v′ ≡ v
 -- what a caller sees of a call on the volume v (the outcome o, the count, the volume w left), and the map's step
 pub record Agrees (sizes : Sizes) (v : Volume) (o : Outcome) (count : ℕ) (w : Volume) (s : Step) : Type 0 where
   pub says : replyOf o ≡ s .says
-  -- "the state, which is the format's S, R and D with the map's n and d"
+  -- "the state, which is the format's S, R and D with the map's n and d"; §2: k too
   pub state-is : w .state ≡ stateOf sizes (s .next .n) (s .next .d)
   -- n - d is the number of live levels: the map's list has no key twice
   pub live : w .state .records ≡ w .state .deletions + length (s .next .levels)

@@ -38,7 +38,7 @@ abbrev pub opening : Option Stop → Found → Found
 opening none rest = reply (rest .stop) (suc (rest .opened))
 opening (some r) rest = reply (some r) 1
 
--- pages N - 1 down to 0 of q entries each, "opening a page only if its filter, .. has all three bits"
+-- pages N - 1 down to 0 of q entries each, "opening a page only if its filter, .. has all three bits", from §2 on all k
 unfoldable pub searchPages : (ℕ → Bool) → (ℕ → Option Stop) → ℕ → ℕ → Found
 searchPages gate try q zero = reply none 0
 searchPages gate try q (suc p) =

@@ -33,12 +33,12 @@ returns c =
 positions-requires : tie.Need-positions-requires
 positions-requires c κs =
     let sound = c .before .before .before .before .before .before .before .before .pre .sound in
-    (sound .unit, sound .k-most)
+    (sound .unit, omega (arith, sound .k-most))
 
 in-pages-requires : tie.Need-in-pages-requires
 in-pages-requires c κs =
     let pre = c .before .before .before .before .before .before .before .before .before .pre in
-    (pre, record { some = pre .sound .k-some; few = pre .sound .k-most; within = c .positions .ensures .1 })
+    (pre, record { some = omega (arith, pre .sound .k-some); few = omega (arith, pre .sound .k-most); within = c .positions .ensures .1 })
 
 returns-2 : tie.Need-returns-2
 returns-2 c =
