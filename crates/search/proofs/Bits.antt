@@ -1,43 +1,25 @@
 -- The pages of a block, 64 to a word: the bits of a word are the gates of its pages that are left, the highest that of the newest which is
 -- open.
 use mathlib.Core.Path.{_≡_, refl, sym, ap, _∙_}
-use mathlib.Core.Bool.{Bool, true, false, _&&_, not}
+use mathlib.Core.Bool.{Bool, true, false, _&&_}
 use mathlib.Core.Option.{Option, none, some}
 use mathlib.Core.List.{List}
 use Prim.Native.Nat.{ℕ, zero, suc, _+_, _*_, _-_, _/_, _≤_, _<_}
 use native.Mathlib.Omega.{arith}
-use lib.Dec.{ltb, eqb}
+use lib.Dec.{ltb}
 use lib.ListN.{getD}
-use borrow.Author.Tests.{lt-ltb, le-ltb, ne-eqb}
+use borrow.Author.Tests.{lt-ltb, le-ltb}
 use Rattle.memory.specs.Bits.{bit}
-use Rattle.memory.specs.Candidate.{candidate, candidate-le, candidate-skip, candidate-top}
-use Rattle.memory.specs.Cases.{lt?, eq?, either}
+use Rattle.memory.specs.Cases.{lt?, either}
 use Rattle.layout.specs.Search.{Stop, reply, scan, searchPages}
 use Rattle.kernels.specs.Blocks.{Upto, OpenBlock}
-use Rattle.search.proofs.Pages.{after, Pages, pages-first, pages-few, pages-skip, pages-ended, pages-vain}
+use Rattle.search.proofs.Pages.{after, Pages, pages-first, pages-few, pages-skip}
+use Rattle.search.proofs.Tries.{count, newest, newest-le, newest-set, Through, through}
 
 no-bit : (i : ℕ) → bit 0 i ≡ false
 unfolding bit
 no-bit zero = refl
 no-bit (suc i) = no-bit i
-
--- ---- the bits of a word
-
--- bit f, the highest that is set, is cleared
-module _ (bits f : ℕ) (above : (i : ℕ) → f < i → i < 64 → bit bits i ≡ false) (r : ℕ)
-    (is : (i : ℕ) → i < 64 → bit r i ≡ (not (eqb i f) && bit bits i)) where
-  cleared : (i : ℕ) → i < 64 → f ≤ i → bit r i ≡ false
-  cleared i k l =
-      either (eq? i f)
-      (λ t. is i k ∙ rw (t .0))
-      (λ t. let ne = t .1 in is i k ∙ rw (t .0) (above i (omega arith) k))
-
-  -- so that the highest is a lower one
-  pub cleared-less : f < 64 → bit bits f ≡ true → candidate (bit r) 64 < candidate (bit bits) 64
-  cleared-less h set =
-      let a : candidate (bit bits) 64 ≡ suc f = candidate-top (bit bits) 64 f h set above in
-      let b : candidate (bit r) 64 ≡ candidate (bit r) f = candidate-skip (bit r) 64 f (omega arith) (λ i l k. cleared i k l) in
-      omega (arith, a, b, candidate-le (bit r) f)
 
 -- the lesser of two numbers
 abbrev lesser : ℕ → ℕ → ℕ
@@ -80,41 +62,27 @@ module _ (gate : ℕ → Bool) where
         let s : bit bits (i - from) ≡ false = rw z (no-bit (i - from)) in
         rw e at (shut-at (i - from) (omega (arith, B .few)) (omega arith) s)
 
-    -- bit f is the highest
-    module _ (f : ℕ) (f-lt : f < 64) (set : bit bits f ≡ true) (above : (i : ℕ) → f < i → i < 64 → bit bits i ≡ false) where
-      pub top-left : from + f < p
-      top-left =
-          either (lt? (from + f) p)
-          (λ t. t .1)
-          (λ t. let z : true ≡ false = sym set ∙ B .shown f f-lt ∙ ap (λ (x : Bool). x && gate (from + f)) (t .0) in absurd (never z))
-        where
-          never : true ≡ false → ⊥
-          never z = let o : _≡_ {A = ℕ} 0 1 = cc in omega arith
+    -- a page whose bit is set is left
+    pub set-left : (f : ℕ) → f < 64 → bit bits f ≡ true → from + f < p
+    set-left f f-lt set =
+        either (lt? (from + f) p)
+        (λ t. t .1)
+        (λ t. let z : true ≡ false = sym set ∙ B .shown f f-lt ∙ ap (λ (x : Bool). x && gate (from + f)) (t .0) in absurd (never z))
+      where
+        never : true ≡ false → ⊥
+        never z = let o : _≡_ {A = ℕ} 0 1 = cc in omega arith
 
-      pub top-open : gate (from + f) ≡ true
-      top-open = (rw (lt-ltb (from + f) p top-left) at (sym (B .shown f f-lt))) ∙ set
-
-      pub top-shut : (i : ℕ) → from + f < i → i < p → gate i ≡ false
-      top-shut i a b =
-          let e : from + (i - from) ≡ i = omega arith in
-          rw e at (shut-at (i - from) (omega (arith, B .few)) (omega arith) (above (i - from) (omega arith) (omega (arith, B .few))))
-
-      module _ (r : ℕ) (is : (i : ℕ) → i < 64 → bit r i ≡ (not (eqb i f) && bit bits i)) where
-        pub bits-next : Bits from (from + f) r
-        bits-next =
-            record {
-              some = omega arith;
-              few = omega arith;
-              shown = λ i k.
-                  either (lt? i f)
-                  (λ t.
-                  let l = t .1 in
-                  is i k ∙ rw (ne-eqb i f (λ e. absurd (omega arith)), lt-ltb (from + i) (from + f) (omega arith))
-                  (B .shown i k ∙ rw (lt-ltb (from + i) p (omega (arith, top-left)))))
-                  (λ t.
-                  let l = t .1 in
-                  cleared bits f above r is i k l ∙ sym (ap (λ (x : Bool). x && gate (from + i)) (le-ltb (from + i) (from + f) (omega arith))));
-            }
+    -- the bits below f are left
+    pub bits-lower : (f r : ℕ) → f ≤ 64 → from + f ≤ p → ((i : ℕ) → i < 64 → bit r i ≡ (ltb i f && bit bits i)) → Bits from (from + f) r
+    bits-lower f r most l is =
+        record {
+          some = omega arith;
+          few = omega arith;
+          shown = λ i k.
+              either (lt? i f)
+              (λ t. is i k ∙ rw (t .0, lt-ltb (from + i) (from + f) (omega (arith, t .1))) (B .shown i k ∙ rw (lt-ltb (from + i) p (omega (arith, t .1)))))
+              (λ t. is i k ∙ rw (t .0, le-ltb (from + i) (from + f) (omega (arith, t .1))));
+        }
 
 -- ---- the words of a block, whatever opens its pages
 
@@ -168,39 +136,52 @@ module _ (try : ℕ → Option Stop) (q first below : ℕ) (words : List ℕ) wh
               rw e (pages-skip gate try q below opened (R .page) (R .left gate shows) (first + w * 64) (B .some) shut);
         }
 
-    -- the highest bit is set
-    module _ (f : ℕ) (f-lt : f < 64) (set : bit bits f ≡ true) (above : (i : ℕ) → f < i → i < 64 → bit bits i ≡ false) where
+    -- its pages are opened until one has an entry with the key
+    module _ (entry : ℕ → ℕ)
+        (other : (i : ℕ) → bit bits i ≡ true → first + w * 64 + i < below → entry i ≡ 0 → scan try ((first + w * 64 + i) * q) q ≡ none) where
+      abbrev k : ℕ
+      k = opened + count bits entry 64
+
+      abbrev n : ℕ
+      n = newest bits entry 64
+
       module _ (gate : ℕ → Bool) (shows : Gates gate) where
         abbrev B : Bits gate (first + w * 64) (R .page) bits
         B = R .shown gate shows
 
-        abbrev newest : first + w * 64 + f < R .page
-        newest = top-left gate (first + w * 64) (R .page) bits B f f-lt set above
+        abbrev T : Through gate try q below (first + w * 64) k n
+        T = through gate try q below (first + w * 64) (bit bits) entry other 64 opened (R .page) (R .left gate shows) (B .some) (B .few) (B .shown)
 
-        pub word-lt : first + w * 64 + f < below
-        word-lt = omega (arith, newest, R .left gate shows .low)
+        pub word-in : (i : ℕ) → i < 64 → bit bits i ≡ true → first + w * 64 + i < below
+        word-in i h s = omega (arith, set-left gate (first + w * 64) (R .page) bits B i h s, R .left gate shows .low)
 
-        pub word-ended : (r : Stop) → scan try ((first + w * 64 + f) * q) q ≡ some r
-            → searchPages gate try q below ≡ reply (some r) (opened + 1)
-        word-ended =
-            pages-ended gate try q below opened (R .page) (R .left gate shows) (first + w * 64 + f) newest
-            (top-open gate (first + w * 64) (R .page) bits B f f-lt set above)
-            (top-shut gate (first + w * 64) (R .page) bits B f f-lt set above)
+        pub word-few : k ≤ below + 1
+        word-few =
+            either (lt? 0 n)
+            (λ t. T .one (t .1) .few)
+            (λ t. omega (arith, pages-few gate try q below k (first + w * 64) (T .all (omega (arith, t .1)))))
 
-        vain : scan try ((first + w * 64 + f) * q) q ≡ none → Pages gate try q below (opened + 1) (first + w * 64 + f)
-        vain =
-            pages-vain gate try q below opened (R .page) (R .left gate shows) (first + w * 64 + f) newest
-            (top-open gate (first + w * 64) (R .page) bits B f f-lt set above)
-            (top-shut gate (first + w * 64) (R .page) bits B f f-lt set above)
+        pub word-ended : 0 < n → (r : Stop) → scan try ((first + w * 64 + (n - 1)) * q) q ≡ some r → searchPages gate try q below ≡ reply (some r) k
+        word-ended h = T .one h .ended
 
-        pub word-few : opened ≤ below
-        word-few = pages-few gate try q below opened (R .page) (R .left gate shows)
+        lower-left : first + w * 64 + (n - 1) ≤ R .page
+        lower-left =
+            either (lt? 0 n)
+            (λ t. omega (arith, set-left gate (first + w * 64) (R .page) bits B (n - 1) (omega (arith, newest-le (bit bits) entry 64)) (newest-set (bit bits) entry 64 (t .1))))
+            (λ t. omega (arith, t .1, B .some))
 
-      module _ (r : ℕ) (is : (i : ℕ) → i < 64 → bit r i ≡ (not (eqb i f) && bit bits i)) where
-        pub word-next : scan try ((first + w * 64 + f) * q) q ≡ none → Word (opened + 1) w r
-        word-next e =
-            record {
-              page = first + w * 64 + f;
-              shown = λ gate shows. bits-next gate (first + w * 64) (R .page) bits (R .shown gate shows) f f-lt set above r is;
-              left = λ gate shows. vain gate shows e;
-            }
+        vain : (0 < n → scan try ((first + w * 64 + (n - 1)) * q) q ≡ none) → Pages gate try q below k (first + w * 64 + (n - 1))
+        vain e =
+            either (lt? 0 n)
+            (λ t. T .one (t .1) .vain (e (t .1)))
+            (λ t. let z : first + w * 64 + (n - 1) ≡ first + w * 64 = omega (arith, t .1) in rw z (T .all (omega (arith, t .1))))
+
+      pub word-next : (r : ℕ) → ((i : ℕ) → i < 64 → bit r i ≡ (ltb i (n - 1) && bit bits i))
+          → (0 < n → scan try ((first + w * 64 + (n - 1)) * q) q ≡ none) → Word k w r
+      word-next r is e =
+          record {
+            page = first + w * 64 + (n - 1);
+            shown = λ gate shows.
+                bits-lower gate (first + w * 64) (R .page) bits (R .shown gate shows) (n - 1) r (omega (arith, newest-le (bit bits) entry 64)) (lower-left gate shows) is;
+            left = λ gate shows. vain gate shows e;
+          }

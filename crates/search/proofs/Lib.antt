@@ -1,4 +1,5 @@
 pub mod Entries
 pub mod Pages
+pub mod Tries
 pub mod Bits
 pub mod Volume

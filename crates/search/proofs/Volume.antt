@@ -3,7 +3,7 @@ use mathlib.Core.Path.{_≡_, refl, sym, ap, _∙_}
 use mathlib.Core.Bool.{Bool, _||_}
 use mathlib.Core.Option.{Option, none}
 use mathlib.Core.List.{List}
-use Prim.Native.Nat.{ℕ, _+_, _-_, _*_, _/_, _%_, _^_, _≤_, _<_}
+use Prim.Native.Nat.{ℕ, _+_, _-_, _*_, _/_, _%_, _≤_, _<_}
 use native.Mathlib.Nat.{mul-le-mul-right}
 use native.Mathlib.Omega.{arith}
 use lib.Dec.{eqb}
@@ -12,15 +12,14 @@ use Rattle.memory.specs.Cases.{lt?, either}
 use Rattle.memory.specs.Numbers.{euclid, div-lt}
 use Rattle.memory.specs.Ranges.{any, any-ext}
 use Rattle.memory.specs.Words.{word}
-use Rattle.layout.specs.Keys.{Key, keyAt, numberIn}
+use Rattle.layout.specs.Keys.{Key}
 use Rattle.layout.specs.Geometry as layout
 use Rattle.layout.specs.Hash.{fnvFamily}
 use Rattle.layout.specs.Items.{Area, KA, itemWord}
 use Rattle.layout.specs.Index.{inFull}
 use Rattle.layout.specs.Search.{Stop, reply, ramFirst, scan, searchPages, tryEntry}
-use Rattle.layout.specs.Calls.{keyIndex, keyPositions, isDeleted, entryWord, tryAt, maybeIn, searchAt}
+use Rattle.layout.specs.Calls.{keyIndex, keyPositions, isDeleted, tryAt, maybeIn, searchAt}
 use Rattle.laws.specs.Units.{unit-times}
-use Rattle.geometry.specs.declared.Geometry.{Geometry}
 use Rattle.geometry.specs.Shape.{shape, AreaSound}
 use Rattle.geometry.specs.declared.areas.Area as items
 use Rattle.items.specs.Fits as fits
@@ -32,7 +31,8 @@ use Rattle.filter.specs.declared.groups.Block.{Block}
 use Rattle.search.specs.declared.View.{View}
 use Rattle.search.specs.Deletions.{deletionsFrom, DeletionsFit, amongFirst}
 use Rattle.search.specs.Find.{viewed, Ready, tryOf, tryIn, pagesBelow}
-use Rattle.search.proofs.Entries.{Same, scan-same}
+use Rattle.search.specs.Tries.{pageStart, entryIn}
+use Rattle.search.proofs.Entries.{Same, scan-same, left-first, left-none}
 
 -- ---- a view's entries
 
@@ -68,6 +68,13 @@ module _ (v : View) (main ram : List ℕ) (key : Key) where
             (page-word (v .g .chip .unit) (KA (shape (v .g))) (v .n) main ram p k 0 (omega arith) h (omega arith) ∙ ap (λ (x : ℕ). word main x) (omega arith))
             (page-word (v .g .chip .unit) (KA (shape (v .g))) (v .n) main ram p k 1 (omega arith) h (omega arith) ∙ ap (λ (x : ℕ). word main x) (omega arith));
       }
+
+  -- without the key none of them ends the search
+  pub vain-page : (p : ℕ) → p < pages v → entryIn (v .g) key main p ≡ 0 → scan (tryOf v main ram key) (p * perPage v) (perPage v) ≡ none
+  vain-page p h z =
+      let S = same-flash p (pageStart (v .g) p) (perPage v) h (omega arith) refl in
+      let L = left-first main (pageStart (v .g) p) (perPage v) (v .n0) key (deletedOf v main ram) (tryOf v main ram key) (p * perPage v) S 0 (sym z) in
+      left-none main (pageStart (v .g) p) key (tryOf v main ram key) (p * perPage v) (perPage v) 0 L (omega arith)
 
   -- entries of the page that is not full
   pub same-ram : (from count : ℕ) → pagesThen v ≡ pages v → count ≤ perPage v → from ≡ layout.kaRam (v .g .chip .unit)

@@ -1,2 +1,3 @@
 pub mod Deletions
 pub mod Find
+pub mod Tries

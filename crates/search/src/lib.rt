@@ -6,7 +6,7 @@ ghost use lib.ListN.{length, take};
 ghost use Rattle.memory.specs.Words.{word};
 ghost use Rattle.memory.specs.Lent.{before};
 ghost use Rattle.layout.specs.Keys.{wordSize, numberIn};
-ghost use Rattle.layout.specs.Geometry.{page, block, entriesPerPage, kaBlock};
+ghost use Rattle.layout.specs.Geometry.{entriesPerPage};
 ghost use Rattle.layout.specs.Items.{entrySize};
 ghost use Rattle.layout.specs.Hash.{fnvFamily};
 ghost use Rattle.layout.specs.Calls.{searchAt};
@@ -14,6 +14,7 @@ ghost use Rattle.layout.specs.Search.{scan};
 ghost use Rattle.geometry.specs.Shape.{shape, Sound};
 ghost use Rattle.search.specs.Find.{stopOf, foundOf, whole, viewed, Ready, tryOf, tryIn, pagesBelow, onward, Low, filtersOf};
 ghost use Rattle.search.specs.Deletions.{DeletionsFit, amongFirst};
+ghost use Rattle.search.specs.Tries.{pageStart, PagesIn, TriedAt};
 use filter::Filters;
 use geometry::Chip;
 use geometry::Geometry;
@@ -122,7 +123,7 @@ fn in_page(
 // The first byte of page p of the entries on flash.
 fn page_start(g: Geometry, p: usize) -> usize
     requires { ⌜ Sound g × (p ≤ 262144) ⌝ }
-    ensures { λ r. ⌜ r ≡ kaBlock (shape g) * block (g .chip .unit) + p * page (g .chip .unit) ⌝ }
+    ensures { λ r. ⌜ r ≡ pageStart g p ⌝ }
 {
     g.chip.block_address(g.ka_block()) + g.chip.page_address(p)
 }
@@ -167,6 +168,46 @@ struct Walk {
     start: usize,
 }
 
+// What came of the pages of a word: the bits of those left, the pages opened, and the first byte and the newest entry
+// with the key, plus one, of the page that has one; 0 and 0 if none has.
+struct Tried {
+    bits: u64,
+    opened: u32,
+    start: usize,
+    entry: usize,
+}
+
+// The newest page with an entry of the key, of those from page `from` on whose bits are set; the pages before it are
+// opened in vain. It is a function because its loop calls nothing that stays a call, and so keeps its values in registers.
+fn next_with_key(g: Geometry, key: u32, from: usize, bits: u64, main: &[u8]) -> Tried
+    requires { ⌜ Sound g × (from ≤ 32768) × PagesIn g from bits (now main) ⌝ }
+    ensures { λ r. ⌜ TriedAt g key from bits (before main) r ⌝ }
+{
+    let mut left = bits;
+    let mut opened: u32 = 0;
+    while left != 0 {
+        let f = kernels::top(left);
+        left = kernels::without(left, f);
+        opened += 1;
+        let start = page_start(g, from + f);
+        let entry = items::find_in_page(g.chip, start, key, main);
+        if entry > 0 {
+            return Tried {
+                bits: left,
+                opened,
+                start,
+                entry,
+            };
+        }
+    }
+    Tried {
+        bits: 0,
+        opened,
+        start: 0,
+        entry: 0,
+    }
+}
+
 // The full pages below page `below` whose filters are of one block, newest first, and the entries of each that is
 // opened, newest first. A word of the block has 64 filters; words past the last filter are not looked at.
 fn in_block(
@@ -194,11 +235,11 @@ fn in_block(
         let from = first + w * 64;
         let mut bits = b.words[w];
         'bits: while bits != 0 {
-            let f = kernels::top(bits);
-            bits = kernels::without(bits, f);
-            opened += 1;
-            let start = page_start(v.g, from + f);
-            let mut e = items::find_in_page(v.g.chip, start, key, main);
+            let t = next_with_key(v.g, key, from, bits, main);
+            bits = t.bits;
+            opened += t.opened;
+            let start = t.start;
+            let mut e = t.entry;
             'entries: while e > 0 {
                 let k = e - 1;
                 let j = number_at(start, k, main);
@@ -272,7 +313,8 @@ pub fn search(v: View, key: u32, main: &[u8], ram: &[u8]) -> Found
                 }; // without a full page there is no filter, and the key is not hashed
             }
             let count = v.g.hashes;
-            return in_pages(v, key, fnv::positions(v.g.chip, count, key), count, main, ram);
+            let ps = fnv::positions(v.g.chip, count, key);
+            return in_pages(v, key, ps, count, main, ram);
         }
         End::Live(j) => {
             return Found {

@@ -1,42 +1,45 @@
 -- What is left of the search at each word of a block, at each page that is opened, and of the scan of its entries at each with the key.
 use native.Mathlib.Omega.{arith}
-use mathlib.Core.Path.{_≡_, refl}
-use mathlib.Core.Bool.{Bool}
-use mathlib.Core.Option.{Option, some}
+use mathlib.Core.Path.{_≡_, refl, sym, _∙_}
+use mathlib.Core.Bool.{Bool, true}
+use mathlib.Core.Option.{Option, none, some}
 use Prim.Native.Nat.{ℕ, _+_, _*_, _-_, _≤_, _<_}
 use lib.ListN.{length, take}
 use Rattle.memory.specs.Bits.{bit}
-use Rattle.memory.specs.Candidate.{candidate}
+use Rattle.memory.specs.Cases.{lt?, either}
 use Rattle.layout.specs.Geometry.{page, fullSets}
 use Rattle.layout.specs.Calls.{keyIndex, maybeIn}
 use Rattle.layout.specs.Search.{Stop, found, corrupt, reply, scan, searchPages}
 use Rattle.geometry.specs.Shape.{shape}
+use Rattle.items.specs.Scans.{lastEntry}
 use Rattle.filter.specs.Filter.{index-fits}
 use Rattle.filter.specs.Blocks.{BlockAt}
 use Rattle.filter.specs.declared.groups.Block.{Block}
 use Rattle.search.specs.declared.End.the-variants.{Nothing}
-use Rattle.search.specs.Find.{viewed, Ready, tryOf}
-use Rattle.search.proofs.Bits.{Gates, Words, Word, words-first, words-next, words-end, word-first, word-next, word-lt, word-few, word-ended, cleared-less}
+use Rattle.search.specs.Find.{viewed, Ready, tryOf, tryIn}
+use Rattle.search.specs.Tries.{entryOf}
+use Rattle.search.proofs.Tries.{count, newest, newest-le, newest-set, newest-some, measure, fewer}
+use Rattle.search.proofs.Bits.{Gates, Words, Word, words-first, words-next, words-end, word-first, word-in, word-few, word-next, word-ended}
 use Rattle.search.proofs.Entries.{Same, Left, left-none, left-first, left-corrupt, left-found, left-next, left-less}
-use Rattle.search.proofs.Volume.{deletedOf, perPage, pages, same-flash, block-shows, pages-few, pages-then, page-in, sets-le, deletions-fit, deletions-are}
+use Rattle.search.proofs.Volume.{deletedOf, perPage, pages, same-flash, same-bytes, scan-bytes, vain-page, block-shows, pages-few, pages-then, page-in, sets-le, deletions-fit, deletions-are}
 use borrow.Author.Needs.{needs}
 use borrow.Author.Tests.{not-true, not-false}
 use Rattle.search.proofs.in_block.Statement.{statement}
 use Rattle.search.proofs.in_block.Tie as tie
 
 abbrev Inv-entries : tie.InvT-entries
-Inv-entries v key count below main ram b first end₀ opened w from bits f start e₀ end e =
-    Left main start key (tryOf v main ram key) ((b .start + w * 64 + f) * perPage v) (perPage v) e × (end ≡ Nothing)
+Inv-entries v key count below main ram b first end₀ opened w from bits start e₀ end e =
+    (0 < e₀ → Left main start key (tryIn v main ram key main start) 0 (perPage v) e) × (e ≤ e₀) × (end ≡ Nothing)
 
 abbrev μ-entries : tie.MeasureT-entries
-μ-entries v key count below main ram b first end₀ opened w from bits f start e₀ end e = e
+μ-entries v key count below main ram b first end₀ opened w from bits start e₀ end e = e
 
 abbrev Inv-bits : tie.InvT-bits
 Inv-bits v key count below main ram b first end₀ opened₀ w from bits₀ end opened bits =
     Word (tryOf v main ram key) (perPage v) (b .start) below (b .words) opened w bits × (end ≡ Nothing)
 
 abbrev μ-bits : tie.MeasureT-bits
-μ-bits v key count below main ram b first end₀ opened₀ w from bits₀ end opened bits = candidate (bit bits) 64
+μ-bits v key count below main ram b first end₀ opened₀ w from bits₀ end opened bits = measure bits
 
 abbrev Inv-filters : tie.InvT-filters
 Inv-filters v key count below main ram b first end₀ opened₀ w₀ end opened w =
@@ -178,93 +181,150 @@ filters-again c =
     let b = start-of G in
     (words-next (try-at b) (perPage (b .args .v)) (block-of G .start) (b .args .below) (block-of G .words) (B .bits .opened) (l .filters .w - 1) (B .bits .bits) (B .bits .inv .0) (c .bits-test .left) (from-lt i), B .bits .inv .1)
 
--- ---- a page
+-- ---- the pages of a word, up to one with an entry of the key
 
-top-requires : tie.Need-top-requires Inv-entries μ-entries Inv-bits μ-bits Inv-filters μ-filters
-top-requires c κs = omega (arith, c .bits-test .taken)
+abbrev Visiting : Type 0
+Visiting = tie.In-bits Inv-entries μ-entries Inv-bits μ-bits Inv-filters μ-filters
 
-without-requires : tie.Need-without-requires Inv-entries μ-entries Inv-bits μ-bits Inv-filters μ-filters
-without-requires c κs = c .top .ensures .0
+abbrev known : Visiting → Known
+known c = c .before .before .before .before .before
 
--- it is the highest bit's
-abbrev Visited : Type 0
-Visited = tie.After-without Inv-entries μ-entries Inv-bits μ-bits Inv-filters μ-filters
+abbrev word-of : Visiting → ℕ
+word-of c = c .before .before .before .before .filters .w - 1
 
-abbrev known : Visited → Known
-known U = U .before .before .before .before .before .before .before
+abbrev from-of : Visiting → ℕ
+from-of c = block-of (known c) .start + word-of c * 64
 
-abbrev word-of : Visited → ℕ
-word-of U = U .before .before .before .before .before .before .filters .w - 1
+abbrev entry-at : Visiting → ℕ → ℕ
+entry-at c = let x = start-of (known c) .args in entryOf (x .v .g) (x .key) (from-of c) (x .main .now)
 
-abbrev page-of : Visited → ℕ
-page-of U = block-of (known U) .start + word-of U * 64 + U .before .top .result
+-- the newest with an entry, plus one
+abbrev newest-of : Visiting → ℕ
+newest-of c = newest (c .before .bits .bits) (entry-at c) 64
 
-visited-lt : (U : Visited) → page-of U < start-of (known U) .args .below
-visited-lt U =
-    let G = known U in
+abbrev page-of : Visiting → ℕ
+page-of c = from-of c + (newest-of c - 1)
+
+-- a page without an entry of the key does not end the search
+other : (c : Visiting) → let b = start-of (known c) in let q = perPage (b .args .v) in
+    (i : ℕ) → bit (c .before .bits .bits) i ≡ true → from-of c + i < b .args .below → entry-at c i ≡ 0 → scan (try-at b) ((from-of c + i) * q) q ≡ none
+other c i s h =
+    let x = start-of (known c) .args in
+    vain-page (x .v) (x .main .now) (x .ram .now) (x .key) (from-of c + i) (page-lt (known c) (from-of c + i) h)
+
+-- its laws, at hand
+visited-in : (c : Visiting) (i : ℕ) → i < 64 → bit (c .before .bits .bits) i ≡ true → from-of c + i < start-of (known c) .args .below
+visited-in c =
+    let G = known c in
     let b = start-of G in
-    let B = U .before .before .before in
-    let T = U .before .top in
-    word-lt (try-at b) (perPage (b .args .v)) (block-of G .start) (b .args .below) (block-of G .words) (B .bits .opened) (word-of U) (B .bits .bits) (B .bits .inv .0)
-    (T .result) (T .ensures .0) (T .ensures .1) (T .ensures .2) (gate-at b) (shows G)
+    let B = c .before in
+    word-in (try-at b) (perPage (b .args .v)) (block-of G .start) (b .args .below) (block-of G .words) (B .bits .opened) (word-of c) (B .bits .bits) (B .bits .inv .0)
+    (entry-at c) (other c) (gate-at b) (shows G)
 
-opened-few : (U : Visited) → U .before .before .before .bits .opened ≤ start-of (known U) .args .below
-opened-few U =
-    let G = known U in
+visited-few : (c : Visiting) → c .before .bits .opened + count (c .before .bits .bits) (entry-at c) 64 ≤ start-of (known c) .args .below + 1
+visited-few c =
+    let G = known c in
     let b = start-of G in
-    let B = U .before .before .before in
-    let T = U .before .top in
-    word-few (try-at b) (perPage (b .args .v)) (block-of G .start) (b .args .below) (block-of G .words) (B .bits .opened) (word-of U) (B .bits .bits) (B .bits .inv .0)
-    (T .result) (T .ensures .0) (T .ensures .1) (T .ensures .2) (gate-at b) (shows G)
+    let B = c .before in
+    word-few (try-at b) (perPage (b .args .v)) (block-of G .start) (b .args .below) (block-of G .words) (B .bits .opened) (word-of c) (B .bits .bits) (B .bits .inv .0)
+    (entry-at c) (other c) (gate-at b) (shows G)
+
+page-below : (c : Visiting) → 0 < newest-of c → page-of c < start-of (known c) .args .below
+page-below c h =
+    let bits = c .before .bits .bits in
+    visited-in c (newest-of c - 1) (omega (arith, newest-le (bit bits) (entry-at c) 64)) (newest-set (bit bits) (entry-at c) 64 h)
+
+next-with-key-requires : tie.Need-next-with-key-requires Inv-entries μ-entries Inv-bits μ-bits Inv-filters μ-filters
+next-with-key-requires c κs =
+    let G = known c in
+    let b = start-of G in
+    let x = b .args in (
+      ready b .sound,
+      omega (arith, from-lt (c .before .before .before), below-few G),
+      record {
+        page-in = λ i h s.
+            page-in (x .v) (x .main .now) (x .ram .now) (ready b) (from-of c + i) (page-lt G (from-of c + i) (visited-in c i h s));
+      },
+    )
+
+abbrev Tries : Type 0
+Tries = tie.After-next-with-key Inv-entries μ-entries Inv-bits μ-bits Inv-filters μ-filters
 
 add-opened : tie.Need-add-opened Inv-entries μ-entries Inv-bits μ-bits Inv-filters μ-filters
-add-opened c = omega (arith, opened-few c, below-few (known c))
+add-opened c = let N = c .before in omega (arith, N .next-with-key .ensures .opened, visited-few (N .before), below-few (known (N .before)))
 
-add-page-start : tie.Need-add-page-start Inv-entries μ-entries Inv-bits μ-bits Inv-filters μ-filters
-add-page-start c = omega (arith, visited-lt c, below-few (known c))
+-- one was reached if an entry is told
+reached : (N : Tries) → 0 < N .next-with-key .result .entry → 0 < newest-of (N .before)
+reached N h =
+    either (lt? 0 (newest-of (N .before)))
+    (λ t. t .1)
+    (λ t. absurd (omega (arith, N .next-with-key .ensures .none (omega (arith, t .1)) .2)))
 
-page-start-requires : tie.Need-page-start-requires Inv-entries μ-entries Inv-bits μ-bits Inv-filters μ-filters
-page-start-requires c κs = (ready (start-of (known c)) .sound, omega (arith, visited-lt c, below-few (known c)))
-
-abbrev Opened : Type 0
-Opened = tie.After-page-start Inv-entries μ-entries Inv-bits μ-bits Inv-filters μ-filters
+told-some : (N : Tries) → 0 < newest-of (N .before) → 0 < N .next-with-key .result .entry
+told-some N h = omega (arith, N .next-with-key .ensures .some h .1, newest-some (bit (N .before .before .bits .bits)) (entry-at (N .before)) 64 h)
 
 -- its entries lie within the flash
-within-at : (P : Opened) → let x = start-of (known (P .before)) .args in P .page-start .result + page (x .v .g .chip .unit) ≤ length (x .main .now)
-within-at P =
-    let U = P .before in
-    let b = start-of (known U) in
+within-at : (N : Tries) → 0 < N .next-with-key .result .entry → let x = start-of (known (N .before)) .args in
+    N .next-with-key .result .start + page (x .v .g .chip .unit) ≤ length (x .main .now)
+within-at N h =
+    let c = N .before in
+    let b = start-of (known c) in
     let x = b .args in
-    rw (P .page-start .ensures) (page-in (x .v) (x .main .now) (x .ram .now) (ready b) (page-of U) (page-lt (known U) (page-of U) (visited-lt U)))
+    let n = reached N h in
+    rw (N .next-with-key .ensures .some n .0) (page-in (x .v) (x .main .now) (x .ram .now) (ready b) (page-of c) (page-lt (known c) (page-of c) (page-below c n)))
 
--- and are those of the view
-same-at : (P : Opened) → let b = start-of (known (P .before)) in let x = b .args in
-    Same (x .main .now) (P .page-start .result) (perPage (x .v)) (x .v .n0) (x .key) (deleted-at b) (try-at b) (page-of (P .before) * perPage (x .v))
-same-at P =
-    let U = P .before in
-    let x = start-of (known U) .args in
-    same-flash (x .v) (x .main .now) (x .ram .now) (x .key) (page-of U) (P .page-start .result) (perPage (x .v)) (page-lt (known U) (page-of U) (visited-lt U)) (omega arith) (P .page-start .ensures)
+-- by their bytes
+same-at : (N : Tries) → let b = start-of (known (N .before)) in let x = b .args in let start = N .next-with-key .result .start in
+    Same (x .main .now) start (perPage (x .v)) (x .v .n0) (x .key) (deleted-at b) (tryIn (x .v) (x .main .now) (x .ram .now) (x .key) (x .main .now) start) 0
+same-at N =
+    let x = start-of (known (N .before)) .args in
+    same-bytes (x .v) (x .main .now) (x .ram .now) (x .key) (x .main .now) (N .next-with-key .result .start) (perPage (x .v))
 
-find-in-page-requires : tie.Need-find-in-page-requires Inv-entries μ-entries Inv-bits μ-bits Inv-filters μ-filters
-find-in-page-requires c κs = (ready (start-of (known (c .before))) .sound .unit, within-at c)
+-- as the view has them
+scan-at : (N : Tries) → 0 < N .next-with-key .result .entry → let b = start-of (known (N .before)) in let x = b .args in let q = perPage (x .v) in
+    scan (tryIn (x .v) (x .main .now) (x .ram .now) (x .key) (x .main .now) (N .next-with-key .result .start)) 0 q ≡ scan (try-at b) (page-of (N .before) * q) q
+scan-at N h =
+    let c = N .before in
+    let x = start-of (known c) .args in
+    let n = reached N h in
+    let start = N .next-with-key .result .start in
+    scan-bytes (x .v) (x .main .now) (x .ram .now) (x .key) (x .main .now) start (perPage (x .v)) (page-of c * perPage (x .v))
+    (same-flash (x .v) (x .main .now) (x .ram .now) (x .key) (page-of c) start (perPage (x .v)) (page-lt (known c) (page-of c) (page-below c n)) (omega arith)
+    (N .next-with-key .ensures .some n .0))
+
+-- the newest with the key is the one told
+entry-is : (N : Tries) → 0 < N .next-with-key .result .entry → let x = start-of (known (N .before)) .args in
+    N .next-with-key .result .entry ≡ lastEntry (x .main .now) (N .next-with-key .result .start) (perPage (x .v)) (x .key)
+entry-is N h = let S = N .next-with-key .ensures .some (reached N h) in rw (S .0) (S .1)
 
 entries-holds : tie.Need-entries-holds Inv-entries μ-entries Inv-bits μ-bits Inv-filters μ-filters
 entries-holds c =
-    let P = c .before in
-    let U = P .before in
-    let b = start-of (known U) in
+    let N = c .before in
+    let b = start-of (known (N .before)) in
     let x = b .args in
-    (left-first (x .main .now) (P .page-start .result) (perPage (x .v)) (x .v .n0) (x .key) (deleted-at b) (try-at b) (page-of U * perPage (x .v)) (same-at P) (c .find-in-page .result) (c .find-in-page .ensures), U .before .before .before .bits .inv .1)
+    let start = N .next-with-key .result .start in
+    let try = tryIn (x .v) (x .main .now) (x .ram .now) (x .key) (x .main .now) start in (
+      λ h. left-first (x .main .now) start (perPage (x .v)) (x .v .n0) (x .key) (deleted-at b) try 0 (same-at N) (N .next-with-key .result .entry) (entry-is N h),
+      omega arith,
+      N .before .before .bits .inv .1,
+    )
 
 -- ---- an entry
 
 sub-k : tie.Need-sub-k Inv-entries μ-entries Inv-bits μ-bits Inv-filters μ-filters
 sub-k c = omega arith
 
+abbrev AtEntry : Type 0
+AtEntry = tie.At-entries Inv-entries μ-entries Inv-bits μ-bits Inv-filters μ-filters
+
+some-left : (E : AtEntry) → 0 < E .entries .e → 0 < E .before .before .next-with-key .result .entry
+some-left E h = omega (arith, E .entries .inv .1)
+
 number-at-requires : tie.Need-number-at-requires Inv-entries μ-entries Inv-bits μ-bits Inv-filters μ-filters
 number-at-requires c κs =
     let E = c .before in
-    omega (arith, E .entries .inv .0 .le, within-at (E .before .before))
+    let h = some-left E (omega arith) in
+    omega (arith, E .entries .inv .0 h .le, within-at (E .before .before) h)
 
 wide-requires : tie.Need-wide-requires Inv-entries μ-entries Inv-bits μ-bits Inv-filters μ-filters
 wide-requires c κs = search needs
@@ -290,52 +350,75 @@ told c =
 find-entry-requires : tie.Need-find-entry-requires Inv-entries μ-entries Inv-bits μ-bits Inv-filters μ-filters
 find-entry-requires c κs =
     let E = c .before .before .before .before .before .before .before .before in
-    omega (arith, E .entries .inv .0 .le, within-at (E .before .before))
+    let h = some-left E (c .before .before .before .before .before .before .before .entries-test .taken) in
+    omega (arith, E .entries .inv .0 h .le, within-at (E .before .before) h)
 
 entries-less : tie.Need-entries-less Inv-entries μ-entries Inv-bits μ-bits Inv-filters μ-filters
 entries-less c =
-    let W = c .before .before .before .before .before .before in
-    let N = W .before in
-    let E = N .before .before in
-    let P = E .before .before in
-    let b = start-of (known (P .before)) in
+    let D = c .before .before in
+    let W = D .before .before .before .before in
+    let J = W .before in
+    let E = J .before .before in
+    let N = E .before .before in
+    let b = start-of (known (N .before)) in
     let x = b .args in
-    left-less (x .main .now) (P .page-start .result) (perPage (x .v)) (x .v .n0) (x .key) (deleted-at b) (try-at b) (page-of (P .before) * perPage (x .v)) (same-at P) (E .entries .e) (N .number-at .result) (E .entries .inv .0) (omega arith) (N .number-at .ensures) (omega (arith, W .wide .ensures, c .before .before .before .before .if1 .left)) (c .find-entry .result) (c .find-entry .ensures)
+    let start = N .next-with-key .result .start in
+    let try = tryIn (x .v) (x .main .now) (x .ram .now) (x .key) (x .main .now) start in
+    let p = J .before .entries-test .taken in
+    let L = E .entries .inv .0 (some-left E p) in
+    left-less (x .main .now) start (perPage (x .v)) (x .v .n0) (x .key) (deleted-at b) try 0 (same-at N) (E .entries .e) (J .number-at .result) L p (J .number-at .ensures) (omega (arith, W .wide .ensures, c .before .before .before .before .if1 .left)) (c .find-entry .result) (c .find-entry .ensures)
 
 entries-again : tie.Need-entries-again Inv-entries μ-entries Inv-bits μ-bits Inv-filters μ-filters
 entries-again c =
     let D = c .before .before in
     let W = D .before .before .before .before in
-    let N = W .before in
-    let E = N .before .before in
-    let P = E .before .before in
-    let b = start-of (known (P .before)) in
+    let J = W .before in
+    let E = J .before .before in
+    let N = E .before .before in
+    let b = start-of (known (N .before)) in
     let x = b .args in
-    (left-next (x .main .now) (P .page-start .result) (perPage (x .v)) (x .v .n0) (x .key) (deleted-at b) (try-at b) (page-of (P .before) * perPage (x .v)) (same-at P) (E .entries .e) (N .number-at .result) (E .entries .inv .0) (omega arith) (N .number-at .ensures) (omega (arith, W .wide .ensures)) (c .find-entry .result) (D .deleted .result) (told D) (not-false (D .deleted .result) (c .before .if2 .left)) (c .find-entry .ensures), E .entries .inv .1)
+    let start = N .next-with-key .result .start in
+    let try = tryIn (x .v) (x .main .now) (x .ram .now) (x .key) (x .main .now) start in
+    let p = J .before .entries-test .taken in
+    let L = E .entries .inv .0 (some-left E p) in
+    let less = left-less (x .main .now) start (perPage (x .v)) (x .v .n0) (x .key) (deleted-at b) try 0 (same-at N) (E .entries .e) (J .number-at .result) L p (J .number-at .ensures) (omega (arith, W .wide .ensures, c .before .before .before .before .if1 .left)) (c .find-entry .result) (c .find-entry .ensures) in (
+      λ h. left-next (x .main .now) start (perPage (x .v)) (x .v .n0) (x .key) (deleted-at b) try 0 (same-at N) (E .entries .e) (J .number-at .result) L p (J .number-at .ensures) (omega (arith, W .wide .ensures, c .before .before .before .before .if1 .left)) (c .find-entry .result) (D .deleted .result) (told D) (not-false (D .deleted .result) (c .before .if2 .left)) (c .find-entry .ensures),
+      omega (arith, less, E .entries .inv .1),
+      E .entries .inv .2,
+    )
 
 -- ---- the next page
 
 bits-less : tie.Need-bits-less Inv-entries μ-entries Inv-bits μ-bits Inv-filters μ-filters
 bits-less c =
-    let U = c .before .before .before .before in
-    let T = U .before .top in
-    cleared-less (U .before .before .before .bits .bits) (T .result) (T .ensures .2) (U .without .result) (U .without .ensures) (T .ensures .0) (T .ensures .1)
+    let N = c .before .before .before in
+    let Y = N .before in
+    fewer (Y .before .bits .bits) (entry-at Y) (N .next-with-key .result .bits) (N .next-with-key .ensures .left) (omega (arith, Y .bits-test .taken)) (λ z. N .next-with-key .ensures .none z .0)
+
+-- no entry of the page ended the search
+vain-at : (E : AtEntry) → E .entries .e ≤ 0 → let N = E .before .before in let b = start-of (known (N .before)) in let q = perPage (b .args .v) in
+    0 < newest-of (N .before) → scan (try-at b) (page-of (N .before) * q) q ≡ none
+vain-at E z h =
+    let N = E .before .before in
+    let x = start-of (known (N .before)) .args in
+    let start = N .next-with-key .result .start in
+    let p = told-some N h in
+    sym (scan-at N p)
+    ∙ left-none (x .main .now) start (x .key) (tryIn (x .v) (x .main .now) (x .ram .now) (x .key) (x .main .now) start) 0 (perPage (x .v)) (E .entries .e)
+    (E .entries .inv .0 p) z
 
 bits-again : tie.Need-bits-again Inv-entries μ-entries Inv-bits μ-bits Inv-filters μ-filters
 bits-again c =
     let E = c .before in
-    let P = E .before .before in
-    let U = P .before in
-    let T = U .before .top in
-    let B = U .before .before .before in
-    let G = known U in
+    let N = E .before .before in
+    let Y = N .before in
+    let B = Y .before in
+    let G = known Y in
     let b = start-of G in
     let x = b .args in
-    let z = left-none (x .main .now) (P .page-start .result) (x .key) (try-at b) (page-of U * perPage (x .v)) (perPage (x .v)) (E .entries .e) (E .entries .inv .0) (omega arith) in (
-      word-next (try-at b) (perPage (x .v)) (block-of G .start) (x .below) (block-of G .words) (B .bits .opened) (word-of U) (B .bits .bits) (B .bits .inv .0)
-          (T .result) (T .ensures .0) (T .ensures .1) (T .ensures .2) (U .without .result) (U .without .ensures) z,
-      E .entries .inv .1,
-    )
+    let z = word-next (try-at b) (perPage (x .v)) (block-of G .start) (x .below) (block-of G .words) (B .bits .opened) (word-of Y) (B .bits .bits) (B .bits .inv .0)
+    (entry-at Y) (other Y) (N .next-with-key .result .bits) (N .next-with-key .ensures .left) (λ h. vain-at E (c .entries-test .left) h) in
+    (rw (N .next-with-key .ensures .opened) z, E .entries .inv .2)
 
 -- ---- the three ways out
 
@@ -351,46 +434,55 @@ returns c =
     )
 
 -- the page's scan ended
-ended : (P : Opened) (r : Stop) → let U = P .before in let b = start-of (known U) in let q = perPage (b .args .v) in
-    scan (try-at b) (page-of U * q) q ≡ some r
-    → searchPages (gate-at b) (try-at b) q (b .args .below) ≡ reply (some r) (U .before .before .before .bits .opened + 1)
-ended P r =
-    let U = P .before in
-    let T = U .before .top in
-    let B = U .before .before .before in
-    let G = known U in
+ended : (N : Tries) (r : Stop) → let c = N .before in let b = start-of (known c) in let x = b .args in let q = perPage (x .v) in
+    0 < N .next-with-key .result .entry
+    → scan (tryIn (x .v) (x .main .now) (x .ram .now) (x .key) (x .main .now) (N .next-with-key .result .start)) 0 q ≡ some r
+    → searchPages (gate-at b) (try-at b) q (x .below) ≡ reply (some r) (c .before .bits .opened + N .next-with-key .result .opened)
+ended N r h e =
+    let c = N .before in
+    let B = c .before in
+    let G = known c in
     let b = start-of G in
     let x = b .args in
-    word-ended (try-at b) (perPage (x .v)) (block-of G .start) (x .below) (block-of G .words) (B .bits .opened) (word-of U) (B .bits .bits) (B .bits .inv .0)
-    (T .result) (T .ensures .0) (T .ensures .1) (T .ensures .2) (gate-at b) (shows G) r
+    rw (N .next-with-key .ensures .opened)
+    (word-ended (try-at b) (perPage (x .v)) (block-of G .start) (x .below) (block-of G .words) (B .bits .opened) (word-of c) (B .bits .bits) (B .bits .inv .0)
+    (entry-at c) (other c) (gate-at b) (shows G) (reached N h) r (sym (scan-at N h) ∙ e))
 
 returns-2 : tie.Need-returns-2 Inv-entries μ-entries Inv-bits μ-bits Inv-filters μ-filters
 returns-2 c =
     let W = c .before .before in
-    let N = W .before in
-    let E = N .before .before in
-    let P = E .before .before in
-    let G = known (P .before) in
+    let J = W .before in
+    let E = J .before .before in
+    let N = E .before .before in
+    let G = known (N .before) in
     let b = start-of G in
-    let x = b .args in (
+    let x = b .args in
+    let start = N .next-with-key .result .start in
+    let try = tryIn (x .v) (x .main .now) (x .ram .now) (x .key) (x .main .now) start in
+    let p = J .before .entries-test .taken in
+    let h = some-left E p in (
       block-at G .start-lt,
-      ended P corrupt
-          (left-corrupt (x .main .now) (P .page-start .result) (perPage (x .v)) (x .v .n0) (x .key) (deleted-at b) (try-at b) (page-of (P .before) * perPage (x .v)) (same-at P) (E .entries .e) (N .number-at .result) (E .entries .inv .0) (omega arith) (N .number-at .ensures) (omega (arith, W .wide .ensures))),
+      ended N corrupt h
+          (left-corrupt (x .main .now) start (perPage (x .v)) (x .v .n0) (x .key) (deleted-at b) try 0 (same-at N) (E .entries .e) (J .number-at .result) (E .entries .inv .0 h) p (J .number-at .ensures) (omega (arith, W .wide .ensures))),
     )
 
 returns-3 : tie.Need-returns-3 Inv-entries μ-entries Inv-bits μ-bits Inv-filters μ-filters
 returns-3 c =
     let D = c .before in
     let W = D .before .before .before .before in
-    let N = W .before in
-    let E = N .before .before in
-    let P = E .before .before in
-    let G = known (P .before) in
+    let J = W .before in
+    let E = J .before .before in
+    let N = E .before .before in
+    let G = known (N .before) in
     let b = start-of G in
-    let x = b .args in (
+    let x = b .args in
+    let start = N .next-with-key .result .start in
+    let try = tryIn (x .v) (x .main .now) (x .ram .now) (x .key) (x .main .now) start in
+    let p = J .before .entries-test .taken in
+    let h = some-left E p in (
       block-at G .start-lt,
-      ended P (found (N .number-at .result))
-          (left-found (x .main .now) (P .page-start .result) (perPage (x .v)) (x .v .n0) (x .key) (deleted-at b) (try-at b) (page-of (P .before) * perPage (x .v)) (same-at P) (E .entries .e) (N .number-at .result) (E .entries .inv .0) (omega arith) (N .number-at .ensures) (omega (arith, W .wide .ensures)) (D .deleted .result) (told D) (not-true (D .deleted .result) (c .if2 .taken))),
+      ended N (found (J .number-at .result)) h
+          (left-found (x .main .now) start (perPage (x .v)) (x .v .n0) (x .key) (deleted-at b) try 0 (same-at N) (E .entries .e) (J .number-at .result) (E .entries .inv .0 h) p (J .number-at .ensures) (omega (arith, W .wide .ensures)) (D .deleted .result) (told D) (not-true (D .deleted .result) (c .if2 .taken))),
     )
 
 pub in-block-spec : {M : Type 1} → statement M
@@ -416,12 +508,8 @@ in-block-spec =
     bits-holds
     filters-less
     filters-again
-    top-requires
-    without-requires
+    next-with-key-requires
     add-opened
-    add-page-start
-    page-start-requires
-    find-in-page-requires
     entries-holds
     bits-less
     bits-again

@@ -1,0 +1,331 @@
+-- The pages of a word of bits, one after another: what is left of them at each, and what a search has found in them.
+use mathlib.Core.Path.{_≡_, refl, sym, ap, _∙_}
+use mathlib.Core.Bool.{Bool, true, false, _&&_, not}
+use mathlib.Core.Option.{Option, none, some}
+use Prim.Native.Nat.{ℕ, zero, suc, _+_, _*_, _-_, _≤_, _<_}
+use native.Mathlib.Omega.{arith}
+use lib.Dec.{ltb, eqb}
+use borrow.Author.Tests.{lt-ltb, le-ltb, ne-eqb}
+use Rattle.memory.specs.Bits.{bit, bit-zero}
+use Rattle.memory.specs.Candidate.{candidate, candidate-le, candidate-open, candidate-shut, candidate-opens, candidate-skip, candidate-top}
+use Rattle.memory.specs.Cases.{bool?, lt?, eq?, either}
+use Rattle.layout.specs.Search.{Stop, reply, scan, searchPages}
+use Rattle.search.specs.Tries.{newestOf, openedOf}
+use Rattle.search.proofs.Pages.{Pages, pages-few, pages-skip, pages-ended, pages-vain}
+
+never : true ≡ false → ⊥
+never z = let o : _≡_ {A = ℕ} 0 1 = cc in omega arith
+
+-- both tests of two hold
+both : (a b : Bool) → (a && b) ≡ true → (a ≡ true) × (b ≡ true)
+both true true e = (refl, refl)
+both true false e = absurd (never (sym e))
+both false b e = absurd (never (sym e))
+
+shut-left : (a b : Bool) → a ≡ false → (a && b) ≡ false
+shut-left a b e = rw e
+
+-- ---- the bits of a word
+
+-- bit f, the highest that is set, is cleared
+module _ (bits f : ℕ) (above : (i : ℕ) → f < i → i < 64 → bit bits i ≡ false) (r : ℕ)
+    (is : (i : ℕ) → i < 64 → bit r i ≡ (not (eqb i f) && bit bits i)) where
+  cleared : (i : ℕ) → i < 64 → f ≤ i → bit r i ≡ false
+  cleared i k l =
+      either (eq? i f)
+      (λ t. is i k ∙ rw (t .0))
+      (λ t. let ne = t .1 in is i k ∙ rw (t .0) (above i (omega arith) k))
+
+  -- so that the highest is a lower one
+  pub cleared-less : f < 64 → bit bits f ≡ true → candidate (bit r) 64 < candidate (bit bits) 64
+  cleared-less h set =
+      let a : candidate (bit bits) 64 ≡ suc f = candidate-top (bit bits) 64 f h set above in
+      let b : candidate (bit r) 64 ≡ candidate (bit r) f = candidate-skip (bit r) 64 f (omega arith) (λ i l k. cleared i k l) in
+      omega (arith, a, b, candidate-le (bit r) f)
+
+-- ---- pages to be opened, and their newest entries
+
+module _ (set : ℕ → Bool) (entry : ℕ → ℕ) where
+  abbrev gate : ℕ → Bool
+  gate i = set i && ltb 0 (entry i)
+
+  pub opened-le : (n : ℕ) → openedOf set entry n ≤ n
+  unfolding openedOf
+  opened-le zero = omega arith
+  opened-le (suc n) =
+      either (bool? (set n))
+      (λ t.
+      either (bool? (ltb 0 (entry n)))
+      (λ s. rw (t, s) (omega arith))
+      (λ s. rw (t, s) (omega (arith, opened-le n))))
+      (λ t. rw t (omega (arith, opened-le n)))
+
+  -- pages from m on that are not to be opened
+  opened-skip : (n m : ℕ) → m ≤ n → ((i : ℕ) → m ≤ i → i < n → set i ≡ false) → openedOf set entry n ≡ openedOf set entry m
+  unfolding openedOf
+  opened-skip zero m l h = let e : m ≡ 0 = omega arith in rw e
+  opened-skip (suc n) m l h =
+      either (eq? m (suc n))
+      (λ t. rw (t .1))
+      (λ t.
+      let ne = t .1 in
+      rw (h n (omega arith) (omega arith)) (opened-skip n m (omega arith) (λ i a b. h i a (omega arith))))
+
+  opened-end : openedOf set entry 0 ≡ 0
+  unfolding openedOf
+  opened-end = refl
+
+  opened-vain : (n : ℕ) → set n ≡ true → entry n ≡ 0 → openedOf set entry (suc n) ≡ suc (openedOf set entry n)
+  unfolding openedOf
+  opened-vain n t z = rw (t, z)
+
+  opened-some : (n : ℕ) → set n ≡ true → 0 < entry n → openedOf set entry (suc n) ≡ 1
+  unfolding openedOf
+  opened-some n t p = rw (t, lt-ltb 0 (entry n) p)
+
+  gate-vain : (n : ℕ) → entry n ≡ 0 → gate n ≡ false
+  gate-vain n z = either (bool? (set n)) (λ t. rw (t, z)) (λ t. rw t)
+
+  gate-some : (n : ℕ) → set n ≡ true → 0 < entry n → gate n ≡ true
+  gate-some n t p = rw (t, lt-ltb 0 (entry n) p)
+
+  newest-end : newestOf set entry 0 ≡ 0
+  unfolding candidate
+  newest-end = refl
+
+  newest-skip : (n m : ℕ) → m ≤ n → ((i : ℕ) → m ≤ i → i < n → set i ≡ false) → newestOf set entry n ≡ newestOf set entry m
+  newest-skip n m l h = candidate-skip gate n m l (λ i a b. shut-left (set i) (ltb 0 (entry i)) (h i a b))
+
+  -- the newest is to be opened
+  pub newest-set : (n : ℕ) → 0 < newestOf set entry n → set (newestOf set entry n - 1) ≡ true
+  newest-set n p = let f = newestOf set entry n - 1 in both (set f) (ltb 0 (entry f)) (candidate-opens gate n p) .0
+
+  -- and has an entry
+  pub newest-some : (n : ℕ) → 0 < newestOf set entry n → 0 < entry (newestOf set entry n - 1)
+  newest-some n p =
+      let f = newestOf set entry n - 1 in
+      let t = both (set f) (ltb 0 (entry f)) (candidate-opens gate n p) .1 in
+      either (lt? 0 (entry f)) (λ s. s .1) (λ s. absurd (never (sym t ∙ s .0)))
+
+  pub newest-le : (n : ℕ) → newestOf set entry n ≤ n
+  newest-le n = candidate-le gate n
+
+-- ---- the bits of a word, of which those below m are left
+
+module _ (bits : ℕ) (entry : ℕ → ℕ) where
+  abbrev pub count : ℕ → ℕ
+  count m = openedOf (bit bits) entry m
+
+  abbrev pub newest : ℕ → ℕ
+  newest m = newestOf (bit bits) entry m
+
+  -- `opened` pages were opened in vain
+  pub record Vain (left opened : ℕ) : Type 0 where
+    pub m : ℕ
+    pub most : m ≤ 64
+    pub shown : (i : ℕ) → i < 64 → bit left i ≡ (ltb i m && bit bits i)
+    pub opened-is : count 64 ≡ opened + count m
+    pub newest-is : newest 64 ≡ newest m
+
+  pub vain-first : Vain bits 0
+  vain-first =
+      record {
+        m = 64;
+        most = omega arith;
+        shown = λ i k. rw (lt-ltb i 64 k);
+        opened-is = omega arith;
+        newest-is = refl;
+      }
+
+  module _ (left opened : ℕ) (T : Vain left opened) where
+    pub vain-few : opened ≤ 64
+    vain-few = omega (arith, T .opened-is, opened-le (bit bits) entry 64)
+
+    not-left : (i : ℕ) → i < T .m → bit left i ≡ false → bit bits i ≡ false
+    not-left i h e = (rw (lt-ltb i (T .m) h) at (sym (T .shown i (omega (arith, T .most))))) ∙ e
+
+    -- none is left
+    module _ (z : left ≡ 0) where
+      none-set : (i : ℕ) → 0 ≤ i → i < T .m → bit bits i ≡ false
+      none-set i a b = not-left i b (rw z (bit-zero i))
+
+      pub vain-newest : newest 64 ≡ 0
+      vain-newest = T .newest-is ∙ newest-skip (bit bits) entry (T .m) 0 (omega arith) none-set ∙ newest-end (bit bits) entry
+
+      pub vain-opened : opened ≡ count 64
+      vain-opened =
+          let a : count (T .m) ≡ 0 = opened-skip (bit bits) entry (T .m) 0 (omega arith) none-set ∙ opened-end (bit bits) entry in
+          omega (arith, T .opened-is)
+
+    -- bit f is the highest left, and is cleared
+    module _ (f : ℕ) (f-lt : f < 64) (is-set : bit left f ≡ true) (above : (i : ℕ) → f < i → i < 64 → bit left i ≡ false) where
+      pub top-both : (f < T .m) × (bit bits f ≡ true)
+      top-both =
+          let e = both (ltb f (T .m)) (bit bits f) (sym (T .shown f f-lt) ∙ is-set) in
+          either (lt? f (T .m)) (λ t. (t .1, e .1)) (λ t. absurd (never (sym (e .0) ∙ t .0)))
+
+      gap : (i : ℕ) → suc f ≤ i → i < T .m → bit bits i ≡ false
+      gap i a b = not-left i b (above i a (omega (arith, T .most)))
+
+      opened-here : count (T .m) ≡ count (suc f)
+      opened-here = opened-skip (bit bits) entry (T .m) (suc f) (top-both .0) gap
+
+      newest-here : newest (T .m) ≡ newest (suc f)
+      newest-here = newest-skip (bit bits) entry (T .m) (suc f) (top-both .0) gap
+
+      module _ (r : ℕ) (is : (i : ℕ) → i < 64 → bit r i ≡ (not (eqb i f) && bit left i)) where
+        pub top-left : (i : ℕ) → i < 64 → bit r i ≡ (ltb i f && bit bits i)
+        top-left i k =
+            either (lt? i f)
+            (λ t.
+            let l = t .1 in
+            is i k ∙ rw (ne-eqb i f (λ e. absurd (omega arith)), t .0) (T .shown i k ∙ rw (lt-ltb i (T .m) (omega (arith, top-both .0)))))
+            (λ t.
+            let l = t .1 in
+            is i k ∙ over i k l ∙ sym (ap (λ (x : Bool). x && bit bits i) (t .0)))
+          where
+            over : (i : ℕ) → i < 64 → f ≤ i → (not (eqb i f) && bit left i) ≡ false
+            over i k l =
+                either (eq? i f)
+                (λ t. rw (t .0))
+                (λ t. let ne = t .1 in rw (t .0) (above i (omega arith) k))
+
+        pub vain-next : entry f ≡ 0 → Vain r (opened + 1)
+        vain-next z =
+            record {
+              m = f;
+              most = omega arith;
+              shown = top-left;
+              opened-is = omega (arith, T .opened-is, opened-here, opened-vain (bit bits) entry f (top-both .1) z);
+              newest-is = T .newest-is ∙ newest-here ∙ candidate-shut (gate (bit bits) entry) f (gate-vain (bit bits) entry f z);
+            }
+
+        module _ (p : 0 < entry f) where
+          pub some-newest : newest 64 ≡ suc f
+          some-newest = T .newest-is ∙ newest-here ∙ candidate-open (gate (bit bits) entry) f (gate-some (bit bits) entry f (top-both .1) p)
+
+          pub some-opened : opened + 1 ≡ count 64
+          some-opened = omega (arith, T .opened-is, opened-here, opened-some (bit bits) entry f (top-both .1) p)
+
+-- ---- what a search has found in them
+
+module _ (gated : ℕ → Bool) (try : ℕ → Option Stop) (q N from : ℕ) where
+  -- page f was the last of k that were opened, those before it in vain
+  pub record Reached (k f : ℕ) : Type 0 where
+    pub low : f < N
+    pub few : k ≤ N + 1
+    pub ended : (r : Stop) → scan try (f * q) q ≡ some r → searchPages gated try q N ≡ reply (some r) k
+    pub vain : scan try (f * q) q ≡ none → Pages gated try q N k f
+
+  -- all were opened in vain, or the newest with an entry was reached
+  pub record Through (k newest : ℕ) : Type 0 where
+    pub all : newest ≡ 0 → Pages gated try q N k from
+    pub one : 0 < newest → Reached k (from + (newest - 1))
+
+  module _ (set : ℕ → Bool) (entry : ℕ → ℕ)
+      (other : (i : ℕ) → set i ≡ true → from + i < N → entry i ≡ 0 → scan try ((from + i) * q) q ≡ none) where
+    -- from page p on, which the lowest m bits reach
+    abbrev Goes : ℕ → Type 0
+    Goes m =
+        (k p : ℕ) → Pages gated try q N k p → from ≤ p → p ≤ from + m → ((i : ℕ) → i < m → set i ≡ (ltb (from + i) p && gated (from + i)))
+        → Through (k + openedOf set entry m) (newestOf set entry m)
+
+    module _ (m : ℕ) (rest : Goes m) (k p : ℕ) (P : Pages gated try q N k p) (a : from ≤ p) (b : p ≤ from + suc m)
+        (shown : (i : ℕ) → i < suc m → set i ≡ (ltb (from + i) p && gated (from + i))) where
+      lower : (i : ℕ) → i < m → from + m ≤ p → set i ≡ (ltb (from + i) (from + m) && gated (from + i))
+      lower i h l = shown i (omega arith) ∙ rw (lt-ltb (from + i) p (omega arith), lt-ltb (from + i) (from + m) (omega arith))
+
+      opened-one : set m ≡ true → gated (from + m) ≡ true → from + m < p → ((i : ℕ) → from + m < i → i < p → gated i ≡ false)
+          → Through (k + openedOf set entry (suc m)) (newestOf set entry (suc m))
+      opened-one t o l gap =
+          either (lt? 0 (entry m))
+          (λ s.
+          let w : newestOf set entry (suc m) ≡ suc m = candidate-open (gate set entry) m (gate-some set entry m t (s .1)) in
+          let c : k + openedOf set entry (suc m) ≡ k + 1 = omega (arith, opened-some set entry m t (s .1)) in
+          rw (w, c) record {
+            all = λ h. absurd (omega arith);
+            one = λ h.
+                let e : from + (suc m - 1) ≡ from + m = omega arith in
+                rw e record {
+                  low = omega (arith, P .low);
+                  few = omega (arith, pages-few gated try q N k p P);
+                  ended = pages-ended gated try q N k p P (from + m) l o gap;
+                  vain = pages-vain gated try q N k p P (from + m) l o gap;
+                };
+          })
+          (λ s.
+          let z : entry m ≡ 0 = omega (arith, s .1) in
+          let w : newestOf set entry (suc m) ≡ newestOf set entry m = candidate-shut (gate set entry) m (gate-vain set entry m z) in
+          let c : k + openedOf set entry (suc m) ≡ k + 1 + openedOf set entry m = omega (arith, opened-vain set entry m t z) in
+          let v = pages-vain gated try q N k p P (from + m) l o gap (other m t (omega (arith, P .low)) z) in
+          rw (w, c) (rest (k + 1) (from + m) v (omega arith) (omega arith) (λ i h. lower i h (omega arith))))
+
+      passed : set m ≡ false → Through (k + openedOf set entry (suc m)) (newestOf set entry (suc m))
+      passed t =
+          let none-set : (i : ℕ) → m ≤ i → i < suc m → set i ≡ false = λ i c d. (let e : i ≡ m = omega arith in rw e t) in
+          let w : newestOf set entry (suc m) ≡ newestOf set entry m = newest-skip set entry (suc m) m (omega arith) none-set in
+          let c : k + openedOf set entry (suc m) ≡ k + openedOf set entry m = omega (arith, opened-skip set entry (suc m) m (omega arith) none-set) in
+          either (lt? (from + m) p)
+          (λ s.
+          let l = s .1 in
+          let shut : gated (from + m) ≡ false = (rw (s .0) at (sym (shown m (omega arith)))) ∙ t in
+          let v = pages-skip gated try q N k p P (from + m) (omega arith) (λ i c d. (let e : i ≡ from + m = omega arith in rw e shut)) in
+          rw (w, c) (rest k (from + m) v (omega arith) (omega arith) (λ i h. lower i h (omega arith))))
+          (λ s.
+          let l = s .1 in
+          rw (w, c) (rest k p P a (omega arith) (λ i h. shown i (omega arith))))
+
+      one-more : Through (k + openedOf set entry (suc m)) (newestOf set entry (suc m))
+      one-more =
+          either (bool? (set m))
+          (λ t.
+          let B = both (ltb (from + m) p) (gated (from + m)) (sym (shown m (omega arith)) ∙ t) in
+          let l : from + m < p = either (lt? (from + m) p) (λ s. s .1) (λ s. absurd (never (sym (B .0) ∙ s .0))) in
+          opened-one t (B .1) l (λ i c d. absurd (omega arith)))
+          (λ t. passed t)
+
+    pub through : (m : ℕ) → Goes m
+    through zero k p P a b shown =
+        let e : p ≡ from = omega arith in
+        let z : k + openedOf set entry 0 ≡ k = omega (arith, opened-end set entry) in
+        rw (z, newest-end set entry) record {
+          all = λ h. rw e at P;
+          one = λ h. absurd (omega arith);
+        }
+    through (suc m) k p P a b shown = one-more m (through m) k p P a b shown
+
+-- ---- the bits left
+
+-- an open gate's candidate is above it
+above : (f : ℕ → Bool) (n i : ℕ) → i < n → f i ≡ true → i < candidate f n
+unfolding candidate
+above f zero i h t = absurd (omega arith)
+above f (suc n) i h t =
+    either (bool? (f n))
+    (λ s. rw s (omega arith))
+    (λ s.
+    either (eq? i n)
+    (λ e. let z : f n ≡ true = rw (e .1) at t in absurd (never (sym z ∙ s)))
+    (λ e. let ne = e .1 in rw s (above f n i (omega arith) t)))
+
+abbrev pub measure : ℕ → ℕ
+measure bits = candidate (bit bits) 64 + (1 - (1 - bits))
+
+-- there are fewer, by the highest: those below the newest page's remain
+module _ (bits : ℕ) (entry : ℕ → ℕ) (r : ℕ) (left : (i : ℕ) → i < 64 → bit r i ≡ (ltb i (newest bits entry 64 - 1) && bit bits i)) where
+  abbrev n : ℕ
+  n = newest bits entry 64
+
+  gone : (i : ℕ) → n - 1 ≤ i → i < 64 → bit r i ≡ false
+  gone i a k = left i k ∙ shut-left (ltb i (n - 1)) (bit bits i) (le-ltb i (n - 1) a)
+
+  -- a word without any is 0
+  pub fewer : 0 < bits → (n ≡ 0 → r ≡ 0) → measure r < measure bits
+  fewer p z =
+      let a : candidate (bit r) 64 ≡ candidate (bit r) (n - 1) = candidate-skip (bit r) 64 (n - 1) (omega (arith, newest-le (bit bits) entry 64)) gone in
+      let b = candidate-le (bit r) (n - 1) in
+      either (lt? 0 n)
+      (λ t.
+      let c = above (bit bits) 64 (n - 1) (omega (arith, newest-le (bit bits) entry 64, t .1)) (newest-set (bit bits) entry 64 (t .1)) in
+      omega (arith, a, b, c))
+      (λ t. omega (arith, a, b, t .1, z (omega (arith, t .1))))
