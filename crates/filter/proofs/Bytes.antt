@@ -39,19 +39,21 @@ step-bit bytes row low first step i y e =
     let m : ((first + i) * (step * 8) + low) % 8 ≡ low % 8 = omega arith in
     rw (d, m) e
 
--- ---- one filter
+-- ---- a few filters
 
-pub one-in : (row w step g low len : ℕ) → step * 8 ≡ w → row + (g + 1 + 7) / 8 * w ≤ len → low < w → row + g * step + low / 8 < len
-one-in row w step g low len e reach h =
-    let k : g + 1 ≤ (g + 1 + 7) / 8 * 8 = omega arith in
-    let t = mul-le-mul-right step k in
-    let z : (g + 1 + 7) / 8 * w ≡ (g + 1 + 7) / 8 * 8 * step = omega (arith, ap (λ (y : ℕ). (g + 1 + 7) / 8 * y) e) in
-    let q : low / 8 < step = omega arith in
-    omega (arith, t, z, reach)
+module _ (row w step n low len : ℕ) (e : step * 8 ≡ w) (reach : row + (n + 7) / 8 * w ≤ len) (h : low < w) where
+  pub few-in : (i : ℕ) → i < n → row + low / 8 + i * step < len
+  few-in i l =
+      let k : n ≤ (n + 7) / 8 * 8 = omega arith in
+      let t = mul-le-mul-right step k in
+      let z : (n + 7) / 8 * w ≡ (n + 7) / 8 * 8 * step = omega (arith, ap (λ (y : ℕ). (n + 7) / 8 * y) e) in
+      let q : low / 8 < step = omega arith in
+      let s : suc i * step ≤ n * step = mul-le-mul-right step l in
+      omega (arith, t, z, reach, s)
 
-pub one-bit : (bytes : List ℕ) (row low g step y : ℕ) → bit y 0 ≡ bit (getD bytes (row + g * step + low / 8) 0) (low % 8)
-    → bit y 0 ≡ bitIn bytes row (g * (step * 8) + low)
-one-bit bytes row low g step y e =
-    let d : row + (g * (step * 8) + low) / 8 ≡ row + g * step + low / 8 = omega arith in
-    let m : (g * (step * 8) + low) % 8 ≡ low % 8 = omega arith in
+pub few-bit : (bytes : List ℕ) (row low step i y : ℕ) → bit y i ≡ bit (getD bytes (row + low / 8 + i * step) 0) (low % 8)
+    → bit y i ≡ bitIn bytes row (i * (step * 8) + low)
+few-bit bytes row low step i y e =
+    let d : row + (i * (step * 8) + low) / 8 ≡ row + low / 8 + i * step = omega arith in
+    let m : (i * (step * 8) + low) % 8 ≡ low % 8 = omega arith in
     rw (d, m) e

@@ -2,12 +2,12 @@
 use mathlib.Core.Path.{_≡_, refl, sym, ap, _∙_}
 use mathlib.Core.Bool.{Bool, true, false, _&&_, and-comm, and-true}
 use mathlib.Core.List.{List, [], _∷_}
-use Prim.Native.Nat.{ℕ, zero, suc, _+_, _*_, _-_, _/_, _%_, _^_, _≤_, _<_}
+use Prim.Native.Nat.{ℕ, zero, suc, _+_, _*_, _-_, _%_, _^_, _≤_, _<_}
 use native.Mathlib.Numerals.{add-one}
 use native.Mathlib.Omega.{arith}
 use borrow.Author.Tests.{lt-ltb, le-ltb}
 use lib.Bits.{bitAnd}
-use lib.Dec.{ltb, eqb}
+use lib.Dec.{ltb}
 use lib.ListN.{length, getD, take}
 use Rattle.memory.specs.Bits.{bit, bitIn, bit-zero, bit-high}
 use Rattle.memory.specs.Cases.{either, lt?}
@@ -75,20 +75,6 @@ module _ (F : ℕ → ℕ → Bool) (ps : List ℕ) (first m : ℕ) where
   tested-more k h r y R Y i l =
       rw add-one (bit-and r y i ∙ (and-comm (bit r i) (bit y i) ∙ rw (Y i l, R i l) (sym (all-take (λ x. F x (first + i)) ps k h))))
 
--- ---- a filter more: its bit goes below those of later ones
-
-pub bit-below : (f : ℕ → Bool) (k n r b : ℕ) → b < 2 → bit b 0 ≡ f k → ((i : ℕ) → i < n → bit r i ≡ f (k + 1 + i))
-    → (i : ℕ) → i < n + 1 → bit (r * 2 + b) i ≡ f (k + i)
-unfolding bit
-bit-below f k n r b h e R zero l =
-    let d : (r * 2 + b) % 2 ≡ b % 2 = omega arith in
-    let z : k + 0 ≡ k = omega arith in
-    rw z (ap (λ (t : ℕ). eqb t 1) d ∙ e)
-bit-below f k n r b h e R (suc i) l =
-    let d : (r * 2 + b) / 2 ≡ r = omega arith in
-    let z : k + 1 + i ≡ k + suc i = omega arith in
-    ap (λ (t : ℕ). bit t i) d ∙ (R i (omega arith) ∙ ap f z)
-
 -- a number of n bits has no bit from n on
 pub bits-only : (n r i : ℕ) → r < 2 ^ n → bit r i ≡ (ltb i n && bit r i)
 bits-only n r i h =
@@ -151,12 +137,11 @@ module _ (l : Level) (bytes : List ℕ) (below : ℕ) (ps : List ℕ) where
       }
 
   -- one word of all the level's filters
-  pub few-block : (n j r : ℕ) → below - l .start ≡ n → l .start < below → n ≤ 64 → j ≡ 0 → r < 2 ^ (n - j)
-      → Shows (levelHas l bytes ps) j (n - j) r → BlockOf l bytes below ps (record { start = l .start; words = r ∷ 0 ∷ 0 ∷ 0 ∷ 0 ∷ 0 ∷ 0 ∷ 0 ∷ [] })
-  few-block n j r is lt few z small R =
+  pub few-block : (n r : ℕ) → below - l .start ≡ n → l .start < below → n ≤ 64 → r < 2 ^ n → Shows (levelHas l bytes ps) 0 n r
+      → BlockOf l bytes below ps (record { start = l .start; words = r ∷ 0 ∷ 0 ∷ 0 ∷ 0 ∷ 0 ∷ 0 ∷ 0 ∷ [] })
+  few-block n r is lt few small R =
       let e : l .start + 0 ≡ l .start = omega arith in
-      let m : n - j ≡ n = omega arith in
-      rw e at (word-block 0 n n r r (omega arith) lt (omega arith) few (omega arith) (rw (m, z) at R) (λ i h. bits-only n r i (rw m at small)))
+      rw e at (word-block 0 n n r r (omega arith) lt (omega arith) few (omega arith) R (λ i h. bits-only n r i small))
 
   -- eight words
   pub words-block : (gate : ℕ → Bool) (first n : ℕ) (words : List ℕ) → below - l .start ≡ first + n → l .start < below → 0 < n → n ≤ 512

@@ -177,35 +177,20 @@ fn level_below(chip: Chip, e: usize, ix: Index, st: Stage, below: usize) -> Leve
     full_level(chip, ix, shifted(below - 1, e + 9))
 }
 
-// ---- filters of whole bytes, a filter at a time
+// ---- filters of whole bytes: a few
 
-// Bit 0: has filter g of a level position p?
-fn position_bit(l: Level, p: u32, g: usize, bytes: &[u8]) -> u64
-    requires { ⌜ EightsIn l p (g + 1) (length (now bytes)) ⌝ }
-    ensures { λ r. ⌜ bit r 0 ≡ bitIn (before bytes) (rowAt l p) (g * 2 ^ l .exponent + p % 2 ^ l .exponent) ⌝ }
+// Which of the first n filters of a level have position p.
+fn few_bits(l: Level, p: u32, n: usize, bytes: &[u8]) -> u64
+    requires { ⌜ (n ≤ 8) × EightsIn l p n (length (now bytes)) ⌝ }
+    ensures { λ r. ⌜ (r < 2 ^ n)
+        × ((i : ℕ) → i < n → bit r i ≡ bitIn (before bytes) (rowAt l p) (i * 2 ^ l .exponent + p % 2 ^ l .exponent)) ⌝ }
 {
     let e = l.exponent;
     let x = wide(p);
     let w = power(e);
     let low = x % w;
     let row = l.base + shifted(x, e) * l.stride;
-    kernels::bit_at(row + g * (w / 8) + low / 8, low, bytes)
-}
-
-// Has it all of the first `count` positions: 1 or 0.
-fn has_all(l: Level, ps: [u32; 8], count: usize, g: usize, bytes: &[u8]) -> u64
-    requires { ⌜ (1 ≤ count) × (count ≤ 8)
-        × ((i : ℕ) → i < count → EightsIn l (getD ps i 0) (g + 1) (length (now bytes))) ⌝ }
-    ensures { λ r. ⌜ (r < 2) × (bit r 0 ≡ levelHas l (before bytes) (take count ps) g) ⌝ }
-{
-    let mut r = position_bit(l, ps[0], g, bytes);
-    let mut i = 1;
-    while i < count {
-        let y = position_bit(l, ps[i], g, bytes);
-        r = r & y;
-        i += 1;
-    }
-    r & 1
+    kernels::byte_bits(row + low / 8, low, w / 8, n, bytes)
 }
 
 // The level's filters below `below`, eight at the most: one word.
@@ -215,12 +200,12 @@ fn block_of_few(l: Level, below: usize, ps: [u32; 8], count: usize, bytes: &[u8]
     ensures { λ r. ⌜ BlockOf l (before bytes) below (take count ps) r ⌝ }
 {
     let n = below - l.start;
-    let mut r: u64 = 0;
-    let mut j = n;
-    while j > 0 {
-        j -= 1;
-        let b = has_all(l, ps, count, j, bytes);
-        r = r * 2 + b;
+    let mut r = few_bits(l, ps[0], n, bytes);
+    let mut i = 1;
+    while i < count {
+        let y = few_bits(l, ps[i], n, bytes);
+        r = r & y;
+        i += 1;
     }
     Block {
         start: l.start,

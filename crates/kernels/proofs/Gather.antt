@@ -87,3 +87,17 @@ unpack f s n B acc r e P =
 pub eight-more : (f : ℕ → Bool) (b n r s : ℕ) → n + 8 ≤ 64 → s < 256 → ((i : ℕ) → i < 8 → bit s i ≡ f (b + i))
     → ((i : ℕ) → i < n → bit r i ≡ f (b + 8 + i)) → (i : ℕ) → i < n + 8 → bit (bitOr ((r * 2 ^ 8) % 2 ^ 64) s) i ≡ f (b + i)
 eight-more f b n r s fits small S R = below f b 8 n r s fits R S (λ i l m. bit-over 8 s i small l)
+
+-- ---- a bit more, below those of later bytes
+
+pub bit-below : (f : ℕ → Bool) (k n r b : ℕ) → b < 2 → bit b 0 ≡ f k → ((i : ℕ) → i < n → bit r i ≡ f (k + 1 + i))
+    → (i : ℕ) → i < n + 1 → bit (r * 2 + b) i ≡ f (k + i)
+unfolding bit
+bit-below f k n r b h e R zero l =
+    let d : (r * 2 + b) % 2 ≡ b % 2 = omega arith in
+    let z : k + 0 ≡ k = omega arith in
+    rw z (ap (λ (t : ℕ). eqb t 1) d ∙ e)
+bit-below f k n r b h e R (suc i) l =
+    let d : (r * 2 + b) / 2 ≡ r = omega arith in
+    let z : k + 1 + i ≡ k + suc i = omega arith in
+    ap (λ (t : ℕ). bit t i) d ∙ (R i (omega arith) ∙ ap f z)

@@ -67,12 +67,27 @@ fn bit_place(x: usize) -> usize
     x % 8
 }
 
-// A byte, moved down so that its bit `low` is the lowest.
-pub fn bit_at(at: usize, low: usize, bytes: &[u8]) -> u64
+// Bit `low` of a byte.
+fn bit_at(at: usize, low: usize, bytes: &[u8]) -> u64
     requires { ⌜ at < length (now bytes) ⌝ }
-    ensures { λ r. ⌜ bit r 0 ≡ bit (getD (before bytes) at 0) (low % 8) ⌝ }
+    ensures { λ r. ⌜ (r < 2) × (bit r 0 ≡ bit (getD (before bytes) at 0) (low % 8)) ⌝ }
 {
-    bytes[at] as u64 >> bit_place(low)
+    (bytes[at] as u64 >> bit_place(low)) & 1
+}
+
+// Bit `low` of a byte out of each of n, `step` bytes from one to the next.
+pub fn byte_bits(at: usize, low: usize, step: usize, n: usize, bytes: &[u8]) -> u64
+    requires { ⌜ (n ≤ 8) × ((i : ℕ) → i < n → at + i * step < length (now bytes)) ⌝ }
+    ensures { λ r. ⌜ (r < 2 ^ n) × ((i : ℕ) → i < n → bit r i ≡ bit (getD (before bytes) (at + i * step) 0) (low % 8)) ⌝ }
+{
+    let mut r: u64 = 0;
+    let mut k = n;
+    while k > 0 {
+        k -= 1;
+        let b = bit_at(at + k * step, low, bytes);
+        r = r * 2 + b;
+    }
+    r
 }
 
 // The bit of a byte that the mask has, in its place.

@@ -1,105 +1,99 @@
--- A filter more each turn.
+-- A position more each turn.
+use borrow.Author.Needs.{needs}
 use native.Mathlib.Omega.{arith}
 use mathlib.Core.Path.{_≡_}
+use mathlib.Core.Bool.{Bool}
 use mathlib.Core.List.{List}
-use Prim.Native.Nat.{ℕ, _+_, _*_, _-_, _/_, _^_, _≤_, _<_}
+use Prim.Native.Nat.{ℕ, _+_, _*_, _-_, _%_, _^_, _≤_, _<_}
+use lib.Bits.{and-le-l}
 use lib.ListN.{length, take, getD}
-use lib.Pow.{pow-add, pow-mono}
-use Rattle.memory.specs.Bits.{bit}
+use Rattle.memory.specs.Bits.{bit, bitIn}
 use Rattle.kernels.specs.Blocks.{Shows}
-use Rattle.filter.specs.Groups.{levelHas}
-use Rattle.filter.specs.Blocks.{EightsIn}
+use Rattle.filter.specs.Groups.{rowAt, levelHas}
 use Rattle.filter.specs.declared.groups.Level.{Level}
-use native.Mathlib.Nat.{mul-le-mul-right}
-use Rattle.filter.proofs.Rows.{bit-below, few-block}
+use Rattle.filter.proofs.Rows.{tested-one, tested-more, few-block}
 use Rattle.filter.proofs.groups.block_of_few.Statement.{statement}
 use Rattle.filter.proofs.groups.block_of_few.Tie as tie
 
+-- has filter g position x
+abbrev has : Level → List ℕ → ℕ → ℕ → Bool
+has l bytes x g = bitIn bytes (rowAt l x) (g * 2 ^ l .exponent + x % 2 ^ l .exponent)
+
+-- counted from filter 0
+from-0 : (F : ℕ → Bool) (n y : ℕ) → ((i : ℕ) → i < n → bit y i ≡ F i) → (i : ℕ) → i < n → bit y i ≡ F (0 + i)
+from-0 F n y h i l = let z : 0 + i ≡ i = omega arith in rw z (h i l)
+
 abbrev Inv-loop : tie.InvT-loop
-Inv-loop l below ps count bytes n r₀ j₀ r j =
-    (j ≤ n) × (r < 2 ^ (n - j)) × Shows (levelHas l bytes (take count ps)) j (n - j) r
+Inv-loop l below count bytes ps n r₀ i₀ r i = (0 < i) × (i ≤ count) × (r < 2 ^ n) × Shows (levelHas l bytes (take i ps)) 0 n r
 
 abbrev μ-loop : tie.MeasureT-loop
-μ-loop l below ps count bytes n r₀ j₀ r j = j
+μ-loop l below count bytes ps n r₀ i₀ r i = count - i
 
--- fewer filters
-fewer : (l : Level) (x n m len : ℕ) → m ≤ n → EightsIn l x n len → EightsIn l x m len
-fewer l x n m len h E =
-    let k : (m + 7) / 8 ≤ (n + 7) / 8 = omega arith in
-    record { some = E .some; few = E .few; reach = omega (arith, E .reach, mul-le-mul-right (2 ^ l .exponent) k) }
-
--- eight bits at the most
-small : (n j r : ℕ) → n ≤ 8 → r < 2 ^ (n - j) → r < 256
-small n j r h l = let k : n - j ≤ 8 = omega arith in let p : 2 ^ (n - j) ≤ 2 ^ 8 = pow-mono k in omega arith
-
--- a bit more
-longer : (n j r b : ℕ) → 0 < j → j ≤ n → b < 2 → r < 2 ^ (n - j) → r * 2 + b < 2 ^ (n - (j - 1))
-longer n j r b h l k s =
-    let e : n - (j - 1) ≡ n - j + 1 = omega arith in
-    let p : 2 ^ (n - j + 1) ≡ 2 ^ (n - j) * 2 = pow-add 2 (n - j) 1 in
-    rw (e, p) (omega arith)
-
-more : (l : Level) (bytes ps : List ℕ) (n j r b : ℕ) → 0 < j → j ≤ n → b < 2 → bit b 0 ≡ levelHas l bytes ps (j - 1) → Shows (levelHas l bytes ps) j (n - j) r
-    → Shows (levelHas l bytes ps) (j - 1) (n - (j - 1)) (r * 2 + b)
-unfolding Shows
-more l bytes ps n j r b h k s e R i t =
-    let z : j - 1 + 1 ≡ j = omega arith in
-    bit-below (levelHas l bytes ps) (j - 1) (n - j) r b s e (λ y q. rw z (R y q)) i (omega arith)
+eight : (c : tie.Start Inv-loop μ-loop) → length (c .args .t3) ≡ 8
+eight c = search needs
 
 sub-n : tie.Need-sub-n Inv-loop μ-loop
 sub-n c = omega (arith, c .before .before .pre .0 .2)
 
+array-read-few-bits : tie.Need-array-read-few-bits Inv-loop μ-loop
+array-read-few-bits c = omega (arith, eight (c .before .before))
+
+few-bits-requires : tie.Need-few-bits-requires Inv-loop μ-loop
+few-bits-requires c κs =
+    let b = c .before .before in
+    (omega (arith, b .pre .0 .3), b .pre .1 0 (omega (arith, b .pre .0 .0)))
+
 loop-holds : tie.Need-loop-holds Inv-loop μ-loop
-unfolding Shows
 loop-holds c =
-    let x = c .before .before .args in
-    let n : ℕ = x .below - x .l .start in
-    let z : n - n ≡ 0 = omega arith in
-    (omega arith, rw z (omega arith), λ i h. absurd (omega arith))
-
-sub-j : tie.Need-sub-j Inv-loop μ-loop
-sub-j c = omega arith
-
-has-all-requires : tie.Need-has-all-requires Inv-loop μ-loop
-has-all-requires c κs =
-    let b = c .before .before .before .before in
+    let b = c .before .before .before in
     let x = b .args in
-    let l = c .before .loop in
-    (b .pre .0 .0, b .pre .0 .1, λ i h. fewer (x .l) (getD (x .ps) i 0) (x .below - x .l .start) (l .j - 1 + 1) (length (x .bytes .now)) (omega (arith, l .inv .0)) (b .pre .1 i h))
+    let F = has (x .l) (x .bytes .now) in
+    let n : ℕ = x .below - x .l .start in (
+      omega arith,
+      b .pre .0 .0,
+      c .few-bits .ensures .0,
+      tested-one F (x .t3) 0 n (omega (arith, eight b)) (c .few-bits .result) (from-0 (F (getD (x .t3) 0 0)) n (c .few-bits .result) (c .few-bits .ensures .1)),
+    )
 
-mul-r : tie.Need-mul-r Inv-loop μ-loop
-mul-r c =
+mul-few-bits : tie.Need-mul-few-bits Inv-loop μ-loop
+mul-few-bits c = omega (arith, c .before .before .before .before .before .pre .0 .1)
+
+array-read-few-bits-2 : tie.Need-array-read-few-bits-2 Inv-loop μ-loop
+array-read-few-bits-2 c = let b = c .before .before .before .before .before in omega (arith, eight b, b .pre .0 .1)
+
+few-bits-requires-2 : tie.Need-few-bits-requires-2 Inv-loop μ-loop
+few-bits-requires-2 c κs =
     let b = c .before .before .before .before .before in
-    let x = b .args in
-    let l = c .before .before .loop in
-    omega (arith, small (x .below - x .l .start) (l .j) (l .r) (omega (arith, b .pre .0 .3)) (l .inv .1))
+    (omega (arith, b .pre .0 .3), b .pre .1 (c .before .loop .i) (c .loop-test .taken))
 
-add-r : tie.Need-add-r Inv-loop μ-loop
-add-r c =
-    let b = c .before .before .before .before .before in
-    let x = b .args in
-    let l = c .before .before .loop in
-    omega (arith, small (x .below - x .l .start) (l .j) (l .r) (omega (arith, b .pre .0 .3)) (l .inv .1), c .has-all .ensures .0)
+add-i : tie.Need-add-i Inv-loop μ-loop
+add-i c = omega arith
 
 loop-less : tie.Need-loop-less Inv-loop μ-loop
 loop-less c = omega arith
 
 loop-again : tie.Need-loop-again Inv-loop μ-loop
 loop-again c =
-    let x = c .before .before .before .before .before .args in
-    let l = c .before .before .loop in
-    let n : ℕ = x .below - x .l .start in (
-      omega (arith, l .inv .0),
-      longer n (l .j) (l .r) (c .has-all .result) (omega arith) (l .inv .0) (c .has-all .ensures .0) (l .inv .1),
-      more (x .l) (x .bytes .now) (take (x .count) (x .ps)) n (l .j) (l .r) (c .has-all .result) (omega arith) (l .inv .0) (c .has-all .ensures .0) (c .has-all .ensures .1) (l .inv .2),
+    let b = c .before .before .before .before .before .before in
+    let x = b .args in
+    let F = has (x .l) (x .bytes .now) in
+    let n : ℕ = x .below - x .l .start in
+    let l = c .before .before .loop in (
+      omega arith,
+      omega arith,
+      omega (arith, l .inv .2, and-le-l (l .r) (c .few-bits2 .result)),
+      tested-more F (x .t3) 0 n (l .i) (omega (arith, eight b, b .pre .0 .1)) (l .r) (c .few-bits2 .result) (l .inv .3)
+          (from-0 (F (getD (x .t3) (l .i) 0)) n (c .few-bits2 .result) (c .few-bits2 .ensures .1)),
     )
 
 returns : tie.Need-returns Inv-loop μ-loop
 returns c =
-    let b = c .before .before .before .before in
+    let b = c .before .before .before .before .before in
     let x = b .args in
     let l = c .before .loop in
-    few-block (x .l) (x .bytes .now) (x .below) (take (x .count) (x .ps)) (x .below - x .l .start) (l .j) (l .r) (omega arith) (b .pre .0 .2) (omega (arith, b .pre .0 .3)) (omega arith) (l .inv .1) (l .inv .2)
+    let e : l .i ≡ x .count = omega arith in
+    few-block (x .l) (x .bytes .now) (x .below) (take (x .count) (x .t3)) (x .below - x .l .start) (l .r) (omega arith) (b .pre .0 .2) (omega (arith, b .pre .0 .3))
+    (l .inv .2) (rw e at (l .inv .3))
 
 pub block-of-few-spec : {M : Type 1} → statement M
 block-of-few-spec =
@@ -108,11 +102,13 @@ block-of-few-spec =
     Inv-loop
     μ-loop
     sub-n
+    array-read-few-bits
+    few-bits-requires
     loop-holds
-    sub-j
-    has-all-requires
-    mul-r
-    add-r
+    mul-few-bits
+    array-read-few-bits-2
+    few-bits-requires-2
+    add-i
     loop-less
     loop-again
     returns)

@@ -1,0 +1,83 @@
+-- The byte of each filter, and its bit in it.
+use native.Mathlib.Nat.{mod-lt}
+use native.Mathlib.Omega.{arith}
+use Prim.Native.Nat.{_+_, _*_, _/_, _%_}
+use lib.ListN.{length}
+use Rattle.filter.proofs.Bytes.{eighth, few-in, few-bit}
+use borrow.Author.Needs.{needs}
+use Rattle.filter.proofs.groups.few_bits.Statement.{statement}
+use Rattle.filter.proofs.groups.few_bits.Tie as tie
+
+wide-requires : tie.Need-wide-requires
+wide-requires c κs = search needs
+
+power-requires : tie.Need-power-requires
+power-requires c κs = search needs
+
+rem-low : tie.Need-rem-low
+rem-low c = search needs
+
+shifted-requires : tie.Need-shifted-requires
+shifted-requires c κs = search needs
+
+mul-row : tie.Need-mul-row
+mul-row c =
+    let b = c .before .before .before .before .before in
+    let x = b .args in
+    let s = rw (← c .before .before .before .wide .ensures, ← c .before .shifted .ensures) at (b .pre .1 .reach) in
+    omega (arith, s)
+
+add-row : tie.Need-add-row
+add-row c =
+    let b = c .before .before .before .before .before .before in
+    let x = b .args in
+    let s = rw (← c .before .before .before .before .wide .ensures, ← c .before .before .shifted .ensures) at (b .pre .1 .reach) in
+    omega (arith, s)
+
+add-byte-bits : tie.Need-add-byte-bits
+add-byte-bits c =
+    let b = c .before .before .before .before .before .before in
+    let x = b .args in
+    let S = c .before .before .shifted in
+    let P = c .before .before .before .power in
+    let W = c .before .before .before .before .wide in
+    let s = rw (← W .ensures, ← S .ensures, ← P .ensures .0) at (b .pre .1 .reach) in
+    omega (arith, s, mod-lt (W .result) (P .ensures .1))
+
+byte-bits-requires : tie.Need-byte-bits-requires
+byte-bits-requires c κs =
+    let b = c .before .before .before .before .before .before in
+    let x = b .args in
+    let S = c .before .before .shifted in
+    let P = c .before .before .before .power in
+    let W = c .before .before .before .before .wide in
+    let s = rw (← W .ensures, ← S .ensures, ← P .ensures .0) at (b .pre .1 .reach) in
+    let e = eighth (x .l .exponent) (P .result) (P .ensures .0) (b .pre .1 .some) in
+    (b .pre .0, few-in (x .l .base + S .result * x .l .stride) (P .result) (P .result / 8) (x .n) (W .result % P .result) (length (x .bytes .now)) e s (mod-lt (W .result) (P .ensures .1)))
+
+returns : tie.Need-returns
+returns c =
+    let b = c .before .before .before .before .before .before .before in
+    let x = b .args in
+    let S = c .before .before .before .shifted in
+    let P = c .before .before .before .before .power in
+    let W = c .before .before .before .before .before .wide in
+    let e = eighth (x .l .exponent) (P .result) (P .ensures .0) (b .pre .1 .some) in (
+      c .byte-bits .ensures .0,
+      λ i h. rw (e, S .ensures, P .ensures .0, W .ensures) at
+          (few-bit (x .bytes .now) (x .l .base + S .result * x .l .stride) (W .result % P .result) (P .result / 8) i (c .byte-bits .result) (c .byte-bits .ensures .1 i h)),
+    )
+
+pub few-bits-spec : {M : Type 1} → statement M
+few-bits-spec =
+    tie.close
+    (tie.spec
+    wide-requires
+    power-requires
+    rem-low
+    shifted-requires
+    mul-row
+    add-row
+    add-byte-bits
+    byte-bits-requires
+    returns)
