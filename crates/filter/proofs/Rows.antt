@@ -9,7 +9,7 @@ use borrow.Author.Tests.{lt-ltb, le-ltb}
 use lib.Bits.{bitAnd}
 use lib.Dec.{ltb}
 use lib.ListN.{length, getD, take}
-use Rattle.memory.specs.Bits.{bit, bitIn, bit-zero, bit-high}
+use Rattle.memory.specs.Bits.{bit, bitIn, pack, bit-pack, bit-zero, bit-high}
 use Rattle.memory.specs.Cases.{either, lt?}
 use Rattle.memory.specs.Lists.{Done}
 use Rattle.memory.specs.Ranges.{allOf}
@@ -57,6 +57,10 @@ all-rows bytes at low w g f ps (suc k) h same =
 
 -- ---- a position more: bit i of a word is the test of filter `first` + i
 
+all-ones : (i : ℕ) → i < 64 → bit 18446744073709551615 i ≡ true
+unfolding pack
+all-ones i h = bit-pack 64 (λ j. true) i h
+
 module _ (F : ℕ → ℕ → Bool) (ps : List ℕ) (first m : ℕ) where
   -- of the first k positions
   abbrev pub Tested : ℕ → ℕ → Type 0
@@ -65,6 +69,11 @@ module _ (F : ℕ → ℕ → Bool) (ps : List ℕ) (first m : ℕ) where
   -- of position k
   abbrev pub One : ℕ → ℕ → Type 0
   One k y = (i : ℕ) → i < m → bit y i ≡ F (getD ps k 0) (first + i)
+
+  -- without a position every filter passes
+  pub tested-none : m ≤ 64 → Tested 0 18446744073709551615
+  unfolding Shows allOf
+  tested-none h i l = all-ones i (omega arith)
 
   pub tested-one : 0 < length ps → (r : ℕ) → One 0 r → Tested 1 r
   unfolding Shows allOf

@@ -230,14 +230,14 @@ fn position_bits(l: Level, p: u32, first: usize, n: usize, bytes: &[u8]) -> u64
     kernels::row_bits(row + first * step + low / 8, low, step, n, bytes)
 }
 
-// Which of them have all of the first `count` positions.
+// Which of them have all of the first `count` positions. The loop begins with the first one, so that where the bytes lie is computed once.
 fn eights(l: Level, ps: [u32; 8], count: usize, first: usize, n: usize, bytes: &[u8]) -> u64
     requires { ⌜ (1 ≤ count) × (count ≤ 8) × (n ≤ 8)
         × ((i : ℕ) → i < count → EightsIn l (getD ps i 0) (first + n * 8) (length (now bytes))) ⌝ }
     ensures { λ r. ⌜ Shows (levelHas l (before bytes) (take count ps)) first (n * 8) r ⌝ }
 {
-    let mut r = position_bits(l, ps[0], first, n, bytes);
-    let mut i = 1;
+    let mut r: u64 = 0xffff_ffff_ffff_ffff;
+    let mut i = 0;
     while i < count {
         let y = position_bits(l, ps[i], first, n, bytes);
         r = r & y;
