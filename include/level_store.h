@@ -13,8 +13,8 @@
  * lengths are in bytes. Multi-byte numbers in the arrays are little-endian.
  *
  * Filters. A level sets k bits in the filter of its page of keys, and a search opens the pages whose filter has all k of its
- * level's. k is 1 to 8, named by the format; it decides how many pages are opened, and no other answer. 4 opens the fewest; document
- * 01's 3 opens 1.6 to 2.5 times as many (misses of random keys among 10^5 records).
+ * level's. k is 1 to 8, named by the format; on an unaltered volume it decides how many pages are opened, and no other answer. Of
+ * random keys 4 opens the fewest; document 01's 3 opens 1.6 to 2.5 times as many (misses among 10^5 records).
  *
  * Power. The chip alone does not give a volume back: the pages that are not full yet (records, entries, deletions, filters) are in
  * ram only, and the counts in the state only. Save both, of the same moment, across power cycles. Where one of them is lost, so is

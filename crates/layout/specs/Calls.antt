@@ -54,7 +54,7 @@ refuse v i = record { outcome = refused i; count = 0; volume = v; ops = [] }
 
 -- ---- refusals 1 and 2
 
--- "S, R or D not allowed; n or d above capacity; d above n"
+-- "S, R or D not allowed; n or d above capacity; d above n"; §2: k too
 unfoldable pub badState : State → Bool
 badState s =
     not (allowed (s .sizes))

@@ -1,7 +1,7 @@
 -- The refusals by name, with their numbers. Document 01, "Calls": the table.
 use Prim.Native.Nat.{ℕ}
 
--- "S, R or D not allowed; n or d above capacity; d above n"
+-- "S, R or D not allowed; n or d above capacity; d above n"; §2: k too
 abbrev pub badState : ℕ
 badState = 1
 
