@@ -18,11 +18,14 @@ const ERASED: u8 = 255;
 // The mark of a programmed sector.
 const PROGRAMMED: u8 = 0;
 
+// A mark with at least so many ones is fresh: up to three of its bits may be wrong.
+const FRESH_ONES: u32 = 5;
+
 // Is the mark fresh.
 fn is_fresh(mark: u8) -> bool
     ensures { λ r. ⌜ r ≡ fresh mark ⌝ }
 {
-    mark == ERASED
+    u8::count_ones(mark) >= FRESH_ONES
 }
 
 // One sector operation: sector s gets the bytes of src.
@@ -90,16 +93,16 @@ pub fn erase_blocks(chip: Chip, b: usize, k: usize, main: &mut [u8], spare: &mut
     }
 }
 
-// Are sectors s, s + stride, .. fresh, k of them. All are read: ones in every mark are ones in their conjunction.
+// Are sectors s, s + stride, .. fresh, k of them. Each mark is tested by itself, and all are, so that many are counted at once.
 pub fn all_fresh(s: usize, stride: usize, k: usize, spare: &[u8]) -> bool
     requires { ⌜ s + k * stride < length (now spare) + stride ⌝ }
     ensures { λ r. ⌜ r ≡ freshRun (before spare) stride s k ⌝ }
 {
-    let mut ones = ERASED;
+    let mut all = true;
     let mut i = 0;
     while i < k {
-        ones = ones & spare[s + i * stride];
+        all = all & is_fresh(spare[s + i * stride]);
         i += 1;
     }
-    is_fresh(ones)
+    all
 }

@@ -14,6 +14,7 @@ use Rattle.memory.specs.Lists.{write, length-write, getD-write-before, getD-wri
 use Rattle.memory.specs.Numbers.{euclid, div-lt}
 use Rattle.memory.specs.Cases.{lt?, eq?, either}
 use Rattle.layout.specs.Flash.{Op, program, erase, Flash, apply, applyAll, erases, fresh, allFresh}
+use Rattle.laws.specs.FreshLaws.{erased-fresh}
 use Rattle.history.specs.Operations.{programs}
 
 -- ---- refusal 7: the sectors to be programmed are fresh, by the marks before the first operation
@@ -29,12 +30,12 @@ fresh-append spare (erase k ∷ os) ys a b = fresh-append spare os ys a b
 
 pub fresh-programs : (u d s k : ℕ) (f : ℕ → ℕ → ℕ) (spare : List ℕ) → ((j : ℕ) → j < k → getD spare (s + j * d) 0 ≡ 255)
     → allFresh spare (programs u d s k f) ≡ true
-unfolding allFresh fresh
+unfolding allFresh
 fresh-programs u d s zero f spare h = refl
 fresh-programs u d s (suc k) f spare h =
     let e : s + 0 * d ≡ s = omega arith in
     let h0 : getD spare s 0 ≡ 255 = rw e at (h 0 (omega arith)) in
-    rw h0 (fresh-programs u d (s + d) k (λ j. f (suc j)) spare
+    rw (h0, erased-fresh) (fresh-programs u d (s + d) k (λ j. f (suc j)) spare
     (λ j l. let up : s + suc j * d ≡ s + d + j * d = omega arith in rw up at (h (suc j) (omega arith))))
 
 pub fresh-erases : (spare : List ℕ) (b k : ℕ) → allFresh spare (erases b k) ≡ true

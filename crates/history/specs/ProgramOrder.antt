@@ -1,16 +1,17 @@
 -- From marks to the operations' own bookkeeping: what is allowed by the marks is in-order by the operations.
-use mathlib.Core.Path.{_≡_, refl, _∙_}
-use mathlib.Core.Bool.{Bool, true, false, cond, and-eq-true-iff}
+use mathlib.Core.Path.{_≡_, refl, sym, ap, _∙_}
+use mathlib.Core.Bool.{Bool, true, false, cond, and-eq-true-iff, true≢false}
 use mathlib.Core.List.{List, [], _∷_, _++_}
 use Prim.Native.Nat.{ℕ, zero, suc, _+_, _-_, _*_, _/_, _≤_, _<_}
 use native.Mathlib.Omega.{arith}
 use lib.ListN.{length, getD, take, replicate, length-set, length-take, length-replicate, getD-replicate, List·getD-eq-default}
 use lib.Seq.{getD-set-same, getD-set-other}
 use lib.Dec.{eqb}
-use borrow.Author.Tests.{eqb-true, ne-eqb}
+use borrow.Author.Tests.{ne-eqb}
 use Rattle.memory.specs.Cases.{either, eq?, lt?}
 use Rattle.memory.specs.Lists.{length-write, getD-write-before, getD-write-in, getD-write-after}
 use Rattle.layout.specs.Flash.{Flash, Op, program, erase, apply, fresh, allFresh, erases}
+use Rattle.laws.specs.FreshLaws.{programmed-not}
 use Rattle.history.specs.FlashLaws.{AllAllowed}
 use Rattle.history.specs.Runs.{programmed, ProgramOrder}
 
@@ -22,16 +23,16 @@ Below N (erase b ∷ os) = Below N os
 
 -- operations whose sectors are fresh by the first N marks program none past them
 pub fresh-below : (N : ℕ) (spare : List ℕ) (ops : List Op) → allFresh (take N spare) ops ≡ true → Below N ops
-unfolding allFresh fresh
+unfolding allFresh
 fresh-below N spare [] q = tt
 fresh-below N spare (program s bytes ∷ os) q =
-    let p = and-eq-true-iff (eqb (getD (take N spare) s 0) 255) (allFresh (take N spare) os) .0 q in (
+    let p = and-eq-true-iff (fresh (getD (take N spare) s 0)) (allFresh (take N spare) os) .0 q in (
       either (lt? s N)
           (λ a. a .1)
           (λ a.
           let past : getD (take N spare) s 0 ≡ 0 = List·getD-eq-default (take N spare) 0 (omega (arith, length-take N spare)) in
-          let e : getD (take N spare) s 0 ≡ 255 = eqb-true (getD (take N spare) s 0) 255 (p .0) in
-          absurd (omega (arith, past, e))),
+          let both : true ≡ false = sym (p .0) ∙ ap fresh past ∙ programmed-not in
+          absurd (true≢false both)),
       fresh-below N spare os (p .1),
     )
 fresh-below N spare (erase b ∷ os) q = fresh-below N spare os q

@@ -7,3 +7,4 @@ pub mod Sound
 pub mod Lengths
 pub mod LentFlash
 pub mod Positions
+pub mod FreshLaws

@@ -6,6 +6,7 @@ use mathlib.Core.List.{List, [], _∷_}
 use Prim.Native.Nat.{ℕ, suc, _+_, _*_}
 use lib.ListN.{length, getD, take, replicate}
 use lib.Dec.{eqb}
+use lib.Count.{onesIn}
 use Rattle.memory.specs.Lists.{write, tab, tabFrom, pieces}
 use Rattle.memory.specs.Bits.{num, pack}
 use Rattle.memory.specs.Power.{log2up}
@@ -83,10 +84,13 @@ pub places-ram : row-at (filterPlace 1 (record { first = 0; ska = 192 }) 1003 10
 unfolding log2up
 places-ram = refl
 
--- ---- the chip: one mark a sector, FF fresh, 00 programmed
+-- ---- the chip: one mark a sector, fresh by five ones or more
 
-pub freshness : num (fresh 255) ∷ num (fresh 254) ∷ num (fresh 0) ∷ [] ≡ 1 ∷ 0 ∷ 0 ∷ []
-unfolding fresh
+-- FF, FE, 1F, F8; 0F, F0, AA, 00
+pub freshness : num (fresh 255) ∷ num (fresh 254) ∷ num (fresh 31) ∷ num (fresh 248) ∷ num (fresh 15) ∷ num (fresh 240) ∷ num (fresh 170)
+    ∷ num (fresh 0) ∷ []
+    ≡ 1 ∷ 1 ∷ 1 ∷ 1 ∷ 0 ∷ 0 ∷ 0 ∷ 0 ∷ []
+unfolding fresh onesIn
 freshness = refl
 
 pub programmed : apply 1 (program 2 (replicate 16 7)) (flashOf (replicate 64 255) (replicate 4 255)) .spare ≡ 255 ∷ 255 ∷ 0 ∷ 255 ∷ []

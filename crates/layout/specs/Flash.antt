@@ -3,7 +3,8 @@ use mathlib.Core.Bool.{Bool, true, _&&_}
 use mathlib.Core.List.{List, [], _∷_}
 use Prim.Native.Nat.{ℕ, zero, suc, _*_}
 use lib.ListN.{getD, set, replicate}
-use lib.Dec.{eqb}
+use lib.Dec.{leb}
+use lib.Count.{onesIn}
 use Rattle.memory.specs.Lists.{write}
 use Rattle.layout.specs.Geometry.{sectorsPerBlock, sector, block}
 
@@ -20,9 +21,9 @@ pub data Op : Type 0 where
   program : ℕ → List ℕ → Op
   erase : ℕ → Op
 
--- "FF hexadecimal is fresh, anything else is programmed"
+-- "A mark is now fresh if five or more of its eight bits are one, programmed otherwise." Document 02, §3
 unfoldable pub fresh : ℕ → Bool
-fresh byte = eqb byte 255
+fresh byte = leb 5 (onesIn 8 byte)
 
 module _ (u : ℕ) where
   -- "Programming a sector writes its S cells and sets its mark to 00; erasing a block sets its cells and marks to FF"

@@ -1,5 +1,6 @@
 -- `unfolding calls` opens every definition that a call on a volume computes with.
 use Prim.{Unit}
+use lib.Count.{onesIn}
 use Rattle.memory.specs.Lists.{write, tab, tabFrom, pieces}
 use Rattle.memory.specs.Bits.{bit, pack}
 use Rattle.memory.specs.Power.{log2up}
@@ -16,7 +17,7 @@ use Rattle.layout.specs.Calls.{badState, tooShort, judgeFirst, formatted, forma
 use Rattle.layout.specs.Calls.{deletionRam, pageFilter, insertionPlan, insertionRam, commit, change, lookupAfter, call}
 
 unfoldable pub calls : Unit {0}
-unfolding write tab tabFrom pieces bit pack log2up wordsBytes any memb allOf allowed fresh allFresh fnvFrom positions
+unfolding write tab tabFrom pieces bit pack log2up wordsBytes any memb allOf allowed onesIn fresh allFresh fnvFrom positions
     rowBit rowByte bitAt filterBit setByte flushAndBuild recordBytes entryBytes deletionBytes itemWord put sameKey scan searchPages
     badState tooShort judgeFirst formatted format isDeleted tryAt maybeIn searchAt deletionPlan deletionRam pageFilter insertionPlan
     insertionRam commit change lookupAfter call
