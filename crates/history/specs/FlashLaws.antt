@@ -54,7 +54,7 @@ module _ (u : ℕ) where
         programs-ext d (s + d) k (λ j. f (suc j)) (λ j. g (suc j)) (λ j y l m. e (suc j) y (omega arith) m),
       )
 
-  -- a program: the sector is fresh, and the sectors before it in its page are not
+  -- a program on an unaltered chip: the sector's mark is FF, and those of the sectors before it in its page are 00
   abbrev pub Allowed : Op → Flash → Type 0
   Allowed (program s bytes) c = (getD (c .spare) s 0 ≡ 255) × ((x : ℕ) → x < s → x / 4 ≡ s / 4 → getD (c .spare) x 0 ≡ 0)
   Allowed (erase b) c = Unit {0}

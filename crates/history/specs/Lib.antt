@@ -32,3 +32,7 @@ pub mod Demands
 pub mod Every
 pub mod Reached
 pub mod Several
+pub mod Worn
+pub mod WornLaws
+pub mod WornCalls
+pub mod WornRuns
