@@ -284,8 +284,14 @@ fn not_fresh(test: &mut Test) -> Result<(), Difference> {
         load(test, &tab_of([[11, 0, 0], [12, 0, 0]]), 2, 0)?;
     }
     format(test, 16, 1, 1)?;
-    test.pair.write_spare(64 + 4, &[0x7F]);
+    test.pair.write_spare(64 + 4, &[0x0F]);
     load(test, &levels(20), 15, 7)?;
+    // Worn, but fresh.
+    format(test, 16, 1, 1)?;
+    test.pair
+        .write_spare(0, &[0x1F, 0xF8, 0xC7, 0xE3, 0xFE, 0x7F, 0xF8, 0x1F]);
+    test.pair.write_spare(64 + 4, &[0x1F, 0xF8]);
+    load(test, &levels(20), 20, 0)?;
     format(test, 16, 1, 1)?;
     test.pair.write_spare(2 * 64 + 3, &[0x00]);
     load(test, &levels(16), 16, 0)?;

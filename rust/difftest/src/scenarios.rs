@@ -410,6 +410,14 @@ fn damaged(test: &mut Test, s: u32, r: u32, d: u32, calls: usize) -> Result<(), 
     Ok(())
 }
 
+/// Marks on both sides of the border: with five ones a mark is fresh, with four it is programmed.
+const SPARE_BYTES: [u8; 10] = [0x00, 0x0F, 0xAA, 0xC6, 0xF0, 0x1F, 0xF8, 0x7F, 0xFE, 0xFF];
+
+/// A fresh mark with up to three wrong bits.
+fn worn_byte(random: &mut Random) -> u8 {
+    (0..random.below(4)).fold(0xFF, |mark, _| mark & !(1 << random.below(8)))
+}
+
 /// Alters one byte or number where the next calls read. If it belongs to an entry, gives the entry's key.
 fn damage(test: &mut Test, geometry: Geometry) -> Option<u32> {
     let random = &mut test.random;
@@ -489,11 +497,16 @@ fn damage(test: &mut Test, geometry: Geometry) -> Option<u32> {
             let rest = geometry.data_bytes() - index;
             pair.write_data(index + random.below(rest), &[byte]);
         }
-        // A spare byte of the volume, or near the next record page.
-        8 => pair.write_spare(random.below(geometry.spare_bytes()), &[byte]),
+        // A mark of the volume, or near the next record page.
+        8 => pair.write_spare(random.below(geometry.spare_bytes()), &[random.pick(&SPARE_BYTES)]),
         9 => {
             let sector = records / geometry.records_per_page() * 4 + random.below(8);
-            pair.write_spare(sector, &[byte]);
+            pair.write_spare(sector, &[random.pick(&SPARE_BYTES)]);
+        }
+        // All marks of the next record page, worn but fresh.
+        10 => {
+            let sector = records / geometry.records_per_page() * 4;
+            pair.write_spare(sector, &std::array::from_fn::<u8, 4, _>(|_| worn_byte(random)));
         }
         // Any byte.
         _ => {
@@ -819,9 +832,10 @@ fn fill_likely(
         2 => {
             for _ in 0..1 + random.below(50) {
                 let sector = random.below(spare.len());
-                spare[sector] = random.next_byte();
+                spare[sector] = random.pick(&SPARE_BYTES);
             }
         }
+        3..=5 => spare.iter_mut().for_each(|mark| *mark = worn_byte(random)),
         _ => {}
     }
 }

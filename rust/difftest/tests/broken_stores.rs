@@ -43,6 +43,12 @@ enum Fault {
     StopsAtDeleted,
     /// The lengths of the slices are not looked at closely.
     OneByteShort,
+    /// A mark with four ones is fresh.
+    FourOnesFresh,
+    /// A mark with five ones is programmed.
+    SixOnesNeeded,
+    /// The marks of a page are joined bit by bit before their ones are counted.
+    RunJoined,
     /// A live level of a tab is refused by 3.
     LoadInserts,
     /// A malformed row is left out.
@@ -139,6 +145,45 @@ impl Broken {
             _ => state.hash_count,
         };
         State { hash_count, ..state }
+    }
+
+    /// The marks as a store with this fault takes them: one that it takes for fresh has five ones, one that it takes for programmed four.
+    fn taken(&self, records: usize, spare: &[u8]) -> Vec<u8> {
+        let ones = |mark: &u8| mark.count_ones();
+        let mut taken = spare.to_vec();
+        match self.fault {
+            Fault::FourOnesFresh => taken
+                .iter_mut()
+                .filter(|mark| ones(mark) == 4)
+                .for_each(|mark| *mark = 0x1F),
+            Fault::SixOnesNeeded => taken
+                .iter_mut()
+                .filter(|mark| ones(mark) == 5)
+                .for_each(|mark| *mark = 0x0F),
+            Fault::RunJoined => {
+                for page in taken[..records.min(spare.len())].chunks_exact_mut(4) {
+                    let joined = page.iter().fold(0xFF, |all, mark| all & mark);
+                    if page.iter().all(|mark| ones(mark) >= 5) && ones(&joined) < 5 {
+                        page.fill(0x0F);
+                    }
+                }
+            }
+            _ => {}
+        }
+        taken
+    }
+
+    /// A change on the marks as they are taken; those that it does not write stay as they were.
+    fn on_taken(&self, state: State, spare: &mut [u8], change: impl FnOnce(&mut [u8]) -> Change) -> Change {
+        let before = self.taken(64 * state.ra_blocks as usize, spare);
+        let mut after = before.clone();
+        let result = change(&mut after);
+        for (sector, mark) in spare.iter_mut().enumerate() {
+            if after[sector] != before[sector] {
+                *mark = after[sector];
+            }
+        }
+        result
     }
 
     fn after_change(
@@ -271,7 +316,9 @@ impl Store for Broken {
             }
             _ => {}
         }
-        let change = ModelStore.insert(self.used(state), key, moves, goal, word, data, spare, ram);
+        let change = self.on_taken(state, spare, |spare| {
+            ModelStore.insert(self.used(state), key, moves, goal, word, data, spare, ram)
+        });
         if let (Fault::FullTooEarly, 0) = (self.fault, change.refusal) {
             // Accepted, so that the product is small.
             if change.state.records == 4 * state.sector_size * state.ra_blocks {
@@ -292,7 +339,9 @@ impl Store for Broken {
         spare: &mut [u8],
         ram: &mut [u8],
     ) -> Change {
-        let change = ModelStore.update(self.used(state), key, moves, goal, word, data, spare, ram);
+        let change = self.on_taken(state, spare, |spare| {
+            ModelStore.update(self.used(state), key, moves, goal, word, data, spare, ram)
+        });
         let mut change = self.after_change(state, change, data, spare, ram);
         if let (Fault::HashCountLost, 0) = (self.fault, change.refusal) {
             change.state.hash_count = HASH_COUNT_01;
@@ -301,7 +350,9 @@ impl Store for Broken {
     }
 
     fn delete(&self, state: State, key: u32, data: &mut [u8], spare: &mut [u8], ram: &mut [u8]) -> Change {
-        let change = ModelStore.delete(self.used(state), key, data, spare, ram);
+        let change = self.on_taken(state, spare, |spare| {
+            ModelStore.delete(self.used(state), key, data, spare, ram)
+        });
         self.after_change(state, change, data, spare, ram)
     }
 
@@ -439,6 +490,9 @@ fn broken_stores_are_reported() {
         Fault::WrongOrder,
         Fault::StopsAtDeleted,
         Fault::OneByteShort,
+        Fault::FourOnesFresh,
+        Fault::SixOnesNeeded,
+        Fault::RunJoined,
     ] {
         assert_reported(&format!("{fault:?}"), fault, &SMALL);
     }

@@ -5,9 +5,10 @@ use crate::layout::{Layout, DELETION, ENTRY, FILTERS_PER_FLUSH, FILTERS_PER_ROUN
 use crate::rebuild::rebuild;
 use model::State;
 
-const FRESH: u8 = 0xFF;
 const PROGRAMMED: u8 = 0x00;
 const ERASED: u8 = 0xFF;
+/// A mark with so many ones is fresh.
+const FRESH_ONES: u32 = 5;
 
 /// A record as its four numbers: level key, moves, goal, free word.
 pub type Record = [u32; 4];
@@ -159,7 +160,9 @@ impl Set {
 
 /// No exit before the end: vector code.
 fn all_fresh(marks: &[u8]) -> bool {
-    marks.iter().fold(FRESH, |all, mark| all & mark) == FRESH
+    marks
+        .iter()
+        .fold(true, |all, mark| all & (mark.count_ones() >= FRESH_ONES))
 }
 
 /// Programs a page with a page of RAM, and zeroes that.
@@ -183,7 +186,7 @@ fn program_flush<const S: usize>(flush: usize, data: &mut [u8], spare: &mut [u8]
 
 fn erase<const S: usize>(start: usize, bytes: usize, data: &mut [u8], spare: &mut [u8]) {
     data[start..][..bytes].fill(ERASED);
-    spare[start / S..][..bytes / S].fill(FRESH);
+    spare[start / S..][..bytes / S].fill(ERASED);
 }
 
 /// The filter of RAM's full page of entries replaces what its place in RAM's filters held.

@@ -2,13 +2,12 @@
 
 use crate::geometry::{SECTORS_PER_BLOCK, SECTORS_PER_PAGE};
 
-const FRESH: u8 = 0xFF;
 const PROGRAMMED: u8 = 0x00;
 const ERASED: u8 = 0xFF;
 
-/// "FF hexadecimal is fresh, anything else is programmed."
+/// "A mark is now fresh if five or more of its eight bits are one, programmed otherwise." Document 02, request 3.
 pub fn is_fresh(spare: &[u8], sector: usize) -> bool {
-    spare[sector] == FRESH
+    spare[sector].count_ones() >= 5
 }
 
 /// "Programming a sector writes its S cells and sets its mark to 00." The length of `bytes` is S.
@@ -30,7 +29,7 @@ pub fn program_page(data: &mut [u8], spare: &mut [u8], page: usize, bytes: &[u8]
 pub fn erase_block(data: &mut [u8], spare: &mut [u8], sector_size: usize, block: usize) {
     let block_size = SECTORS_PER_BLOCK * sector_size;
     data[block * block_size..(block + 1) * block_size].fill(ERASED);
-    spare[block * SECTORS_PER_BLOCK..(block + 1) * SECTORS_PER_BLOCK].fill(FRESH);
+    spare[block * SECTORS_PER_BLOCK..(block + 1) * SECTORS_PER_BLOCK].fill(ERASED);
 }
 
 /// "Multi-byte numbers are little-endian."

@@ -180,6 +180,60 @@ fn sector_not_fresh() {
     assert_eq!(before, (volume.data, volume.spare, volume.ram));
 }
 
+/// A mark is fresh if five or more of its bits are one. It is left as it is unless its sector is programmed.
+#[test]
+fn fresh_by_ones() {
+    for (mark, refusal) in [
+        (0xFF, 0),
+        (0xFE, 0),
+        (0x1F, 0),
+        (0xF8, 0),
+        (0x0F, 7),
+        (0xF0, 7),
+        (0xAA, 7),
+        (0x00, 7),
+    ] {
+        let mut volume = Volume::new(16, 1, 1);
+        volume.spare[3] = mark;
+        for key in 0..3 {
+            assert_eq!(volume.insert(key), 0);
+        }
+        assert_eq!(volume.insert(3), refusal, "{mark:02X}");
+        assert_eq!(volume.spare[3], if refusal == 0 { 0x00 } else { mark });
+    }
+}
+
+/// Up to three bits of a mark, at any places.
+fn wrong_bits(i: usize) -> u8 {
+    let bit = |k: usize| 1u8 << (i / k % 8);
+    [0, bit(1), bit(1) | bit(3), bit(1) | bit(5) | bit(11)][i % 4]
+}
+
+/// Marks with up to three wrong bits each, others before every call: the same answers, the same bytes but those marks that no
+/// operation has written since, through a set that is built.
+#[test]
+fn worn_spare_decides_alike() {
+    let mut sound = Volume::new(16, 20, 1);
+    let mut worn = Volume::new(16, 20, 1);
+    for call in 0..1200 {
+        for (sector, mark) in worn.spare.iter_mut().enumerate() {
+            *mark = sound.spare[sector] ^ wrong_bits(sector * 31 + call as usize * 7);
+        }
+        let before = (sound.spare.clone(), worn.spare.clone());
+        let (expected, got) = match call % 11 {
+            10 => (sound.delete(call - 3), worn.delete(call - 3)),
+            _ => (sound.insert(call), worn.insert(call)),
+        };
+        assert_eq!((expected, got), (0, 0));
+        assert!(sound.state == worn.state && sound.data == worn.data && sound.ram == worn.ram);
+        for sector in 0..worn.spare.len() {
+            let kept = sound.spare[sector] == before.0[sector] && worn.spare[sector] == before.1[sector];
+            assert!(kept || worn.spare[sector] == sound.spare[sector]);
+        }
+    }
+    assert_eq!(sound.state.records, 1091);
+}
+
 #[test]
 fn wrong_record_number() {
     let mut volume = Volume::new(16, 1, 1);
