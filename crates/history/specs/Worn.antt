@@ -31,26 +31,26 @@ abbrev pub withSpare : List ℕ → Volume → Volume
 withSpare spare v = record { state = v .state; flash = flashOf (v .flash .main) spare; ram = v .ram }
 
 -- a mark before and after on a sound chip, and on a worn one: it is as it was on both, or both have the same, programmed or erased
-abbrev pub MarkKept : ℕ → ℕ → ℕ → ℕ → Type 0
-MarkKept before after worn-before worn-after = ((worn-after ≡ worn-before) × (after ≡ before)) ⊎ (worn-after ≡ after)
+abbrev pub ByteKept : ℕ → ℕ → ℕ → ℕ → Type 0
+ByteKept before after worn-before worn-after = ((worn-after ≡ worn-before) × (after ≡ before)) ⊎ (worn-after ≡ after)
 
 -- all marks of volumes: v and v′ sound before and after, w and w′ worn
-abbrev pub MarksKept : Volume → Volume → Volume → Volume → Type 0
-MarksKept v v′ w w′ =
+abbrev pub SpareKept : Volume → Volume → Volume → Volume → Type 0
+SpareKept v v′ w w′ =
     (x : ℕ)
-    → MarkKept (getD (v .flash .spare) x 0) (getD (v′ .flash .spare) x 0) (getD (w .flash .spare) x 0) (getD (w′ .flash .spare) x 0)
+    → ByteKept (getD (v .flash .spare) x 0) (getD (v′ .flash .spare) x 0) (getD (w .flash .spare) x 0) (getD (w′ .flash .spare) x 0)
 
 -- the result r of a call on the volume v, and the result s of the same call on the worn volume w
 pub record SameResult (sizes : Sizes) (v w : Volume) (r s : Result) : Type 0 where
   -- the same answer
   pub outcome : s .outcome ≡ r .outcome
   pub count : s .count ≡ r .count
-  -- the same cells, RAM and state
+  -- the same main area, RAM and state
   pub volume-is : s .volume ≡ withSpare (s .volume .flash .spare) (r .volume)
   -- by the same operations; the marks are those that they leave
   pub ops : s .ops ≡ r .ops
   pub flash-is : applyAll (unitOf sizes) (s .ops) (w .flash) ≡ s .volume .flash
-  pub marks : MarksKept v (r .volume) w (s .volume)
+  pub spare-kept : SpareKept v (r .volume) w (s .volume)
   pub worn : Worn (spareSize (geometry sizes)) (r .volume .flash .spare) (s .volume .flash .spare)
 
 -- of each call of a list from the volume v on: before each, the chip may show any wrong bits, at most three in a mark
@@ -61,12 +61,12 @@ EachSame h sizes v (c ∷ cs) =
     → SameResult sizes v (withSpare spare v) (call h v c) (call h (withSpare spare v) c))
     × EachSame h sizes (call h v c .volume) cs
 
--- the same answers from the volumes v and w on
+-- the same answers from the volumes v and w on: outcome, count and state of each call
 abbrev pub SameAnswers : Family → Volume → Volume → List Call → Type 0
 SameAnswers h v w [] = Unit {0}
 SameAnswers h v w (c ∷ cs) =
     (call h w c .outcome ≡ call h v c .outcome) × (call h w c .count ≡ call h v c .count)
-    × SameAnswers h (call h v c .volume) (call h w c .volume) cs
+    × (call h w c .volume .state ≡ call h v c .volume .state) × SameAnswers h (call h v c .volume) (call h w c .volume) cs
 
 -- a list of calls on the volume v, and on the worn volume w
 pub record SameRun (h : Family) (sizes : Sizes) (v w : Volume) (calls : List Call) : Type 0 where
@@ -74,5 +74,5 @@ pub record SameRun (h : Family) (sizes : Sizes) (v w : Volume) (calls : List Cal
   pub volume-is : after h w calls ≡ withSpare (after h w calls .flash .spare) (after h v calls)
   pub ops : opsOf h w calls ≡ opsOf h v calls
   pub flash-is : applyAll (unitOf sizes) (opsOf h w calls) (w .flash) ≡ after h w calls .flash
-  pub marks : MarksKept v (after h v calls) w (after h w calls)
+  pub spare-kept : SpareKept v (after h v calls) w (after h w calls)
   pub worn : Worn (spareSize (geometry sizes)) (after h v calls .flash .spare) (after h w calls .flash .spare)

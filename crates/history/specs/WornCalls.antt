@@ -61,11 +61,11 @@ module _ (h : Family) (v : Volume) (spare : List ℕ) where
   lookup-alike opened (some (found j)) = record { is = λ p l. refl }
 
   -- the search does not look at marks
-  search-same : (key : Key) → search h g w key ≡ search h g v key
+  pub search-same : (key : Key) → search h g w key ≡ search h g v key
   unfolding searchAt tryAt isDeleted maybeIn
   search-same key = refl
 
-  short-same : length spare ≡ length (v .flash .spare) → tooShort g (w .flash) (w .ram) ≡ tooShort g (v .flash) (v .ram)
+  pub short-same : length spare ≡ length (v .flash .spare) → tooShort g (w .flash) (w .ram) ≡ tooShort g (v .flash) (v .ram)
   unfolding tooShort
   short-same e = rw e
 

@@ -22,7 +22,7 @@ use Rattle.layout.specs.Index.{flushesPerRound, inL1, inSet, inFull, setBlocks}
 use Rattle.laws.specs.FreshLaws.{erased-fresh, programmed-not}
 use Rattle.history.specs.Image.{History, recordsIn, deletionsIn, filtersIn, areaSpareByte, indexSpareByte, spareImage}
 use Rattle.history.specs.ProgramOrder.{Below}
-use Rattle.history.specs.Worn.{wrongBits, mostWrong, MarkKept}
+use Rattle.history.specs.Worn.{wrongBits, mostWrong, ByteKept}
 
 -- ---- one mark
 
@@ -118,7 +118,7 @@ module _ (u : ℕ) where
   -- ---- what operations do to a mark, on two spare areas at once
 
   abbrev Kept : ℕ → Flash → Flash → Flash → Flash → Type 0
-  Kept x c d c′ d′ = MarkKept (getD (c .spare) x 0) (getD (d .spare) x 0) (getD (c′ .spare) x 0) (getD (d′ .spare) x 0)
+  Kept x c d c′ d′ = ByteKept (getD (c .spare) x 0) (getD (d .spare) x 0) (getD (c′ .spare) x 0) (getD (d′ .spare) x 0)
 
   pub kept-then : (x : ℕ) (c d e c′ d′ e′ : Flash) → Kept x c d c′ d′ → Kept x d e d′ e′ → Kept x c e c′ e′
   kept-then x c d e c′ d′ e′ p (inr q) = inr q
@@ -174,7 +174,7 @@ module _ (u : ℕ) where
       (one-kept o c c′ x e) (all-kept os (apply u o c) (apply u o c′) x (one-length o c′ ∙ e ∙ sym (one-length o c)))
 
 -- marks that are kept stay within three wrong bits
-pub kept-worn : (before after worn-before worn-after : ℕ) → MarkKept before after worn-before worn-after → wrongBits worn-before before ≤ mostWrong
+pub kept-worn : (before after worn-before worn-after : ℕ) → ByteKept before after worn-before worn-after → wrongBits worn-before before ≤ mostWrong
     → wrongBits worn-after after ≤ mostWrong
 unfolding onesIn
 kept-worn a b c d (inl p) few = rw (p .0, p .1) few

@@ -22,7 +22,7 @@ use Rattle.history.specs.Volumes.{Holds, volumeOf}
 use Rattle.history.specs.Steps.{call-done}
 use Rattle.history.specs.RunLaws.{less}
 use Rattle.history.specs.Reached.{Reached, mapAfter, reach, reach-call, reach-format}
-use Rattle.history.specs.Worn.{Worn, withSpare, MarkKept, SameResult, EachSame, SameRun}
+use Rattle.history.specs.Worn.{Worn, withSpare, ByteKept, SameResult, EachSame, SameRun}
 use Rattle.history.specs.WornLaws.{worn-fresh, image-sound, all-main, all-kept, kept-worn, kept-then}
 use Rattle.history.specs.WornCalls.{redone, call-alike}
 
@@ -38,7 +38,7 @@ module _ (v : Volume) (spare : List ℕ) (r : Result) (W : Worn (spareSize (geom
   abbrev worn : Flash
   worn = applyAll u (r .ops) (flashOf (v .flash .main) spare)
 
-  kept : (x : ℕ) → MarkKept (getD (v .flash .spare) x 0) (getD (r .volume .flash .spare) x 0) (getD spare x 0) (getD (worn .spare) x 0)
+  kept : (x : ℕ) → ByteKept (getD (v .flash .spare) x 0) (getD (r .volume .flash .spare) x 0) (getD spare x 0) (getD (worn .spare) x 0)
   kept x = rw done at (all-kept u (r .ops) (v .flash) (flashOf (v .flash .main) spare) x (W .long))
 
   redone-same : SameResult (v .state .sizes) v (withSpare spare v) r (redone spare v r)
@@ -50,7 +50,7 @@ module _ (v : Volume) (spare : List ℕ) (r : Result) (W : Worn (spareSize (geom
         (all-main u (r .ops) (v .flash) (flashOf (v .flash .main) spare) refl ∙ ap (λ (c : Flash). c .main) done);
     ops = refl;
     flash-is = refl;
-    marks = kept;
+    spare-kept = kept;
     worn = record {
       long =
           apply-spare-length u (r .ops) (flashOf (v .flash .main) spare) ∙ W .long ∙ sym (apply-spare-length u (r .ops) (v .flash))
@@ -104,12 +104,12 @@ module _ (h : Family) (sizes : Sizes) where
       (G : SameRun h sizes (call h v c .volume) (call h w c .volume) cs) where
     run-more : SameRun h sizes v w (c ∷ cs)
     run-more = record {
-      answers = (F .outcome, F .count, G .answers);
+      answers = (F .outcome, F .count, ap (λ (x : Volume). x .state) (F .volume-is), G .answers);
       volume-is = G .volume-is;
       ops = rw (F .ops, G .ops);
       flash-is = apply-append (unitOf sizes) (call h w c .ops) (opsOf h (call h w c .volume) cs) (w .flash) ∙ rw (F .flash-is) (G .flash-is);
-      marks = λ x. kept-then (unitOf sizes) x (v .flash) (call h v c .volume .flash) (after h (call h v c .volume) cs .flash) (w .flash)
-          (call h w c .volume .flash) (after h (call h w c .volume) cs .flash) (F .marks x) (G .marks x);
+      spare-kept = λ x. kept-then (unitOf sizes) x (v .flash) (call h v c .volume .flash) (after h (call h v c .volume) cs .flash) (w .flash)
+          (call h w c .volume .flash) (after h (call h w c .volume) cs .flash) (F .spare-kept x) (G .spare-kept x);
       worn = G .worn;
     }
 
@@ -123,7 +123,7 @@ module _ (h : Family) (sizes : Sizes) where
     volume-is = refl;
     ops = refl;
     flash-is = refl;
-    marks = λ x. inl (refl, refl);
+    spare-kept = λ x. inl (refl, refl);
     worn = W;
   }
   run-same v m spare (c ∷ cs) X k W =

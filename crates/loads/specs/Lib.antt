@@ -1,3 +1,4 @@
 pub mod LoadCalls
 pub mod LoadMap
 pub mod Moves
+pub mod WornLoads
