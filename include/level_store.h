@@ -6,7 +6,7 @@
  *
  * Lent bytes. Three arrays hold a volume; they need no alignment and must not overlap.
  *   data   the chip's data bytes        at least LEVEL_STORE_DATA_SIZE(S, R, D) bytes
- *   spare  one byte for each sector     at least LEVEL_STORE_SPARE_SIZE(S, R, D) bytes; FF is fresh, else programmed
+ *   spare  one byte for each sector     at least LEVEL_STORE_SPARE_SIZE(S, R, D) bytes
  *   ram    working memory               at least LEVEL_STORE_RAM_SIZE(S) bytes; between calls it belongs to the store
  * S is the sector size in bytes: 16, 32, 64, 128, 256 or 512. A page is four sectors, a block sixteen pages. R blocks hold the
  * records, D blocks the deletions; both are 1 to 4096. Longer arrays are allowed; bytes past these sizes never change. All
@@ -15,6 +15,9 @@
  * Filters. A level sets k bits in the filter of its page of keys, and a search opens the pages whose filter has all k of its
  * level's. k is 1 to 8, named by the format; on an unaltered volume it decides how many pages are opened, and no other answer. Of
  * random keys 4 opens the fewest; document 01's 3 opens 1.6 to 2.5 times as many (misses among 10^5 records).
+ *
+ * Spare bytes. A sector is fresh if five or more of the eight bits of its spare byte are one, else it is programmed. Erasing writes FF,
+ * programming writes 00; otherwise a spare byte is left as it is. So up to three wrong bits in each change no answer and no other byte.
  *
  * Power. The chip alone does not give a volume back: the pages that are not full yet (records, entries, deletions, filters) are in
  * ram only, and the counts in the state only. Save both, of the same moment, across power cycles. Where one of them is lost, so is
