@@ -4,22 +4,13 @@ use mathlib.Core.Path.{_≡_}
 use mathlib.Core.Logic.{_⊎_}
 use mathlib.Core.List.{List, [], _∷_}
 use Prim.Native.Nat.{ℕ, _≤_, _<_}
-use lib.Bits.{bitXor}
-use lib.Count.{onesIn}
 use lib.ListN.{length, getD}
 use Rattle.layout.specs.Geometry.{geometry, spareSize, Sizes, unitOf}
 use Rattle.layout.specs.Flash.{flashOf, applyAll}
 use Rattle.layout.specs.Hash.{Family}
 use Rattle.layout.specs.Calls.{Volume, Call, Result, call}
+use Rattle.laws.specs.FreshLaws.{Written, wrongBits, mostWrong}
 use Rattle.history.specs.Runs.{after, opsOf}
-
--- in how many of their eight bits two bytes differ
-abbrev pub wrongBits : ℕ → ℕ → ℕ
-wrongBits a b = onesIn 8 (bitXor a b)
-
--- as many may be wrong: FF with three zeros still has five ones, 00 with three ones has fewer
-abbrev pub mostWrong : ℕ
-mostWrong = 3
 
 -- a spare area whose first N marks have at most three wrong bits each; of the others nothing is asked
 pub record Worn (N : ℕ) (sound worn : List ℕ) : Type 0 where
@@ -30,9 +21,10 @@ pub record Worn (N : ℕ) (sound worn : List ℕ) : Type 0 where
 abbrev pub withSpare : List ℕ → Volume → Volume
 withSpare spare v = record { state = v .state; flash = flashOf (v .flash .main) spare; ram = v .ram }
 
--- a mark before and after on a sound chip, and on a worn one: it is as it was on both, or both have the same, programmed or erased
+-- a mark before and after on a sound chip, and on a worn one: it is as it was on both, or both are as programmed or as erased
 abbrev pub ByteKept : ℕ → ℕ → ℕ → ℕ → Type 0
-ByteKept before after worn-before worn-after = ((worn-after ≡ worn-before) × (after ≡ before)) ⊎ (worn-after ≡ after)
+ByteKept before after worn-before worn-after =
+    ((worn-after ≡ worn-before) × (after ≡ before)) ⊎ ((worn-after ≡ after) × Written after)
 
 -- all marks of volumes: v and v′ sound before and after, w and w′ worn
 abbrev pub SpareKept : Volume → Volume → Volume → Volume → Type 0
@@ -40,7 +32,7 @@ SpareKept v v′ w w′ =
     (x : ℕ)
     → ByteKept (getD (v .flash .spare) x 0) (getD (v′ .flash .spare) x 0) (getD (w .flash .spare) x 0) (getD (w′ .flash .spare) x 0)
 
--- the result r of a call on the volume v, and the result s of the same call on the worn volume w
+-- the result r of a format or a call on the volume v, and the result s of the same on the volume w, which differs in its spare area
 pub record SameResult (sizes : Sizes) (v w : Volume) (r s : Result) : Type 0 where
   -- the same answer
   pub outcome : s .outcome ≡ r .outcome
@@ -51,6 +43,10 @@ pub record SameResult (sizes : Sizes) (v w : Volume) (r s : Result) : Type 0 whe
   pub ops : s .ops ≡ r .ops
   pub flash-is : applyAll (unitOf sizes) (s .ops) (w .flash) ≡ s .volume .flash
   pub spare-kept : SpareKept v (r .volume) w (s .volume)
+
+-- the same of a call on the worn volume w, which it leaves with at most three wrong bits in a mark again
+pub record WornResult (sizes : Sizes) (v w : Volume) (r s : Result) : Type 0 where
+  pub same : SameResult sizes v w r s
   pub worn : Worn (spareSize (geometry sizes)) (r .volume .flash .spare) (s .volume .flash .spare)
 
 -- of each call of a list from the volume v on: before each, the chip may show any wrong bits, at most three in a mark
@@ -58,7 +54,7 @@ abbrev pub EachSame : Family → Sizes → Volume → List Call → Type 0
 EachSame h sizes v [] = Unit {0}
 EachSame h sizes v (c ∷ cs) =
     ((spare : List ℕ) → Worn (spareSize (geometry sizes)) (v .flash .spare) spare
-    → SameResult sizes v (withSpare spare v) (call h v c) (call h (withSpare spare v) c))
+    → WornResult sizes v (withSpare spare v) (call h v c) (call h (withSpare spare v) c))
     × EachSame h sizes (call h v c .volume) cs
 
 -- the same answers from the volumes v and w on: outcome, count and state of each call

@@ -1,4 +1,5 @@
--- One call on a volume with other marks: where those are as fresh and the call is not refused by 7, it is the same call.
+-- A call on a volume with other marks: where those are as fresh and the call is not refused by 7, it is the same call. A format on
+-- any other marks is the same format.
 use mathlib.Core.Path.{_≡_, refl, _∙_}
 use mathlib.Core.Bool.{Bool, true, false, _&&_, cond}
 use mathlib.Core.Option.{Option, none, some}
@@ -6,7 +7,7 @@ use mathlib.Core.List.{List}
 use Prim.Native.Nat.{ℕ, _<_}
 use lib.ListN.{length, getD}
 use Rattle.memory.specs.Cases.{either, bool?}
-use Rattle.layout.specs.Geometry.{Geometry, geometry, spareSize, unitOf}
+use Rattle.layout.specs.Geometry.{Geometry, geometry, allowed, spareSize, Sizes, unitOf}
 use Rattle.layout.specs.Flash.{flashOf, Op, fresh, applyAll, Planned, planOps, allFresh}
 use Rattle.layout.specs.Hash.{Family}
 use Rattle.layout.specs.Items.{Record}
@@ -16,29 +17,53 @@ use Rattle.layout.specs.Search.{Stop, found, corrupt}
 use Rattle.layout.specs.Calls.{Volume, Call, insert, update, delete, lookup, refused, Result, refuse, badState, tooShort, judgeFirst}
 use Rattle.layout.specs.Calls.{isDeleted, tryAt, maybeIn, searchAt, search, commit, noRoom, noDeletion, lookupAfter, Edit, one, change}
 use Rattle.layout.specs.Calls.{deletes, ramDeleted, inserts, ramInserted}
-use Rattle.layout.specs.Calls.{insertAfter, updateAfter, deleteAfter, answer, call}
+use Rattle.layout.specs.Calls.{formatted, format, insertAfter, updateAfter, deleteAfter, answer, call}
 use Rattle.history.specs.Runs.{Possible}
 use Rattle.history.specs.ProgramOrder.{Below}
 use Rattle.history.specs.Worn.{withSpare}
 use Rattle.history.specs.WornLaws.{plan-same, fresh-worn}
 
--- a result r of a call on v, with its operations done on another spare area
-abbrev pub redone : List ℕ → Volume → Result → Result
-redone spare v r =
+-- a result r of a format or a call on v, with its operations done on another spare area
+abbrev pub redone : Sizes → List ℕ → Volume → Result → Result
+redone sizes spare v r =
     record {
       outcome = r .outcome;
       count = r .count;
       volume = record {
         state = r .volume .state;
-        flash = applyAll (unitOf (v .state .sizes)) (r .ops) (flashOf (v .flash .main) spare);
+        flash = applyAll (unitOf sizes) (r .ops) (flashOf (v .flash .main) spare);
         ram = r .volume .ram;
       };
       ops = r .ops;
     }
 
+-- refusal 2 goes by lengths
+pub short-same : (g : Geometry) (v : Volume) (spare : List ℕ) → length spare ≡ length (v .flash .spare)
+    → tooShort g (flashOf (v .flash .main) spare) (v .ram) ≡ tooShort g (v .flash) (v .ram)
+unfolding tooShort
+short-same g v spare e = rw e
+
+-- ---- a format
+
+pub format-alike : (v : Volume) (sizes : Sizes) (spare : List ℕ) → length spare ≡ length (v .flash .spare)
+    → format (withSpare spare v) sizes ≡ redone sizes spare v (format v sizes)
+unfolding format formatted
+format-alike v sizes spare long =
+    rw (short-same (geometry sizes) v spare long) (either (bool? (allowed sizes))
+    (λ a. either (bool? (tooShort (geometry sizes) (v .flash) (v .ram))) (λ b. rw (a, b)) (λ b. rw (a, b))) (λ a. rw a))
+
+-- its operations give the flash that it leaves
+pub format-done : (v : Volume) (sizes : Sizes) → applyAll (unitOf sizes) (format v sizes .ops) (v .flash) ≡ format v sizes .volume .flash
+unfolding format formatted
+format-done v sizes =
+    either (bool? (allowed sizes))
+    (λ a. either (bool? (tooShort (geometry sizes) (v .flash) (v .ram))) (λ b. rw (a, b)) (λ b. rw (a, b))) (λ a. rw a)
+
+-- ---- a call
+
 -- results of a call on v and on v with another spare area
 record Alike (v : Volume) (spare : List ℕ) (r s : Result) : Type 0 where
-  is : Possible (r .outcome) → Below (spareSize (geometry (v .state .sizes))) (r .ops) → s ≡ redone spare v r
+  is : Possible (r .outcome) → Below (spareSize (geometry (v .state .sizes))) (r .ops) → s ≡ redone (v .state .sizes) spare v r
 
 module _ (h : Family) (v : Volume) (spare : List ℕ) where
   abbrev g : Geometry
@@ -64,10 +89,6 @@ module _ (h : Family) (v : Volume) (spare : List ℕ) where
   pub search-same : (key : Key) → search h g w key ≡ search h g v key
   unfolding searchAt tryAt isDeleted maybeIn
   search-same key = refl
-
-  pub short-same : length spare ≡ length (v .flash .spare) → tooShort g (w .flash) (w .ram) ≡ tooShort g (v .flash) (v .ram)
-  unfolding tooShort
-  short-same e = rw e
 
   -- nor does what a change plans
   deleted-same : (o : Option ℕ) → (deletes g w o ≡ deletes g v o) × (ramDeleted g w o ≡ ramDeleted g v o)
@@ -126,10 +147,10 @@ module _ (h : Family) (v : Volume) (spare : List ℕ) where
     all-alike : (c : Call) → length spare ≡ length (v .flash .spare) → Alike v spare (call h v c) (call h w c)
     unfolding call judgeFirst
     all-alike c long =
-        rw (short-same long)
+        rw (short-same g v spare long)
         (alike-either (badState (v .state)) _ _ _ _ (refuse-alike refusal.badState)
         (alike-either (tooShort g (v .flash) (v .ram)) _ _ _ _ (refuse-alike refusal.tooShort) (answer-alike c)))
 
     pub call-alike : (c : Call) → length spare ≡ length (v .flash .spare) → Possible (call h v c .outcome)
-        → Below (spareSize g) (call h v c .ops) → call h w c ≡ redone spare v (call h v c)
+        → Below (spareSize g) (call h v c .ops) → call h w c ≡ redone (v .state .sizes) spare v (call h v c)
     call-alike c long possible low = all-alike c long .is possible low

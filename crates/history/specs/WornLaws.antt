@@ -1,17 +1,13 @@
--- A mark with up to three wrong bits is as fresh as the sound one, and so a call on worn marks is the call on sound ones.
+-- What operations do to two spare areas at once, and what worn marks decide: as those of a history do.
 use mathlib.Core.Path.{_≡_, refl, sym, ap, _∙_}
 use mathlib.Core.Logic.{_⊎_, inl, inr}
 use mathlib.Core.Bool.{Bool, true, false, cond}
 use mathlib.Core.List.{List, [], _∷_}
-use Prim.Native.Nat.{ℕ, zero, suc, _+_, _-_, _*_, _/_, _%_, _^_, _≤_, _<_}
+use Prim.Native.Nat.{ℕ, _+_, _-_, _*_, _/_, _%_, _≤_, _<_}
 use native.Mathlib.Omega.{arith}
-use lib.Bits.{bitXor, differ, xor-step, xor-zero-r, xor-self}
-use lib.Count.{onesIn}
 use lib.Dec.{ltb, eqb}
 use lib.ListN.{length, getD, set, replicate, length-set, length-replicate, getD-replicate, List·getD-eq-default}
-use lib.Pow.{pow-pos}
 use lib.Seq.{getD-set-same, getD-set-other}
-use borrow.Author.Tests.{le-leb, lt-leb}
 use Rattle.memory.specs.Cases.{either, lt?, eq?}
 use Rattle.memory.specs.Lists.{write, length-write, getD-write-before, getD-write-in, getD-write-after}
 use Rattle.layout.specs.Geometry.{Geometry, sectorsPerPage, sectorsPerBlock, sector, block, sideBlocks, kaBlock, daBlock, indexBlock}
@@ -19,77 +15,87 @@ use Rattle.layout.specs.Flash.{Flash, Op, program, erase, fresh, apply, applyAl
 use Rattle.layout.specs.Flash.{allFresh}
 use Rattle.layout.specs.Items.{Area, RA, KA, DA}
 use Rattle.layout.specs.Index.{flushesPerRound, inL1, inSet, inFull, setBlocks}
-use Rattle.laws.specs.FreshLaws.{erased-fresh, programmed-not}
+use Rattle.laws.specs.FreshLaws.{Written, wrongBits, mostWrong, none-wrong}
 use Rattle.history.specs.Image.{History, recordsIn, deletionsIn, filtersIn, areaSpareByte, indexSpareByte, spareImage}
 use Rattle.history.specs.ProgramOrder.{Below}
-use Rattle.history.specs.Worn.{wrongBits, mostWrong, ByteKept}
-
--- ---- one mark
-
--- what programming and erasing write
-abbrev pub Sound : ℕ → Type 0
-Sound mark = (mark ≡ 0) ⊎ (mark ≡ 255)
-
-differ-one : (x : ℕ) → x < 2 → differ x 1 ≡ 1 - x
-differ-one zero l = refl
-differ-one (suc zero) l = refl
-differ-one (suc (suc x)) l = absurd (omega arith)
-
--- the ones of d bits, and those of the d bits flipped, are d
-ones-flip : (d a : ℕ) → onesIn d a + onesIn d (bitXor a (2 ^ d - 1)) ≡ d
-unfolding onesIn
-ones-flip zero a = refl
-ones-flip (suc d) a =
-    let p : 0 < 2 ^ d = pow-pos d in
-    let half : (2 ^ suc d - 1) / 2 ≡ 2 ^ d - 1 = omega (arith, p) in
-    let odd : (2 ^ suc d - 1) % 2 ≡ 1 = omega (arith, p) in
-    let low : a % 2 < 2 = omega arith in
-    let step : bitXor a (2 ^ suc d - 1) ≡ bitXor (a / 2) (2 ^ d - 1) * 2 + (1 - a % 2)
-    = xor-step a (2 ^ suc d - 1) ∙ rw (half, odd, differ-one (a % 2) low) in
-    let high : bitXor a (2 ^ suc d - 1) / 2 ≡ bitXor (a / 2) (2 ^ d - 1) = omega (arith, step, low) in
-    let last : bitXor a (2 ^ suc d - 1) % 2 ≡ 1 - a % 2 = omega (arith, step, low) in
-    rw (high, last) (omega (arith, ones-flip d (a / 2), low))
-
--- a mark decides as the sound one does
-pub worn-fresh : (worn sound : ℕ) → Sound sound → wrongBits worn sound ≤ mostWrong → fresh worn ≡ fresh sound
-unfolding fresh
-worn-fresh worn sound (inl z) few =
-    let e : wrongBits worn sound ≡ onesIn 8 worn = rw z (ap (onesIn 8) (xor-zero-r worn)) in
-    lt-leb 5 (onesIn 8 worn) (omega (arith, e, few)) ∙ rw z (sym programmed-not)
-worn-fresh worn sound (inr o) few =
-    let e : wrongBits worn sound ≡ onesIn 8 (bitXor worn 255) = rw o in
-    let f : onesIn 8 worn + onesIn 8 (bitXor worn 255) ≡ 8 = ones-flip 8 worn in
-    le-leb 5 (onesIn 8 worn) (omega (arith, e, f, few)) ∙ rw o (sym erased-fresh)
+use Rattle.history.specs.Worn.{ByteKept}
 
 -- ---- the marks of a history are 00 and FF
 
-sound-if : (t : Bool) (a b : ℕ) → Sound a → Sound b → Sound (cond t a b)
-sound-if true a b p q = p
-sound-if false a b p q = q
+written-if : (t : Bool) (a b : ℕ) → Written a → Written b → Written (cond t a b)
+written-if true a b p q = p
+written-if false a b p q = q
 
-either-sound : (t : Bool) → Sound (cond t 0 255)
-either-sound t = sound-if t 0 255 (inl refl) (inr refl)
+either-written : (t : Bool) → Written (cond t 0 255)
+either-written t = written-if t 0 255 (inl refl) (inr refl)
 
-area-sound : (a : Area) (n x : ℕ) → Sound (areaSpareByte a n x)
-area-sound a n x = either-sound (ltb x (n / a .perPage * sectorsPerPage))
+area-written : (a : Area) (n x : ℕ) → Written (areaSpareByte a n x)
+area-written a n x = either-written (ltb x (n / a .perPage * sectorsPerPage))
 
-index-sound : (u N x : ℕ) → Sound (indexSpareByte u N x)
-index-sound u N x =
-    sound-if (ltb x sectorsPerBlock) _ _ (either-sound (ltb (x % flushesPerRound) (inL1 N)))
-    (sound-if (ltb x ((1 + sideBlocks u) * sectorsPerBlock)) _ _
-    (sound-if (eqb (inSet u N % 2) 1) _ _ (either-sound (ltb (x - sectorsPerBlock) (setBlocks (inSet u N) * sectorsPerBlock))) (inr refl))
-    (sound-if (ltb x ((1 + 2 * sideBlocks u) * sectorsPerBlock)) _ _
-    (sound-if (eqb (inSet u N % 2) 1) _ _ (inr refl)
-    (either-sound (ltb (x - (1 + sideBlocks u) * sectorsPerBlock) (setBlocks (inSet u N) * sectorsPerBlock))))
-    (either-sound (ltb ((x - (1 + 2 * sideBlocks u) * sectorsPerBlock) / (sideBlocks u * sectorsPerBlock)) (inFull u N)))))
+index-written : (u N x : ℕ) → Written (indexSpareByte u N x)
+index-written u N x =
+    written-if (ltb x sectorsPerBlock) _ _ (either-written (ltb (x % flushesPerRound) (inL1 N)))
+    (written-if (ltb x ((1 + sideBlocks u) * sectorsPerBlock)) _ _
+    (written-if (eqb (inSet u N % 2) 1) _ _
+    (either-written (ltb (x - sectorsPerBlock) (setBlocks (inSet u N) * sectorsPerBlock))) (inr refl))
+    (written-if (ltb x ((1 + 2 * sideBlocks u) * sectorsPerBlock)) _ _
+    (written-if (eqb (inSet u N % 2) 1) _ _ (inr refl)
+    (either-written (ltb (x - (1 + sideBlocks u) * sectorsPerBlock) (setBlocks (inSet u N) * sectorsPerBlock))))
+    (either-written (ltb ((x - (1 + 2 * sideBlocks u) * sectorsPerBlock) / (sideBlocks u * sectorsPerBlock)) (inFull u N)))))
 
-pub image-sound : (g : Geometry) (H : History) (x : ℕ) → Sound (spareImage g H x)
+pub image-written : (g : Geometry) (H : History) (x : ℕ) → Written (spareImage g H x)
 unfolding spareImage
-image-sound g H x =
-    sound-if (ltb x (kaBlock g * sectorsPerBlock)) _ _ (area-sound (RA g) (recordsIn H) x)
-    (sound-if (ltb x (daBlock g * sectorsPerBlock)) _ _ (area-sound (KA g) (recordsIn H) (x - kaBlock g * sectorsPerBlock))
-    (sound-if (ltb x (indexBlock g * sectorsPerBlock)) _ _ (area-sound (DA g) (deletionsIn H) (x - daBlock g * sectorsPerBlock))
-    (index-sound (g .u) (filtersIn g H) (x - indexBlock g * sectorsPerBlock))))
+image-written g H x =
+    written-if (ltb x (kaBlock g * sectorsPerBlock)) _ _ (area-written (RA g) (recordsIn H) x)
+    (written-if (ltb x (daBlock g * sectorsPerBlock)) _ _ (area-written (KA g) (recordsIn H) (x - kaBlock g * sectorsPerBlock))
+    (written-if (ltb x (indexBlock g * sectorsPerBlock)) _ _ (area-written (DA g) (deletionsIn H) (x - daBlock g * sectorsPerBlock))
+    (index-written (g .u) (filtersIn g H) (x - indexBlock g * sectorsPerBlock))))
+
+-- ---- what one operation does to a byte of two spare areas
+
+-- a place of neither area reads as before, whatever is written
+past-kept : (a a′ b b′ : List ℕ) (x : ℕ) → length b ≡ length a → length b′ ≡ length a′ → length a′ ≡ length a → length a ≤ x
+    → ByteKept (getD a x 0) (getD b x 0) (getD a′ x 0) (getD b′ x 0)
+past-kept a a′ b b′ x p q e l = inl (
+  List·getD-eq-default b′ 0 (omega arith) ∙ sym (List·getD-eq-default a′ 0 (omega arith)),
+  List·getD-eq-default b 0 (omega arith) ∙ sym (List·getD-eq-default a 0 l),
+)
+
+-- bytes that an operation writes to both
+both-written : (a b c d k : ℕ) → Written k → b ≡ k → d ≡ k → ByteKept a b c d
+both-written a b c d k w p q = inr (q ∙ sym p, rw p w)
+
+program-kept : (a a′ : List ℕ) (s x : ℕ) → length a′ ≡ length a
+    → ByteKept (getD a x 0) (getD (set a s 0) x 0) (getD a′ x 0) (getD (set a′ s 0) x 0)
+program-kept a a′ s x e =
+    either (lt? x (length a))
+    (λ l. either (eq? x s)
+    (λ p. both-written _ _ _ _ 0 (inl refl) (rw (p .1) (getD-set-same a s 0 0 (omega arith)))
+    (rw (p .1) (getD-set-same a′ s 0 0 (omega (arith, e)))))
+    (λ p. inl (getD-set-other a′ s x 0 0 (p .1), getD-set-other a s x 0 0 (p .1))))
+    (λ l. past-kept a a′ (set a s 0) (set a′ s 0) x (length-set a s 0) (length-set a′ s 0) e (l .1))
+
+erase-at : (a : List ℕ) (b x : ℕ) → b * 64 ≤ x → x < b * 64 + 64 → x < length a → getD (write a (b * 64) (replicate 64 255)) x 0 ≡ 255
+erase-at a b x low high l =
+    let z : length (replicate {A = ℕ} 64 255) ≡ 64 = length-replicate {A = ℕ} 64 255 in
+    getD-write-in a (b * 64) (replicate 64 255) x 0 low (omega arith) l ∙ getD-replicate 64 (x - b * 64) 255 0 (omega arith)
+
+erase-kept : (a a′ : List ℕ) (b x : ℕ) → length a′ ≡ length a
+    → ByteKept (getD a x 0) (getD (write a (b * 64) (replicate 64 255)) x 0) (getD a′ x 0) (getD (write a′ (b * 64) (replicate 64 255)) x 0)
+erase-kept a a′ b x e =
+    let z : length (replicate {A = ℕ} 64 255) ≡ 64 = length-replicate {A = ℕ} 64 255 in
+    let erased : List ℕ = replicate 64 255 in
+    either (lt? x (length a))
+    (λ l. either (lt? x (b * 64))
+    (λ p. inl (getD-write-before a′ (b * 64) erased x 0 (p .1), getD-write-before a (b * 64) erased x 0 (p .1)))
+    (λ p. either (lt? x (b * 64 + 64))
+    (λ q. both-written _ _ _ _ 255 (inr refl) (erase-at a b x (p .1) (q .1) (l .1)) (erase-at a′ b x (p .1) (q .1) (omega (arith, e))))
+    (λ q. inl (
+      getD-write-after a′ (b * 64) erased x 0 (omega (arith, z, q .1)),
+      getD-write-after a (b * 64) erased x 0 (omega (arith, z, q .1)),
+    ))))
+    (λ l. past-kept a a′ (write a (b * 64) erased) (write a′ (b * 64) erased) x (length-write a (b * 64) erased)
+    (length-write a′ (b * 64) erased) e (l .1))
 
 -- ---- operations do not look at marks
 
@@ -115,7 +121,7 @@ module _ (u : ℕ) where
       (ap (λ (t : List Op). opOn p c ∷ t)
       (plan-same ps (apply u (opOn p c) c) (apply u (opOn p c) c′) (apply-main (opOn p c) c c′ e)))
 
-  -- ---- what operations do to a mark, on two spare areas at once
+  -- ---- what lists of operations do to a mark, on two spare areas at once
 
   abbrev Kept : ℕ → Flash → Flash → Flash → Flash → Type 0
   Kept x c d c′ d′ = ByteKept (getD (c .spare) x 0) (getD (d .spare) x 0) (getD (c′ .spare) x 0) (getD (d′ .spare) x 0)
@@ -123,44 +129,11 @@ module _ (u : ℕ) where
   pub kept-then : (x : ℕ) (c d e c′ d′ e′ : Flash) → Kept x c d c′ d′ → Kept x d e d′ e′ → Kept x c e c′ e′
   kept-then x c d e c′ d′ e′ p (inr q) = inr q
   kept-then x c d e c′ d′ e′ (inl p) (inl q) = inl (q .0 ∙ p .0, q .1 ∙ p .1)
-  kept-then x c d e c′ d′ e′ (inr p) (inl q) = inr (q .0 ∙ p ∙ sym (q .1))
-
-  set-at : (l : List ℕ) (s : ℕ) → getD (set l s 0) s 0 ≡ 0
-  set-at l s =
-      either (lt? s (length l)) (λ a. getD-set-same l s 0 0 (a .1))
-      (λ a. List·getD-eq-default (set l s 0) 0 (omega (arith, length-set l s 0, a .1)))
-
-  -- a block's marks that are there
-  abbrev erasedMark : List ℕ → ℕ → ℕ
-  erasedMark l x = cond (ltb x (length l)) 255 0
-
-  erase-at : (l : List ℕ) (b x : ℕ) → b * 64 ≤ x → x < b * 64 + 64 → getD (write l (b * 64) (replicate 64 255)) x 0 ≡ erasedMark l x
-  erase-at l b x low high =
-      let z : length (replicate {A = ℕ} 64 255) ≡ 64 = length-replicate {A = ℕ} 64 255 in
-      either (lt? x (length l))
-      (λ a. rw (a .0) (getD-write-in l (b * 64) (replicate 64 255) x 0 low (omega arith) (a .1)
-      ∙ getD-replicate 64 (x - b * 64) 255 0 (omega arith)))
-      (λ a. rw (a .0) (List·getD-eq-default (write l (b * 64) (replicate 64 255)) 0
-      (omega (arith, length-write l (b * 64) (replicate {A = ℕ} 64 255), a .1))))
+  kept-then x c d e c′ d′ e′ (inr p) (inl q) = inr (q .0 ∙ p .0 ∙ sym (q .1), rw (q .1) (p .1))
 
   one-kept : (o : Op) (c c′ : Flash) (x : ℕ) → length (c′ .spare) ≡ length (c .spare) → Kept x c (apply u o c) c′ (apply u o c′)
-  one-kept (program s bytes) c c′ x e =
-      either (eq? x s)
-      (λ a. inr (rw (a .1) (set-at (c′ .spare) s ∙ sym (set-at (c .spare) s))))
-      (λ a. inl (getD-set-other (c′ .spare) s x 0 0 (a .1), getD-set-other (c .spare) s x 0 0 (a .1)))
-  one-kept (erase b) c c′ x e =
-      let z : length (replicate {A = ℕ} 64 255) ≡ 64 = length-replicate {A = ℕ} 64 255 in
-      either (lt? x (b * 64))
-      (λ p. inl (
-        getD-write-before (c′ .spare) (b * 64) (replicate 64 255) x 0 (p .1),
-        getD-write-before (c .spare) (b * 64) (replicate 64 255) x 0 (p .1),
-      ))
-      (λ p. either (lt? x (b * 64 + 64))
-      (λ q. inr (erase-at (c′ .spare) b x (p .1) (q .1) ∙ rw e (sym (erase-at (c .spare) b x (p .1) (q .1)))))
-      (λ q. inl (
-        getD-write-after (c′ .spare) (b * 64) (replicate 64 255) x 0 (omega (arith, z, q .1)),
-        getD-write-after (c .spare) (b * 64) (replicate 64 255) x 0 (omega (arith, z, q .1)),
-      )))
+  one-kept (program s bytes) c c′ x e = program-kept (c .spare) (c′ .spare) s x e
+  one-kept (erase b) c c′ x e = erase-kept (c .spare) (c′ .spare) b x e
 
   one-length : (o : Op) (c : Flash) → length (apply u o c .spare) ≡ length (c .spare)
   one-length (program s bytes) c = length-set (c .spare) s 0
@@ -174,11 +147,10 @@ module _ (u : ℕ) where
       (one-kept o c c′ x e) (all-kept os (apply u o c) (apply u o c′) x (one-length o c′ ∙ e ∙ sym (one-length o c)))
 
 -- marks that are kept stay within three wrong bits
-pub kept-worn : (before after worn-before worn-after : ℕ) → ByteKept before after worn-before worn-after → wrongBits worn-before before ≤ mostWrong
-    → wrongBits worn-after after ≤ mostWrong
-unfolding onesIn
+pub kept-worn : (before after worn-before worn-after : ℕ) → ByteKept before after worn-before worn-after
+    → wrongBits worn-before before ≤ mostWrong → wrongBits worn-after after ≤ mostWrong
 kept-worn a b c d (inl p) few = rw (p .0, p .1) few
-kept-worn a b c d (inr p) few = rw (p, xor-self b) (omega arith)
+kept-worn a b c d (inr p) few = rw (p .0, none-wrong b) (omega arith)
 
 -- ---- refusal 7
 
