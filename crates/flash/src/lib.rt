@@ -12,20 +12,20 @@ ghost use Rattle.flash.specs.Fresh.{freshRun};
 ghost use Rattle.flash.specs.Sectors.{programmedRow};
 use geometry::Chip;
 
-// What an erased byte and the mark of a fresh sector hold.
+// What erasing writes, to the main area and to the spare area.
 const ERASED: u8 = 255;
 
-// The mark of a programmed sector.
+// What programming a sector writes to its spare byte.
 const PROGRAMMED: u8 = 0;
 
-// A mark with at least so many ones is fresh: up to three of its bits may be wrong.
+// A spare byte with at least so many ones is fresh: up to three of its bits may be wrong.
 const FRESH_ONES: u32 = 5;
 
-// Is the mark fresh.
-fn is_fresh(mark: u8) -> bool
-    ensures { λ r. ⌜ r ≡ fresh mark ⌝ }
+// Is the spare byte fresh.
+fn is_fresh(byte: u8) -> bool
+    ensures { λ r. ⌜ r ≡ fresh byte ⌝ }
 {
-    u8::count_ones(mark) >= FRESH_ONES
+    u8::count_ones(byte) >= FRESH_ONES
 }
 
 // One sector operation: sector s gets the bytes of src.
@@ -93,7 +93,7 @@ pub fn erase_blocks(chip: Chip, b: usize, k: usize, main: &mut [u8], spare: &mut
     }
 }
 
-// Are sectors s, s + stride, .. fresh, k of them. Each mark is tested by itself, and all are, so that many are counted at once.
+// Are sectors s, s + stride, .. fresh, k of them. Each spare byte is tested by itself, and all are, so that many are counted at once.
 pub fn all_fresh(s: usize, stride: usize, k: usize, spare: &[u8]) -> bool
     requires { ⌜ s + k * stride < length (now spare) + stride ⌝ }
     ensures { λ r. ⌜ r ≡ freshRun (before spare) stride s k ⌝ }

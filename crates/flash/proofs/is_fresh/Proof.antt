@@ -9,7 +9,7 @@ use Rattle.flash.proofs.is_fresh.Tie as tie
 
 returns : tie.Need-returns
 unfolding fresh
-returns c = ap (λ (x : ℕ). leb 5 x) (ones-in 8 (c .args .mark) (omega arith))
+returns c = ap (λ (x : ℕ). leb 5 x) (ones-in 8 (c .args .byte) (omega arith))
 
 pub is-fresh-spec : {M : Type 1} → statement M
 is-fresh-spec = tie.close (tie.spec returns)
