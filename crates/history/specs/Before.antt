@@ -1,5 +1,6 @@
 -- A history and a later one: histories only grow at their ends.
 use mathlib.Core.Path.{_≡_, refl, ap, _∙_}
+use mathlib.Core.Option.{Option, none, some}
 use mathlib.Core.List.{List, [], _∷_, _++_}
 use Prim.Native.Nat.{ℕ, _≤_, _<_}
 use native.Mathlib.Omega.{arith}
@@ -8,8 +9,8 @@ use Rattle.layout.specs.Items.{Record, noRecord}
 use Rattle.layout.specs.Hash.{Family}
 use Rattle.layout.specs.Calls.{Volume, Call, insert, update, delete, lookup, Outcome, accepted, hit, miss, refused, call}
 use Rattle.history.specs.Image.{History, recordAt}
-use Rattle.history.specs.Live.{findLive, withRecord, withDeletion}
-use Rattle.history.specs.Runs.{number, grow, growIf, historyOf}
+use Rattle.history.specs.Live.{findLive, withRecord, withDeletion, withoutLive}
+use Rattle.history.specs.Runs.{grow, growIf, historyOf}
 
 pub record Before (H₀ H : History) : Type 0 where
   pub records-more : List Record
@@ -58,12 +59,16 @@ before-record H r = record { records-more = r ∷ []; records-are = refl; delete
 before-deletion : (H : History) (j : ℕ) → Before H (withDeletion H j)
 before-deletion H j = record { records-more = []; records-are = append-nil (H .records); deleted-more = j ∷ []; deleted-are = refl }
 
+before-without : (H : History) (o : Option ℕ) → Before H (withoutLive H o)
+before-without H none = before-same H
+before-without H (some j) = before-deletion H j
+
 before-grow : (H : History) (c : Call) → Before H (grow H c)
 before-grow H (insert r) = before-record H r
 before-grow H (update r) =
-    let D : History = withDeletion H (number (findLive H (r .key))) in
-    before-then H D (withRecord D r) (before-deletion H (number (findLive H (r .key)))) (before-record D r)
-before-grow H (delete key) = before-deletion H (number (findLive H key))
+    let D : History = withoutLive H (findLive H (r .key)) in
+    before-then H D (withRecord D r) (before-without H (findLive H (r .key))) (before-record D r)
+before-grow H (delete key) = before-without H (findLive H key)
 before-grow H (lookup key) = before-same H
 
 before-growIf : (o : Outcome) (H : History) (c : Call) → Before H (growIf o H c)

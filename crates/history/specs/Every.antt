@@ -69,7 +69,7 @@ module _ (h : Family) (g : Geometry) (v : Volume) where
 
   update-keeps : (r : Record) (s : Option Stop) → Keeps v (updateAfter h g v r s)
   update-keeps r (some corrupt) = refuse-keeps v refusal.corruptEntry
-  update-keeps r none = refuse-keeps v refusal.absent
+  update-keeps r none = change-keeps _
   update-keeps r (some (found j)) = change-keeps _
 
   delete-keeps : (s : Option Stop) → Keeps v (deleteAfter h g v s)
@@ -160,7 +160,7 @@ module _ (h : Family) (g : Geometry) (v : Volume) (m : ℕ) where
 
   update-most : (r : Record) (s : Option Stop) → Most m (updateAfter h g v r s)
   update-most r (some corrupt) = refuse-most m v refusal.corruptEntry
-  update-most r none = refuse-most m v refusal.absent
+  update-most r none = change-most _
   update-most r (some (found j)) = change-most _
 
   delete-most : (s : Option Stop) → Most m (deleteAfter h g v s)
@@ -317,7 +317,7 @@ module _ (h : Family) (sizes : Sizes) (ok : SizesSound sizes) where
     update-kept : (r : Record) (s : Option Stop) → Kept v (updateAfter h g v r s)
     unfolding change
     update-kept r (some corrupt) = refuse-kept v refusal.corruptEntry
-    update-kept r none = refuse-kept v refusal.absent
+    update-kept r none = insert-kept r none
     update-kept r (some (found j)) =
         kept-either v (noRoom g v) _ _ (λ a. refuse-kept v refusal.full)
         (λ a. kept-either v (noDeletion g v) _ _ (λ b. refuse-kept v refusal.deletionsFull)

@@ -10,7 +10,7 @@ use lib.Dec.{leb}
 use Rattle.memory.specs.Cases.{either}
 use Rattle.memory.specs.Ranges.{last, last-some, memb}
 use Rattle.layout.specs.Keys.{Key, sameKey}
-use Rattle.layout.specs.Calls.{Call, insert, update, delete, lookup}
+use Rattle.layout.specs.Calls.{Call, insert, update, delete, lookup, one}
 use Rattle.layout.specs.Refusals as refusal
 use Rattle.layout.specs.FiniteMap.{Level, levelOf, Map, emptyMap, find, Reply, accepts, hits, misses, refuses}
 use Rattle.layout.specs.Items.{Record, recordBytes}
@@ -35,6 +35,11 @@ withRecord H r = record { records = H .records ++ (r ∷ []); deleted = H .delet
 abbrev pub withDeletion : History → ℕ → History
 withDeletion H j = record { records = H .records; deleted = H .deleted ++ (j ∷ []) }
 
+-- of a live record, if there is one
+abbrev pub withoutLive : History → Option ℕ → History
+withoutLive H none = H
+withoutLive H (some j) = withDeletion H j
+
 abbrev pub emptyHistory : History
 emptyHistory = record { records = []; deleted = [] }
 
@@ -54,11 +59,10 @@ insertHistory capacity H r none =
     cond (leb capacity (length (H .records))) (historyStep (refuses refusal.full) H) (historyStep accepts (withRecord H r))
 
 abbrev pub updateHistory : ℕ → ℕ → History → Record → Option ℕ → HistoryStep
-updateHistory capacity deletionCapacity H r none = historyStep (refuses refusal.absent) H
-updateHistory capacity deletionCapacity H r (some j) =
+updateHistory capacity deletionCapacity H r o =
     cond (leb capacity (length (H .records))) (historyStep (refuses refusal.full) H)
-    (cond (leb deletionCapacity (length (H .deleted))) (historyStep (refuses refusal.deletionsFull) H)
-    (historyStep accepts (withRecord (withDeletion H j) r)))
+    (cond (one o && leb deletionCapacity (length (H .deleted))) (historyStep (refuses refusal.deletionsFull) H)
+    (historyStep accepts (withRecord (withoutLive H o) r)))
 
 abbrev pub deleteHistory : ℕ → History → Option ℕ → HistoryStep
 deleteHistory deletionCapacity H none = historyStep (refuses refusal.absent) H

@@ -254,7 +254,11 @@ module _ (capacity deletionCapacity : ℕ) where
 
   update-same : (H : History) (M : Map) (r : Record) (o : Option ℕ) → Live H M → findLive H (r .key) ≡ o
       → Same (updateHistory capacity deletionCapacity H r o) (updateMap capacity deletionCapacity M (levelOf r) (Option·map (levelAt H) o))
-  update-same H M r none L e = (refl, L)
+  update-same H M r none L e =
+      either (room L) (λ t. rw (t .0, t .1) (refl, L)) (λ t. rw (t .0, t .1, gone) (refl, Live-record H M r L e))
+    where
+      gone : without (r .key) (M .levels) ≡ M .levels
+      gone = without-absent (r .key) (M .levels) (L .same (r .key) ∙ rw e)
   update-same H M r (some j) L e =
       either (room L)
       (λ t. rw (t .0, t .1) (refl, L))

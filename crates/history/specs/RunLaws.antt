@@ -23,13 +23,13 @@ use Rattle.layout.specs.FiniteMap.{Map, Reply, accepts, hits, misses, refuses, 
 use Rattle.history.specs.FlashLaws.{AllAllowed, apply-append, allowed-append, erases-main-in, erases-main-out, erases-spare-in}
 use Rattle.history.specs.FlashLaws.{erases-spare-out, apply-main-length, apply-spare-length}
 use Rattle.history.specs.Image.{History, raItem, kaItem, daItem, keyFilter}
-use Rattle.history.specs.Live.{findLive, withRecord, withDeletion, emptyHistory, Live, stepHistory}
+use Rattle.history.specs.Live.{findLive, withRecord, withoutLive, emptyHistory, Live, stepHistory}
 use Rattle.history.specs.MapLaws.{step-same, Live-deletion}
 use Rattle.history.specs.Frames.{Beyond, beyond-same, beyond-then}
 use Rattle.history.specs.Parts.{Parts, long-kept}
 use Rattle.history.specs.AreaLaws.{area-start}
 use Rattle.history.specs.IndexLaws.{index-start}
-use Rattle.history.specs.Runs.{KeyWords, number, after, opsOf, replyOf, ResultAgrees, EachAgrees, growIf, grow, historyOf}
+use Rattle.history.specs.Runs.{KeyWords, after, opsOf, replyOf, ResultAgrees, EachAgrees, growIf, grow, historyOf}
 use Rattle.history.specs.ProgramOrder.{Below, below-append}
 use Rattle.history.specs.Volumes.{Holds, volumeOf}
 use Rattle.history.specs.Steps.{CallDone, call-done}
@@ -63,12 +63,14 @@ module _ (capacity room : ℕ) where
     where
       go : (o : Option ℕ) → findLive H (r .key) ≡ o
           → growBy (stepHistory capacity room H (update r) .says) H (update r) ≡ stepHistory capacity room H (update r) .next
-      go none q = rw q
+      go none q =
+          either (bool? (leb capacity (length (H .records)))) (λ c. rw (q, c))
+          (λ c. rw (q, c) (ap (λ (o : Option ℕ). withRecord (withoutLive H o) r) q))
       go (some j) q =
           either (bool? (leb capacity (length (H .records))))
           (λ c. rw (q, c))
           (λ c. either (bool? (leb room (length (H .deleted)))) (λ b. rw (q, c, b)) (λ b.
-          rw (q, c, b) (ap (λ (o : Option ℕ). withRecord (withDeletion H (number o)) r) q)))
+          rw (q, c, b) (ap (λ (o : Option ℕ). withRecord (withoutLive H o) r) q)))
   grow-step H (delete key) = go (findLive H key) refl
     where
       go : (o : Option ℕ) → findLive H key ≡ o
@@ -76,7 +78,7 @@ module _ (capacity room : ℕ) where
       go none q = rw q
       go (some j) q =
           either (bool? (leb room (length (H .deleted)))) (λ b. rw (q, b))
-          (λ b. rw (q, b) (ap (λ (o : Option ℕ). withDeletion H (number o)) q))
+          (λ b. rw (q, b) (ap (withoutLive H) q))
   grow-step H (lookup key) = go (findLive H key) refl
     where
       go : (o : Option ℕ) → findLive H key ≡ o

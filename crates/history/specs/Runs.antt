@@ -17,7 +17,7 @@ use Rattle.layout.specs.Calls.{Volume, Call, insert, update, delete, lookup, Ou
 use Rattle.layout.specs.FiniteMap.{Map, Reply, accepts, hits, misses, refuses, Step, mapOf}
 use Rattle.layout.specs.Items.{recordBytes}
 use Rattle.history.specs.Image.{History, recordAt, mainImage, spareImage, ramImage}
-use Rattle.history.specs.Live.{findLive, withRecord, withDeletion, Nodup}
+use Rattle.history.specs.Live.{findLive, withRecord, withoutLive, Nodup}
 
 -- ---- runs
 
@@ -108,15 +108,11 @@ EachAgrees h sizes v m (c ∷ cs) =
 
 -- ---- demand 2
 
--- what an accepted call adds to the history; an update or a delete names the live record of its key
-abbrev pub number : Option ℕ → ℕ
-number none = 0
-number (some j) = j
-
+-- what an accepted call adds to the history; an update or a delete deletes the live record of its key, if there is one
 abbrev pub grow : History → Call → History
 grow H (insert r) = withRecord H r
-grow H (update r) = withRecord (withDeletion H (number (findLive H (r .key)))) r
-grow H (delete key) = withDeletion H (number (findLive H key))
+grow H (update r) = withRecord (withoutLive H (findLive H (r .key))) r
+grow H (delete key) = withoutLive H (findLive H key)
 grow H (lookup key) = H
 
 abbrev pub growIf : Outcome → History → Call → History

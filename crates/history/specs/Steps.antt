@@ -286,7 +286,7 @@ module _ (h : Family) (sizes : Sizes) (ok : SizesSound sizes) (can : allowed siz
     update-done : (r : Record) → KeyOk (r .key) → (o : Option ℕ) → findLive H (r .key) ≡ o
         → CallDone h sizes H C ram (updateAfter h g v r (Option·map found o)) (updateHistory (recordCapacity g) (deletionCapacity g) H r o)
     unfolding change
-    update-done r word none q = refuse-done 4 (omega arith, omega arith, omega arith, omega arith)
+    update-done r word none q = insert-done r word none q
     update-done r word (some j) q =
         either (bool? (leb (recordCapacity g) (length (H .records))))
         (λ c. rw c (refuse-done 5 (omega arith, omega arith, omega arith, omega arith)))

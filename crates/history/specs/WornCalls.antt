@@ -130,7 +130,7 @@ module _ (h : Family) (v : Volume) (spare : List ℕ) where
 
     update-alike : (r : Record) (s : Option Stop) → Alike v spare (updateAfter h g v r s) (updateAfter h g w r s)
     update-alike r (some corrupt) = refuse-alike refusal.corruptEntry
-    update-alike r none = refuse-alike refusal.absent
+    update-alike r none = change-alike _
     update-alike r (some (found j)) = change-alike _
 
     delete-alike : (s : Option Stop) → Alike v spare (deleteAfter h g v s) (deleteAfter h g w s)

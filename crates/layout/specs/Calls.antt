@@ -258,9 +258,10 @@ module _ (h : Family) where
   insertAfter g v r (some (found j)) = refuse v refusal.present
   insertAfter g v r none = change g v (record { deletes = none; inserts = some r })
 
+  -- document 02, request 4: "An update of a key that is not live now inserts it: n rises by one, d stays"
   abbrev pub updateAfter : Geometry → Volume → Record → Option Stop → Result
   updateAfter g v r (some corrupt) = refuse v refusal.corruptEntry
-  updateAfter g v r none = refuse v refusal.absent
+  updateAfter g v r none = change g v (record { deletes = none; inserts = some r })
   updateAfter g v r (some (found j)) = change g v (record { deletes = some j; inserts = some r })
 
   abbrev pub deleteAfter : Geometry → Volume → Option Stop → Result

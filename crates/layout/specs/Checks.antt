@@ -14,13 +14,14 @@ use Rattle.memory.specs.Words.{bytes4, wordsBytes}
 use Rattle.memory.specs.Ranges.{any, memb}
 use Rattle.layout.specs.Keys.{sameKey}
 use Rattle.layout.specs.Geometry.{State, sizesOf, stateOf, geometry, allowed, indexBlock, sector, page, block}
-use Rattle.layout.specs.Flash.{flashOf, program, fresh, apply, Planned, known, made, wipe, planOps}
+use Rattle.layout.specs.Flash.{flashOf, program, fresh, allFresh, apply, Planned, known, made, wipe, planOps}
 use Rattle.layout.specs.Hash.{fnvFrom, fnvFamily, positions}
 use Rattle.layout.specs.Index.{BitPlace, rowBit, rowByte, withFilter, filterPlace, filterPlan, flushAndBuild}
 use Rattle.layout.specs.Items.{recordOf, recordBytes, entryBytes, deletionBytes, itemWord}
 use Rattle.layout.specs.Search.{Stop, found, corrupt, tryEntry, scan, searchPages, searchFrom}
 use Rattle.layout.specs.Calls.{Volume, Call, insert, update, delete, lookup, keyIndex, badState, tooShort, isDeleted, tryAt, searchAt}
-use Rattle.layout.specs.Calls.{pageFilter}
+use Rattle.layout.specs.Calls.{pageFilter, Outcome, accepted, hit, miss, refused, Result, deletionPlan, insertionPlan, commit, change}
+use Rattle.layout.specs.Calls.{updateAfter}
 use Rattle.layout.specs.FiniteMap.{Map, emptyMap, Reply, accepts, hits, misses, refuses, stepMap, find, without}
 use Rattle.layout.specs.Examples.{sectorsOf, blocksOf}
 
@@ -179,18 +180,48 @@ pub lengths : shorts 12288 768 320 ∷ shorts 12287 768 320 ∷ shorts 12288 767
 unfolding tooShort
 lengths = refl
 
--- ---- the map, with room for three records and one deletion
+-- ---- updates, by what the search met: 8, 5, then 6 of a live key alone, 7
+
+abbrev refusalOf : Outcome → ℕ
+refusalOf accepted = 0
+refusalOf (hit place bytes) = 0
+refusalOf miss = 0
+refusalOf (refused i) = i
+
+-- the refusal, n and d; there is room for 320 records and 256 deletions, and no sector is fresh
+abbrev updated : ℕ → ℕ → Option Stop → List ℕ
+updated n d s =
+    let v : Volume = record { state = state 16 5 1 n d; flash = flashOf [] []; ram = [] } in
+    let r : Result = updateAfter fnvFamily (geometry (sizesOf 16 5 1)) v (recordOf 7 1 0 0) s in
+    refusalOf (r .outcome) ∷ r .volume .state .records ∷ r .volume .state .deletions ∷ []
+
+-- "An update of a key that is not live now inserts it: n rises by one, d stays"; "5 and 7 apply, and 6 does not"
+pub updates-absent : updated 318 254 none ∷ updated 318 256 none ∷ updated 315 256 none ∷ updated 320 256 none
+    ∷ updated 320 256 (some corrupt) ∷ []
+    ≡ (0 ∷ 319 ∷ 254 ∷ []) ∷ (0 ∷ 319 ∷ 256 ∷ []) ∷ (7 ∷ 315 ∷ 256 ∷ []) ∷ (5 ∷ 320 ∷ 256 ∷ []) ∷ (8 ∷ 320 ∷ 256 ∷ []) ∷ []
+unfolding fresh onesIn allFresh deletionPlan insertionPlan commit change
+updates-absent = refl
+
+-- "a deletion followed by an insertion, in one call"
+pub updates-live : updated 318 254 (some (found 3)) ∷ updated 318 255 (some (found 3)) ∷ updated 315 256 (some (found 3))
+    ∷ updated 320 256 (some (found 3)) ∷ []
+    ≡ (0 ∷ 319 ∷ 255 ∷ []) ∷ (7 ∷ 318 ∷ 255 ∷ []) ∷ (6 ∷ 315 ∷ 256 ∷ []) ∷ (5 ∷ 320 ∷ 256 ∷ []) ∷ []
+unfolding fresh onesIn allFresh deletionPlan insertionPlan commit change
+updates-live = refl
+
+-- ---- the map, with room for four records and one deletion
 
 abbrev says : Map → List Call → List Reply
 says m [] = []
-says m (c ∷ cs) = stepMap 3 1 m c .says ∷ says (stepMap 3 1 m c .next) cs
+says m (c ∷ cs) = stepMap 4 1 m c .says ∷ says (stepMap 4 1 m c .next) cs
 
+-- an update sets a key, present or absent: the first and the third are of absent keys, the third with no deletion left
 pub map-run :
-    says emptyMap (lookup 7 ∷ delete 7 ∷ update (recordOf 7 1 0 0) ∷ insert (recordOf 7 1 0 0) ∷ insert (recordOf 7 2 0 0)
-    ∷ update (recordOf 7 3 0 0) ∷ lookup 7 ∷ update (recordOf 7 4 0 0) ∷ insert (recordOf 8 5 0 0) ∷ insert (recordOf 9 6 0 0)
-    ∷ update (recordOf 7 7 0 0) ∷ delete 7 ∷ lookup 8 ∷ [])
-    ≡ misses ∷ refuses 4 ∷ refuses 4 ∷ accepts ∷ refuses 3 ∷ accepts ∷ hits (recordBytes (recordOf 7 3 0 0)) ∷ refuses 6 ∷ accepts
-    ∷ refuses 5 ∷ refuses 5 ∷ refuses 6 ∷ hits (recordBytes (recordOf 8 5 0 0)) ∷ []
+    says emptyMap (lookup 7 ∷ delete 7 ∷ update (recordOf 7 1 0 0) ∷ insert (recordOf 7 2 0 0) ∷ update (recordOf 7 3 0 0) ∷ lookup 7
+    ∷ update (recordOf 7 4 0 0) ∷ update (recordOf 8 5 0 0) ∷ insert (recordOf 9 6 0 0) ∷ insert (recordOf 10 7 0 0)
+    ∷ update (recordOf 10 7 0 0) ∷ update (recordOf 7 7 0 0) ∷ delete 7 ∷ lookup 8 ∷ [])
+    ≡ misses ∷ refuses 4 ∷ accepts ∷ refuses 3 ∷ accepts ∷ hits (recordBytes (recordOf 7 3 0 0)) ∷ refuses 6 ∷ accepts ∷ accepts
+    ∷ refuses 5 ∷ refuses 5 ∷ refuses 5 ∷ refuses 6 ∷ hits (recordBytes (recordOf 8 5 0 0)) ∷ []
 unfolding sameKey find without
 map-run = refl
 

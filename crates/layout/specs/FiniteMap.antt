@@ -1,5 +1,5 @@
 -- Document 01, "Demand 3's map": fed the name of each call and its arguments, and nothing else.
-use mathlib.Core.Bool.{cond}
+use mathlib.Core.Bool.{_&&_, cond}
 use mathlib.Core.Option.{Option, none, some}
 use mathlib.Core.List.{List, [], _∷_}
 use Prim.Native.Nat.{ℕ, _+_}
@@ -8,7 +8,7 @@ use Rattle.layout.specs.Keys.{Key, sameKey}
 use Rattle.layout.specs.Geometry.{Geometry, recordCapacity, deletionCapacity}
 use Rattle.layout.specs.Items.{Record, recordBytes}
 use Rattle.layout.specs.Refusals as refusal
-use Rattle.layout.specs.Calls.{Call, insert, update, delete, lookup}
+use Rattle.layout.specs.Calls.{Call, insert, update, delete, lookup, one, more}
 
 -- a record by its level key: "16 bytes made of key, moves, goal and free word"
 pub record Level : Type 0 where
@@ -55,14 +55,13 @@ insertMap capacity m l (some o) = step (refuses refusal.present) m
 insertMap capacity m l none =
     cond (leb capacity (m .n)) (step (refuses refusal.full) m) (step accepts (record { levels = l ∷ m .levels; n = m .n + 1; d = m .d }))
 
--- "Update: key absent, 4; else n at record capacity, 5; else d at deletion capacity, 6; else the new record replaces the key's old one,
--- and n and d rise by one"
+-- document 02, request 4: "setting a key, present or absent". n at record capacity, 5; else, if the key is present, d at deletion capacity,
+-- 6; else the key gets the record, n rises by one, and d by one if it was present
 abbrev pub updateMap : ℕ → ℕ → Map → Level → Option Level → Step
-updateMap capacity deletionCapacity m l none = step (refuses refusal.absent) m
-updateMap capacity deletionCapacity m l (some o) =
+updateMap capacity deletionCapacity m l o =
     cond (leb capacity (m .n)) (step (refuses refusal.full) m)
-    (cond (leb deletionCapacity (m .d)) (step (refuses refusal.deletionsFull) m)
-    (step accepts (record { levels = l ∷ without (l .key) (m .levels); n = m .n + 1; d = m .d + 1 })))
+    (cond (one o && leb deletionCapacity (m .d)) (step (refuses refusal.deletionsFull) m)
+    (step accepts (record { levels = l ∷ without (l .key) (m .levels); n = m .n + 1; d = more (m .d) o })))
 
 -- "Delete: key absent, 4; else d at deletion capacity, 6; else the key leaves the map, and d rises by one"
 abbrev pub deleteMap : ℕ → Map → Key → Option Level → Step

@@ -13,7 +13,7 @@ tooShort = 2
 abbrev pub present : ℕ
 present = 3
 
--- "update or delete of a key not live"
+-- "update or delete of a key not live"; document 02, request 4: "Refusal 4 remains for delete only"
 abbrev pub absent : ℕ
 absent = 4
 
@@ -21,7 +21,7 @@ absent = 4
 abbrev pub full : ℕ
 full = 5
 
--- "update or delete, d at capacity"
+-- "update or delete, d at capacity"; not of an update of a key that is not live
 abbrev pub deletionsFull : ℕ
 deletionsFull = 6
 
