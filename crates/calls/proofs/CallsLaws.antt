@@ -83,15 +83,6 @@ module _ (v : Volume) (key : ℕ) (after : Option Stop → Result) where
         → after o ≡ judgeFirst v (after (search fnvFamily (layout.geometry (v .state .sizes)) v key .stop))
     at-stop o e = sym (judge-fits v g _ f ∙ ap after (rw (f .is) at e))
 
-    -- how the search ended
-    pub absent-stop : resolvedOf v key ≡ Absent g → search fnvFamily (layout.geometry (v .state .sizes)) v key .stop ≡ none
-    absent-stop e = let s : search fnvFamily (shape g) v key .stop ≡ none = stop-absent g g _ (sym (resolved-fits v key g f) ∙ e) in rw (f .is) at s
-
-    pub live-stop : (j : ℕ) → resolvedOf v key ≡ Live g j → search fnvFamily (layout.geometry (v .state .sizes)) v key .stop ≡ some (found j)
-    live-stop j e =
-        let s : search fnvFamily (shape g) v key .stop ≡ some (found j) = stop-live g g j _ (sym (resolved-fits v key g f) ∙ e) in
-        rw (f .is) at s
-
     pub call-absent : resolvedOf v key ≡ Absent g → after none ≡ judgeFirst v (after (search fnvFamily (layout.geometry (v .state .sizes)) v key .stop))
     call-absent e = at-stop none (stop-absent g g _ (sym (resolved-fits v key g f) ∙ e))
 

@@ -1,21 +1,17 @@
 -- The layout's changing calls by what is decided.
 use mathlib.Core.Path.{_≡_, refl, sym, ap, _∙_}
-use mathlib.Core.Bool.{Bool, true, false, cond}
 use mathlib.Core.Option.{Option}
 use Prim.Native.Nat.{ℕ}
 use native.Mathlib.Omega.{arith}
-use Rattle.memory.specs.Cases.{either, bool?}
 use Rattle.layout.specs.Geometry as layout
 use Rattle.layout.specs.Hash.{fnvFamily}
 use Rattle.layout.specs.Search.{Stop, corrupt}
-use Rattle.layout.specs.Calls.{Volume, Result, insertAfter, updateAfter, deleteAfter, change, insert, update, search, call}
-use Rattle.layout.specs.Several.{isLive, putCall}
+use Rattle.layout.specs.Calls.{Volume, Result, insertAfter, updateAfter, deleteAfter, change, call}
 use Rattle.geometry.specs.Shape.{shape}
 use Rattle.geometry.specs.declared.Geometry.{Geometry}
 use Rattle.state.specs.Contract.{Effect, recordIs, effectOf}
 use Rattle.state.specs.Judge.{VolumeFits}
 use Rattle.state.proofs.Refusals.{refusedEffect}
-use Rattle.state.specs.declared.Record.{Record}
 use Rattle.changes.specs.Edits.{editIs}
 use Rattle.changes.specs.declared.Edit.{Edit}
 use Rattle.changes.specs.declared.Edit.the-variants as edits
@@ -24,10 +20,10 @@ use Rattle.calls.specs.Request.{callOf, keyOf, decisionOf}
 use Rattle.calls.specs.declared.Resolved.{Resolved}
 use Rattle.calls.specs.declared.Resolved.the-variants as resolved
 use Rattle.calls.specs.declared.Request.{Request}
-use Rattle.calls.specs.declared.Request.the-variants.{Insert, Update, Delete, Put}
+use Rattle.calls.specs.declared.Request.the-variants.{Insert, Update, Delete}
 use Rattle.calls.specs.declared.Decision.{Decision}
 use Rattle.calls.specs.declared.Decision.the-variants.{Refused, Change}
-use Rattle.calls.proofs.CallsLaws.{call-refused, absent-stop, live-stop, call-absent, call-live}
+use Rattle.calls.proofs.CallsLaws.{call-refused, call-absent, call-live}
 
 -- which of the two, and the number in it
 abbrev kind : Decision → ℕ
@@ -53,45 +49,32 @@ module _ (v : Volume) where
   after (Insert r) = insertAfter fnvFamily (layout.geometry (v .state .sizes)) v (recordIs r)
   after (Update r) = updateAfter fnvFamily (layout.geometry (v .state .sizes)) v (recordIs r)
   after (Delete key) = deleteAfter fnvFamily (layout.geometry (v .state .sizes)) v
-  after (Put r) = insertAfter fnvFamily (layout.geometry (v .state .sizes)) v (recordIs r)
-
-  -- a put by how the search ended
-  put-as : (r : Record) (t : Bool) → isLive (search fnvFamily (layout.geometry (v .state .sizes)) v (r .key) .stop) ≡ t
-      → putCall fnvFamily v (recordIs r) ≡ cond t (update (recordIs r)) (insert (recordIs r))
-  unfolding putCall
-  put-as r t e = rw e
 
   -- a refusal
   refused-by : (q : Request) (i : ℕ) (r : Resolved) → ResolvedFits v r → resolvedOf v (keyOf q) ≡ r → decisionOf q r ≡ Refused i
-      → refusedEffect v i ≡ effectOf (call fnvFamily v (callOf v q))
+      → refusedEffect v i ≡ effectOf (call fnvFamily v (callOf q))
   unfolding call
   refused-by (Insert r) i (resolved.Refused k) f e d = ap (refusedEffect v) (sym (ap number d)) ∙ call-refused v (r .key) (after (Insert r)) refl k e
   refused-by (Update r) i (resolved.Refused k) f e d = ap (refusedEffect v) (sym (ap number d)) ∙ call-refused v (r .key) (after (Update r)) refl k e
   refused-by (Delete key) i (resolved.Refused k) f e d = ap (refusedEffect v) (sym (ap number d)) ∙ call-refused v key (after (Delete key)) refl k e
-  refused-by (Put r) i (resolved.Refused k) f e d =
-      either (bool? (isLive (search fnvFamily (layout.geometry (v .state .sizes)) v (r .key) .stop)))
-      (λ t. rw (put-as r true t) (ap (refusedEffect v) (sym (ap number d)) ∙ call-refused v (r .key) (after (Update r)) refl k e))
-      (λ t. rw (put-as r false t) (ap (refusedEffect v) (sym (ap number d)) ∙ call-refused v (r .key) (after (Insert r)) refl k e))
   refused-by (Insert r) i (resolved.Absent g) f e d = absurd (omega (arith, ap kind d))
-  refused-by (Update r) i (resolved.Absent g) f e d = ap (refusedEffect v) (sym (ap number d)) ∙ ap effectOf (call-absent v (r .key) (after (Update r)) g f e)
+  refused-by (Update r) i (resolved.Absent g) f e d = absurd (omega (arith, ap kind d))
   refused-by (Delete key) i (resolved.Absent g) f e d = ap (refusedEffect v) (sym (ap number d)) ∙ ap effectOf (call-absent v key (after (Delete key)) g f e)
-  refused-by (Put r) i (resolved.Absent g) f e d = absurd (omega (arith, ap kind d))
   refused-by (Insert r) i (resolved.Live g j) f e d = ap (refusedEffect v) (sym (ap number d)) ∙ ap effectOf (call-live v (r .key) (after (Insert r)) g f j e)
   refused-by (Update r) i (resolved.Live g j) f e d = absurd (omega (arith, ap kind d))
   refused-by (Delete key) i (resolved.Live g j) f e d = absurd (omega (arith, ap kind d))
-  refused-by (Put r) i (resolved.Live g j) f e d = absurd (omega (arith, ap kind d))
 
   pub call-decided : (q : Request) (i : ℕ) (r : Resolved) → r ≡ resolvedOf v (keyOf q) → ResolvedFits v r → decisionOf q r ≡ Refused i
-      → refusedEffect v i ≡ effectOf (call fnvFamily v (callOf v q))
+      → refusedEffect v i ≡ effectOf (call fnvFamily v (callOf q))
   call-decided q i r e f d = refused-by q i r f (sym e) d
 
   -- a change; f says that its geometry is the volume's
-  at-geometry : (q : Request) (g : Geometry) → VolumeFits v g → (e : Edit) → change fnvFamily (layout.geometry (v .state .sizes)) v (editIs e) ≡ call fnvFamily v (callOf v q)
-      → VolumeFits v g × (effectOf (change fnvFamily (shape g) v (editIs e)) ≡ effectOf (call fnvFamily v (callOf v q)))
+  at-geometry : (q : Request) (g : Geometry) → VolumeFits v g → (e : Edit) → change fnvFamily (layout.geometry (v .state .sizes)) v (editIs e) ≡ call fnvFamily v (callOf q)
+      → VolumeFits v g × (effectOf (change fnvFamily (shape g) v (editIs e)) ≡ effectOf (call fnvFamily v (callOf q)))
   at-geometry q g f e is = (f, ap (λ (h : Geometry). effectOf (change fnvFamily (shape h) v (editIs e))) (f .is) ∙ ap effectOf is)
 
   abbrev pub Changes : Request → Geometry → Edit → Type 0
-  Changes q g e = VolumeFits v g × (effectOf (change fnvFamily (shape g) v (editIs e)) ≡ effectOf (call fnvFamily v (callOf v q)))
+  Changes q g e = VolumeFits v g × (effectOf (change fnvFamily (shape g) v (editIs e)) ≡ effectOf (call fnvFamily v (callOf q)))
 
   same-decision : (q : Request) (g g′ : Geometry) (e e′ : Edit) → Change g′ e′ ≡ Change g e → Changes q g′ e′ → Changes q g e
   same-decision q g g′ e e′ d p =
@@ -105,22 +88,16 @@ module _ (v : Volume) where
   changed-by (Insert r) g e (resolved.Refused k) f eq d = absurd (omega (arith, ap kind d))
   changed-by (Update r) g e (resolved.Refused k) f eq d = absurd (omega (arith, ap kind d))
   changed-by (Delete key) g e (resolved.Refused k) f eq d = absurd (omega (arith, ap kind d))
-  changed-by (Put r) g e (resolved.Refused k) f eq d = absurd (omega (arith, ap kind d))
   changed-by (Insert r) g e (resolved.Absent g′) f eq d =
       same-decision (Insert r) g g′ e (edits.Insert r) d (at-geometry (Insert r) g′ f (edits.Insert r) (call-absent v (r .key) (after (Insert r)) g′ f eq))
-  changed-by (Update r) g e (resolved.Absent g′) f eq d = absurd (omega (arith, ap kind d))
+  changed-by (Update r) g e (resolved.Absent g′) f eq d =
+      same-decision (Update r) g g′ e (edits.Insert r) d (at-geometry (Update r) g′ f (edits.Insert r) (call-absent v (r .key) (after (Update r)) g′ f eq))
   changed-by (Delete key) g e (resolved.Absent g′) f eq d = absurd (omega (arith, ap kind d))
-  changed-by (Put r) g e (resolved.Absent g′) f eq d =
-      let p = put-as r false (ap isLive (absent-stop v (r .key) (after (Insert r)) g′ f eq)) in
-      same-decision (Put r) g g′ e (edits.Insert r) d (at-geometry (Put r) g′ f (edits.Insert r) (rw p (call-absent v (r .key) (after (Insert r)) g′ f eq)))
   changed-by (Insert r) g e (resolved.Live g′ j) f eq d = absurd (omega (arith, ap kind d))
   changed-by (Update r) g e (resolved.Live g′ j) f eq d =
       same-decision (Update r) g g′ e (edits.Replace j r) d (at-geometry (Update r) g′ f (edits.Replace j r) (call-live v (r .key) (after (Update r)) g′ f j eq))
   changed-by (Delete key) g e (resolved.Live g′ j) f eq d =
       same-decision (Delete key) g g′ e (edits.Delete j) d (at-geometry (Delete key) g′ f (edits.Delete j) (call-live v key (after (Delete key)) g′ f j eq))
-  changed-by (Put r) g e (resolved.Live g′ j) f eq d =
-      let p = put-as r true (ap isLive (live-stop v (r .key) (after (Update r)) g′ f j eq)) in
-      same-decision (Put r) g g′ e (edits.Replace j r) d (at-geometry (Put r) g′ f (edits.Replace j r) (rw p (call-live v (r .key) (after (Update r)) g′ f j eq)))
 
   pub call-changes : (q : Request) (g : Geometry) (e : Edit) (r : Resolved) → r ≡ resolvedOf v (keyOf q) → ResolvedFits v r → decisionOf q r ≡ Change g e
       → Changes q g e

@@ -2,44 +2,38 @@
 use Prim.Native.Nat.{ℕ}
 use Rattle.layout.specs.Refusals as refusal
 use Rattle.layout.specs.Calls as layout
-use Rattle.layout.specs.Hash.{fnvFamily}
-use Rattle.layout.specs.Several.{putCall}
 use Rattle.geometry.specs.declared.Geometry.{Geometry}
 use Rattle.state.specs.Contract.{recordIs}
 use Rattle.changes.specs.declared.Edit.the-variants as edits
 use Rattle.calls.specs.declared.Resolved.{Resolved}
 use Rattle.calls.specs.declared.Resolved.the-variants as resolved
 use Rattle.calls.specs.declared.Request.{Request}
-use Rattle.calls.specs.declared.Request.the-variants.{Insert, Update, Delete, Put}
+use Rattle.calls.specs.declared.Request.the-variants.{Insert, Update, Delete}
 use Rattle.calls.specs.declared.Decision.{Decision}
 use Rattle.calls.specs.declared.Decision.the-variants.{Refused, Change}
 
--- the call on a volume
-abbrev pub callOf : layout.Volume → Request → layout.Call
-callOf v (Insert r) = layout.insert (recordIs r)
-callOf v (Update r) = layout.update (recordIs r)
-callOf v (Delete key) = layout.delete key
-callOf v (Put r) = putCall fnvFamily v (recordIs r)
+-- the layout's call
+abbrev pub callOf : Request → layout.Call
+callOf (Insert r) = layout.insert (recordIs r)
+callOf (Update r) = layout.update (recordIs r)
+callOf (Delete key) = layout.delete key
 
 abbrev pub keyOf : Request → ℕ
 keyOf (Insert r) = r .key
 keyOf (Update r) = r .key
 keyOf (Delete key) = key
-keyOf (Put r) = r .key
 
--- 4 of an update and a delete
+-- 4 of a delete
 abbrev pub ofAbsent : Geometry → Request → Decision
 ofAbsent g (Insert r) = Change g (edits.Insert r)
-ofAbsent g (Update r) = Refused refusal.absent
+ofAbsent g (Update r) = Change g (edits.Insert r)
 ofAbsent g (Delete key) = Refused refusal.absent
-ofAbsent g (Put r) = Change g (edits.Insert r)
 
 -- 3 of an insert
 abbrev pub ofLive : Geometry → ℕ → Request → Decision
 ofLive g j (Insert r) = Refused refusal.present
 ofLive g j (Update r) = Change g (edits.Replace j r)
 ofLive g j (Delete key) = Change g (edits.Delete j)
-ofLive g j (Put r) = Change g (edits.Replace j r)
 
 abbrev pub decisionOf : Request → Resolved → Decision
 decisionOf q (resolved.Refused i) = Refused i

@@ -4,7 +4,6 @@ ghost use mathlib.Core.Path.{_≡_};
 ghost use Rattle.layout.specs.Hash.{fnvFamily};
 ghost use Rattle.layout.specs.Calls as layout;
 ghost use Rattle.layout.specs.Calls.{call};
-ghost use Rattle.layout.specs.Several.{putCall};
 ghost use Rattle.state.specs.Contract.{recordIs, given, effectOf, effectBy};
 ghost use Rattle.calls.specs.Resolve.{resolvedOf, ResolvedFits};
 ghost use Rattle.calls.specs.Request.{callOf, keyOf, ofAbsent, ofLive, decisionOf};
@@ -55,12 +54,11 @@ pub fn resolve(s: State, key: u32, main: &[u8], spare: &[u8], ram: &[u8]) -> Res
 
 // ---- a changing call
 
-// A call and its arguments other than state and lent bytes; a put inserts a level that is not there and updates one that is.
+// A call and its arguments other than state and lent bytes.
 pub enum Request {
     Insert(Record),
     Update(Record),
     Delete(u32),
-    Put(Record),
 }
 
 // A refusal, or what is to be changed.
@@ -77,19 +75,17 @@ fn key_of(q: Request) -> u32
         Request::Insert(record) => record.key,
         Request::Update(record) => record.key,
         Request::Delete(key) => key,
-        Request::Put(record) => record.key,
     }
 }
 
-// A call on a key that is not live.
+// A call on a key that is not live: an update inserts it.
 fn of_absent(g: Geometry, q: Request) -> Decision
     ensures { λ r. ⌜ r ≡ ofAbsent g q ⌝ }
 {
     match q {
         Request::Insert(record) => Decision::Change(g, Edit::Insert(record)),
-        Request::Update(_) => Decision::Refused(state::ABSENT),
+        Request::Update(record) => Decision::Change(g, Edit::Insert(record)),
         Request::Delete(_) => Decision::Refused(state::ABSENT),
-        Request::Put(record) => Decision::Change(g, Edit::Insert(record)),
     }
 }
 
@@ -101,7 +97,6 @@ fn of_live(g: Geometry, old: u32, q: Request) -> Decision
         Request::Insert(_) => Decision::Refused(state::PRESENT),
         Request::Update(record) => Decision::Change(g, Edit::Replace(old, record)),
         Request::Delete(_) => Decision::Change(g, Edit::Delete(old)),
-        Request::Put(record) => Decision::Change(g, Edit::Replace(old, record)),
     }
 }
 
@@ -119,7 +114,7 @@ fn decide(q: Request, r: Resolved) -> Decision
 // A changing call.
 pub fn perform(s: State, q: Request, main: &mut [u8], spare: &mut [u8], ram: &mut [u8]) -> Change
     ensures { λ r. ⌜ effectBy r main spare ram
-        ≡ effectOf (call fnvFamily (given s main spare ram) (callOf (given s main spare ram) q)) ⌝ }
+        ≡ effectOf (call fnvFamily (given s main spare ram) (callOf q)) ⌝ }
 {
     match decide(q, resolve(s, key_of(q), main, spare, ram)) {
         Decision::Refused(i) => {
@@ -141,7 +136,7 @@ pub fn insert(s: State, record: Record, main: &mut [u8], spare: &mut [u8], ram: 
     perform(s, Request::Insert(record), main, spare, ram)
 }
 
-// New values for a level that is there: its record is deleted, and another inserted.
+// A level's values, whether it is there or not: its record, if there is one, is deleted, and another inserted.
 pub fn update(s: State, record: Record, main: &mut [u8], spare: &mut [u8], ram: &mut [u8]) -> Change
     ensures { λ r. ⌜ effectBy r main spare ram
         ≡ effectOf (call fnvFamily (given s main spare ram) (layout.update (recordIs «record»))) ⌝ }
@@ -154,12 +149,4 @@ pub fn delete(s: State, key: u32, main: &mut [u8], spare: &mut [u8], ram: &mut [
     ensures { λ r. ⌜ effectBy r main spare ram ≡ effectOf (call fnvFamily (given s main spare ram) (layout.delete key)) ⌝ }
 {
     perform(s, Request::Delete(key), main, spare, ram)
-}
-
-// A row of a tab: a new level, or new values for one that is there, by one search.
-pub fn put(s: State, record: Record, main: &mut [u8], spare: &mut [u8], ram: &mut [u8]) -> Change
-    ensures { λ r. ⌜ effectBy r main spare ram
-        ≡ effectOf (call fnvFamily (given s main spare ram) (putCall fnvFamily (given s main spare ram) (recordIs «record»))) ⌝ }
-{
-    perform(s, Request::Put(record), main, spare, ram)
 }

@@ -1,10 +1,9 @@
--- A put that is accepted adds one record.
+-- An update that is accepted adds one record.
 use mathlib.Core.Path.{_≡_, refl}
 use mathlib.Core.Bool.{Bool, true, false, cond, true≢false, _&&_}
 use mathlib.Core.Option.{Option, none, some}
 use mathlib.Core.List.{List}
 use Prim.Native.Nat.{ℕ, _+_}
-use Rattle.memory.specs.Cases.{either, bool?}
 use Rattle.layout.specs.Geometry.{Geometry, geometry}
 use Rattle.layout.specs.Hash.{Family}
 use Rattle.layout.specs.Items.{Record}
@@ -12,8 +11,7 @@ use Rattle.layout.specs.Refusals as refusal
 use Rattle.layout.specs.Search.{Stop, found, corrupt}
 use Rattle.layout.specs.Flash.{Planned, planOps, allFresh}
 use Rattle.layout.specs.Calls.{Volume, accepted, Result, refuse, badState, tooShort, judgeFirst, search, noRoom, noDeletion, one, commit}
-use Rattle.layout.specs.Calls.{change, insertAfter, updateAfter, call}
-use Rattle.layout.specs.Several.{isLive, putCall}
+use Rattle.layout.specs.Calls.{change, update, updateAfter, call}
 
 module _ (v : Volume) where
   pub record Counts (r : Result) : Type 0 where
@@ -39,13 +37,8 @@ module _ (v : Volume) where
         counts-cond (noRoom g v) _ _ (counts-refuse refusal.full)
         (counts-cond (one j && noDeletion g v) _ _ (counts-refuse refusal.deletionsFull) (counts-commit g _ _ _ _ refl))
 
-    counts-insert : (o : Option Stop) → Counts (insertAfter h g v r o)
-    counts-insert none = counts-change none
-    counts-insert (some corrupt) = counts-refuse refusal.corruptEntry
-    counts-insert (some (found j)) = counts-refuse refusal.present
-
     counts-update : (o : Option Stop) → Counts (updateAfter h g v r o)
-    counts-update none = counts-refuse refusal.absent
+    counts-update none = counts-change none
     counts-update (some corrupt) = counts-refuse refusal.corruptEntry
     counts-update (some (found j)) = counts-change (some j)
 
@@ -55,10 +48,8 @@ module _ (v : Volume) where
       counts-cond (badState (v .state)) _ _ (counts-refuse refusal.badState)
       (counts-cond (tooShort (geometry (v .state .sizes)) (v .flash) (v .ram)) _ _ (counts-refuse refusal.tooShort) p)
 
-  pub put-counts : (h : Family) (r : Record) → Counts (call h v (putCall h v r))
-  unfolding call putCall
-  put-counts h r =
-      let o = search h (geometry (v .state .sizes)) v (r .key) .stop in
-      either (bool? (isLive o))
-      (λ t. rw t (counts-judge _ (counts-update h (geometry (v .state .sizes)) r o)))
-      (λ t. rw t (counts-judge _ (counts-insert h (geometry (v .state .sizes)) r o)))
+  pub update-counts : (h : Family) (r : Record) → Counts (call h v (update r))
+  unfolding call
+  update-counts h r =
+      let g : Geometry = geometry (v .state .sizes) in
+      counts-judge _ (counts-update h g r (search h g v (r .key) .stop))

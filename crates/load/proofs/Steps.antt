@@ -12,7 +12,7 @@ use borrow.Author.Tests.{eq-eqb, ne-eqb}
 use Rattle.layout.specs.Hash.{Family}
 use Rattle.layout.specs.Refusals as refusal
 use Rattle.layout.specs.Geometry as layout
-use Rattle.layout.specs.Calls.{Volume, Outcome, accepted, refused, Result, badState, tooShort, call}
+use Rattle.layout.specs.Calls.{Volume, update, Outcome, accepted, refused, Result, badState, tooShort, call}
 use Rattle.layout.specs.Several.{Several, ended, oneMore, goOn}
 use Rattle.geometry.specs.Shape.{geometryFor}
 use Rattle.geometry.specs.declared.Geometry.{Geometry}
@@ -23,7 +23,8 @@ use Rattle.state.proofs.Refusals.{number, refuses, fits-enough}
 use Rattle.tab.specs.Grammar.{Row}
 use Rattle.tab.specs.Reader.{GotLine, gotLine, readMore, row, header, rowsIn, rowsOf}
 use Rattle.tab.specs.Agree.{row-shorter}
-use Rattle.load.specs.Load.{endOf, rowCall, loadRows, loadRead, loadLines, load}
+use Rattle.load.specs.Load.{rowRecord, endOf, loadRows, loadRead, loadLines, load}
+use Rattle.load.specs.LoadLaws.{row-update}
 
 -- ---- the rows of a text, one at a time
 
@@ -101,11 +102,13 @@ module _ (h : Family) (v : Volume) (tab : List ℕ) (at : ℕ) where
     this = record { level = a; moves = b; goal = c }
 
     abbrev done : Result
-    done = call h v (rowCall h v this)
+    done = call h v (update (rowRecord this))
 
     load-row : left ≡ goOn (done .outcome) (done .volume) (loadRead h (done .volume) (rowsOf (drop next tab)))
     unfolding loadRows
-    load-row = ap (loadRead h v) (rows-more (drop at tab) (gotLine a b c (drop next tab)) e)
+    load-row =
+        ap (loadRead h v) (rows-more (drop at tab) (gotLine a b c (drop next tab)) e)
+        ∙ ap (λ (r : Result). goOn (r .outcome) (r .volume) (loadRead h (r .volume) (rowsOf (drop next tab)))) (row-update h v this)
 
     -- what the code's answer says of the outcome; i is its refusal's number
     module _ (i : ℕ) (w : Volume) (is : outcomeOf i ≡ done .outcome) (to : w ≡ done .volume) where

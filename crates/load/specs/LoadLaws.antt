@@ -7,19 +7,31 @@ use Prim.Native.Nat.{ℕ, suc}
 use lib.ListN.{length}
 use Rattle.layout.specs.Geometry.{geometry}
 use Rattle.layout.specs.Hash.{Family}
-use Rattle.layout.specs.Calls.{Volume, Outcome, accepted, hit, miss, refused, badState, tooShort, call}
+use Rattle.layout.specs.Search.{Stop, found, corrupt}
+use Rattle.layout.specs.Calls.{Volume, update, Outcome, accepted, hit, miss, refused, badState, tooShort, search, call}
 use Rattle.layout.specs.Refusals as refusal
-use Rattle.layout.specs.Several.{Several, ended, goOn}
+use Rattle.layout.specs.Several.{Several, ended, goOn, putCall}
 use Rattle.tab.specs.Grammar.{Row, Reading}
 use Rattle.tab.specs.Reader.{header}
 use Rattle.tab.specs.Agree.{reading-is, reading-only}
-use Rattle.load.specs.Load.{endOf, rowCall, loadRows, loadLines, load}
+use Rattle.load.specs.Load.{rowRecord, endOf, rowCall, loadRows, loadLines, load}
 
 -- neither 1 nor 2 applies
 abbrev pub Judged : Volume → Type 0
 Judged v = (badState (v .state) ≡ false) × (tooShort (geometry (v .state .sizes)) (v .flash) (v .ram) ≡ false)
 
 module _ (h : Family) where
+  -- a row does what an update of its level does: an update of a key that is not live inserts it
+  pub row-update : (v : Volume) (r : Row) → call h v (rowCall h v r) ≡ call h v (update (rowRecord r))
+  unfolding call putCall
+  row-update v r = by (search h (geometry (v .state .sizes)) v (r .level) .stop) refl
+    where
+      by : (o : Option Stop) → search h (geometry (v .state .sizes)) v (r .level) .stop ≡ o
+          → call h v (rowCall h v r) ≡ call h v (update (rowRecord r))
+      by none e = rw e (rw e)
+      by (some corrupt) e = rw e (rw e)
+      by (some (found j)) e = rw e (rw e)
+
   -- "The rows loaded are to be exactly those a reading by the RFC's grammar, so widened, gives up to that end"
   pub load-reading : (v : Volume) (text : List ℕ) (rows : List Row) (rest : List ℕ) → Judged v → Reading text rows rest
       → load h v text ≡ loadRows h v rows (endOf rest)

@@ -1,4 +1,4 @@
-// Loading a tab: its rows, one put after the other, up to the first that is malformed or refused. Document 02, request 1.
+// Loading a tab: its rows, one after the other, up to the first that is malformed or refused. Document 02, request 1.
 ghost use mathlib.Core.Path.{_≡_};
 ghost use lib.ListN.{drop};
 ghost use Rattle.memory.specs.Lent.{before};
@@ -21,7 +21,8 @@ pub struct Loaded {
     pub state: State,
 }
 
-// The rows from a place of the tab on. A row that is loaded is one more record, so they can be counted.
+// The rows from a place of the tab on, each an update: it inserts a level that is not there, so one search serves a row. A row that is
+// loaded is one more record, so they can be counted.
 fn load_rows(
     s: State,
     tab: &[u8],
@@ -51,7 +52,7 @@ fn load_rows(
                     goal,
                     free: 0,
                 };
-                let c = calls::put(state, record, main, spare, ram);
+                let c = calls::update(state, record, main, spare, ram);
                 state = c.state;
                 if c.refusal != state::ACCEPTED {
                     return Loaded {

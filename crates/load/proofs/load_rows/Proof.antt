@@ -13,7 +13,7 @@ use Rattle.tab.specs.Reader.{gotLine, row, rowsOf}
 use Rattle.reader.specs.Contract.{lineIn}
 use Rattle.reader.specs.LineLaws.{row-goes-on}
 use Rattle.load.specs.Load.{loadRead}
-use Rattle.load.proofs.Counts.{put-counts}
+use Rattle.load.proofs.Counts.{update-counts}
 use Rattle.load.proofs.Steps.{moreDone, none-done, done-ended, done-more, load-end, load-malformed, load-refused, load-accepted}
 use Rattle.load.proofs.load_rows.Statement.{statement}
 use Rattle.load.proofs.load_rows.Tie as tie
@@ -47,17 +47,17 @@ loop-at r = r .before .before
 abbrev read-at : tie.After-key Inv-loop μ-loop → tie.After-row-at Inv-loop μ-loop
 read-at k = k .before .before
 
-abbrev key-at : tie.After-put Inv-loop μ-loop → tie.After-key Inv-loop μ-loop
+abbrev key-at : tie.After-update Inv-loop μ-loop → tie.After-key Inv-loop μ-loop
 key-at p = p .before .before .before .before .before
 
-abbrev row-now : tie.After-put Inv-loop μ-loop → Loop
+abbrev row-now : tie.After-update Inv-loop μ-loop → Loop
 row-now p = loop-at (read-at (key-at p))
 
 -- the place of the row after it
-abbrev next-of : tie.After-put Inv-loop μ-loop → ℕ
+abbrev next-of : tie.After-update Inv-loop μ-loop → ℕ
 next-of p = key-at p .key .given .0 .1 .1 .1 .0
 
-row-is : (p : tie.After-put Inv-loop μ-loop) → let l = row-now p in let g = key-at p .key .given .0 in let tab = start-of l .args .tab .now in
+row-is : (p : tie.After-update Inv-loop μ-loop) → let l = row-now p in let g = key-at p .key .given .0 in let tab = start-of l .args .tab .now in
     row (drop (l .loop .place) tab) ≡ some (gotLine (g .0) (g .1 .0) (g .1 .1 .0) (drop (next-of p) tab))
 row-is p =
     let k = key-at p in
@@ -65,14 +65,14 @@ row-is p =
     sym (r .row-at .ensures) ∙ ap (lineIn (start-of (loop-at r) .args .tab .now)) (k .key .given .1)
 
 -- one that is accepted is one record more
-counted : (p : tie.After-put Inv-loop μ-loop) → p .put .result .refusal ≡ 0 → p .put .result .state .records ≡ row-now p .loop .state .records + 1
+counted : (p : tie.After-update Inv-loop μ-loop) → p .update .result .refusal ≡ 0 → p .update .result .state .records ≡ row-now p .loop .state .records + 1
 counted p z =
-    let outcome = ap (λ (e : Effect). e .outcome) (p .put .ensures) in
-    let left = ap (λ (e : Effect). e .left) (p .put .ensures) in
-    ap (λ (v : Volume). v .state .records) left ∙ put-counts (now-of (row-now p)) fnvFamily _ .by-one (sym outcome ∙ rw z)
+    let outcome = ap (λ (e : Effect). e .outcome) (p .update .ensures) in
+    let left = ap (λ (e : Effect). e .left) (p .update .ensures) in
+    ap (λ (v : Volume). v .state .records) left ∙ update-counts (now-of (row-now p)) fnvFamily _ .by-one (sym outcome ∙ rw z)
 
-abbrev put-at : tie.Else1 Inv-loop μ-loop → tie.After-put Inv-loop μ-loop
-put-at c = c .before .before .before .before .before .before .before .before .before
+abbrev update-at : tie.Else1 Inv-loop μ-loop → tie.After-update Inv-loop μ-loop
+update-at c = c .before .before .before .before .before .before .before .before .before
 
 loop-holds : tie.Need-loop-holds Inv-loop μ-loop
 loop-holds c = (refl, refl, refl, omega arith, none-done _)
@@ -105,8 +105,8 @@ returns c =
 enum-known-key : tie.Need-enum-known-key Inv-loop μ-loop
 enum-known-key c = search needs
 
-put-requires : tie.Need-put-requires Inv-loop μ-loop
-put-requires c κs = search needs
+update-requires : tie.Need-update-requires Inv-loop μ-loop
+update-requires c κs = search needs
 
 same-length-4 : tie.Need-same-length-4 Inv-loop μ-loop
 same-length-4 c = search needs
@@ -123,24 +123,24 @@ returns-2 c =
     let l = row-now p in
     sym (l .loop .inv .4
     ∙ ap (moreDone (l .loop .rows))
-    (load-refused fnvFamily (now-of l) (start-of l .args .tab .now) (l .loop .place) _ _ _ (next-of p) (row-is p) (p .put .result .refusal) _
-    (ap (λ (e : Effect). e .outcome) (p .put .ensures)) (ap (λ (e : Effect). e .left) (p .put .ensures)) (c .if1 .taken))
+    (load-refused fnvFamily (now-of l) (start-of l .args .tab .now) (l .loop .place) _ _ _ (next-of p) (row-is p) (p .update .result .refusal) _
+    (ap (λ (e : Effect). e .outcome) (p .update .ensures)) (ap (λ (e : Effect). e .left) (p .update .ensures)) (c .if1 .taken))
     ∙ done-ended (l .loop .rows) _ _)
 
 add-rows : tie.Need-add-rows Inv-loop μ-loop
 add-rows c =
-    let p = put-at c in
-    omega (arith, counted p (c .if1 .left), row-now p .loop .inv .3, p .put .ok)
+    let p = update-at c in
+    omega (arith, counted p (c .if1 .left), row-now p .loop .inv .3, p .update .ok)
 
 loop-less : tie.Need-loop-less Inv-loop μ-loop
 loop-less c =
-    let p = put-at c in
+    let p = update-at c in
     let l = row-now p in
     row-goes-on (start-of l .args .tab .now) (l .loop .place) _ _ _ (next-of p) (row-is p)
 
 loop-again : tie.Need-loop-again Inv-loop μ-loop
 loop-again c =
-    let p = put-at c in
+    let p = update-at c in
     let l = row-now p in (
       search needs,
       search needs,
@@ -148,8 +148,8 @@ loop-again c =
       omega (arith, counted p (c .if1 .left), l .loop .inv .3),
       l .loop .inv .4
           ∙ ap (moreDone (l .loop .rows))
-          (load-accepted fnvFamily (now-of l) (start-of l .args .tab .now) (l .loop .place) _ _ _ (next-of p) (row-is p) (p .put .result .refusal) _
-          (ap (λ (e : Effect). e .outcome) (p .put .ensures)) (ap (λ (e : Effect). e .left) (p .put .ensures)) (c .if1 .left))
+          (load-accepted fnvFamily (now-of l) (start-of l .args .tab .now) (l .loop .place) _ _ _ (next-of p) (row-is p) (p .update .result .refusal) _
+          (ap (λ (e : Effect). e .outcome) (p .update .ensures)) (ap (λ (e : Effect). e .left) (p .update .ensures)) (c .if1 .left))
           ∙ done-more (l .loop .rows) _,
     )
 
@@ -183,7 +183,7 @@ load-rows-spec =
     same-length-3
     returns
     enum-known-key
-    put-requires
+    update-requires
     same-length-4
     same-length-5
     same-length-6
