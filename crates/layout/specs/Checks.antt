@@ -192,7 +192,7 @@ refusalOf (refused i) = i
 abbrev updated : ℕ → ℕ → Option Stop → List ℕ
 updated n d s =
     let v : Volume = record { state = state 16 5 1 n d; flash = flashOf [] []; ram = [] } in
-    let r : Result = updateAfter fnvFamily (geometry (sizesOf 16 5 1)) v (recordOf 7 1 0 0) s in
+    let r : Result = updateAfter fnvFamily (geometry (sizesOf 16 5 1 3)) v (recordOf 7 1 0 0) s in
     refusalOf (r .outcome) ∷ r .volume .state .records ∷ r .volume .state .deletions ∷ []
 
 -- "An update of a key that is not live now inserts it: n rises by one, d stays"; "5 and 7 apply, and 6 does not"

@@ -8,3 +8,4 @@ pub mod pair;
 pub mod random;
 pub mod scenarios;
 pub mod tabs;
+pub mod updates;

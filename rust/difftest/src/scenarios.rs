@@ -4,6 +4,7 @@ use crate::loads;
 use crate::pair::{Answer, Call, Counts, Difference, Pair};
 use crate::random::Random;
 use crate::tabs::{self, Row};
+use crate::updates;
 use store::{Geometry, State, Store, HASH_COUNT_01, SECTOR_SIZES};
 
 type Run = dyn Fn(&mut Test) -> Result<(), Difference>;
@@ -155,6 +156,7 @@ pub fn all() -> Vec<Scenario> {
             move |test| boundaries(test, s, r, d, times),
         ));
     }
+    list.extend(updates::all());
     list.extend(loads::all());
     list
 }
@@ -224,7 +226,7 @@ impl Keys {
     }
 
     fn note(&mut self, call: Call, answer: Answer) {
-        if let (Call::Insert { key, .. }, true) = (call, answer.accepted()) {
+        if let (Call::Insert { key, .. } | Call::Update { key, .. }, true) = (call, answer.accepted()) {
             self.inserted.push(key);
         }
     }
@@ -731,7 +733,10 @@ fn boundaries(test: &mut Test, s: u32, r: u32, d: u32, times: usize) -> Result<(
             match random.below(5) {
                 0 | 1 => {
                     let key = absent_key(random);
-                    let call = insert_of(random, key);
+                    let call = match random.below(2) {
+                        0 => insert_of(random, key),
+                        _ => update_of(random, key),
+                    };
                     test.pair.call(call)?;
                 }
                 2 => {

@@ -37,8 +37,18 @@ enum Fault {
     HalfCall,
     /// A refused format hands out the new state.
     RefusedFormatState,
-    /// Refusals 4 and 5 in the wrong order.
+    /// Refusals 3 and 5 in the wrong order.
     WrongOrder,
+    /// An update of an absent level is refused by 4.
+    AbsentRefused,
+    /// An update of an absent level is refused by 6 where deletions are full.
+    AbsentNeedsDeletion,
+    /// An update of an absent level counts a deletion.
+    AbsentCounted,
+    /// An update of an absent level writes a deletion that is not counted.
+    AbsentDeleted,
+    /// The page of deletions is programmed by an update of an absent level that would have filled it.
+    AbsentFillsPage,
     /// A deleted entry ends the search.
     StopsAtDeleted,
     /// The lengths of the slices are not looked at closely.
@@ -230,12 +240,50 @@ impl Broken {
                 let place = before.records as usize % geometry.records_per_page() * 16;
                 ram[place] ^= 1;
             }
-            Fault::WrongOrder if change.refusal == 4 && records == geometry.record_capacity() => {
+            Fault::WrongOrder if change.refusal == 3 && records == geometry.record_capacity() => {
                 change.refusal = 5;
             }
             _ => {}
         }
         change
+    }
+
+    fn update_absent(
+        &self,
+        state: State,
+        [key, moves, goal, word]: [u32; 4],
+        data: &mut [u8],
+        spare: &mut [u8],
+        ram: &mut [u8],
+    ) -> Change {
+        // The level is looked up by now, so that the state is allowed.
+        let geometry =
+            Geometry::new(state.sector_size, state.ra_blocks, state.da_blocks, state.hash_count).expect("allowed");
+        let deletions = state.deletions as usize;
+        let has_room = (state.records as usize) < geometry.record_capacity();
+        match self.fault {
+            Fault::AbsentRefused => return Change { refusal: 4, state },
+            Fault::AbsentNeedsDeletion if has_room && deletions == geometry.deletion_capacity() => {
+                return Change { refusal: 6, state };
+            }
+            _ => {}
+        }
+        let mut change = self.on_taken(state, spare, |spare| {
+            ModelStore.update(self.used(state), key, moves, goal, word, data, spare, ram)
+        });
+        let place = deletions % geometry.deletions_per_page();
+        let page = geometry.page_size();
+        match self.fault {
+            Fault::AbsentCounted if change.refusal == 0 => change.state.deletions += 1,
+            Fault::AbsentDeleted if change.refusal == 0 => {
+                ram[2 * page + 4 * place..][..4].copy_from_slice(&state.records.to_le_bytes());
+            }
+            Fault::AbsentFillsPage if change.refusal == 0 && place + 1 == geometry.deletions_per_page() => {
+                spare[4 * geometry.da_page(deletions / geometry.deletions_per_page())] = 0x00;
+            }
+            _ => {}
+        }
+        self.after_change(state, change, data, spare, ram)
     }
 
     /// The load of the lines behind those loaded and the malformed one.
@@ -339,10 +387,15 @@ impl Store for Broken {
         spare: &mut [u8],
         ram: &mut [u8],
     ) -> Change {
-        let change = self.on_taken(state, spare, |spare| {
-            ModelStore.update(self.used(state), key, moves, goal, word, data, spare, ram)
-        });
-        let mut change = self.after_change(state, change, data, spare, ram);
+        let level = ModelStore.lookup(state, key, data, spare, ram);
+        let mut change = if level.refusal == 0 && level.found == 0 {
+            self.update_absent(state, [key, moves, goal, word], data, spare, ram)
+        } else {
+            let change = self.on_taken(state, spare, |spare| {
+                ModelStore.update(self.used(state), key, moves, goal, word, data, spare, ram)
+            });
+            self.after_change(state, change, data, spare, ram)
+        };
         if let (Fault::HashCountLost, 0) = (self.fault, change.refusal) {
             change.state.hash_count = HASH_COUNT_01;
         }
@@ -488,6 +541,11 @@ fn broken_stores_are_reported() {
         Fault::HalfCall,
         Fault::RefusedFormatState,
         Fault::WrongOrder,
+        Fault::AbsentRefused,
+        Fault::AbsentNeedsDeletion,
+        Fault::AbsentCounted,
+        Fault::AbsentDeleted,
+        Fault::AbsentFillsPage,
         Fault::StopsAtDeleted,
         Fault::OneByteShort,
         Fault::FourOnesFresh,

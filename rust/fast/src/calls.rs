@@ -82,19 +82,16 @@ pub fn update(
     ram: &mut [u8],
 ) -> Change {
     let lent = Lent { data, spare, ram };
-    let record = Some([key, moves, goal, word]);
+    let record = [key, moves, goal, word];
     answer(
         state,
-        for_size!(state.sector_size, replace(state, key, record, lent)),
+        for_size!(state.sector_size, set_level(state, record, lent)),
     )
 }
 
 pub fn delete(state: State, key: u32, data: &mut [u8], spare: &mut [u8], ram: &mut [u8]) -> Change {
     let lent = Lent { data, spare, ram };
-    answer(
-        state,
-        for_size!(state.sector_size, replace(state, key, None, lent)),
-    )
+    answer(state, for_size!(state.sector_size, take_out(state, key, lent)))
 }
 
 pub fn lookup(state: State, key: u32, data: &[u8], spare: &[u8], ram: &[u8]) -> LookupResult {
@@ -156,16 +153,20 @@ fn insert_new<const S: usize>(state: State, record: Record, lent: Lent) -> Resul
     change(&layout, state, None, Some(record), lent).ok_or(NOT_FRESH)
 }
 
-/// An update with a record, a delete without one.
-fn replace<const S: usize>(state: State, key: u32, record: Option<Record>, lent: Lent) -> Result<State, u32> {
+fn set_level<const S: usize>(state: State, record: Record, lent: Lent) -> Result<State, u32> {
+    let layout = judge::<S>(state, lent.data, lent.spare, lent.ram)?;
+    set(&layout, state, record, lent)
+}
+
+fn take_out<const S: usize>(state: State, key: u32, lent: Lent) -> Result<State, u32> {
     let layout = judge::<S>(state, lent.data, lent.spare, lent.ram)?;
     let old = match search(&layout, state, key, lent.data, lent.ram).ending {
         Some(Ending::WrongRecordNumber) => return Err(WRONG_RECORD_NUMBER),
         Some(Ending::Live(number)) => number,
         None => return Err(NOT_LIVE),
     };
-    room(&layout, state, true, record.is_some())?;
-    change(&layout, state, Some(old), record, lent).ok_or(NOT_FRESH)
+    room(&layout, state, true, false)?;
+    change(&layout, state, Some(old), None, lent).ok_or(NOT_FRESH)
 }
 
 /// The rows of a tab; `loaded` counts those accepted.
@@ -185,7 +186,7 @@ fn load_rows<const S: usize>(loaded: &mut LoadResult, tab: &[u8], lent: Lent) ->
     Ok(())
 }
 
-/// An insert, or an update if the key is live, with one search.
+/// A record for its key, live or not: a call of update, a row of a tab.
 fn set<const S: usize>(layout: &Layout<S>, state: State, record: Record, lent: Lent) -> Result<State, u32> {
     let old = match search(layout, state, record[0], lent.data, lent.ram).ending {
         Some(Ending::WrongRecordNumber) => return Err(WRONG_RECORD_NUMBER),

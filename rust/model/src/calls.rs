@@ -81,7 +81,8 @@ pub fn insert(
     }
 }
 
-/// "An update is a deletion followed by an insertion, in one call, even if the values are equal."
+/// "An update is a deletion followed by an insertion, in one call, even if the values are equal." Request 4: "An update of a
+/// key that is not live now inserts it: n rises by one, d stays."
 pub fn update(
     state: State,
     key: u32,
@@ -98,13 +99,14 @@ pub fn update(
     };
     let old = match search(geometry, state, key, data, ram) {
         SearchResult::WrongRecordNumber => return refused(WRONG_RECORD_NUMBER, state),
-        SearchResult::NotLive { .. } => return refused(NOT_LIVE, state),
-        SearchResult::Live { record, .. } => record,
+        SearchResult::NotLive { .. } => None,
+        SearchResult::Live { record, .. } => Some(record),
     };
     if state.records as usize >= geometry.record_capacity() {
         return refused(RECORDS_FULL, state);
     }
-    if state.deletions as usize >= geometry.deletion_capacity() {
+    // "For such an update 5 and 7 apply, and 6 does not."
+    if old.is_some() && state.deletions as usize >= geometry.deletion_capacity() {
         return refused(DELETIONS_FULL, state);
     }
     let record = Record {
@@ -113,7 +115,7 @@ pub fn update(
         goal,
         word,
     };
-    match change(geometry, state, Some(old), Some(record), data, spare, ram) {
+    match change(geometry, state, old, Some(record), data, spare, ram) {
         Some(next) => accepted(next),
         None => refused(NOT_FRESH, state),
     }

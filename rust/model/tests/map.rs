@@ -61,16 +61,15 @@ fn run([s, r, d]: [u32; 3], k: u32, keys: u32, calls: u32, seed: u64) {
             }
             5 | 6 => {
                 let got = update(state, key, moves, goal, word, &mut data, &mut spare, &mut ram);
-                let expected = if !present {
-                    4
-                } else if full {
+                // Request 4: "setting a key, present or absent".
+                let expected = if full {
                     5
-                } else if deletions_full {
+                } else if present && deletions_full {
                     6
                 } else {
                     map.insert(key, [key, moves, goal, word]);
                     n += 1;
-                    deletions += 1;
+                    deletions += usize::from(present);
                     0
                 };
                 (got, expected)
