@@ -257,8 +257,13 @@ impl Broken {
         ram: &mut [u8],
     ) -> Change {
         // The level is looked up by now, so that the state is allowed.
-        let geometry =
-            Geometry::new(state.sector_size, state.ra_blocks, state.da_blocks, state.hash_count).expect("allowed");
+        let geometry = Geometry::new(
+            state.sector_size,
+            state.ra_blocks,
+            state.da_blocks,
+            state.hash_count,
+        )
+        .expect("allowed");
         let deletions = state.deletions as usize;
         let has_room = (state.records as usize) < geometry.record_capacity();
         match self.fault {
