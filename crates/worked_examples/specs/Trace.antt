@@ -1,5 +1,5 @@
--- The first calls of a published trace (tests/vectors/trace/s16-small-sound), computed by the definitions: answers and the digest of the
--- RAM's bytes.
+-- The first changing calls of a published trace (tests/vectors/requests/4/trace/s16-sound), computed by the definitions: answers and the
+-- digest of the RAM's bytes. Its updates are of levels that are not there.
 use mathlib.Core.Path.{_≡_, refl}
 use mathlib.Core.List.{List, [], _∷_}
 use Prim.Native.Nat.{ℕ, _*_, _%_, _^_}
@@ -29,19 +29,18 @@ digest h (x ∷ xs) = digest (bitXor h x * 1099511628211 % 2 ^ 64) xs
 
 abbrev history : List Call
 history =
-    delete 2147483648 ∷ insert (recordOf 2 1912169913 2025859891 2737727752) ∷ insert (recordOf 6 3688823723 3359983670 29)
-    ∷ delete 0 ∷ insert (recordOf 11 4 35 2941484390) ∷ update (recordOf 27 23 10 1485051110)
-    ∷ insert (recordOf 256 81 3170616314 17) ∷ update (recordOf 17 59 2916559411 11) ∷ insert (recordOf 16 12 60750187 78)
-    ∷ insert (recordOf 21 42 1484101577 51) ∷ update (recordOf 4 521511664 3 2883145565) ∷ delete 14 ∷ []
+    delete 11 ∷ insert (recordOf 31 20 67 1532385757) ∷ insert (recordOf 9 420538547 1434869212 1281025235)
+    ∷ update (recordOf 256 32912128 1244209929 80) ∷ delete 24 ∷ insert (recordOf 4294967295 1306373008 86 65) ∷ delete 255 ∷ delete 1
+    ∷ update (recordOf 3 97 23 314618339) ∷ []
 
-pub trace : run (format (unformatted 255 13319 832 331) (sizesOf 16 2 1 3) .volume) history
-    ≡ no 4 ∷ ok 1 0 ∷ ok 2 0 ∷ no 4 ∷ ok 3 0 ∷ no 4 ∷ ok 4 0 ∷ no 4 ∷ ok 5 0 ∷ ok 6 0 ∷ no 4 ∷ no 4 ∷ []
+pub trace : run (format (unformatted 255 18432 1152 320) (sizesOf 16 5 1 3) .volume) history
+    ≡ no 4 ∷ ok 1 0 ∷ ok 2 0 ∷ ok 3 0 ∷ no 4 ∷ ok 4 0 ∷ no 4 ∷ no 4 ∷ ok 5 0 ∷ []
 unfolding calls
 trace = refl
 
 abbrev last : Volume
-last = end (format (unformatted 255 13319 832 331) (sizesOf 16 2 1 3) .volume) history
+last = end (format (unformatted 255 18432 1152 320) (sizesOf 16 5 1 3) .volume) history
 
-pub trace-ram : digest 0xcbf29ce484222325 (last .ram) ≡ 0x24024ad97ecc2dcc
+pub trace-ram : digest 0xcbf29ce484222325 (last .ram) ≡ 0x269bc61915bd3ddc
 unfolding calls
 trace-ram = refl
