@@ -55,7 +55,7 @@ extern "C" {
  * formatted a volume, they do not fit. The minor number rises with any other change. A volume of version 1, document 01's, has the
  * bytes of one formatted with hash_count 3: it fits version 2 once its state has a 3 between D and n. */
 #define LEVEL_STORE_VERSION_MAJOR 2
-#define LEVEL_STORE_VERSION_MINOR 1
+#define LEVEL_STORE_VERSION_MINOR 2
 #define LEVEL_STORE_VERSION (LEVEL_STORE_VERSION_MAJOR * 1000 + LEVEL_STORE_VERSION_MINOR)
 
 /* Sizes, as constant expressions where the arguments are constants. An argument may be evaluated more than once. */
@@ -83,9 +83,9 @@ enum level_store_refusal {
     LEVEL_STORE_BAD_STATE = 1,      /* S, R, D or k not allowed, or n or d above its capacity, or d above n */
     LEVEL_STORE_TOO_SHORT = 2,      /* data, spare or ram too short */
     LEVEL_STORE_PRESENT = 3,        /* insert of a level that is there */
-    LEVEL_STORE_ABSENT = 4,         /* update or delete of a level that is not there */
+    LEVEL_STORE_ABSENT = 4,         /* delete of a level that is not there */
     LEVEL_STORE_FULL = 5,           /* insert or update without room for a record */
-    LEVEL_STORE_DELETIONS_FULL = 6, /* update or delete without room for a deletion */
+    LEVEL_STORE_DELETIONS_FULL = 6, /* update or delete of a level that is there, without room for a deletion */
     LEVEL_STORE_NOT_FRESH = 7,      /* a sector to be programmed is not fresh */
     LEVEL_STORE_CORRUPT_ENTRY = 8,  /* the search met an entry of the level with a record number of n or more */
     LEVEL_STORE_MALFORMED = 9       /* load: no header, or a row that is not three numbers */
@@ -169,7 +169,8 @@ level_store_change level_store_format(level_store_state old,
 level_store_change level_store_insert(level_store_state state, uint32_t key, uint32_t moves, uint32_t goal, uint32_t word,
     uint8_t *data, size_t data_len, uint8_t *spare, size_t spare_len, uint8_t *ram, size_t ram_len);
 
-/* New values for a level that is there. Refused by 1, 2, 8, 4, 5, 6, 7. */
+/* Values for a level, there or not: its record, if there is one, is deleted, and another inserted. n rises by one, and d if the level was
+ * there. Refused by 1, 2, 8, 5, 6, 7; of a level that is not there never by 6. */
 level_store_change level_store_update(level_store_state state, uint32_t key, uint32_t moves, uint32_t goal, uint32_t word,
     uint8_t *data, size_t data_len, uint8_t *spare, size_t spare_len, uint8_t *ram, size_t ram_len);
 

@@ -132,22 +132,21 @@ static void check_refusals(void)
     CHECK(format(24, 1, 1) == LEVEL_STORE_BAD_STATE);
     CHECK(format(16, 1, 1) == LEVEL_STORE_OK);
     CHECK(take_out(7) == LEVEL_STORE_ABSENT);
-    CHECK(update(7) == LEVEL_STORE_ABSENT);
-    CHECK(insert(7) == LEVEL_STORE_OK);
+    CHECK(update(7) == LEVEL_STORE_OK && state.records == 1 && state.deletions == 0);
     CHECK(insert(7) == LEVEL_STORE_PRESENT);
     for (i = 1; i < LEVEL_STORE_RECORD_CAPACITY(16, 1); i++)
         CHECK(insert(1000 + i) == LEVEL_STORE_OK);
     CHECK(state.records == 64);
     CHECK(insert(2000) == LEVEL_STORE_FULL);
-    CHECK(update(7) == LEVEL_STORE_FULL);
+    CHECK(update(7) == LEVEL_STORE_FULL && update(2000) == LEVEL_STORE_FULL);
     CHECK(format(16, 1, 1) == LEVEL_STORE_OK);
     spare[0] = 0;
     CHECK(insert(1) == LEVEL_STORE_OK && insert(2) == LEVEL_STORE_OK && insert(3) == LEVEL_STORE_OK);
-    CHECK(insert(4) == LEVEL_STORE_NOT_FRESH);
+    CHECK(insert(4) == LEVEL_STORE_NOT_FRESH && update(4) == LEVEL_STORE_NOT_FRESH);
     CHECK(format(16, 1, 1) == LEVEL_STORE_OK);
     CHECK(insert(7) == LEVEL_STORE_OK);
     ram[4 * 16 + 4] = 9; /* the record number of entry 0, on the second page of ram */
-    CHECK(take_out(7) == LEVEL_STORE_CORRUPT_ENTRY);
+    CHECK(take_out(7) == LEVEL_STORE_CORRUPT_ENTRY && update(7) == LEVEL_STORE_CORRUPT_ENTRY);
     CHECK(level_store_lookup(state, 7, LENT).refusal == LEVEL_STORE_CORRUPT_ENTRY);
     give_back();
 
@@ -158,7 +157,9 @@ static void check_refusals(void)
     for (i = 0; i < LEVEL_STORE_DELETION_CAPACITY(16, 1); i++)
         CHECK(take_out(i) == LEVEL_STORE_OK);
     CHECK(state.deletions == 256);
-    CHECK(take_out(i) == LEVEL_STORE_DELETIONS_FULL);
+    CHECK(take_out(i) == LEVEL_STORE_DELETIONS_FULL && update(i) == LEVEL_STORE_DELETIONS_FULL);
+    CHECK(update(0) == LEVEL_STORE_OK && state.records == 258 && state.deletions == 256);
+    CHECK(update(0) == LEVEL_STORE_DELETIONS_FULL);
     give_back();
 }
 

@@ -215,7 +215,7 @@ abbrev says : Map → List Call → List Reply
 says m [] = []
 says m (c ∷ cs) = stepMap 4 1 m c .says ∷ says (stepMap 4 1 m c .next) cs
 
--- an update sets a key, present or absent: the first and the third are of absent keys, the third with no deletion left
+-- an update sets a key, present or absent: those of 7 at first, of 8 and of 10 are of absent keys, that of 8 with no deletion left
 pub map-run :
     says emptyMap (lookup 7 ∷ delete 7 ∷ update (recordOf 7 1 0 0) ∷ insert (recordOf 7 2 0 0) ∷ update (recordOf 7 3 0 0) ∷ lookup 7
     ∷ update (recordOf 7 4 0 0) ∷ update (recordOf 8 5 0 0) ∷ insert (recordOf 9 6 0 0) ∷ insert (recordOf 10 7 0 0)
