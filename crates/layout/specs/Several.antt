@@ -33,6 +33,7 @@ isLive none = false
 isLive (some corrupt) = false
 isLive (some (found j)) = true
 
--- "an insert, or an update if the level is live"; where the search meets 8, either is refused by it
+-- "an insert, or an update if the level is live"; where the search meets 8, either is refused by it. Since request 4 an update does the
+-- same for any level, but which of the two a row is stays told
 unfoldable pub putCall : Family → Volume → Record → Call
 putCall h v r = cond (isLive (search h (geometry (v .state .sizes)) v (r .key) .stop)) (update r) (insert r)
