@@ -23,7 +23,7 @@ LEFT, RIGHT = 70, 1000
 
 
 def area_blocks(S, R, D):
-    return [R, (R + 1) // 2, D, 1, S // 4, S // 4, R // (4 * S) * (S // 4)]
+    return [R, (R + 1) // 2, D, 1, S // 4, S // 4, R // (4 * S) * (S // 4), 1 + S // 2 + D // S * (S // 4)]
 
 
 def set_pages(i):
@@ -83,13 +83,14 @@ def picture(height, parts):
 
 # Name, what it holds, blocks, colour, width in the drawing (not to scale).
 AREAS = [
-    ("RA", "records", "R", RECORDS, 200),
-    ("KA", "entries", f"{ROOF[0]}R/2{ROOF[1]}", ENTRIES, 150),
-    ("DA", "deletions", "D", DELETIONS, 110),
-    ("L1", "filters", "1", INDEX, 80),
-    ("side A", "sets 2, 4, ..", "S/4", INDEX, 120),
-    ("side B", "sets 3, 5, ..", "S/4", INDEX, 120),
-    ("full sets", "S/4 blocks each", f"{FLOOR[0]}R/(4S){FLOOR[1]} {TIMES} S/4", INDEX, 150),
+    ("RA", "records", "R", RECORDS, 140),
+    ("KA", "entries", f"{ROOF[0]}R/2{ROOF[1]}", ENTRIES, 110),
+    ("DA", "deletions", "D", DELETIONS, 90),
+    ("L1", "filters", "1", INDEX, 70),
+    ("side A", "sets 2, 4, ..", "S/4", INDEX, 100),
+    ("side B", "sets 3, 5, ..", "S/4", INDEX, 100),
+    ("full sets", "S/4 blocks each", f"{FLOOR[0]}R/(4S){FLOOR[1]} {TIMES} S/4", INDEX, 125),
+    ("index over DA", "L1, sides, full sets", f"1 + S/2 + {FLOOR[0]}D/S{FLOOR[1]} {TIMES} S/4", INDEX, 195),
 ]
 
 # Name, what it holds at most between calls, colour.
@@ -99,11 +100,15 @@ PAGES = [
     ("DA", f"S {MINUS} 1 deletions", DELETIONS),
     ("SKA", "7 filters", INDEX),
     ("work", "zero", WORK),
+    ("SKA of DA", "6 filters", INDEX),
 ]
+
+# Of each page, the area that it is programmed to.
+TARGETS = [0, 1, 2, 3, None, 7]
 
 
 def chip(top):
-    """The areas in a row; the middles of those that RAM pages are programmed to."""
+    """The areas in a row, and their middles."""
     S, R, D = 16, 64, 1
     blocks = area_blocks(S, R, D)
     bar = top + 62
@@ -129,15 +134,15 @@ def chip(top):
         text(LEFT - 12, top + 30, "blocks", size=12, anchor="end"),
         text(LEFT - 12, top + 50, "e.g.", size=12, anchor="end", colour=GREY),
     ]
-    return parts, bar + 54, middles[:4]
+    return parts, bar + 54, middles
 
 
-def ram(top, ends, targets):
-    """The five pages, and arrows to where they are programmed."""
+def ram(top, ends, middles):
+    """The six pages, and arrows to where they are programmed."""
     width = (RIGHT - LEFT) / len(PAGES)
     parts = [
         bold(LEFT - 12, top + 32, "RAM", anchor="end"),
-        text(LEFT, top + 94, "Five pages of 4S bytes, with what each holds at most between two calls and its first byte", anchor="start"),
+        text(LEFT, top + 94, "Six pages of 4S bytes, with what each holds at most between two calls and its first byte", anchor="start"),
         text(LEFT + width, top - 36, "a full page", size=12),
         text(LEFT + width, top - 20, "is programmed", size=12),
         text(LEFT + 3.5 * width + 30, top - 36, "eight filters: a flush,", size=12, anchor="start"),
@@ -151,9 +156,9 @@ def ram(top, ends, targets):
             text(x + width / 2, top + 42, holds, size=12),
             text(x, top + 70, f"{4 * k}S" if k else "0", size=11, colour=GREY),
         ]
-        if k < len(targets):
-            parts.append(arrow(x + width / 2, top - 4, targets[k], ends + 4))
-    parts.append(text(LEFT + len(PAGES) * width, top + 70, "20S", size=11, colour=GREY))
+        if TARGETS[k] is not None:
+            parts.append(arrow(x + width / 2, top - 4, middles[TARGETS[k]], ends + 4))
+    parts.append(text(LEFT + len(PAGES) * width, top + 70, f"{4 * len(PAGES)}S", size=11, colour=GREY))
     return parts
 
 
@@ -183,8 +188,8 @@ def zoom(top):
 
 
 def volume():
-    parts, ends, targets = chip(34)
-    return picture(456, parts + ram(246, ends, targets) + zoom(384))
+    parts, ends, middles = chip(34)
+    return picture(456, parts + ram(246, ends, middles) + zoom(384))
 
 
 # ---- the way of a filter

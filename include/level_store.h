@@ -13,7 +13,8 @@
  * lengths are in bytes. Multi-byte numbers in the arrays are little-endian.
  *
  * Filters. A level sets k bits in the filter of its page of keys, and a search opens the pages whose filter has all k of its
- * level's. k is 1 to 8, named by the format; on an unaltered volume it decides how many pages are opened, and no other answer. Of
+ * level's. Deleted record numbers have filters too, two for each of their pages, by which a search finds out whether a record is
+ * deleted. k is 1 to 8, named by the format; on an unaltered volume it decides how many pages are opened, and no other answer. Of
  * random keys 4 opens the fewest; document 01's 3 opens 1.6 to 2.5 times as many (misses among 10^5 records).
  *
  * Spare bytes. A sector is fresh if five or more of the eight bits of its spare byte are one, else it is programmed. Erasing writes FF,
@@ -27,8 +28,8 @@
  * must not, unless both are lookups.
  *
  * Time. Every call ends, within a time that the size of the volume bounds, not that of the answer: a search tries the records of
- * its level, from the newest on, against the deletions until one is live. A level that was updated often and then deleted takes
- * longest. A load takes the time of reading its tab and of its rows' calls.
+ * its level, from the newest on, against the deletions, by their filters, until one is live. A level that was updated often and
+ * then deleted takes longest. A load takes the time of reading its tab and of its rows' calls.
  *
  * Needs. The library is x86-64 code, 42 KB with its constants, and has no other data. Of C it calls memcpy and memset alone. It
  * takes at most 3.3 KB of stack, arguments included (measured: format 0.4, lookup 1.4, delete, insert and update 3.2, load 3.3).
@@ -53,21 +54,24 @@ extern "C" {
 
 /* The major number stands for the bytes of a volume and the words of its state. Where it differs from that of the code which
  * formatted a volume, they do not fit. The minor number rises with any other change. A volume of version 1, document 01's, has the
- * bytes of one formatted with hash_count 3: it fits version 2 once its state has a 3 between D and n. */
-#define LEVEL_STORE_VERSION_MAJOR 2
-#define LEVEL_STORE_VERSION_MINOR 2
+ * bytes of one formatted with hash_count 3: it fits version 2 once its state has a 3 between D and n. Version 3 has filters over
+ * deletions, and with them more blocks and a page of ram more: no earlier volume fits it. */
+#define LEVEL_STORE_VERSION_MAJOR 3
+#define LEVEL_STORE_VERSION_MINOR 0
 #define LEVEL_STORE_VERSION (LEVEL_STORE_VERSION_MAJOR * 1000 + LEVEL_STORE_VERSION_MINOR)
 
 /* Sizes, as constant expressions where the arguments are constants. An argument may be evaluated more than once. */
 
-/* The volume's blocks: records, their entries, deletions, and the filters' first level, two sides and full sets. */
+/* The volume's blocks: records, their entries, deletions, and the filters' first level, two sides and full sets, of the entries and
+ * then of the deletions. */
 #define LEVEL_STORE_BLOCKS(S, R, D) \
-    ((size_t)(R) + ((size_t)(R) + 1) / 2 + (size_t)(D) + 1 + (size_t)(S) / 2 + (size_t)(R) / (4 * (size_t)(S)) * ((size_t)(S) / 4))
+    ((size_t)(R) + ((size_t)(R) + 1) / 2 + (size_t)(D) + 1 + (size_t)(S) / 2 + (size_t)(R) / (4 * (size_t)(S)) * ((size_t)(S) / 4) \
+        + 1 + (size_t)(S) / 2 + (size_t)(D) / (size_t)(S) * ((size_t)(S) / 4))
 
 /* Bytes to lend. */
 #define LEVEL_STORE_DATA_SIZE(S, R, D) (64 * (size_t)(S) * LEVEL_STORE_BLOCKS(S, R, D))
 #define LEVEL_STORE_SPARE_SIZE(S, R, D) (64 * LEVEL_STORE_BLOCKS(S, R, D))
-#define LEVEL_STORE_RAM_SIZE(S) (20 * (size_t)(S))
+#define LEVEL_STORE_RAM_SIZE(S) (24 * (size_t)(S))
 
 /* Records and deletions that fit between two formats. */
 #define LEVEL_STORE_RECORD_CAPACITY(S, R) (4 * (size_t)(R) * (size_t)(S))
@@ -126,14 +130,15 @@ typedef struct {
 } level_store_change;
 
 /* What a lookup gives. found 1: the record's 16 bytes start at `offset` of ram (in_ram 1) or of data (in_ram 0). found 0: the
- * level is not there, in_ram and offset are 0. count is the number of pages of keys opened. A refusal has found, count, in_ram
- * and offset 0. */
+ * level is not there, in_ram and offset are 0. count is the number of pages of keys opened, deletion_count that of pages of
+ * deletions, one opened for several records counted each time. A refusal has 0 in all other fields. */
 typedef struct {
     uint32_t refusal;
     uint32_t found;
     uint32_t count;
     uint32_t in_ram;
     uint32_t offset;
+    uint64_t deletion_count;
 } level_store_lookup_result;
 
 /* What a load gives: the number of rows loaded, LEVEL_STORE_OK if these are all rows of the tab, else the refusal of the row behind

@@ -9,20 +9,21 @@
 
 /* Compile time: an array of -1 elements is refused. The examples of document 01, and the largest volume. */
 #define HOLDS(name, condition) extern char name[(condition) ? 1 : -1]
-HOLDS(blocks_1, LEVEL_STORE_BLOCKS(16, 1, 1) == 12);
-HOLDS(blocks_32, LEVEL_STORE_BLOCKS(16, 32, 1) == 58);
-HOLDS(blocks_63, LEVEL_STORE_BLOCKS(16, 63, 1) == 105);
-HOLDS(blocks_64, LEVEL_STORE_BLOCKS(16, 64, 1) == 110);
-HOLDS(blocks_512, LEVEL_STORE_BLOCKS(512, 2048, 1) == 3458);
-HOLDS(blocks_of_terms, LEVEL_STORE_BLOCKS(8 + 8, 60 + 4, 0 + 1) == 110);
+HOLDS(blocks_1, LEVEL_STORE_BLOCKS(16, 1, 1) == 21);
+HOLDS(blocks_32, LEVEL_STORE_BLOCKS(16, 32, 1) == 67);
+HOLDS(blocks_63, LEVEL_STORE_BLOCKS(16, 63, 1) == 114);
+HOLDS(blocks_64, LEVEL_STORE_BLOCKS(16, 64, 1) == 119);
+HOLDS(blocks_512, LEVEL_STORE_BLOCKS(512, 2048, 1) == 3715);
+HOLDS(blocks_of_terms, LEVEL_STORE_BLOCKS(8 + 8, 60 + 4, 0 + 16) == 138);
 HOLDS(capacity_1, LEVEL_STORE_RECORD_CAPACITY(16, 1) == 64);
 HOLDS(capacity_of_terms, LEVEL_STORE_RECORD_CAPACITY(8 + 8, 0 + 1) == 64 && LEVEL_STORE_DELETION_CAPACITY(8 + 8, 0 + 1) == 256);
-HOLDS(ram_of_terms, LEVEL_STORE_RAM_SIZE(8 + 8) == 320);
-HOLDS(largest, LEVEL_STORE_DATA_SIZE(512, 4096, 4096) == 352354304 && LEVEL_STORE_SPARE_SIZE(512, 4096, 4096) == 688192);
+HOLDS(ram_of_terms, LEVEL_STORE_RAM_SIZE(8 + 8) == 384);
+HOLDS(largest, LEVEL_STORE_DATA_SIZE(512, 4096, 4096) == 394330112 && LEVEL_STORE_SPARE_SIZE(512, 4096, 4096) == 770176);
 HOLDS(largest_counts, LEVEL_STORE_RECORD_CAPACITY(512, 4096) == 8388608 && LEVEL_STORE_DELETION_CAPACITY(512, 4096) == 33554432);
 HOLDS(sizes_are_size_t, sizeof LEVEL_STORE_BLOCKS(16, 1, 1) == sizeof(size_t) && sizeof LEVEL_STORE_RAM_SIZE(16) == sizeof(size_t));
-HOLDS(layouts, sizeof(level_store_state) == 24 && sizeof(level_store_change) == 28 && sizeof(level_store_lookup_result) == 20
+HOLDS(layouts, sizeof(level_store_state) == 24 && sizeof(level_store_change) == 28 && sizeof(level_store_lookup_result) == 32
     && sizeof(level_store_load_result) == 32);
+HOLDS(lookup_words, offsetof(level_store_lookup_result, offset) == 16 && offsetof(level_store_lookup_result, deletion_count) == 24);
 HOLDS(state_words, offsetof(level_store_state, da_blocks) == 8 && offsetof(level_store_state, hash_count) == 12
     && offsetof(level_store_state, records) == 16 && offsetof(level_store_state, deletions) == 20);
 #if LEVEL_STORE_VERSION != LEVEL_STORE_VERSION_MAJOR * 1000 + LEVEL_STORE_VERSION_MINOR || LEVEL_STORE_VERSION < 1000
@@ -98,7 +99,7 @@ static uint32_t load(const char *tab)
 /* Run time: the same examples of document 01. */
 static void check_blocks(void)
 {
-    static const uint32_t examples[][4] = {{16, 1, 1, 12}, {16, 32, 1, 58}, {16, 63, 1, 105}, {16, 64, 1, 110}, {512, 2048, 1, 3458}};
+    static const uint32_t examples[][4] = {{16, 1, 1, 21}, {16, 32, 1, 67}, {16, 63, 1, 114}, {16, 64, 1, 119}, {512, 2048, 1, 3715}};
     size_t i;
     for (i = 0; i < sizeof examples / sizeof *examples; i++)
         CHECK(LEVEL_STORE_BLOCKS(examples[i][0], examples[i][1], examples[i][2]) == examples[i][3]);
@@ -206,6 +207,39 @@ static void check_hash_counts(void)
     give_back();
 }
 
+/* Pages of deletions opened: none while the deletions are in ram, then as many as in the model; 0 on a refusal. */
+static void check_deletion_counts(void)
+{
+    const uint32_t step = 0x9E3779B1;
+    level_store_lookup_result r;
+    uint64_t opened = 0;
+    uint32_t i;
+    lend(64, 4, 1);
+    CHECK(format(64, 4, 1) == LEVEL_STORE_OK);
+    for (i = 0; i < 300; i++)
+        CHECK(insert(i * step) == LEVEL_STORE_OK);
+    for (i = 0; i < 63; i++)
+        CHECK(update(7) == LEVEL_STORE_OK);
+    CHECK(take_out(7) == LEVEL_STORE_OK && state.records == 363 && state.deletions == 63);
+    for (i = 0; i < 300; i++)
+        CHECK(level_store_lookup(state, i * step, LENT).deletion_count == 0);
+    for (i = 0; i < 250; i++)
+        CHECK(update(i * step) == LEVEL_STORE_OK);
+    CHECK(state.records == 613 && state.deletions == 313); /* four full pages of deletions */
+    for (i = 0; i < 300; i++) {
+        r = level_store_lookup(state, i * step, LENT);
+        CHECK(r.refusal == LEVEL_STORE_OK && r.found == 1 && r.deletion_count <= 4);
+        opened += r.deletion_count;
+    }
+    CHECK(opened == 531);
+    r = level_store_lookup(state, 7, LENT);
+    CHECK(r.refusal == LEVEL_STORE_OK && r.found == 0 && r.deletion_count == 135);
+    ram[4 * 64 + 5] = 3; /* the record number, 608 before, of the first entry in ram, level 245's */
+    r = level_store_lookup(state, 245 * step, LENT);
+    CHECK(r.refusal == LEVEL_STORE_CORRUPT_ENTRY && r.found == 0 && r.count == 0 && r.deletion_count == 0);
+    give_back();
+}
+
 /* A load: whole, ended by a malformed row and by a row of each refusal that a row can get, and refused at once. */
 static void check_load(void)
 {
@@ -297,10 +331,12 @@ int main(void)
     check_sizes(16, 32, 1);
     check_sizes(16, 63, 3);
     check_sizes(16, 64, 2);
-    check_sizes(32, 300, 5);
+    check_sizes(16, 64, 16);
+    check_sizes(32, 300, 65);
     check_sizes(512, 2048, 1);
     check_refusals();
     check_hash_counts();
+    check_deletion_counts();
     check_load();
     check_texts();
     check_accessors();

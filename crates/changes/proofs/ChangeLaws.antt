@@ -62,13 +62,13 @@ module _ (g : layout.Geometry) (v : Volume) where
   d = v .state .deletions
 
   plan-of : (e : Edit) → planOf g fnvFamily (oldNumber e) (newRecord e .key) (recordBytes (recordIs (newRecord e))) (v .ram) (slotsOf n d e)
-      ≡ deletes g v (editIs e .deletes) ++ inserts fnvFamily g v (editIs e .inserts)
+      ≡ deletes fnvFamily g v (editIs e .deletes) ++ inserts fnvFamily g v (editIs e .inserts)
   plan-of (Insert r) = refl
-  plan-of (Delete j) = sym (append-nil (deletes g v (editIs (Delete j) .deletes)))
+  plan-of (Delete j) = sym (append-nil (deletes fnvFamily g v (editIs (Delete j) .deletes)))
   plan-of (Replace j r) = refl
 
   ram-of : (e : Edit) → ramOf g fnvFamily (oldNumber e) (newRecord e .key) (recordBytes (recordIs (newRecord e))) (v .ram) (slotsOf n d e)
-      ≡ ramInserted fnvFamily g v (editIs e .inserts) (ramDeleted g v (editIs e .deletes))
+      ≡ ramInserted fnvFamily g v (editIs e .inserts) (ramDeleted fnvFamily g v (editIs e .deletes))
   ram-of (Insert r) = refl
   ram-of (Delete j) = refl
   ram-of (Replace j r) = refl
@@ -95,10 +95,10 @@ module _ (g : layout.Geometry) (v : Volume) where
       committed = rw (s-is, j-is, r-is) at C
 
       ops-is : opsOf g (slotsOf n d e) (oldNumber e) (recordIs (newRecord e)) (v .flash) (v .ram)
-          ≡ planOps (g .u) (deletes g v (editIs e .deletes) ++ inserts fnvFamily g v (editIs e .inserts)) (v .flash)
+          ≡ planOps (g .u) (deletes fnvFamily g v (editIs e .deletes) ++ inserts fnvFamily g v (editIs e .inserts)) (v .flash)
       ops-is = ap (λ (l : List Planned). planOps (g .u) l (v .flash)) (plan-of e)
 
-      fresh-is : b ≡ allFresh (v .flash .spare) (planOps (g .u) (deletes g v (editIs e .deletes) ++ inserts fnvFamily g v (editIs e .inserts)) (v .flash))
+      fresh-is : b ≡ allFresh (v .flash .spare) (planOps (g .u) (deletes fnvFamily g v (editIs e .deletes) ++ inserts fnvFamily g v (editIs e .inserts)) (v .flash))
       fresh-is = committed .fresh ∙ ap (allFresh (v .flash .spare)) ops-is
 
       pub change-stale : b ≡ false → effectWith (v .state) refusal.notFresh flash ram ≡ effectOf (change fnvFamily g v (editIs e))

@@ -1,27 +1,33 @@
--- The filter of the entry that a change puts, and what a change does to flash and RAM.
-use Prim.{Unit}
+-- The filters of the pages that a change fills, and what a change does to flash and RAM.
 use mathlib.Core.Path.{_≡_}
 use mathlib.Core.Bool.{Bool, true, cond}
 use mathlib.Core.List.{List}
-use Prim.Native.Nat.{ℕ, _<_}
-use Rattle.layout.specs.Geometry.{Geometry, filterBits, workRam}
+use Prim.Native.Nat.{ℕ}
+use Rattle.layout.specs.Geometry.{Geometry, workRam}
 use Rattle.layout.specs.Flash.{Flash, Op, applyAll, planOps, allFresh}
 use Rattle.layout.specs.Hash.{fnvFamily}
-use Rattle.layout.specs.Items.{Record, KA, fills, recordBytes, zeroPage}
-use Rattle.layout.specs.Calls.{newFilter}
-use Rattle.filter.specs.Filter.{arrayBit}
+use Rattle.layout.specs.Items.{Record, KA, DA, fills, recordBytes, zeroPage}
+use Rattle.layout.specs.Calls.{newFilter, newHalf}
+use Rattle.filter.specs.Fourths.{FourthsOf}
+use Rattle.plan.specs.Plans.{deletionFourths, entryFourths}
 use Rattle.planning.specs.declared.Slots.{Slots}
 use Rattle.planning.specs.declared.Slots.the-variants.{Delete, Insert, Update}
 use Rattle.planning.specs.Edits.{planOf, ramOf}
 
--- the bits are those of the page that entry n fills
-abbrev pub FilterOf : Geometry → ℕ → ℕ → List ℕ → List ℕ → Type 0
-FilterOf g n key ram bits = fills (KA g) n ≡ true → (x : ℕ) → x < filterBits (g .u) → arrayBit bits x ≡ newFilter fnvFamily g n key ram x
+-- the fourths are those of the filters of the page that deletion d, of record j, fills
+abbrev pub DeletionFilters : Geometry → ℕ → ℕ → List ℕ → List ℕ → Type 0
+DeletionFilters g d j ram fourths = fills (DA g) d ≡ true → FourthsOf (g .u) 2 (λ i. newHalf fnvFamily g d j i ram) fourths
 
-abbrev pub BitsOf : Geometry → ℕ → List ℕ → List ℕ → Slots → Type 0
-BitsOf g key ram bits (Delete d) = Unit
-BitsOf g key ram bits (Insert n) = FilterOf g n key ram bits
-BitsOf g key ram bits (Update d n) = FilterOf g n key ram bits
+-- the filter of the page that entry n, with the key, fills
+abbrev pub EntryFilter : Geometry → ℕ → ℕ → List ℕ → List ℕ → Type 0
+EntryFilter g n key ram fourths = fills (KA g) n ≡ true → FourthsOf (g .u) 1 (λ i. newFilter fnvFamily g n key ram) fourths
+
+-- those of a change
+abbrev pub FiltersOf : Geometry → ℕ → ℕ → List ℕ → List ℕ → Slots → Type 0
+FiltersOf g j key ram filters (Delete d) = DeletionFilters g d j ram (deletionFourths filters)
+FiltersOf g j key ram filters (Insert n) = EntryFilter g n key ram (entryFourths filters)
+FiltersOf g j key ram filters (Update d n) =
+    DeletionFilters g d j ram (deletionFourths filters) × EntryFilter g n key ram (entryFourths filters)
 
 -- the deletion of record j and record r in their places: the operations, and the RAM
 module _ (g : Geometry) (e : Slots) (j : ℕ) (r : Record) (flash : Flash) (ram : List ℕ) where

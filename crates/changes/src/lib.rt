@@ -14,7 +14,7 @@ ghost use Rattle.state.specs.Judge.{VolumeFits};
 ghost use Rattle.planning.specs.New.{newBytes};
 ghost use Rattle.planning.specs.Edits.{Room};
 ghost use Rattle.changes.specs.Edits.{editIs, slotsOf, oldNumber, newRecord, recordNumber, fullAt, deletionsFullAt, roomRefusal};
-ghost use Rattle.changes.specs.Commit.{FilterOf, BitsOf, Committed};
+ghost use Rattle.changes.specs.Commit.{DeletionFilters, EntryFilter, FiltersOf, Committed};
 use geometry::Geometry;
 use geometry::areas;
 use planning::Slots;
@@ -113,7 +113,7 @@ fn room_refusal(g: Geometry, s: State, e: Edit) -> u32
     }
 }
 
-// ---- the new bytes and the new filter
+// ---- the new bytes and the new filters
 
 // The number of the record that takes a place; 0 where none does.
 fn record_number(g: Geometry, e: Slots) -> u32
@@ -151,27 +151,51 @@ fn new_bytes(old: u32, record: Record, n: u32) -> [u8; plan::NEW_SIZE]
     b
 }
 
-// The filter of the page that entry n, with the key, fills; no bits where it fills none.
-fn entry_bits(g: Geometry, n: usize, key: u32, ram: &[u8]) -> [u8; 256]
+// The filters of the page that deletion d, of record `old`, fills, by their fourths; no bits where it fills none.
+fn deletion_filters(g: Geometry, d: usize, old: u32, ram: &[u8]) -> [u8; 512]
     requires { ⌜ Sound g × (ramSize (shape g) ≤ length (now ram)) ⌝ }
-    ensures { λ r. ⌜ FilterOf (shape g) n key (before ram) r ⌝ }
+    ensures { λ r. ⌜ DeletionFilters (shape g) d old (before ram) r ⌝ }
+{
+    if !geometry::deletion_area(g).fills(d) {
+        return [0u8; 512];
+    }
+    filter::number_filters(g.chip, g.hashes, g.da_ram(), old, ram)
+}
+
+// The filter of the page that entry n, with the key, fills; no bits where it fills none.
+fn entry_filter(g: Geometry, n: usize, key: u32, ram: &[u8]) -> [u8; 256]
+    requires { ⌜ Sound g × (ramSize (shape g) ≤ length (now ram)) ⌝ }
+    ensures { λ r. ⌜ EntryFilter (shape g) n key (before ram) r ⌝ }
 {
     if !geometry::entry_area(g).fills(n) {
         return [0u8; 256];
     }
-    filter::new_filter(g.chip, g.hashes, g.ka_ram(), key, ram)
+    filter::new_filter(g.chip, g.hashes, g.ka_ram(), areas::ENTRY_SIZE, key, ram)
 }
 
-// The filter of the entry that takes a place; no bits where none does.
-fn new_bits(g: Geometry, e: Slots, key: u32, ram: &[u8]) -> [u8; 256]
+// The new filters of a change, by their fourths: those of its deletion, then that of its entry.
+fn new_filters(g: Geometry, e: Slots, old: u32, key: u32, ram: &[u8]) -> [u8; plan::FILTERS_SIZE]
     requires { ⌜ Sound g × (ramSize (shape g) ≤ length (now ram)) ⌝ }
-    ensures { λ r. ⌜ BitsOf (shape g) key (before ram) r e ⌝ }
+    ensures { λ r. ⌜ FiltersOf (shape g) old key (before ram) r e ⌝ }
 {
+    let mut r = [0u8; plan::FILTERS_SIZE];
     match e {
-        Slots::Delete(_) => [0u8; 256],
-        Slots::Insert(n) => entry_bits(g, n, key, ram),
-        Slots::Update(_, n) => entry_bits(g, n, key, ram),
+        Slots::Delete(d) => {
+            let deletions = deletion_filters(g, d, old, ram);
+            words::copy_at(&mut r, 0, &deletions);
+        }
+        Slots::Insert(n) => {
+            let entry = entry_filter(g, n, key, ram);
+            words::copy_at(&mut r, plan::ENTRY_FILTER_AT, &entry);
+        }
+        Slots::Update(d, n) => {
+            let deletions = deletion_filters(g, d, old, ram);
+            let entry = entry_filter(g, n, key, ram);
+            words::copy_at(&mut r, 0, &deletions);
+            words::copy_at(&mut r, plan::ENTRY_FILTER_AT, &entry);
+        }
     }
+    r
 }
 
 // ---- the change
@@ -192,12 +216,12 @@ fn program(
 {
     let new = new_bytes(old, record, record_number(g, e));
     let p = planning::of(g, e);
-    let bits = new_bits(g, e, record.key, ram);
+    let filters = new_filters(g, e, old, record.key, ram);
     if !plan::fresh(p, spare) {
         return false;
     }
-    plan::run(p, plan::whole(p), &new, &bits, main, spare, ram);
-    kept::finish(g, e, &new, &bits, ram);
+    plan::run(p, plan::whole(p), &new, &filters, main, spare, ram);
+    kept::finish(g, e, &new, &filters, ram);
     true
 }
 

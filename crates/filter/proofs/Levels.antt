@@ -28,6 +28,7 @@ levelBytes l main ram = cond (l .«in_ram») ram main
 -- the level has the filters from its start to `below` - 1, of F
 pub record LevelAt (u : ℕ) (ix : Index) (main ram : List ℕ) (F below : ℕ) (l : Level) : Type 0 where
   pub start-lt : l .start < below
+  pub even : l .start % 2 ≡ 0
   pub narrow : l .exponent < 10
   pub whole : l .«in_ram» ≡ true → 3 ≤ l .exponent
   pub few : l .«in_ram» ≡ true → below ≤ l .start + 8
@@ -93,6 +94,7 @@ module _ (u e : ℕ) (S : UnitIs u e) (ix : Index) (main ram : List ℕ) (F belo
       let m = mul-le-mul-right (16 * u) n in
       record {
         start-lt = h;
+        even = omega arith;
         narrow = omega (arith, S .small);
         whole = λ t. omega arith;
         few = λ t. omega arith;
@@ -127,6 +129,7 @@ module _ (u e : ℕ) (S : UnitIs u e) (ix : Index) (main ram : List ℕ) (F belo
         let m = mul-le-mul-right (16 * u) n in
         record {
           start-lt = h;
+          even = omega arith;
           narrow = omega (arith, S .small);
           whole = λ t. omega arith;
           few = λ t. absurd (false≢true t);
@@ -162,6 +165,7 @@ module _ (u e : ℕ) (S : UnitIs u e) (ix : Index) (main ram : List ℕ) (F belo
         let c = mul-le-mul-right w (Q .enough) in
         record {
           start-lt = h;
+          even = omega arith;
           narrow = omega (arith, S .small);
           whole = λ t. absurd (false≢true t);
           few = λ t. absurd (false≢true t);
@@ -186,6 +190,7 @@ module _ (u e : ℕ) (S : UnitIs u e) (ix : Index) (main ram : List ℕ) (F belo
       let j : k < inFull u F = rw is (div-lt (below - 1) (128 * (4 * u)) (inFull u F) (omega (arith, S .some)) (omega arith)) in
       record {
         start-lt = lo;
+        even = omega arith;
         narrow = omega arith;
         whole = λ t. absurd (false≢true t);
         few = λ t. absurd (false≢true t);

@@ -125,16 +125,17 @@ upto-one G n y h Y (suc j) l i k =
 
 module _ (l : Level) (bytes : List ℕ) (below : ℕ) (ps : List ℕ) where
   -- one word: the lowest n bits of one that shows as many or more
-  pub word-block : (first n m r y : ℕ) → below - l .start ≡ first + n → l .start < below → 0 < n → n ≤ 64 → n ≤ m
+  pub word-block : (first n m r y : ℕ) → below - l .start ≡ first + n → l .start < below → 0 < n → n ≤ 64 → n ≤ m → first % 2 ≡ 0
       → Shows (levelHas l bytes ps) first m r → ((i : ℕ) → i < 64 → bit y i ≡ (ltb i n && bit r i))
       → BlockOf l bytes below ps (record { start = l .start + first; words = y ∷ 0 ∷ 0 ∷ 0 ∷ 0 ∷ 0 ∷ 0 ∷ 0 ∷ [] })
   unfolding Shows
-  word-block first n m r y is lt some few le R Y =
+  word-block first n m r y is lt some few le even R Y =
       let z : below - (l .start + first) ≡ n = omega arith in
       record {
         start-le = omega arith;
         start-lt = omega arith;
         few = omega arith;
+        pairs = omega arith;
         shown = rw z (upto-one (λ j i. levelHas l bytes ps (l .start + first + (j * 64 + i) - l .start)) n y few
             (λ i h.
             Y i h
@@ -150,18 +151,19 @@ module _ (l : Level) (bytes : List ℕ) (below : ℕ) (ps : List ℕ) where
       → BlockOf l bytes below ps (record { start = l .start; words = r ∷ 0 ∷ 0 ∷ 0 ∷ 0 ∷ 0 ∷ 0 ∷ 0 ∷ [] })
   few-block n r is lt few small R =
       let e : l .start + 0 ≡ l .start = omega arith in
-      rw e at (word-block 0 n n r r (omega arith) lt (omega arith) few (omega arith) R (λ i h. bits-only n r i small))
+      rw e at (word-block 0 n n r r (omega arith) lt (omega arith) few (omega arith) (omega arith) R (λ i h. bits-only n r i small))
 
   -- eight words
-  pub words-block : (gate : ℕ → Bool) (first n : ℕ) (words : List ℕ) → below - l .start ≡ first + n → l .start < below → 0 < n → n ≤ 512
+  pub words-block : (gate : ℕ → Bool) (first n : ℕ) (words : List ℕ) → below - l .start ≡ first + n → l .start < below → 0 < n → n ≤ 512 → first % 2 ≡ 0
       → ((g : ℕ) → g < first + n → gate g ≡ levelHas l bytes ps g) → Upto (λ j i. gate (first + (j * 64 + i))) n words
       → BlockOf l bytes below ps (record { start = l .start + first; words = words })
-  words-block gate first n words is lt some few same W =
+  words-block gate first n words is lt some few even same W =
       let z : below - (l .start + first) ≡ n = omega arith in
       record {
         start-le = omega arith;
         start-lt = omega arith;
         few = omega arith;
+        pairs = omega arith;
         shown = rw z (upto-same (λ j i. gate (first + (j * 64 + i))) (λ j i. levelHas l bytes ps (l .start + first + (j * 64 + i) - l .start)) n words
             (λ j i h.
             let e : first + (j * 64 + i) ≡ l .start + first + (j * 64 + i) - l .start = omega arith in
@@ -176,6 +178,7 @@ block-at u ix main ram F below l ps b bytes L e B =
     record {
       start-lt = B .start-lt;
       few = B .few;
+      even = omega (arith, L .even, B .pairs, B .start-le);
       shown = upto-same (λ j i. levelHas l bytes ps (b .start + (j * 64 + i) - l .start))
           (λ j i. allOf (filterBit u ix main ram F (b .start + (j * 64 + i))) ps) (below - b .start) (b .words)
           (λ j i h. sym (same (b .start + (j * 64 + i)) (omega (arith, B .start-le)) (omega (arith, B .start-lt)))) (B .shown);

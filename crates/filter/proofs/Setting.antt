@@ -3,7 +3,8 @@ use mathlib.Core.Path.{_≡_, refl, sym, ap, _∙_}
 use mathlib.Core.Logic.{_≢_}
 use mathlib.Core.Bool.{Bool, true, false, _||_, or-comm}
 use mathlib.Core.List.{List}
-use Prim.Native.Nat.{ℕ, zero, suc, _+_, _*_, _/_, _%_, _^_, _<_}
+use Prim.Native.Nat.{ℕ, zero, suc, _+_, _-_, _*_, _/_, _%_, _^_, _≤_, _<_}
+use native.Mathlib.Nat.{mul-le-mul-right}
 use native.Mathlib.Numerals.{add-one}
 use native.Mathlib.Omega.{arith}
 use lib.Bits.{bitOr}
@@ -82,3 +83,7 @@ none-set n x h = rw (getD-replicate {A = ℕ} n (x / 8) 0 0 h) (bit-zero (x % 8)
 pub any-more : (f : ℕ → Bool) (n : ℕ) → (f n || any f n) ≡ any f (n + 1)
 unfolding any
 any-more f n = rw add-one
+
+-- word i of those from byte `at` on, `step` bytes apart
+pub word-in : (u at step i len : ℕ) → i < 8 * u - 1 → 4 ≤ step → at + (8 * u - 1) * step ≤ len → at + i * step + 4 ≤ len
+word-in u at step i len h s fits = omega (arith, mul-le-mul-right step h, s, fits)

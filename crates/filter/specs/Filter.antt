@@ -1,15 +1,16 @@
--- A filter's bits as an array, the filter of a page that a key fills, and what is asked of an index in lent bytes.
+-- A filter's bits as an array, the filters of a page that a key or a number fills, and what is asked of an index in lent bytes.
 use mathlib.Core.Bool.{Bool, _||_}
 use mathlib.Core.List.{List}
-use Prim.Native.Nat.{ℕ, _+_, _-_, _*_, _/_, _%_, _≤_, _<_}
+use Prim.Native.Nat.{ℕ, zero, suc, _+_, _-_, _*_, _/_, _%_, _≤_, _<_}
 use native.Mathlib.Omega.{arith}
 use lib.ListN.{length, getD}
 use Rattle.memory.specs.Bits.{bit}
 use Rattle.memory.specs.Ranges.{any, memb}
 use Rattle.memory.specs.Words.{word, bytes4}
-use Rattle.layout.specs.Geometry.{page, block, entriesPerPage, fullSets}
+use Rattle.layout.specs.Geometry.{page, block, entriesPerPage, deletionsPerFilter, fullSets}
 use Rattle.layout.specs.Index.{Index, fullBlock}
 use Rattle.layout.specs.Hash.{fnvFamily, positions}
+use Rattle.layout.specs.Items.{deletionSize}
 use Rattle.layout.specs.Calls.{keyIndex}
 use Rattle.laws.specs.Lengths.{Readable}
 use Rattle.laws.specs.Units.{UnitSound}
@@ -25,9 +26,19 @@ arrayBit a x = bit (getD a (x / 8) 0) (x % 8)
 abbrev pub keyBit : ℕ → ℕ → ℕ → ℕ → Bool
 keyBit u k key x = memb x (positions fnvFamily k u (bytes4 key))
 
--- bit x of the filter of the page of entries from byte `at` on: of its entries but the last, and of a key
-abbrev pub withKey : ℕ → ℕ → ℕ → ℕ → List ℕ → ℕ → Bool
-withKey u k at key ram x = keyBit u k key x || any (λ i. keyBit u k (word ram (at + i * 8)) x) (entriesPerPage u - 1)
+-- bit x of the filter of S/2 words: of those from byte `at` on, `step` bytes apart, but the last, and of a key
+abbrev pub withKey : ℕ → ℕ → ℕ → ℕ → ℕ → List ℕ → ℕ → Bool
+withKey u k at step key ram x = keyBit u k key x || any (λ i. keyBit u k (word ram (at + i * step)) x) (entriesPerPage u - 1)
+
+-- those of both halves of the page of deletions from byte `at` on, whose last number is not in RAM yet
+abbrev pub halfBits : ℕ → ℕ → ℕ → ℕ → List ℕ → ℕ → ℕ → Bool
+halfBits u k at number ram zero x = withKey u k at deletionSize (word ram (at + (deletionsPerFilter u - 1) * deletionSize)) ram x
+halfBits u k at number ram (suc f) x = withKey u k (at + deletionsPerFilter u * deletionSize) deletionSize number ram x
+
+-- those of two arrays
+abbrev pub pairBits : List ℕ → List ℕ → ℕ → ℕ → Bool
+pairBits first second zero = arrayBit first
+pairBits first second (suc f) = arrayBit second
 
 -- the unit is one of the six allowed; the index lies within the flash with Z full sets, its SKA page within the RAM
 pub record IndexFits (u : ℕ) (ix : Index) (Z : ℕ) (main ram : List ℕ) : Type 0 where

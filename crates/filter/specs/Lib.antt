@@ -1,4 +1,5 @@
 pub mod Filter
+pub mod Fourths
 pub mod Groups
 pub mod Blocks
 pub mod Pieces

@@ -6,3 +6,4 @@ pub use groups::Block;
 pub use groups::Filters;
 pub use groups::block_below;
 pub use page::new_filter;
+pub use page::number_filters;

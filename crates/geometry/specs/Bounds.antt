@@ -18,10 +18,20 @@ module _ (g : Geometry) (s : Sound g) where
   pub full-le : layout.fullSets (shape g) * layout.sideBlocks (g .chip .unit) ≤ 256
   full-le = omega (arith, div-mul-le-self (g .ra) (64 * g .chip .unit))
 
-  pub blocks-le : layout.blocks (shape g) ≤ 10753
-  blocks-le =
+  -- those of the index over the deletions: a fourth of theirs
+  pub deletion-full-le : layout.deletionSets (shape g) * layout.sideBlocks (g .chip .unit) ≤ 1024
+  deletion-full-le = omega (arith, div-mul-le-self (g .da) (16 * g .chip .unit))
+
+  pub deletion-index-le : layout.deletionIndexBlock (shape g) ≤ 10753
+  deletion-index-le =
       let i = index-le in
       let f = full-le in
+      omega arith
+
+  pub blocks-le : layout.blocks (shape g) ≤ 12034
+  blocks-le =
+      let i = deletion-index-le in
+      let f = deletion-full-le in
       omega arith
 
   pub record-capacity-le : layout.recordCapacity (shape g) ≤ 8388608

@@ -2,7 +2,7 @@
 ghost use mathlib.Core.Path.{_≡_};
 ghost use Prim.Native.Nat.{_*_, _/_, _^_, _<_, _≤_};
 ghost use Rattle.layout.specs.Geometry.{sectorsPerPage, sectorsPerBlock, sector, page, block, entriesPerPage, deletionsPerPage};
-ghost use Rattle.layout.specs.Geometry.{filterBits, fourthSize, sideBlocks};
+ghost use Rattle.layout.specs.Geometry.{deletionsPerFilter, filterBits, fourthSize, sideBlocks, indexBlocks};
 
 // A chip by its unit, a sixteenth of the sector size.
 pub struct Chip {
@@ -64,6 +64,14 @@ impl Chip {
         self.sector_size()
     }
 
+    // Deletions of a filter, half a page of them: S/2.
+    pub fn deletions_per_filter(self) -> usize
+        requires { ⌜ self .unit ≤ 32 ⌝ }
+        ensures { λ r. ⌜ r ≡ deletionsPerFilter (self .unit) ⌝ }
+    {
+        self.sector_size() / 2
+    }
+
     // Bits of a filter: 4S.
     pub fn filter_bits(self) -> usize
         requires { ⌜ self .unit ≤ 32 ⌝ }
@@ -86,6 +94,15 @@ impl Chip {
         ensures { λ r. ⌜ r ≡ sideBlocks (self .unit) ⌝ }
     {
         self.sector_size() / 4
+    }
+
+    // Blocks of an index with so many places for full sets: L1, both sides, the places.
+    pub fn index_blocks(self, places: usize) -> usize
+        requires { ⌜ (self .unit ≤ 32) × (places * sideBlocks (self .unit) ≤ 1024) ⌝ }
+        ensures { λ r. ⌜ r ≡ indexBlocks (self .unit) places ⌝ }
+    {
+        let side = self.side_blocks();
+        1 + 2 * side + places * side
     }
 
     // ---- addresses: the first byte of a sector, of a page and of a block

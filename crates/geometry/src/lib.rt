@@ -41,7 +41,7 @@ pub struct Geometry {
 }
 
 impl Geometry {
-    // The pages of the RAM by number: records, entries, deletions, filters, work.
+    // The pages of the RAM by number: records, entries, deletions, filters of the entries, work, filters of the deletions.
     pub const RA_PAGE: usize = 0;
 
     pub const KA_PAGE: usize = 1;
@@ -52,7 +52,9 @@ impl Geometry {
 
     pub const WORK_PAGE: usize = 4;
 
-    pub const RAM_PAGES: usize = 5;
+    pub const DELETION_SKA_PAGE: usize = 5;
+
+    pub const RAM_PAGES: usize = 6;
 
     // ---- the table's columns
 
@@ -121,14 +123,29 @@ impl Geometry {
         self.ra / self.filter_bits()
     }
 
+    // The index over the deletions.
+    pub fn deletion_index_block(self) -> usize
+        requires { ⌜ Sound self ⌝ }
+        ensures { λ r. ⌜ r ≡ layout.deletionIndexBlock (shape self) ⌝ }
+    {
+        let places = self.full_sets();
+        self.index_block() + self.chip.index_blocks(places)
+    }
+
+    pub fn deletion_sets(self) -> usize
+        requires { ⌜ Sound self ⌝ }
+        ensures { λ r. ⌜ r ≡ layout.deletionSets (shape self) ⌝ }
+    {
+        self.da / self.chip.sector_size()
+    }
+
     // B.
     pub fn blocks(self) -> usize
         requires { ⌜ Sound self ⌝ }
         ensures { λ r. ⌜ r ≡ layout.blocks (shape self) ⌝ }
     {
-        let side = self.chip.side_blocks();
-        let sets = self.full_sets();
-        self.index_block() + (1 + 2 * side + sets * side)
+        let places = self.deletion_sets();
+        self.deletion_index_block() + self.chip.index_blocks(places)
     }
 
     // ---- capacities, and bytes of data, spare and RAM
@@ -207,6 +224,13 @@ impl Geometry {
         ensures { λ r. ⌜ r ≡ layout.workRam (shape self .u) ⌝ }
     {
         self.chip.page_address(Geometry::WORK_PAGE)
+    }
+
+    pub fn deletion_ska_ram(self) -> usize
+        requires { ⌜ Sound self ⌝ }
+        ensures { λ r. ⌜ r ≡ layout.deletionSkaRam (shape self .u) ⌝ }
+    {
+        self.chip.page_address(Geometry::DELETION_SKA_PAGE)
     }
 }
 

@@ -7,7 +7,7 @@ ghost use Rattle.memory.specs.Power.{log2up};
 ghost use Rattle.layout.specs.Geometry.{sideBlocks};
 ghost use Rattle.layout.specs.Index.{filtersPerFlush, inSka, setPages, setWidth, setBlocks, sideBlock, fullBlock, setBlock};
 ghost use Rattle.geometry.specs.Shape.{shape, Sound};
-ghost use Rattle.geometry.specs.Indexes.{indexOf, indexFor};
+ghost use Rattle.geometry.specs.Indexes.{indexOf, indexFor, deletionIndexFor};
 use crate::Chip;
 use crate::Geometry;
 
@@ -43,6 +43,17 @@ pub fn key_index(g: Geometry) -> Index
     Index {
         first: g.index_block(),
         ska: g.ska_ram(),
+    }
+}
+
+// The index over the deletions.
+pub fn deletion_index(g: Geometry) -> Index
+    requires { ⌜ Sound g ⌝ }
+    ensures { λ r. ⌜ r ≡ deletionIndexFor (shape g) ⌝ }
+{
+    Index {
+        first: g.deletion_index_block(),
+        ska: g.deletion_ska_ram(),
     }
 }
 

@@ -1,10 +1,10 @@
 -- A history and a later one: histories only grow at their ends.
-use mathlib.Core.Path.{_≡_, refl, ap, _∙_}
+use mathlib.Core.Path.{_≡_, refl, sym, ap, _∙_}
 use mathlib.Core.Option.{Option, none, some}
 use mathlib.Core.List.{List, [], _∷_, _++_}
 use Prim.Native.Nat.{ℕ, _≤_, _<_}
 use native.Mathlib.Omega.{arith}
-use lib.ListN.{length, getD, length-append, List·getD-append}
+use lib.ListN.{length, getD, take, drop, length-append, List·getD-append, take-append-drop}
 use Rattle.layout.specs.Items.{Record, noRecord}
 use Rattle.layout.specs.Hash.{Family}
 use Rattle.layout.specs.Calls.{Volume, Call, insert, update, delete, lookup, Outcome, accepted, hit, miss, refused, call}
@@ -83,3 +83,16 @@ before-history h v H [] = before-same H
 before-history h v H (c ∷ cs) =
     before-then H (growIf (call h v c .outcome) H c) _ (before-growIf (call h v c .outcome) H c)
     (before-history h (call h v c .volume) (growIf (call h v c .outcome) H c) cs)
+
+-- ---- a history's first deletions, with all its records
+
+abbrev pub firstDeletions : History → ℕ → History
+firstDeletions H d₀ = record { records = H .records; deleted = take d₀ (H .deleted) }
+
+pub before-first : (H : History) (d₀ : ℕ) → Before (firstDeletions H d₀) H
+before-first H d₀ = record {
+  records-more = [];
+  records-are = append-nil (H .records);
+  deleted-more = drop d₀ (H .deleted);
+  deleted-are = sym (take-append-drop d₀ (H .deleted));
+}

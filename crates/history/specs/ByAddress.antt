@@ -1,6 +1,6 @@
--- Every byte of a volume by its address, out of what is known of each area and of the index.
+-- Every byte of a volume by its address, out of what is known of each area and of both indexes.
 use mathlib.Core.Path.{_≡_, ap, _∙_}
-use mathlib.Core.Bool.{true, false, cond}
+use mathlib.Core.Bool.{Bool, true, false, cond}
 use mathlib.Core.List.{List}
 use Prim.Native.Nat.{ℕ, _+_, _-_, _*_, _/_, _%_, _<_}
 use native.Mathlib.Nat.{mul-le-mul-right}
@@ -11,15 +11,16 @@ use borrow.Author.Tests.{eq-eqb, ne-eqb}
 use Rattle.memory.specs.Cases.{either, lt?, eq?}
 use Rattle.memory.specs.Numbers.{euclid, div-lt}
 use Rattle.layout.specs.Geometry.{Geometry, sectorsPerBlock, page, block, sideBlocks, kaBlocks, kaBlock, daBlock, indexBlock, fullSets}
-use Rattle.layout.specs.Geometry.{blocks, mainSize, spareSize, ramSize, kaRam, daRam, skaRam, workRam}
+use Rattle.layout.specs.Geometry.{blocks, indexBlocks, deletionIndexBlock, deletionSets, mainSize, spareSize, ramSize, kaRam, daRam}
+use Rattle.layout.specs.Geometry.{skaRam, workRam, deletionSkaRam}
 use Rattle.layout.specs.Flash.{Flash}
 use Rattle.layout.specs.Hash.{Family}
 use Rattle.layout.specs.Items.{RA, KA, DA}
 use Rattle.layout.specs.Index.{Index, flushesPerRound, filtersPerRound, inL1, inSet, inFull, setBlocks, fullFilters, sideBlock, fullBlock}
-use Rattle.layout.specs.Calls.{keyIndex}
+use Rattle.layout.specs.Calls.{keyIndex, deletionIndex}
 use Rattle.history.specs.Image.{History, recordsIn, deletionsIn, filtersIn, raItem, kaItem, daItem, keyFilter}
 use Rattle.history.specs.Image.{areaByte, areaSpareByte, l1Byte, sideByte, fullByte, indexByte, indexSpareByte, mainImage, spareImage}
-use Rattle.history.specs.Image.{ramImage}
+use Rattle.history.specs.Image.{ramImage, deletionFiltersIn, deletionFilter, IndexIs}
 use Rattle.history.specs.Parts.{Parts}
 use Rattle.laws.specs.Units.{UnitIs}
 
@@ -79,20 +80,21 @@ module _ (u w : ℕ) (some : 0 < u * w) (ix : Index) (Z c : ℕ) (l : List ℕ) 
       let s : ix .first * w + i ≡ (ix .first + 1 + 2 * (4 * u)) * w + (i - (1 + 2 * (4 * u)) * w) = omega arith in
       rw (a .0, b .0, d .0) (ap (λ (x : ℕ). getD l x 0) s ∙ places (i - (1 + 2 * (4 * u)) * w) (omega arith)))))
 
--- the blocks of a volume: RA, KA, DA and the index
-module _ (g : Geometry) (w : ℕ) (l : List ℕ) (ra ka da index : ℕ → ℕ)
+-- the blocks of a volume: RA, KA, DA and both indexes
+module _ (g : Geometry) (w : ℕ) (l : List ℕ) (ra ka da index deletions : ℕ → ℕ)
     (on-ra : (i : ℕ) → i < g .R * w → getD l (RA g .first * w + i) 0 ≡ ra i)
     (on-ka : (i : ℕ) → i < kaBlocks g * w → getD l (KA g .first * w + i) 0 ≡ ka i)
     (on-da : (i : ℕ) → i < g .D * w → getD l (DA g .first * w + i) 0 ≡ da i)
-    (on-index : (i : ℕ) → i < (1 + 2 * sideBlocks (g .u) + fullSets g * sideBlocks (g .u)) * w
-    → getD l (indexBlock g * w + i) 0 ≡ index i) where
+    (on-index : (i : ℕ) → i < indexBlocks (g .u) (fullSets g) * w → getD l (indexBlock g * w + i) 0 ≡ index i)
+    (on-deletions : (i : ℕ) → i < indexBlocks (g .u) (deletionSets g) * w → getD l (deletionIndexBlock g * w + i) 0 ≡ deletions i) where
   -- every byte of the volume's blocks
   pub in-volume : (a : ℕ) → a < blocks g * w
       → getD l a 0
       ≡ cond (ltb a (kaBlock g * w)) (ra a)
       (cond (ltb a (daBlock g * w)) (ka (a - kaBlock g * w))
       (cond (ltb a (indexBlock g * w)) (da (a - daBlock g * w))
-      (index (a - indexBlock g * w))))
+      (cond (ltb a (deletionIndexBlock g * w)) (index (a - indexBlock g * w))
+      (deletions (a - deletionIndexBlock g * w)))))
   in-volume a h =
       either (lt? a (kaBlock g * w))
       (λ p.
@@ -106,53 +108,64 @@ module _ (g : Geometry) (w : ℕ) (l : List ℕ) (ra ka da index : ℕ → ℕ)
       (λ r.
       let s : a ≡ daBlock g * w + (a - daBlock g * w) = omega arith in
       rw (p .0, q .0, r .0) (ap (λ (x : ℕ). getD l x 0) s ∙ on-da (a - daBlock g * w) (omega arith)))
-      (λ r.
+      (λ r. either (lt? a (deletionIndexBlock g * w))
+      (λ t.
       let s : a ≡ indexBlock g * w + (a - indexBlock g * w) = omega arith in
-      rw (p .0, q .0, r .0) (ap (λ (x : ℕ). getD l x 0) s ∙ on-index (a - indexBlock g * w) (omega arith)))))
+      rw (p .0, q .0, r .0, t .0) (ap (λ (x : ℕ). getD l x 0) s ∙ on-index (a - indexBlock g * w) (omega arith)))
+      (λ t.
+      let s : a ≡ deletionIndexBlock g * w + (a - deletionIndexBlock g * w) = omega arith in
+      rw (p .0, q .0, r .0, t .0)
+      (ap (λ (x : ℕ). getD l x 0) s ∙ on-deletions (a - deletionIndexBlock g * w) (omega arith))))))
+
+-- ---- an index of N filters: its blocks in the main area, and their sectors in the spare area
+
+module _ (u : ℕ) (pu : 0 < u) (ix : Index) (Z : ℕ) (F : ℕ → ℕ → Bool) (N : ℕ) (main spare ram : List ℕ)
+    (I : IndexIs u ix Z F N main spare ram) where
+  index-main : (i : ℕ) → i < indexBlocks u Z * block u → getD main (ix .first * block u + i) 0 ≡ indexByte u F N i
+  index-main =
+      in-index u (block u) (omega (arith, pu, mul-le-mul-right u pu)) ix Z (inSet u N) main
+      (l1Byte u F (inFull u N * fullFilters u + filtersPerRound * inSet u N) (inL1 N))
+      (sideByte u F (inFull u N * fullFilters u) (inSet u N)) (fullByte u F (inFull u N))
+      (I .on-main .l1) (I .on-main .here) (I .on-main .there) (I .on-main .full)
+
+  index-spare : (x : ℕ) → x < indexBlocks u Z * sectorsPerBlock → getD spare (ix .first * sectorsPerBlock + x) 0 ≡ indexSpareByte u N x
+  index-spare =
+      in-index u sectorsPerBlock (omega (arith, pu)) ix Z (inSet u N) spare
+      (λ x. cond (ltb (x % flushesPerRound) (inL1 N)) 0 255)
+      (λ x. cond (ltb x (setBlocks (inSet u N) * sectorsPerBlock)) 0 255)
+      (λ k x. cond (ltb k (inFull u N)) 0 255)
+      (I .on-spare .l1) (I .on-spare .here) (I .on-spare .there) (I .on-spare .full)
 
 -- ---- the volume of a history
 
 module _ (h : Family) (g : Geometry) (e : ℕ) (unit : UnitIs (g .u) e) (H : History) (C : Flash) (ram : List ℕ)
-    (P : Parts h g H (recordsIn H) (recordsIn H) (deletionsIn H) (filtersIn g H) C ram)
+    (P : Parts h g H (recordsIn H) (recordsIn H) (deletionsIn H) (filtersIn g H) (deletionFiltersIn g H) C ram)
     (work : (i : ℕ) → i < page (g .u) → getD ram (workRam (g .u) + i) 0 ≡ 0) where
   abbrev N : ℕ
   N = filtersIn g H
 
-  -- the index's blocks in the main area, and their sectors in the spare area
-  index-main : (i : ℕ) → i < (1 + 2 * sideBlocks (g .u) + fullSets g * sideBlocks (g .u)) * block (g .u)
-      → getD (C .main) (indexBlock g * block (g .u) + i) 0 ≡ indexByte (g .u) (keyFilter h g H) N i
-  index-main =
-      in-index (g .u) (block (g .u)) (omega (arith, unit .some, mul-le-mul-right (g .u) (unit .some))) (keyIndex g) (fullSets g)
-      (inSet (g .u) N) (C .main)
-      (l1Byte (g .u) (keyFilter h g H) (inFull (g .u) N * fullFilters (g .u) + filtersPerRound * inSet (g .u) N) (inL1 N))
-      (sideByte (g .u) (keyFilter h g H) (inFull (g .u) N * fullFilters (g .u)) (inSet (g .u) N))
-      (fullByte (g .u) (keyFilter h g H) (inFull (g .u) N))
-      (P .filters .on-main .l1) (P .filters .on-main .here) (P .filters .on-main .there) (P .filters .on-main .full)
-
-  index-spare : (x : ℕ) → x < (1 + 2 * sideBlocks (g .u) + fullSets g * sideBlocks (g .u)) * sectorsPerBlock
-      → getD (C .spare) (indexBlock g * sectorsPerBlock + x) 0 ≡ indexSpareByte (g .u) N x
-  index-spare =
-      in-index (g .u) sectorsPerBlock (omega (arith, unit .some)) (keyIndex g) (fullSets g) (inSet (g .u) N) (C .spare)
-      (λ x. cond (ltb (x % flushesPerRound) (inL1 N)) 0 255)
-      (λ x. cond (ltb x (setBlocks (inSet (g .u) N) * sectorsPerBlock)) 0 255)
-      (λ k x. cond (ltb k (inFull (g .u) N)) 0 255)
-      (P .filters .on-spare .l1) (P .filters .on-spare .here) (P .filters .on-spare .there) (P .filters .on-spare .full)
+  abbrev M : ℕ
+  M = deletionFiltersIn g H
 
   pub main-by-address : (a : ℕ) → a < mainSize g → getD (C .main) a 0 ≡ mainImage h g H a
   unfolding mainImage
   main-by-address =
       in-volume g (block (g .u)) (C .main) (areaByte (RA g) (raItem H) (recordsIn H)) (areaByte (KA g) (kaItem H) (recordsIn H))
-      (areaByte (DA g) (daItem H) (deletionsIn H)) (indexByte (g .u) (keyFilter h g H) N)
-      (P .ra .on-main) (P .ka .on-main) (P .da .on-main) index-main
+      (areaByte (DA g) (daItem H) (deletionsIn H)) (indexByte (g .u) (keyFilter h g H) N) (indexByte (g .u) (deletionFilter h g H) M)
+      (P .ra .on-main) (P .ka .on-main) (P .da .on-main)
+      (index-main (g .u) (unit .some) (keyIndex g) (fullSets g) (keyFilter h g H) N (C .main) (C .spare) ram (P .filters))
+      (index-main (g .u) (unit .some) (deletionIndex g) (deletionSets g) (deletionFilter h g H) M (C .main) (C .spare) ram (P .deletions))
 
   pub spare-by-address : (x : ℕ) → x < spareSize g → getD (C .spare) x 0 ≡ spareImage g H x
   unfolding spareImage
   spare-by-address =
       in-volume g sectorsPerBlock (C .spare) (areaSpareByte (RA g) (recordsIn H)) (areaSpareByte (KA g) (recordsIn H))
-      (areaSpareByte (DA g) (deletionsIn H)) (indexSpareByte (g .u) N)
-      (P .ra .on-spare) (P .ka .on-spare) (P .da .on-spare) index-spare
+      (areaSpareByte (DA g) (deletionsIn H)) (indexSpareByte (g .u) N) (indexSpareByte (g .u) M)
+      (P .ra .on-spare) (P .ka .on-spare) (P .da .on-spare)
+      (index-spare (g .u) (unit .some) (keyIndex g) (fullSets g) (keyFilter h g H) N (C .main) (C .spare) ram (P .filters))
+      (index-spare (g .u) (unit .some) (deletionIndex g) (deletionSets g) (deletionFilter h g H) M (C .main) (C .spare) ram (P .deletions))
 
-  -- the RAM's pages: RA, KA, DA, SKA and work
+  -- the RAM's pages: RA, KA, DA, SKA, work and SKA of the index over DA
   pub ram-by-address : (a : ℕ) → a < ramSize g → getD ram a 0 ≡ ramImage h g H a
   unfolding ramImage
   ram-by-address a b =
@@ -172,6 +185,11 @@ module _ (h : Family) (g : Geometry) (e : ℕ) (unit : UnitIs (g .u) e) (H : His
       (λ t.
       let s : a ≡ skaRam (g .u) + (a - skaRam (g .u)) = omega arith in
       rw (p .0, q .0, r .0, t .0) (ap (λ (x : ℕ). getD ram x 0) s ∙ P .filters .on-ram (a - skaRam (g .u)) (omega arith)))
-      (λ t.
+      (λ t. either (lt? a (deletionSkaRam (g .u)))
+      (λ w.
       let s : a ≡ workRam (g .u) + (a - workRam (g .u)) = omega arith in
-      rw (p .0, q .0, r .0, t .0) (ap (λ (x : ℕ). getD ram x 0) s ∙ work (a - workRam (g .u)) (omega arith))))))
+      rw (p .0, q .0, r .0, t .0, w .0) (ap (λ (x : ℕ). getD ram x 0) s ∙ work (a - workRam (g .u)) (omega arith)))
+      (λ w.
+      let s : a ≡ deletionSkaRam (g .u) + (a - deletionSkaRam (g .u)) = omega arith in
+      rw (p .0, q .0, r .0, t .0, w .0)
+      (ap (λ (x : ℕ). getD ram x 0) s ∙ P .deletions .on-ram (a - deletionSkaRam (g .u)) (omega arith)))))))

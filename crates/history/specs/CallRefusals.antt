@@ -75,17 +75,17 @@ module _ (h : Family) (g : Geometry) (v : Volume) where
   delete-among key none = refl
   delete-among key (some (found j)) = either-among _ (noDeletion g v) _ _ refl (commit-among _ _ _ _ _ refl)
 
-  lookup-among : (key opened : ℕ) (s : Option Stop) → Among (refusalsOf (lookup key)) (lookupAfter g v opened s .outcome)
+  lookup-among : (key opened daPages : ℕ) (s : Option Stop) → Among (refusalsOf (lookup key)) (lookupAfter g v opened daPages s .outcome)
   unfolding lookupAfter memb
-  lookup-among key opened (some corrupt) = refl
-  lookup-among key opened none = tt
-  lookup-among key opened (some (found j)) = tt
+  lookup-among key opened daPages (some corrupt) = refl
+  lookup-among key opened daPages none = tt
+  lookup-among key opened daPages (some (found j)) = tt
 
   answer-among : (c : Call) → Among (refusalsOf c) (answer h g v c .outcome)
   answer-among (insert r) = insert-among r (search h g v (r .key) .stop)
   answer-among (update r) = update-among r (search h g v (r .key) .stop)
   answer-among (delete key) = delete-among key (search h g v key .stop)
-  answer-among (lookup key) = lookup-among key (search h g v key .opened) (search h g v key .stop)
+  answer-among (lookup key) = lookup-among key (search h g v key .opened) _ (search h g v key .stop)
 
 pub call-refusals : (h : Family) (v : Volume) (c : Call) → Among (refusalsOf c) (call h v c .outcome)
 unfolding call judgeFirst

@@ -1,30 +1,78 @@
 -- The operations of a deletion and of an insertion on a chip. All is planned out of the RAM handed in; each step may as well read the RAM
 -- that the steps before it leave, for they write other pages.
 use mathlib.Core.Path.{_≡_, ap, _∙_}
-use mathlib.Core.Logic.{inl, inr}
-use mathlib.Core.Bool.{cond}
+use mathlib.Core.Logic.{_⊎_, inl, inr}
+use mathlib.Core.Bool.{Bool, true, false, cond}
 use mathlib.Core.List.{List, [], _++_}
-use Prim.Native.Nat.{ℕ, _<_}
+use Prim.Native.Nat.{ℕ, _+_, _*_, _/_, _≤_, _<_}
 use native.Mathlib.Omega.{arith}
 use lib.ListN.{length}
-use Rattle.layout.specs.Geometry.{Geometry, raRam, kaRam, skaRam}
+use Rattle.layout.specs.Geometry.{Geometry, page, raRam, kaRam, daRam, skaRam, deletionSkaRam}
 use Rattle.layout.specs.Flash.{Flash, Planned, planOps}
 use Rattle.layout.specs.Hash.{Family}
-use Rattle.layout.specs.Items.{RA, KA, DA, entryBytes, deletionBytes, fills, itemPlan, itemRam}
+use Rattle.layout.specs.Items.{RA, KA, DA, entryBytes, deletionBytes, fills, itemPlan}
 use Rattle.layout.specs.Index.{inSka, filterPlan, filterRam}
 use Rattle.layout.specs.Keys.{Key}
 use Rattle.layout.specs.Calls.{keyIndex, keyFilters, deletionPlan, deletionRam, newFilter, summarized, insertionPlan, insertionRam}
-use Rattle.history.specs.Operations.{itemOps, recordRam, entryRam, entered, filteredRam, insertionOps}
+use Rattle.layout.specs.Calls.{deletionIndex, deletionFilters, newHalf}
+use Rattle.history.specs.Operations.{recordRam, entryRam, entered, filteredRam, insertionOps}
+use Rattle.history.specs.Operations.{numberRam, oneHalf, bothHalves, deletionOps}
 use Rattle.history.specs.PlanLaws.{ops-both, ops-if, item-ops, filter-ops}
 use Rattle.laws.specs.ItemLaws.{length-entry, length-deletion}
 use Rattle.history.specs.RamPages.{SamePage, same-then, put-same, item-plan-same, item-apart, with-filter-same, filter-plan-same}
-use Rattle.history.specs.RamPages.{page-filter-same}
+use Rattle.history.specs.RamPages.{page-filter-same, filter-apart, filter-ram-apart}
+use Rattle.laws.specs.SetLaws.{first-of-pair}
 use Rattle.laws.specs.Units.{UnitIs}
 
-pub deletion-ops : (g : Geometry) (d j : ℕ) (ram : List ℕ) (C : Flash)
-    → planOps (g .u) (deletionPlan g d j ram) C ≡ itemOps (g .u) (DA g) d (deletionBytes j) ram
-unfolding deletionPlan
-deletion-ops g d j ram C = item-ops (g .u) (DA g) d (deletionBytes j) ram C
+module _ (h : Family) (g : Geometry) (d j : ℕ) (ram : List ℕ) where
+  -- the first filter of a DA page plans nothing, the second the same out of the RAM with the number in its place
+  deletion-steps : 0 < g .u → deletionPlan h g d j ram
+      ≡ itemPlan (g .u) (DA g) d (deletionBytes j) ram
+      ++ cond (fills (DA g) d) (filterPlan (g .u) (deletionIndex g) (deletionFilters g d + 1) (bothHalves h g d j ram)) []
+  unfolding deletionPlan
+  deletion-steps pu =
+      let kept : SamePage (g .u) (deletionSkaRam (g .u)) ram (numberRam g d j ram)
+      = item-apart (g .u) (DA g) d (deletionSkaRam (g .u)) (deletionBytes j) ram (omega (arith, pu)) (omega arith) (length-deletion j)
+      (inr (omega arith)) in
+      rw (
+        first-of-pair (d / (16 * g .u)),
+        filter-plan-same (g .u) (deletionIndex g) (deletionFilters g d + 1) _ _
+            (with-filter-same (g .u) (deletionIndex g) (inSka (deletionFilters g d + 1)) (deletionSkaRam (g .u)) (newHalf h g d j 1 ram) _ _
+            (with-filter-same (g .u) (deletionIndex g) (inSka (deletionFilters g d)) (deletionSkaRam (g .u)) (newHalf h g d j 0 ram) _ _
+            kept)),
+      )
+
+  pub deletion-ram : deletionRam h g d j ram
+      ≡ cond (fills (DA g) d) (filterRam (g .u) (deletionIndex g) (deletionFilters g d + 1) (bothHalves h g d j ram)) (numberRam g d j ram)
+  unfolding deletionRam
+  deletion-ram = rw (first-of-pair (d / (16 * g .u)))
+
+  -- a deletion writes DA's page and that of the index over DA
+  pub deletion-apart : 0 < g .u → (at : ℕ) → (at + page (g .u) ≤ daRam (g .u)) ⊎ (daRam (g .u) + page (g .u) ≤ at)
+      → (at + page (g .u) ≤ deletionSkaRam (g .u)) ⊎ (deletionSkaRam (g .u) + page (g .u) ≤ at)
+      → SamePage (g .u) at ram (deletionRam h g d j ram)
+  deletion-apart pu at o q =
+      let A : SamePage (g .u) at ram (numberRam g d j ram)
+      = item-apart (g .u) (DA g) d at (deletionBytes j) ram (omega (arith, pu)) (omega arith) (length-deletion j) o in
+      let B = filter-apart (g .u) pu (deletionIndex g) at q (inSka (deletionFilters g d)) (newHalf h g d j 0 ram) (numberRam g d j ram)
+      (omega arith) in
+      let C = filter-apart (g .u) pu (deletionIndex g) at q (inSka (deletionFilters g d + 1)) (newHalf h g d j 1 ram) (oneHalf h g d j ram)
+      (omega arith) in
+      let E = filter-ram-apart (g .u) pu (deletionIndex g) at q (deletionFilters g d + 1) (bothHalves h g d j ram) in
+      rw deletion-ram
+      (same-if (fills (DA g) d) _ _ (same-then (g .u) at ram _ _ A (same-then (g .u) at _ _ _ B (same-then (g .u) at _ _ _ C E))) A)
+    where
+      same-if : (b : Bool) (r s : List ℕ) → SamePage (g .u) at ram r → SamePage (g .u) at ram s → SamePage (g .u) at ram (cond b r s)
+      same-if true r s p q = p
+      same-if false r s p q = q
+
+  pub deletion-ops : (e : ℕ) (unit : UnitIs (g .u) e) (C : Flash)
+      → planOps (g .u) (deletionPlan h g d j ram) C ≡ deletionOps h g d j ram C
+  deletion-ops e unit C =
+      ap (λ (ps : List Planned). planOps (g .u) ps C) (deletion-steps (unit .some))
+      ∙ ops-both (g .u) (itemPlan (g .u) (DA g) d (deletionBytes j) ram) _ _ _ C (item-ops (g .u) (DA g) d (deletionBytes j) ram C)
+      (ops-if (g .u) (fills (DA g) d) _ _ _
+      (filter-ops (g .u) e unit (deletionIndex g) (deletionFilters g d + 1) (bothHalves h g d j ram) _))
 
 module _ (h : Family) (g : Geometry) (n : ℕ) (key : Key) where
   -- the filter of the page that entry n fills, out of RAMs that agree on KA's page; the SKA page with it
@@ -51,18 +99,14 @@ module _ (h : Family) (g : Geometry) (n : ℕ) (key : Key) where
         )
 
     module _ (pu : 0 < g .u) where
-      -- a deletion writes DA's page alone
+      -- a deletion writes other pages than an insertion reads
       pub insertion-after : (d j : ℕ) (ram : List ℕ)
-          → insertionPlan h g n key bytes ram ≡ insertionPlan h g n key bytes (deletionRam g d j ram)
-      unfolding deletionRam
+          → insertionPlan h g n key bytes ram ≡ insertionPlan h g n key bytes (deletionRam h g d j ram)
       insertion-after d j ram =
-          insertion-same ram (itemRam (g .u) (DA g) d (deletionBytes j) ram)
-          (item-apart (g .u) (DA g) d (raRam (g .u)) (deletionBytes j) ram (omega arith) (omega arith) (length-deletion j)
-          (inl (omega arith)))
-          (item-apart (g .u) (DA g) d (kaRam (g .u)) (deletionBytes j) ram (omega arith) (omega arith) (length-deletion j)
-          (inl (omega arith)))
-          (item-apart (g .u) (DA g) d (skaRam (g .u)) (deletionBytes j) ram (omega arith) (omega arith) (length-deletion j)
-          (inr (omega arith)))
+          insertion-same ram (deletionRam h g d j ram)
+          (deletion-apart h g d j ram pu (raRam (g .u)) (inl (omega arith)) (inl (omega arith)))
+          (deletion-apart h g d j ram pu (kaRam (g .u)) (inl (omega arith)) (inl (omega arith)))
+          (deletion-apart h g d j ram pu (skaRam (g .u)) (inr (omega arith)) (inl (omega arith)))
 
       module _ (size : length bytes ≡ 16) (ram : List ℕ) where
         -- what the entry and the filter read is as it was handed in

@@ -13,7 +13,7 @@ use Rattle.memory.specs.Cases.{either, bool?}
 use Rattle.memory.specs.Lists.{length-write, getD-write-after}
 use Rattle.memory.specs.Numbers.{carry, div-lt}
 use Rattle.layout.specs.Geometry.{Geometry, geometry, allowed, blocks, kaBlocks, fullSets, recordCapacity, deletionCapacity, ramSize}
-use Rattle.layout.specs.Geometry.{entriesPerPage, workRam, Sizes, unitOf}
+use Rattle.layout.specs.Geometry.{entriesPerPage, deletionIndexBlock, deletionSets, workRam, Sizes, unitOf}
 use Rattle.layout.specs.Flash.{Flash, Op, applyAll, erases, Planned, planOps, allFresh}
 use Rattle.layout.specs.Hash.{Family, fnvFamily}
 use Rattle.layout.specs.Items.{RA, KA, DA, entryBytes, deletionBytes, fills, Record, recordBytes}
@@ -24,16 +24,17 @@ use Rattle.layout.specs.Calls.{Volume, Call, insert, update, delete, lookup, Ou
 use Rattle.layout.specs.Calls.{badState, tooShort, judgeFirst, format, formatted, keyIndex, keyFilters, keyPositions, tryAt, maybeIn}
 use Rattle.layout.specs.Calls.{searchAt, search, deletionPlan, deletionRam, newFilter, insertionPlan, insertionRam, commit, noRoom}
 use Rattle.layout.specs.Calls.{noDeletion, insertAfter, updateAfter, deleteAfter, lookupAfter, answer, call, Edit, one, change}
-use Rattle.history.specs.Operations.{recordRam, entryOps, entryRam, entered}
+use Rattle.layout.specs.Calls.{deletionIndex, deletionFilters, newHalf}
+use Rattle.history.specs.Operations.{recordRam, entryOps, entryRam, entered, numberOps, numberRam, oneHalf}
 use Rattle.history.specs.FlashLaws.{apply-main-length, apply-spare-length}
 use Rattle.laws.specs.ItemLaws.{length-record, length-entry, length-deletion}
 use Rattle.history.specs.ScanLaws.{search-opened}
 use Rattle.history.specs.PlanLaws.{ops-append}
-use Rattle.history.specs.ChangeLaws.{deletion-ops, insertion-after, insertion-ops, insertion-ram}
+use Rattle.history.specs.ChangeLaws.{deletion-ops, deletion-ram, insertion-after, insertion-ops, insertion-ram}
 use Rattle.history.specs.Frames.{Beyond, beyond-same}
 use Rattle.history.specs.Inside.{Inside, inside-none, inside-append, inside-erases, main-past, spare-past, inside-item, inside-filter}
 use Rattle.history.specs.Inside.{Past, past-then, past-zero, past-item, past-filter}
-use Rattle.laws.specs.SetLaws.{places-suffice}
+use Rattle.laws.specs.SetLaws.{places-suffice, deletion-places-suffice, first-of-pair}
 use Rattle.laws.specs.Sound.{SizesSound, sound}
 use Rattle.laws.specs.Sound as units
 
@@ -77,17 +78,17 @@ module _ (h : Family) (g : Geometry) (v : Volume) where
   delete-keeps none = refuse-keeps v refusal.absent
   delete-keeps (some (found j)) = change-keeps _
 
-  lookup-keeps : (opened : ℕ) (s : Option Stop) → Keeps v (lookupAfter g v opened s)
+  lookup-keeps : (opened daPages : ℕ) (s : Option Stop) → Keeps v (lookupAfter g v opened daPages s)
   unfolding lookupAfter
-  lookup-keeps opened (some corrupt) = refuse-keeps v refusal.corruptEntry
-  lookup-keeps opened none = λ i e. refl
-  lookup-keeps opened (some (found j)) = λ i e. refl
+  lookup-keeps opened daPages (some corrupt) = refuse-keeps v refusal.corruptEntry
+  lookup-keeps opened daPages none = λ i e. refl
+  lookup-keeps opened daPages (some (found j)) = λ i e. refl
 
   answer-keeps : (c : Call) → Keeps v (answer h g v c)
   answer-keeps (insert r) = insert-keeps r (search h g v (r .key) .stop)
   answer-keeps (update r) = update-keeps r (search h g v (r .key) .stop)
   answer-keeps (delete key) = delete-keeps (search h g v key .stop)
-  answer-keeps (lookup key) = lookup-keeps (search h g v key .opened) (search h g v key .stop)
+  answer-keeps (lookup key) = lookup-keeps (search h g v key .opened) _ (search h g v key .stop)
 
 -- "The state comes back as handed in", and so do all bytes
 pub refusal-keeps : (h : Family) (v : Volume) (c : Call) → Keeps v (call h v c)
@@ -104,6 +105,31 @@ format-refusal-keeps v sizes =
     (keeps-either v (tooShort (geometry sizes) (v .flash) (v .ram)) _ _ (refuse-keeps v refusal.tooShort)
     (λ i e. absurd (let z : true ≡ false = cc in true≢false z)))
     (refuse-keeps v refusal.badState)
+
+-- ---- "the DA pages opened, 0 on a refusal"
+
+abbrev NoPages : Result → Type 0
+NoPages r = (i : ℕ) → r .outcome ≡ refused i → (r .count ≡ 0) × (r .daPages ≡ 0)
+
+none-either : (t : Bool) (r s : Result) → NoPages r → NoPages s → NoPages (cond t r s)
+none-either true r s a b = a
+none-either false r s a b = b
+
+refuse-none : (v : Volume) (j : ℕ) → NoPages (refuse v j)
+refuse-none v j i e = (refl, refl)
+
+lookup-none : (g : Geometry) (v : Volume) (opened daPages : ℕ) (s : Option Stop) → NoPages (lookupAfter g v opened daPages s)
+unfolding lookupAfter
+lookup-none g v opened daPages (some corrupt) = refuse-none v refusal.corruptEntry
+lookup-none g v opened daPages none = λ i e. absurd (let z : true ≡ false = cc in true≢false z)
+lookup-none g v opened daPages (some (found j)) = λ i e. absurd (let z : true ≡ false = cc in true≢false z)
+
+pub lookup-refusal : (h : Family) (v : Volume) (key : Key) → NoPages (call h v (lookup key))
+unfolding call judgeFirst
+lookup-refusal h v key =
+    none-either (badState (v .state)) _ _ (refuse-none v refusal.badState)
+    (none-either (tooShort (geometry (v .state .sizes)) (v .flash) (v .ram)) _ _ (refuse-none v refusal.tooShort)
+    (lookup-none (geometry (v .state .sizes)) v _ _ _))
 
 -- ---- a format is accepted exactly if neither 1 nor 2 applies to it
 
@@ -168,11 +194,11 @@ module _ (h : Family) (g : Geometry) (v : Volume) (m : ℕ) where
   delete-most none = refuse-most m v refusal.absent
   delete-most (some (found j)) = change-most _
 
-  lookup-most : (opened : ℕ) (s : Option Stop) → opened ≤ m → Most m (lookupAfter g v opened s)
+  lookup-most : (opened daPages : ℕ) (s : Option Stop) → opened ≤ m → Most m (lookupAfter g v opened daPages s)
   unfolding lookupAfter
-  lookup-most opened (some corrupt) l = refuse-most m v refusal.corruptEntry
-  lookup-most opened none l = l
-  lookup-most opened (some (found j)) l = l
+  lookup-most opened daPages (some corrupt) l = refuse-most m v refusal.corruptEntry
+  lookup-most opened daPages none l = l
+  lookup-most opened daPages (some (found j)) l = l
 
 answer-most : (h : Family) (g : Geometry) (v : Volume) (c : Call) → Most (v .state .records / entriesPerPage (g .u)) (answer h g v c)
 unfolding searchAt
@@ -180,8 +206,8 @@ answer-most h g v (insert r) = insert-most h g v _ r (search h g v (r .key) .sto
 answer-most h g v (update r) = update-most h g v _ r (search h g v (r .key) .stop)
 answer-most h g v (delete key) = delete-most h g v _ (search h g v key .stop)
 answer-most h g v (lookup key) =
-    lookup-most h g v _ (search h g v key .opened) (search h g v key .stop)
-    (search-opened (maybeIn g v (keyPositions h g key)) (tryAt g v (v .state .records) (v .state .deletions) key) (entriesPerPage (g .u))
+    lookup-most h g v _ (search h g v key .opened) _ (search h g v key .stop)
+    (search-opened (maybeIn g v (keyPositions h g key)) (tryAt h g v (v .state .records) (v .state .deletions) key) (entriesPerPage (g .u))
     (v .state .records))
 
 pub count-most : (h : Family) (v : Volume) (c : Call) → call h v c .count ≤ v .state .records / entriesPerPage (unitOf (v .state .sizes))
@@ -191,7 +217,7 @@ count-most h v c =
     (most-either _ (tooShort (geometry (v .state .sizes)) (v .flash) (v .ram)) _ _ (refuse-most _ v refusal.tooShort)
     (answer-most h (geometry (v .state .sizes)) v c))
 
--- ---- "bytes past the volume and past the desk's 20S never change"
+-- ---- "bytes past the volume and past the desk's 20S never change", 24S since document 02, §5
 
 -- operations inside the volume, and a RAM that keeps what is past its pages
 record Bounded (g : Geometry) (ram : List ℕ) (ops : List Op) (ram′ : List ℕ) : Type 0 where
@@ -208,15 +234,48 @@ module _ (h : Family) (sizes : Sizes) (ok : SizesSound sizes) where
   pu : 0 < unitOf sizes
   pu = units.pu sizes ok
 
-  deletion-bounded : (d j : ℕ) (ram : List ℕ) (C : Flash) → d < deletionCapacity g
-      → Bounded g ram (planOps u (deletionPlan g d j ram) C) (deletionRam g d j ram)
-  unfolding deletionRam
-  deletion-bounded d j ram C l = record {
-    inside = rw (deletion-ops g d j ram C)
-        (inside-item u (blocks g) (DA g) (sizes .daBlocks) d (deletionBytes j) ram (omega arith)
-        (div-lt d (16 * u) ((sizes .daBlocks) * 16) (omega (arith, pu)) (omega arith)));
-    past = past-item u (DA g) d (ramSize g) (deletionBytes j) ram (omega (arith, pu)) (omega arith) (length-deletion j) (omega arith);
-  }
+  inside-if : (B : ℕ) (b : Bool) (ops : List Op) → (b ≡ true → Inside u B ops) → Inside u B (cond b ops [])
+  inside-if B true ops a = a refl
+  inside-if B false ops a = inside-none u B
+
+  past-if : (ram : List ℕ) (b : Bool) (r s : List ℕ) → Past (ramSize g) ram r → Past (ramSize g) ram s → Past (ramSize g) ram (cond b r s)
+  past-if ram true r s p q = p
+  past-if ram false r s p q = q
+
+  -- the places for full sets suffice for both filters of one more deletion
+  halves-room : (d : ℕ) → d < deletionCapacity g → d % (16 * u) + 1 ≡ 16 * u
+      → (2 * (d / (16 * u)) + 1 + 1) / 8 / 16 / (4 * u) ≤ (sizes .daBlocks) / (16 * u)
+  halves-room d l full =
+      let next : (d + 1) / (16 * u) ≡ d / (16 * u) + 1
+      = either (carry d (16 * u) (omega (arith, pu))) (λ c. c .1) (λ c. absurd (c .0 full)) in
+      let two : 2 * ((d + 1) / (16 * u)) ≡ 2 * (d / (16 * u)) + 1 + 1 = rw next (omega arith) in
+      rw (← two) (deletion-places-suffice u (sizes .daBlocks) (d + 1) pu (omega arith))
+
+  module _ (d j : ℕ) (ram : List ℕ) (C : Flash) (room : d < deletionCapacity g) where
+    number-past : Past (ramSize g) ram (numberRam g d j ram)
+    number-past = past-item u (DA g) d (ramSize g) (deletionBytes j) ram (omega (arith, pu)) (omega arith) (length-deletion j) (omega arith)
+
+    half-past : Past (ramSize g) ram (oneHalf h g d j ram)
+    half-past =
+        past-then (ramSize g) ram _ _ number-past
+        (rw (first-of-pair (d / (16 * u)))
+        at (past-filter u pu (deletionIndex g) (deletionFilters g d) (ramSize g) (newHalf h g d j 0 ram) (numberRam g d j ram)
+        (omega arith)))
+
+    deletion-bounded : Bounded g ram (planOps u (deletionPlan h g d j ram) C) (deletionRam h g d j ram)
+    deletion-bounded = record {
+      inside = rw (deletion-ops h g d j ram (ok .e) (units.unit sizes ok) C)
+          (inside-append u (blocks g) (numberOps g d j ram) _
+          (inside-item u (blocks g) (DA g) (sizes .daBlocks) d (deletionBytes j) ram (omega arith)
+          (div-lt d (16 * u) ((sizes .daBlocks) * 16) (omega (arith, pu)) (omega arith)))
+          (inside-if (blocks g) (fills (DA g) d) _ (λ a.
+          inside-filter u (ok .e) (units.unit sizes ok) (blocks g) (deletionIndex g) (deletionSets g) (omega arith)
+          (deletionFilters g d + 1) _ _ (halves-room d room (eqb-true (d % (16 * u) + 1) (16 * u) a)))));
+      past = rw (deletion-ram h g d j ram)
+          (past-if ram (fills (DA g) d) _ _
+          (past-then (ramSize g) ram _ _ half-past
+          (past-filter u pu (deletionIndex g) (deletionFilters g d + 1) (ramSize g) (newHalf h g d j 1 ram) _ (omega arith))) number-past);
+    }
 
   ka-room : (n : ℕ) → n < recordCapacity g → n / (8 * u) < kaBlocks g * 16
   ka-room n l =
@@ -231,32 +290,29 @@ module _ (h : Family) (sizes : Sizes) (ok : SizesSound sizes) where
       rw (← next) (places-suffice u (sizes .raBlocks) (n + 1) pu (omega arith))
 
   module _ (n : ℕ) (key : Key) (bytes ram : List ℕ) (C : Flash) (room : n < recordCapacity g) (size : length bytes ≡ 16) where
-    inside-if : (b : Bool) (ops : List Op) → (b ≡ true → Inside u (blocks g) ops) → Inside u (blocks g) (cond b ops [])
-    inside-if true ops a = a refl
-    inside-if false ops a = inside-none u (blocks g)
-
-    past-if : (b : Bool) (r s : List ℕ) → Past (ramSize g) ram r → Past (ramSize g) ram s → Past (ramSize g) ram (cond b r s)
-    past-if true r s p q = p
-    past-if false r s p q = q
-
     entry-past : Past (ramSize g) ram (entryRam g n key bytes ram)
     entry-past =
         past-then (ramSize g) ram _ _ (past-item u (RA g) n (ramSize g) bytes ram (omega (arith, pu)) (omega arith) size (omega arith))
         (past-item u (KA g) n (ramSize g) (entryBytes key n) _ (omega (arith, pu)) (omega arith) (length-entry key n) (omega arith))
 
+    -- its operations lie before the index over DA
+    pub insertion-inside : (B : ℕ) → deletionIndexBlock g ≤ B → Inside u B (planOps u (insertionPlan h g n key bytes ram) C)
+    insertion-inside B end =
+        rw (insertion-ops h g n key bytes (ok .e) (units.unit sizes ok) size ram C)
+        (inside-append u B _ _
+        (inside-item u B (RA g) (sizes .raBlocks) n bytes ram (omega (arith, end))
+        (div-lt n (4 * u) ((sizes .raBlocks) * 16) (omega (arith, pu)) (omega arith)))
+        (inside-append u B (entryOps g n key bytes ram) _
+        (inside-item u B (KA g) (kaBlocks g) n (entryBytes key n) (recordRam g n bytes ram) (omega (arith, end)) (ka-room n room))
+        (inside-if B (fills (KA g) n) _ (λ a.
+        inside-filter u (ok .e) (units.unit sizes ok) B (keyIndex g) (fullSets g) (omega (arith, end)) (keyFilters g n)
+        (entered g n key bytes ram C) _ (sets-room n room (eqb-true (n % (8 * u) + 1) (8 * u) a))))))
+
     insertion-bounded : Bounded g ram (planOps u (insertionPlan h g n key bytes ram) C) (insertionRam h g n key bytes ram)
     insertion-bounded = record {
-      inside = rw (insertion-ops h g n key bytes (ok .e) (units.unit sizes ok) size ram C)
-          (inside-append u (blocks g) _ _
-          (inside-item u (blocks g) (RA g) (sizes .raBlocks) n bytes ram (omega arith)
-          (div-lt n (4 * u) ((sizes .raBlocks) * 16) (omega (arith, pu)) (omega arith)))
-          (inside-append u (blocks g) (entryOps g n key bytes ram) _
-          (inside-item u (blocks g) (KA g) (kaBlocks g) n (entryBytes key n) (recordRam g n bytes ram) (omega arith) (ka-room n room))
-          (inside-if (fills (KA g) n) _ (λ a.
-          inside-filter u (ok .e) (units.unit sizes ok) (blocks g) (keyIndex g) (fullSets g) (omega arith) (keyFilters g n)
-          (entered g n key bytes ram C) _ (sets-room n room (eqb-true (n % (8 * u) + 1) (8 * u) a))))));
+      inside = insertion-inside (blocks g) (omega arith);
       past = rw (insertion-ram h g n key bytes pu size ram)
-          (past-if (fills (KA g) n) _ _
+          (past-if ram (fills (KA g) n) _ _
           (past-then (ramSize g) ram _ _ entry-past
           (past-filter u pu (keyIndex g) (keyFilters g n) (ramSize g) (newFilter h g n key (recordRam g n bytes ram)) _
           (omega arith))) entry-past);
@@ -264,14 +320,14 @@ module _ (h : Family) (sizes : Sizes) (ok : SizesSound sizes) where
 
   update-bounded : (n d j : ℕ) (key : Key) (bytes ram : List ℕ) (C : Flash) → n < recordCapacity g → d < deletionCapacity g
       → length bytes ≡ 16
-      → Bounded g ram (planOps u (deletionPlan g d j ram ++ insertionPlan h g n key bytes ram) C)
-      (insertionRam h g n key bytes (deletionRam g d j ram))
+      → Bounded g ram (planOps u (deletionPlan h g d j ram ++ insertionPlan h g n key bytes ram) C)
+      (insertionRam h g n key bytes (deletionRam h g d j ram))
   update-bounded n d j key bytes ram C room less size =
       let D₁ = deletion-bounded d j ram C less in
-      let I₁ = insertion-bounded n key bytes (deletionRam g d j ram) (applyAll u (planOps u (deletionPlan g d j ram) C) C) room size in
+      let I₁ = insertion-bounded n key bytes (deletionRam h g d j ram) (applyAll u (planOps u (deletionPlan h g d j ram) C) C) room size in
       record {
         inside =
-            rw (ops-append u (deletionPlan g d j ram) (insertionPlan h g n key bytes ram) C, insertion-after h g n key bytes pu d j ram)
+            rw (ops-append u (deletionPlan h g d j ram) (insertionPlan h g n key bytes ram) C, insertion-after h g n key bytes pu d j ram)
             (inside-append u (blocks g) _ _ (D₁ .inside) (I₁ .inside));
         past = past-then (ramSize g) ram _ _ (D₁ .past) (I₁ .past);
       }
@@ -331,37 +387,37 @@ module _ (h : Family) (sizes : Sizes) (ok : SizesSound sizes) where
     delete-kept none = refuse-kept v refusal.absent
     delete-kept (some (found j)) =
         kept-either v (noDeletion g v) _ _ (λ b. refuse-kept v refusal.deletionsFull)
-        (λ b. commit-kept v _ _ _ _ (rw (append-nil (deletionPlan g (v .state .deletions) j (v .ram)))
+        (λ b. commit-kept v _ _ _ _ (rw (append-nil (deletionPlan h g (v .state .deletions) j (v .ram)))
         (deletion-bounded (v .state .deletions) j (v .ram) (v .flash) (leb-false (deletionCapacity g) (v .state .deletions) b))))
 
-    lookup-kept : (opened : ℕ) (s : Option Stop) → Kept v (lookupAfter g v opened s)
+    lookup-kept : (opened daPages : ℕ) (s : Option Stop) → Kept v (lookupAfter g v opened daPages s)
     unfolding lookupAfter
-    lookup-kept opened (some corrupt) = refuse-kept v refusal.corruptEntry
-    lookup-kept opened none = refuse-kept v 0
-    lookup-kept opened (some (found j)) = refuse-kept v 0
+    lookup-kept opened daPages (some corrupt) = refuse-kept v refusal.corruptEntry
+    lookup-kept opened daPages none = refuse-kept v 0
+    lookup-kept opened daPages (some (found j)) = refuse-kept v 0
 
     answer-kept : (c : Call) → Kept v (answer h g v c)
     answer-kept (insert r) = insert-kept r (search h g v (r .key) .stop)
     answer-kept (update r) = update-kept r (search h g v (r .key) .stop)
     answer-kept (delete key) = delete-kept (search h g v key .stop)
-    answer-kept (lookup key) = lookup-kept (search h g v key .opened) (search h g v key .stop)
+    answer-kept (lookup key) = lookup-kept (search h g v key .opened) _ (search h g v key .stop)
 
     format-kept : Kept v (formatted v sizes)
     unfolding formatted
     format-kept =
-        let l : length (replicate {A = ℕ} (5 * (64 * u)) 0) ≡ 5 * (64 * u) = length-replicate {A = ℕ} (5 * (64 * u)) 0 in
+        let l : length (replicate {A = ℕ} (6 * (64 * u)) 0) ≡ 6 * (64 * u) = length-replicate {A = ℕ} (6 * (64 * u)) 0 in
         let i = inside-erases u (blocks g) 0 (blocks g) (omega arith) in
         record {
           main = λ x q. main-past u (blocks g) (erases 0 (blocks g)) (v .flash) x i q;
           spare = λ x q. spare-past u (blocks g) (erases 0 (blocks g)) (v .flash) x i q;
-          ram = λ x q. getD-write-after (v .ram) 0 (replicate (5 * (64 * u)) 0) x 0 (omega (arith, l));
+          ram = λ x q. getD-write-after (v .ram) 0 (replicate (6 * (64 * u)) 0) x 0 (omega (arith, l));
           main-length = apply-main-length u (erases 0 (blocks g)) (v .flash);
           spare-length = apply-spare-length u (erases 0 (blocks g)) (v .flash);
-          ram-length = length-write (v .ram) 0 (replicate (5 * (64 * u)) 0);
+          ram-length = length-write (v .ram) 0 (replicate (6 * (64 * u)) 0);
         }
 
 -- a state that is not bad has allowed sizes
-state-allowed : (v : Volume) → badState (v .state) ≡ false → allowed (v .state .sizes) ≡ true
+pub state-allowed : (v : Volume) → badState (v .state) ≡ false → allowed (v .state .sizes) ≡ true
 unfolding badState
 state-allowed v good =
     either (bool? (allowed (v .state .sizes))) (λ a. a) (λ a. let z : true ≡ false = rw a at good in absurd (true≢false z))

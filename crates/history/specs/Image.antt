@@ -5,14 +5,14 @@ use mathlib.Core.List.{List}
 use Prim.Native.Nat.{ℕ, _+_, _-_, _*_, _/_, _%_, _<_}
 use lib.ListN.{length, getD}
 use lib.Dec.{ltb, eqb}
-use Rattle.memory.specs.Ranges.{any, memb}
 use Rattle.layout.specs.Geometry.{Geometry, sectorsPerPage, sectorsPerBlock, sector, page, block, sideBlocks, entriesPerPage}
-use Rattle.layout.specs.Geometry.{kaBlock, daBlock, indexBlock, kaRam, daRam, skaRam, workRam}
+use Rattle.layout.specs.Geometry.{deletionsPerFilter}
+use Rattle.layout.specs.Geometry.{kaBlock, daBlock, indexBlock, deletionIndexBlock, kaRam, daRam, skaRam, workRam, deletionSkaRam}
 use Rattle.layout.specs.Hash.{Family}
 use Rattle.layout.specs.Items.{Area, RA, KA, DA, Record, noRecord, recordBytes, entryBytes, deletionBytes}
 use Rattle.layout.specs.Index.{filtersPerFlush, flushesPerRound, filtersPerRound}
 use Rattle.layout.specs.Index.{Index, rowByte, inSka, inL1, inSet, inFull, setWidth, setBlocks, fullFilters, sideBlock, fullBlock}
-use Rattle.layout.specs.Calls.{keyPositions, keyFilters}
+use Rattle.layout.specs.Calls.{keyPositions, numberPositions, keyFilters, deletionFilters, filterOf}
 
 -- ---- the history of accepted calls
 
@@ -30,6 +30,10 @@ deletionsIn H = length (H .deleted)
 -- its filters, one of each full KA page
 abbrev pub filtersIn : Geometry → History → ℕ
 filtersIn g H = keyFilters g (recordsIn H)
+
+-- and two of each full DA page
+abbrev pub deletionFiltersIn : Geometry → History → ℕ
+deletionFiltersIn g H = deletionFilters g (deletionsIn H)
 
 abbrev pub recordAt : History → ℕ → Record
 recordAt H j = getD (H .records) j noRecord
@@ -142,7 +146,12 @@ pub record AreaIs (u : ℕ) (a : Area) (blocks : ℕ) (f : ℕ → ℕ → ℕ) 
 module _ (h : Family) (g : Geometry) where
   -- bit x of the filter of KA page f: some key of the page has x among its positions
   unfoldable pub keyFilter : History → ℕ → ℕ → Bool
-  keyFilter H f x = any (λ i. memb x (keyPositions h g (recordAt H (f * entriesPerPage (g .u) + i) .key))) (entriesPerPage (g .u))
+  keyFilter H f = filterOf (λ i. keyPositions h g (recordAt H (f * entriesPerPage (g .u) + i) .key)) (entriesPerPage (g .u))
+
+  -- and of filter f over DA: some number of that half page has
+  unfoldable pub deletionFilter : History → ℕ → ℕ → Bool
+  deletionFilter H f =
+      filterOf (λ i. numberPositions h g (getD (H .deleted) (f * deletionsPerFilter (g .u) + i) 0)) (deletionsPerFilter (g .u))
 
 -- ---- every byte by its address
 
@@ -150,22 +159,28 @@ module _ (h : Family) (g : Geometry) (H : History) where
   abbrev F : ℕ → ℕ → Bool
   F = keyFilter h g H
 
+  abbrev G : ℕ → ℕ → Bool
+  G = deletionFilter h g H
+
   -- byte a of the main area, below `mainSize g`
   unfoldable pub mainImage : ℕ → ℕ
   mainImage a =
       cond (ltb a (kaBlock g * block (g .u))) (areaByte (RA g) (raItem H) (recordsIn H) a)
       (cond (ltb a (daBlock g * block (g .u))) (areaByte (KA g) (kaItem H) (recordsIn H) (a - kaBlock g * block (g .u)))
       (cond (ltb a (indexBlock g * block (g .u))) (areaByte (DA g) (daItem H) (deletionsIn H) (a - daBlock g * block (g .u)))
-      (indexByte (g .u) F (filtersIn g H) (a - indexBlock g * block (g .u)))))
+      (cond (ltb a (deletionIndexBlock g * block (g .u))) (indexByte (g .u) F (filtersIn g H) (a - indexBlock g * block (g .u)))
+      (indexByte (g .u) G (deletionFiltersIn g H) (a - deletionIndexBlock g * block (g .u))))))
 
-  -- byte a of the RAM, below `ramSize g`: the pages RA, KA, DA, SKA and work
+  -- byte a of the RAM, below `ramSize g`: the pages RA, KA, DA, SKA, work and SKA of the index over DA
   unfoldable pub ramImage : ℕ → ℕ
   ramImage a =
       cond (ltb a (kaRam (g .u))) (areaRamByte (RA g) (raItem H) (recordsIn H) a)
       (cond (ltb a (daRam (g .u))) (areaRamByte (KA g) (kaItem H) (recordsIn H) (a - kaRam (g .u)))
       (cond (ltb a (skaRam (g .u))) (areaRamByte (DA g) (daItem H) (deletionsIn H) (a - daRam (g .u)))
       (cond (ltb a (workRam (g .u)))
-      (skaByte (g .u) F (filtersIn g H / filtersPerFlush) (inSka (filtersIn g H)) (a - skaRam (g .u))) 0)))
+      (skaByte (g .u) F (filtersIn g H / filtersPerFlush) (inSka (filtersIn g H)) (a - skaRam (g .u)))
+      (cond (ltb a (deletionSkaRam (g .u))) 0
+      (skaByte (g .u) G (deletionFiltersIn g H / filtersPerFlush) (inSka (deletionFiltersIn g H)) (a - deletionSkaRam (g .u)))))))
 
 -- mark x of the spare area, below `spareSize g`
 unfoldable pub spareImage : Geometry → History → ℕ → ℕ
@@ -173,4 +188,5 @@ spareImage g H x =
     cond (ltb x (kaBlock g * sectorsPerBlock)) (areaSpareByte (RA g) (recordsIn H) x)
     (cond (ltb x (daBlock g * sectorsPerBlock)) (areaSpareByte (KA g) (recordsIn H) (x - kaBlock g * sectorsPerBlock))
     (cond (ltb x (indexBlock g * sectorsPerBlock)) (areaSpareByte (DA g) (deletionsIn H) (x - daBlock g * sectorsPerBlock))
-    (indexSpareByte (g .u) (filtersIn g H) (x - indexBlock g * sectorsPerBlock))))
+    (cond (ltb x (deletionIndexBlock g * sectorsPerBlock)) (indexSpareByte (g .u) (filtersIn g H) (x - indexBlock g * sectorsPerBlock))
+    (indexSpareByte (g .u) (deletionFiltersIn g H) (x - deletionIndexBlock g * sectorsPerBlock)))))

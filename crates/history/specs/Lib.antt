@@ -30,6 +30,7 @@ pub mod RunLaws
 pub mod DemandLaws
 pub mod Demands
 pub mod Every
+pub mod EraseOrder
 pub mod CallRefusals
 pub mod Reached
 pub mod Several

@@ -8,11 +8,11 @@ use Rattle.memory.specs.Lists.{tab}
 use Rattle.layout.specs.Geometry.{Geometry, sectorsPerPage, sectorsPerBlock, sector}
 use Rattle.layout.specs.Flash.{Flash, Op, program, erases, applyAll}
 use Rattle.layout.specs.Hash.{Family}
-use Rattle.layout.specs.Items.{Area, RA, KA, entryBytes, put, fills, itemRam}
+use Rattle.layout.specs.Items.{Area, RA, KA, DA, entryBytes, deletionBytes, put, fills, itemRam}
 use Rattle.layout.specs.Keys.{Key}
 use Rattle.layout.specs.Index.{Index, filtersPerFlush, flushesPerRound, inSka, inL1, inSet, inFull}
-use Rattle.layout.specs.Index.{setPages, setBlocks, sideBlock, setBlock, setByte}
-use Rattle.layout.specs.Calls.{keyIndex, keyFilters, summarized}
+use Rattle.layout.specs.Index.{setPages, setBlocks, sideBlock, setBlock, setByte, withFilter}
+use Rattle.layout.specs.Calls.{keyIndex, keyFilters, summarized, deletionIndex, deletionFilters, newHalf}
 
 module _ (u : ℕ) where
   -- k sectors, the j-th being s + j * d; byte y of the j-th is f j y
@@ -49,6 +49,28 @@ module _ (u : ℕ) where
     -- filter F, which the RAM holds already
     abbrev pub filterOps : Flash → ℕ → List ℕ → List Op
     filterOps flash F ram = cond (eqb (inSka F + 1) filtersPerFlush) (flushAndBuildOps flash F ram) []
+
+-- ---- deletion d and the filters of a page that it fills, each step on what the one before it leaves
+
+abbrev pub numberOps : Geometry → ℕ → ℕ → List ℕ → List Op
+numberOps g d j ram = itemOps (g .u) (DA g) d (deletionBytes j) ram
+
+abbrev pub numberRam : Geometry → ℕ → ℕ → List ℕ → List ℕ
+numberRam g d j ram = itemRam (g .u) (DA g) d (deletionBytes j) ram
+
+-- the RAM with the first filter of the page, which is then never flushed, and with both
+abbrev pub oneHalf : Family → Geometry → ℕ → ℕ → List ℕ → List ℕ
+oneHalf h g d j ram = withFilter (g .u) (deletionIndex g) (inSka (deletionFilters g d)) (newHalf h g d j 0 ram) (numberRam g d j ram)
+
+abbrev pub bothHalves : Family → Geometry → ℕ → ℕ → List ℕ → List ℕ
+bothHalves h g d j ram =
+    withFilter (g .u) (deletionIndex g) (inSka (deletionFilters g d + 1)) (newHalf h g d j 1 ram) (oneHalf h g d j ram)
+
+abbrev pub deletionOps : Family → Geometry → ℕ → ℕ → List ℕ → Flash → List Op
+deletionOps h g d j ram flash =
+    numberOps g d j ram
+    ++ cond (fills (DA g) d)
+    (filterOps (g .u) (deletionIndex g) (applyAll (g .u) (numberOps g d j ram) flash) (deletionFilters g d + 1) (bothHalves h g d j ram)) []
 
 -- ---- record n and its entry, each step on what the one before it leaves
 

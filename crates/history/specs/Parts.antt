@@ -1,4 +1,4 @@
--- A volume's areas and its index, each with a count of its own: what a change passes through, step by step.
+-- A volume's areas and its indexes, each with a count of its own: what a change passes through, step by step.
 use mathlib.Core.Path.{_≡_}
 use mathlib.Core.Logic.{_⊎_, inl, inr}
 use mathlib.Core.Bool.{Bool}
@@ -10,14 +10,14 @@ use lib.ListN.{length, getD}
 use Rattle.memory.specs.Cases.{either}
 use Rattle.memory.specs.Numbers.{div-lt}
 use Rattle.layout.specs.Geometry.{Geometry, page, block, filterBits, kaBlocks, blocks, indexBlock, fullSets, recordCapacity}
-use Rattle.layout.specs.Geometry.{deletionCapacity}
+use Rattle.layout.specs.Geometry.{deletionCapacity, deletionIndexBlock, deletionSets}
 use Rattle.layout.specs.Flash.{Flash, Op, applyAll}
 use Rattle.layout.specs.Hash.{Family}
 use Rattle.layout.specs.Items.{Area, RA, KA, DA, itemRam}
 use Rattle.layout.specs.Index.{Index, inSka, inFull, fullBlock, withFilter, filterRam}
-use Rattle.layout.specs.Calls.{keyIndex}
+use Rattle.layout.specs.Calls.{keyIndex, deletionIndex}
 use Rattle.history.specs.Operations.{itemOps, filterOps}
-use Rattle.history.specs.Image.{History, raItem, kaItem, daItem, keyFilter, AreaIs, IndexIs}
+use Rattle.history.specs.Image.{History, raItem, kaItem, daItem, keyFilter, deletionFilter, AreaIs, IndexIs}
 use Rattle.history.specs.Frames.{Frame, Did, AreaGrown, IndexGrown}
 use Rattle.history.specs.AreaLaws as area
 use Rattle.history.specs.IndexLaws as index
@@ -64,12 +64,13 @@ long-kept g C C′ r r′ main spare ram L = record {
 }
 
 module _ (h : Family) (g : Geometry) where
-  -- nr records, nk entries, d deletions and N filters of the history
-  pub record Parts (H : History) (nr nk d N : ℕ) (C : Flash) (ram : List ℕ) : Type 0 where
+  -- nr records, nk entries, d deletions, N filters over KA and M over DA of the history
+  pub record Parts (H : History) (nr nk d N M : ℕ) (C : Flash) (ram : List ℕ) : Type 0 where
     pub ra : AreaIs (g .u) (RA g) (g .R) (raItem H) nr (C .main) (C .spare) ram
     pub ka : AreaIs (g .u) (KA g) (kaBlocks g) (kaItem H) nk (C .main) (C .spare) ram
     pub da : AreaIs (g .u) (DA g) (g .D) (daItem H) d (C .main) (C .spare) ram
     pub filters : IndexIs (g .u) (keyIndex g) (fullSets g) (keyFilter h g H) N (C .main) (C .spare) ram
+    pub deletions : IndexIs (g .u) (deletionIndex g) (deletionSets g) (deletionFilter h g H) M (C .main) (C .spare) ram
     pub long : Long g (C .main) (C .spare) ram
 
 module _ (h : Family) (g : Geometry) (e : ℕ) (unit : UnitIs (g .u) e) where
@@ -78,7 +79,7 @@ module _ (h : Family) (g : Geometry) (e : ℕ) (unit : UnitIs (g .u) e) where
 
   -- ---- one more item, or filter, of the history: the part that grows, and the others that are kept
 
-  module _ (H : History) (nr nk d N : ℕ) (C : Flash) (ram : List ℕ) (P : Parts h g H nr nk d N C ram) where
+  module _ (H : History) (nr nk d N M : ℕ) (C : Flash) (ram : List ℕ) (P : Parts h g H nr nk d N M C ram) where
     -- the parts that a step on other blocks keeps
     module _ (lo hi p : ℕ) (r′ : List ℕ) (ops : List Op) (W : Did (g .u) lo hi p C ram r′ ops) where
       abbrev C′ : Flash
@@ -102,11 +103,18 @@ module _ (h : Family) (g : Geometry) (e : ℕ) (unit : UnitIs (g .u) e) where
           frame-area (g .u) lo hi p C C′ ram r′ (W .frame) (DA g) (g .D) (daItem H) d pu (omega arith) (omega (arith, pu)) (omega arith) o q
           (P .da)
 
-      keep-filters : hi ≤ indexBlock g → p + page (g .u) ≤ keyIndex g .ska
+      keep-filters : (deletionIndexBlock g ≤ lo) ⊎ (hi ≤ indexBlock g)
+          → (keyIndex g .ska + page (g .u) ≤ p) ⊎ (p + page (g .u) ≤ keyIndex g .ska)
           → IndexIs (g .u) (keyIndex g) (fullSets g) (keyFilter h g H) N (C′ .main) (C′ .spare) r′
       keep-filters o q =
-          frame-index (g .u) lo hi p C C′ ram r′ (W .frame) e unit (keyIndex g) (fullSets g) (keyFilter h g H) N (inr o) (inr q)
-          (P .filters)
+          frame-index (g .u) lo hi p C C′ ram r′ (W .frame) e unit (keyIndex g) (fullSets g) (keyFilter h g H) N
+          (either o (λ a. inl (omega arith)) (λ a. inr a)) q (P .filters)
+
+      keep-deletions : hi ≤ deletionIndexBlock g → p + page (g .u) ≤ deletionIndex g .ska
+          → IndexIs (g .u) (deletionIndex g) (deletionSets g) (deletionFilter h g H) M (C′ .main) (C′ .spare) r′
+      keep-deletions o q =
+          frame-index (g .u) lo hi p C C′ ram r′ (W .frame) e unit (deletionIndex g) (deletionSets g) (deletionFilter h g H) M
+          (inr o) (inr q) (P .deletions)
 
       keep-long : Long g (C′ .main) (C′ .spare) r′
       keep-long = long-kept g C C′ ram r′ (W .frame .main-length) (W .frame .spare-length) (W .frame .ram-length) (P .long)
@@ -127,13 +135,14 @@ module _ (h : Family) (g : Geometry) (e : ℕ) (unit : UnitIs (g .u) e) where
           (itemOps (g .u) (RA g) nr item ram)
       ra-did = ra-grown .did
 
-      pub ra-parts : Parts h g H (nr + 1) nk d N
+      pub ra-parts : Parts h g H (nr + 1) nk d N M
           (applyAll (g .u) (itemOps (g .u) (RA g) nr item ram) C) (itemRam (g .u) (RA g) nr item ram)
       ra-parts = record {
         ra = ra-grown .more;
         ka = keep-ka _ _ _ _ _ ra-did (inr (omega arith)) (inr (omega arith));
         da = keep-da _ _ _ _ _ ra-did (inr (omega arith)) (inr (omega arith));
-        filters = keep-filters _ _ _ _ _ ra-did (omega arith) (omega arith);
+        filters = keep-filters _ _ _ _ _ ra-did (inr (omega arith)) (inr (omega arith));
+        deletions = keep-deletions _ _ _ _ _ ra-did (omega arith) (omega arith);
         long = keep-long _ _ _ _ _ ra-did;
       }
 
@@ -156,20 +165,21 @@ module _ (h : Family) (g : Geometry) (e : ℕ) (unit : UnitIs (g .u) e) where
           (itemOps (g .u) (KA g) nk item ram)
       ka-did = ka-grown .did
 
-      pub ka-parts : Parts h g H nr (nk + 1) d N
+      pub ka-parts : Parts h g H nr (nk + 1) d N M
           (applyAll (g .u) (itemOps (g .u) (KA g) nk item ram) C) (itemRam (g .u) (KA g) nk item ram)
       ka-parts = record {
         ra = keep-ra _ _ _ _ _ ka-did (inl (omega arith)) (inl (omega arith));
         ka = ka-grown .more;
         da = keep-da _ _ _ _ _ ka-did (inr (omega arith)) (inr (omega arith));
-        filters = keep-filters _ _ _ _ _ ka-did (omega arith) (omega arith);
+        filters = keep-filters _ _ _ _ _ ka-did (inr (omega arith)) (inr (omega arith));
+        deletions = keep-deletions _ _ _ _ _ ka-did (omega arith) (omega arith);
         long = keep-long _ _ _ _ _ ka-did;
       }
 
     -- DA
     module _ (item : List ℕ) (size-is : length item ≡ 4) (new : (b : ℕ) → b < 4 → getD item b 0 ≡ daItem H d b)
         (room : d < deletionCapacity g) where
-      da-room : d / (16 * g .u) < g .D * 16
+      pub da-room : d / (16 * g .u) < g .D * 16
       da-room = div-lt d (16 * g .u) (g .D * 16) (omega (arith, pu)) (omega arith)
 
       da-grown : AreaGrown (g .u) (DA g) (g .D) (daItem H) d item C ram
@@ -182,13 +192,14 @@ module _ (h : Family) (g : Geometry) (e : ℕ) (unit : UnitIs (g .u) e) where
           (itemOps (g .u) (DA g) d item ram)
       da-did = da-grown .did
 
-      pub da-parts : Parts h g H nr nk (d + 1) N
+      pub da-parts : Parts h g H nr nk (d + 1) N M
           (applyAll (g .u) (itemOps (g .u) (DA g) d item ram) C) (itemRam (g .u) (DA g) d item ram)
       da-parts = record {
         ra = keep-ra _ _ _ _ _ da-did (inl (omega arith)) (inl (omega arith));
         ka = keep-ka _ _ _ _ _ da-did (inl (omega arith)) (inl (omega arith));
         da = da-grown .more;
-        filters = keep-filters _ _ _ _ _ da-did (omega arith) (omega arith);
+        filters = keep-filters _ _ _ _ _ da-did (inr (omega arith)) (inr (omega arith));
+        deletions = keep-deletions _ _ _ _ _ da-did (omega arith) (omega arith);
         long = keep-long _ _ _ _ _ da-did;
       }
 
@@ -210,11 +221,40 @@ module _ (h : Family) (g : Geometry) (e : ℕ) (unit : UnitIs (g .u) e) where
           (filterRam (g .u) (keyIndex g) N filterIn) indexOps
       index-did = index-grown .did
 
-      pub index-parts : Parts h g H nr nk d (N + 1) (applyAll (g .u) indexOps C) (filterRam (g .u) (keyIndex g) N filterIn)
+      pub index-parts : Parts h g H nr nk d (N + 1) M (applyAll (g .u) indexOps C) (filterRam (g .u) (keyIndex g) N filterIn)
       index-parts = record {
         ra = keep-ra _ _ _ _ _ index-did (inl (omega arith)) (inl (omega arith));
         ka = keep-ka _ _ _ _ _ index-did (inl (omega arith)) (inl (omega arith));
         da = keep-da _ _ _ _ _ index-did (inl (omega arith)) (inl (omega arith));
         filters = index-grown .more;
+        deletions = keep-deletions _ _ _ _ _ index-did (omega arith) (omega arith);
         long = keep-long _ _ _ _ _ index-did;
+      }
+
+    -- the index over DA
+    module _ (new : ℕ → Bool) (same : (x : ℕ) → x < filterBits (g .u) → new x ≡ deletionFilter h g H M x)
+        (room : inFull (g .u) (M + 1) ≤ deletionSets g) where
+      abbrev halfIn : List ℕ
+      halfIn = withFilter (g .u) (deletionIndex g) (inSka M) new ram
+
+      abbrev halfOps : List Op
+      halfOps = filterOps (g .u) (deletionIndex g) C M halfIn
+
+      half-grown : IndexGrown (g .u) (deletionIndex g) (deletionSets g) (deletionFilter h g H) M new C ram
+      half-grown =
+          index.index-grown (g .u) e unit (deletionIndex g) (deletionSets g) (deletionFilter h g H) M new C ram (P .deletions) same room
+          (omega (arith, P .long .read .main-fits)) (omega (arith, P .long .spare-fits)) (omega (arith, P .long .read .ram-fits))
+
+      pub half-did : Did (g .u) (deletionIndexBlock g) (fullBlock (g .u) (deletionIndex g) (deletionSets g)) (deletionIndex g .ska) C ram
+          (filterRam (g .u) (deletionIndex g) M halfIn) halfOps
+      half-did = half-grown .did
+
+      pub half-parts : Parts h g H nr nk d N (M + 1) (applyAll (g .u) halfOps C) (filterRam (g .u) (deletionIndex g) M halfIn)
+      half-parts = record {
+        ra = keep-ra _ _ _ _ _ half-did (inl (omega arith)) (inl (omega arith));
+        ka = keep-ka _ _ _ _ _ half-did (inl (omega arith)) (inl (omega arith));
+        da = keep-da _ _ _ _ _ half-did (inl (omega arith)) (inl (omega arith));
+        filters = keep-filters _ _ _ _ _ half-did (inl (omega arith)) (inl (omega arith));
+        deletions = half-grown .more;
+        long = keep-long _ _ _ _ _ half-did;
       }

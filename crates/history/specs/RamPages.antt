@@ -1,6 +1,6 @@
 -- RAMs that agree on a page: they plan the same out of it. An item and a filter leave the other pages as they are.
 use mathlib.Core.Path.{_≡_, refl, sym, ap, _∙_}
-use mathlib.Core.Logic.{_⊎_}
+use mathlib.Core.Logic.{_⊎_, inl, inr}
 use mathlib.Core.Bool.{Bool, cond}
 use mathlib.Core.List.{List, [], _++_}
 use Prim.Native.Nat.{ℕ, zero, suc, _+_, _*_, _/_, _%_, _≤_, _<_}
@@ -15,9 +15,10 @@ use Rattle.layout.specs.Geometry.{Geometry, sector, page, kaRam}
 use Rattle.layout.specs.Flash.{Planned, known, plannedFrom}
 use Rattle.layout.specs.Hash.{Family}
 use Rattle.layout.specs.Items.{Area, put, fills, itemPlan, itemRam, zeroPage}
-use Rattle.layout.specs.Index.{Index, inSka, inL1, inSet, inFull, withFilter, buildPlan, flushAndBuild, filterPlan}
+use Rattle.layout.specs.Index.{Index, inSka, inL1, inSet, inFull, withFilter, buildPlan, flushAndBuild, filterPlan, filterRam}
 use Rattle.layout.specs.Keys.{Key, keyAt}
 use Rattle.layout.specs.Calls.{keyPositions, pageFilter}
+use Rattle.history.specs.SkaLaws.{filter-out, filter-length, zero-out}
 
 -- two RAMs of one length that agree on the page from byte `at` on
 pub record SamePage (u at : ℕ) (r r′ : List ℕ) : Type 0 where
@@ -104,6 +105,26 @@ module _ (u : ℕ) where
 
   pub filter-plan-same : (ix : Index) (F : ℕ) (r r′ : List ℕ) → SamePage u (ix .ska) r r′ → filterPlan u ix F r ≡ filterPlan u ix F r′
   filter-plan-same ix F r r′ p = either (bool? (eqb (inSka F + 1) 8)) (λ q. rw q (flush-same ix F r r′ p)) (λ q. rw q)
+
+  -- a page that is not the index's
+  module _ (pu : 0 < u) (ix : Index) (at : ℕ) (apart : (at + page u ≤ ix .ska) ⊎ (ix .ska + page u ≤ at)) where
+    out : (x : ℕ) → at ≤ x → x < at + page u → (x < ix .ska) ⊎ (ix .ska + page u ≤ x)
+    out x lo hi = either apart (λ o. inl (omega arith)) (λ o. inr (omega arith))
+
+    pub filter-apart : (s : ℕ) (new : ℕ → Bool) (r : List ℕ) → s < 8 → SamePage u at r (withFilter u ix s new r)
+    filter-apart s new r l = record {
+      bytes = λ x lo hi. sym (filter-out u pu ix new s r x l (out x lo hi));
+      long = sym (filter-length u pu ix new s r);
+    }
+
+    pub filter-ram-apart : (F : ℕ) (r : List ℕ) → SamePage u at r (filterRam u ix F r)
+    filter-ram-apart F r =
+        either (bool? (eqb (inSka F + 1) 8))
+        (λ q. rw q (record {
+          bytes = λ x lo hi. sym (zero-out u pu ix r x (out x lo hi));
+          long = sym (length-write r (ix .ska) (replicate (page u) 0));
+        }))
+        (λ q. rw q (record { bytes = λ x lo hi. refl; long = refl }))
 
 -- the filter of a page of entries
 pub page-filter-same : (h : Family) (g : Geometry) (r r′ : List ℕ) → SamePage (g .u) (kaRam (g .u)) r r′

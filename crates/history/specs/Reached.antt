@@ -5,15 +5,18 @@ use mathlib.Core.List.{List, [], _∷_, _++_}
 use Rattle.layout.specs.Geometry.{Sizes, Geometry, geometry, allowed, recordCapacity, deletionCapacity}
 use Rattle.layout.specs.Flash.{Flash}
 use Rattle.layout.specs.Hash.{Family}
-use Rattle.layout.specs.Calls.{Volume, Call, tooShort, format, formatted, call}
+use Rattle.layout.specs.Calls.{Volume, Call, tooShort, format, formatted, call, isDeleted, testedDeleted}
 use Rattle.layout.specs.FiniteMap.{Map, emptyMap, mapOf}
 use Rattle.laws.specs.Sound.{sound}
-use Prim.Native.Nat.{ℕ}
+use Prim.Native.Nat.{ℕ, _≤_}
+use lib.ListN.{length, take}
+use lib.Seq.{length-take-le}
 use Rattle.history.specs.Image.{History}
 use Rattle.history.specs.Live.{Live, live-start, stepHistory, emptyHistory}
 use Rattle.history.specs.MapLaws.{step-same}
 use Rattle.history.specs.Runs.{KeyWord, KeyWords, after, replyOf}
-use Rattle.history.specs.Volumes.{Holds, volumeOf}
+use Rattle.history.specs.Before.{firstDeletions, before-first}
+use Rattle.history.specs.Volumes.{Holds, volumeOf, tests-agree}
 use Rattle.history.specs.Steps.{call-done}
 use Rattle.history.specs.RunLaws.{less, format-is, start-holds}
 
@@ -84,3 +87,13 @@ module _ (h : Family) (sizes : Sizes) where
   reach-format v can long =
       rw (format-is h sizes (sound sizes can) can v long)
       (record { can = can; H = emptyHistory; is = refl; holds = start-holds h sizes (sound sizes can) can v long; live = live-start })
+
+  -- there the test of a record number by filters says what DA read whole says, by any bound
+  pub reach-tests : (v : Volume) (m : Map) (d₀ j : ℕ) → Reached h sizes v m → d₀ ≤ v .state .deletions
+      → testedDeleted h g v d₀ j ≡ isDeleted g v d₀ j
+  reach-tests v m d₀ j X l =
+      let low : d₀ ≤ length (X .H .deleted) = rw (X .is) at l in
+      let long : length (take d₀ (X .H .deleted)) ≡ d₀ = length-take-le d₀ (X .H .deleted) low in
+      let agree = tests-agree h sizes (sound sizes (X .can)) (X .H) (v .flash) (v .ram) (X .holds) (firstDeletions (X .H) d₀)
+      (before-first (X .H) d₀) j in
+      rw (X .is) (rw long at agree)

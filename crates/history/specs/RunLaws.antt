@@ -12,17 +12,18 @@ use lib.Dec.{leb}
 use Rattle.memory.specs.Cases.{either, bool?}
 use Rattle.memory.specs.Lists.{write, length-write, getD-write-in, getD-write-after}
 use Rattle.layout.specs.Geometry.{Geometry, geometry, allowed, kaBlocks, blocks, fullSets, recordCapacity, deletionCapacity, mainSize}
-use Rattle.layout.specs.Geometry.{spareSize, ramSize, Sizes, unitOf}
+use Rattle.layout.specs.Geometry.{spareSize, ramSize, deletionSets, Sizes, unitOf}
 use Rattle.layout.specs.Flash.{Flash, Op, applyAll, erases}
 use Rattle.layout.specs.Hash.{Family}
 use Rattle.layout.specs.Items.{RA, KA, DA}
 use Rattle.layout.specs.Keys.{Key}
-use Rattle.layout.specs.Calls.{Volume, Call, insert, update, delete, lookup, Outcome, accepted, hit, miss, refused, keyIndex, tooShort}
+use Rattle.layout.specs.Calls.{Volume, Call, insert, update, delete, lookup, Outcome, accepted, hit, miss, refused, keyIndex}
+use Rattle.layout.specs.Calls.{deletionIndex, tooShort}
 use Rattle.layout.specs.Calls.{format, formatted, call}
 use Rattle.layout.specs.FiniteMap.{Map, Reply, accepts, hits, misses, refuses, mapOf}
 use Rattle.history.specs.FlashLaws.{AllAllowed, apply-append, allowed-append, erases-main-in, erases-main-out, erases-spare-in}
 use Rattle.history.specs.FlashLaws.{erases-spare-out, apply-main-length, apply-spare-length}
-use Rattle.history.specs.Image.{History, raItem, kaItem, daItem, keyFilter}
+use Rattle.history.specs.Image.{History, raItem, kaItem, daItem, keyFilter, deletionFilter}
 use Rattle.history.specs.Live.{findLive, withRecord, withoutLive, emptyHistory, Live, stepHistory}
 use Rattle.history.specs.MapLaws.{step-same, Live-deletion}
 use Rattle.history.specs.Frames.{Beyond, beyond-same, beyond-then}
@@ -151,7 +152,11 @@ module _ (h : Family) (sizes : Sizes) (ok : SizesSound sizes) (can : allowed siz
     no-filters : 0 / (8 * (unitOf sizes)) ≡ 0
     no-filters = zero-div (8 * (unitOf sizes))
 
-    start-parts : Parts h g emptyHistory 0 0 0 0 C ram
+    -- and no deletion two
+    no-halves : 2 * (0 / (16 * (unitOf sizes))) ≡ 0
+    no-halves = ap (λ (q : ℕ). 2 * q) (zero-div (16 * (unitOf sizes)))
+
+    start-parts : Parts h g emptyHistory 0 0 0 0 0 C ram
     start-parts = record {
       ra =
           area-start (unitOf sizes) pu (RA g) (sizes .raBlocks) (omega arith) (omega (arith, pu)) (omega arith) (raItem emptyHistory)
@@ -169,6 +174,10 @@ module _ (h : Family) (sizes : Sizes) (ok : SizesSound sizes) (can : allowed siz
           index-start (unitOf sizes) (ok .e) (units.unit sizes ok) (keyIndex g) (fullSets g) (keyFilter h g emptyHistory) (C .main)
           (C .spare) ram
           (λ x l m. main-erased x (omega arith)) (λ x l m. spare-erased x (omega arith)) (λ x l m. ram-zero x (omega arith));
+      deletions =
+          index-start (unitOf sizes) (ok .e) (units.unit sizes ok) (deletionIndex g) (deletionSets g) (deletionFilter h g emptyHistory)
+          (C .main) (C .spare) ram
+          (λ x l m. main-erased x (omega arith)) (λ x l m. spare-erased x (omega arith)) (λ x l m. ram-zero x (omega arith));
       long =
           long-kept g (v .flash) C (v .ram) ram (apply-main-length (unitOf sizes) (erases 0 (blocks g)) (v .flash))
           (apply-spare-length (unitOf sizes) (erases 0 (blocks g)) (v .flash)) (length-write (v .ram) 0 (replicate (ramSize g) 0)) long;
@@ -176,7 +185,7 @@ module _ (h : Family) (sizes : Sizes) (ok : SizesSound sizes) (can : allowed siz
 
     pub start-holds : Holds h sizes emptyHistory C ram
     start-holds = record {
-      parts = rw no-filters start-parts;
+      parts = rw (no-filters, no-halves) start-parts;
       work = λ i l. ram-zero _ (omega arith);
       n-cap = zero-le;
       d-cap = zero-le;

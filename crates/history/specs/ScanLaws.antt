@@ -7,8 +7,8 @@ use native.Mathlib.Nat.{not-suc-le-zero, add-suc, add-zero, add-assoc}
 use native.Mathlib.Omega.{arith}
 use Rattle.memory.specs.Cases.{bool?, either}
 use Rattle.memory.specs.Numbers.{euclid}
-use Rattle.memory.specs.Ranges.{last}
-use Rattle.layout.specs.Search.{Stop, found, Found, orElse, scan, opening, searchPages, ramFirst, searchFrom}
+use Rattle.memory.specs.Ranges.{last, any}
+use Rattle.layout.specs.Search.{Stop, found, Found, isFound, orElse, scan, opening, searchPages, ramFirst, searchFrom}
 use Rattle.laws.specs.SearchLaws.{opened-le}
 
 -- ---- a scan in parts
@@ -81,3 +81,13 @@ scan-live try live (suc n) h =
     let z : 0 + n ≡ n = omega arith in
     let ih = scan-live try live n (λ j l. h j (omega arith)) in
     rw (z, h n (omega arith), ih) (either (bool? (live n)) (λ c. rw c) (λ c. rw c))
+
+-- where a test ends exactly at the items of a kind, the scan ends if there is one
+pub scan-any : (try : ℕ → Option Stop) (is : ℕ → Bool) (r : Stop) (n : ℕ) → ((j : ℕ) → j < n → try j ≡ cond (is j) (some r) none)
+    → isFound (scan try 0 n) ≡ any is n
+unfolding scan any
+scan-any try is r zero h = refl
+scan-any try is r (suc n) h =
+    let z : 0 + n ≡ n = omega arith in
+    let ih = scan-any try is r n (λ j l. h j (omega arith)) in
+    rw (z, h n (omega arith)) (either (bool? (is n)) (λ c. rw c) (λ c. rw (c, ih)))

@@ -13,7 +13,7 @@ use borrow.Author.Tests.{leb-false}
 use Rattle.memory.specs.Cases.{either, bool?, lt?}
 use Rattle.memory.specs.Lists.{length-write, getD-write-before, getD-write-in, getD-write-after}
 use Rattle.layout.specs.Geometry.{Geometry, geometry, allowed, page, entriesPerPage, kaBlocks, fullSets, recordCapacity, deletionCapacity}
-use Rattle.layout.specs.Geometry.{spareSize, workRam, Sizes, unitOf}
+use Rattle.layout.specs.Geometry.{spareSize, deletionSets, workRam, Sizes, unitOf}
 use Rattle.layout.specs.Flash.{Flash, Op, applyAll, Planned, planOps, allFresh}
 use Rattle.layout.specs.Hash.{Family}
 use Rattle.layout.specs.Items.{RA, KA, DA, zeroPage, Record, noRecord, recordBytes}
@@ -21,17 +21,17 @@ use Rattle.layout.specs.Search.{found}
 use Rattle.layout.specs.Keys.{Key, KeyOk}
 use Rattle.layout.specs.Calls.{Volume, Call, insert, update, delete, lookup, Result, refuse, judgeFirst, keyIndex, keyFilters, deletionPlan}
 use Rattle.layout.specs.Calls.{deletionRam, insertionPlan, insertionRam, commit, insertAfter, updateAfter, deleteAfter, lookupAfter, answer}
-use Rattle.layout.specs.Calls.{call, change}
+use Rattle.layout.specs.Calls.{call, change, deletionIndex, deletionFilters}
 use Rattle.layout.specs.FiniteMap.{accepts, hits, refuses}
 use Rattle.history.specs.FlashLaws.{fresh-append, AllAllowed, apply-append, allowed-append}
 use Rattle.history.specs.PlanLaws.{ops-append}
 use Rattle.history.specs.ChangeLaws.{insertion-after}
-use Rattle.history.specs.Image.{History, recordAt, raItem, kaItem, daItem, keyFilter}
+use Rattle.history.specs.Image.{History, recordAt, raItem, kaItem, daItem, keyFilter, deletionFilter}
 use Rattle.history.specs.Live.{findLive, withRecord, withDeletion, HistoryStep, historyStep, insertHistory, updateHistory}
 use Rattle.history.specs.Live.{deleteHistory, lookupHistory, stepHistory, found-below}
-use Rattle.history.specs.Frames.{Did, Frame, Beyond, beyond-same, beyond-then, frame-beyond}
+use Rattle.history.specs.Frames.{Frame, Beyond, beyond-same, beyond-then, frame-beyond}
 use Rattle.history.specs.Parts.{Parts, frame-area, frame-index, long-kept}
-use Rattle.history.specs.Changes.{Changed, deletion-did, deletion-parts, insertion-changes}
+use Rattle.history.specs.Changes.{Changed, Removed, deletion-changes, insertion-changes}
 use Rattle.history.specs.Runs.{KeyWord, replyOf, Possible, HandedOn}
 use Rattle.history.specs.ProgramOrder.{Below, fresh-below}
 use Rattle.history.specs.Volumes as volumes
@@ -60,7 +60,7 @@ module _ (h : Family) (sizes : Sizes) (ok : SizesSound sizes) (can : allowed siz
 
   -- ---- the work page zeroed
 
-  module _ (H : History) (nr nk d N : ℕ) (C : Flash) (ram : List ℕ) (P : Parts h g H nr nk d N C ram) where
+  module _ (H : History) (nr nk d N M : ℕ) (C : Flash) (ram : List ℕ) (P : Parts h g H nr nk d N M C ram) where
     abbrev ram′ : List ℕ
     ram′ = zeroPage (unitOf sizes) (workRam (unitOf sizes)) ram
 
@@ -78,7 +78,7 @@ module _ (h : Family) (sizes : Sizes) (ok : SizesSound sizes) (can : allowed siz
       ram-length = length-write ram (workRam (unitOf sizes)) _;
     }
 
-    pub zeroed : Parts h g H nr nk d N C ram′
+    pub zeroed : Parts h g H nr nk d N M C ram′
     zeroed = record {
       ra = frame-area (unitOf sizes) 0 0 (workRam (unitOf sizes)) C C ram ram′ work-frame (RA g) (sizes .raBlocks) (raItem H) nr pu
           (omega arith) (omega (arith, pu)) (omega arith) (inr (omega arith)) (inl (omega arith)) (P .ra);
@@ -88,6 +88,8 @@ module _ (h : Family) (sizes : Sizes) (ok : SizesSound sizes) (can : allowed siz
           (omega arith) (omega (arith, pu)) (omega arith) (inr (omega arith)) (inl (omega arith)) (P .da);
       filters = frame-index (unitOf sizes) 0 0 (workRam (unitOf sizes)) C C ram ram′ work-frame (ok .e) (units.unit sizes ok) (keyIndex g)
           (fullSets g) (keyFilter h g H) N (inr (omega arith)) (inl (omega arith)) (P .filters);
+      deletions = frame-index (unitOf sizes) 0 0 (workRam (unitOf sizes)) C C ram ram′ work-frame (ok .e) (units.unit sizes ok)
+          (deletionIndex g) (deletionSets g) (deletionFilter h g H) M (inr (omega arith)) (inr (omega arith)) (P .deletions);
       long = long-kept g C C ram ram′ refl refl (work-frame .ram-length) (P .long);
     }
 
@@ -131,7 +133,7 @@ module _ (h : Family) (sizes : Sizes) (ok : SizesSound sizes) (can : allowed siz
 
     commit-done : (H′ : History) (n′ d′ : ℕ) (plan : List Planned) (ops : List Op) (ram′ : List ℕ) → planOps (unitOf sizes) plan C ≡ ops
         → n′ ≡ length (H′ .records) → d′ ≡ length (H′ .deleted)
-        → Parts h g H′ n′ n′ d′ (keyFilters g n′) (applyAll (unitOf sizes) ops C) ram′
+        → Parts h g H′ n′ n′ d′ (keyFilters g n′) (deletionFilters g d′) (applyAll (unitOf sizes) ops C) ram′
         → AllAllowed (unitOf sizes) ops C → Beyond g C (applyAll (unitOf sizes) ops C) ram ram′ → allFresh (C .spare) ops ≡ true
         → Below (spareSize g) ops
         → n′ ≤ recordCapacity g → d′ ≤ deletionCapacity g → d′ ≤ n′
@@ -146,8 +148,8 @@ module _ (h : Family) (sizes : Sizes) (ok : SizesSound sizes) (can : allowed siz
           handed-on = tt;
           volume-is = rw (n-is, d-is);
           holds = record {
-            parts = rw (n-is, d-is) at (zeroed H′ n′ n′ d′ (keyFilters g n′) (applyAll (unitOf sizes) ops C) ram′ P);
-            work = work-zero H′ n′ n′ d′ (keyFilters g n′) (applyAll (unitOf sizes) ops C) ram′ P;
+            parts = rw (n-is, d-is) at (zeroed H′ n′ n′ d′ (keyFilters g n′) (deletionFilters g d′) (applyAll (unitOf sizes) ops C) ram′ P);
+            work = work-zero H′ n′ n′ d′ (keyFilters g n′) (deletionFilters g d′) (applyAll (unitOf sizes) ops C) ram′ P;
             n-cap = rw (← n-is) n-cap;
             d-cap = rw (← d-is) d-cap;
             d-le = rw (← n-is, ← d-is) d-le;
@@ -160,7 +162,7 @@ module _ (h : Family) (sizes : Sizes) (ok : SizesSound sizes) (can : allowed siz
           beyond =
               beyond-then g C (applyAll (unitOf sizes) ops C) (applyAll (unitOf sizes) ops C) ram ram′
               (zeroPage (unitOf sizes) (workRam (unitOf sizes)) ram′) past
-              (work-beyond H′ n′ n′ d′ (keyFilters g n′) (applyAll (unitOf sizes) ops C) ram′ P);
+              (work-beyond H′ n′ n′ d′ (keyFilters g n′) (deletionFilters g d′) (applyAll (unitOf sizes) ops C) ram′ P);
           count-le = omega arith;
         })
 
@@ -197,14 +199,15 @@ module _ (h : Family) (sizes : Sizes) (ok : SizesSound sizes) (can : allowed siz
           (insertionRam h g n (r .key) (recordBytes r) ram)) (historyStep accepts (withRecord H r))
       insert-accepted c =
           let room : length (H .records) < recordCapacity g = leb-false (recordCapacity g) (length (H .records)) c in
-          let X : Changed h g (withRecord H r) (n + 1) d C ram (planOps (unitOf sizes) (insertionPlan h g n (r .key) (recordBytes r) ram) C)
+          let X : Changed h g (withRecord H r) (n + 1) d (deletionFilters g d) C ram
+          (planOps (unitOf sizes) (insertionPlan h g n (r .key) (recordBytes r) ram) C)
           (insertionRam h g n (r .key) (recordBytes r) ram)
-          = insertion-changes h g (ok .e) (units.unit sizes ok) H r d C ram (I .parts) room word (I .keys) in
+          = insertion-changes h g (ok .e) (units.unit sizes ok) H r d (deletionFilters g d) C ram (I .parts) room word (I .keys) in
           commit-done (withRecord H r) (n + 1) d (insertionPlan h g n (r .key) (recordBytes r) ram) _
           (insertionRam h g n (r .key) (recordBytes r) ram) refl (length-record r) refl
-          (X .grown) (X .allowed) (X .beyond) (X .fresh (C .spare) (λ x l o. refl))
+          (X .grown) (X .allowed) (X .beyond) (X .fresh (C .spare) (λ x o. refl))
           (fresh-below (spareSize g) (C .spare) _
-          (X .fresh (take (spareSize g) (C .spare)) (λ x l o. getD-take (spareSize g) (C .spare) x 0 l)))
+          (X .fresh (take (spareSize g) (C .spare)) (λ x o. getD-take (spareSize g) (C .spare) x 0 (omega (arith, o .0)))))
           (omega arith) (I .d-cap) (omega (arith, I .d-le)) (keys-record r word) (λ i l. omega (arith, I .gone i l))
 
       insert-done : (o : Option ℕ) → findLive H (r .key) ≡ o
@@ -223,63 +226,61 @@ module _ (h : Family) (sizes : Sizes) (ok : SizesSound sizes) (can : allowed siz
       room-d = leb-false (deletionCapacity g) (length (H .deleted)) c6
 
       abbrev ops : List Op
-      ops = planOps (unitOf sizes) (deletionPlan g d j ram) C
+      ops = planOps (unitOf sizes) (deletionPlan h g d j ram) C
 
       abbrev C₁ : Flash
       C₁ = applyAll (unitOf sizes) ops C
 
       abbrev ram₁ : List ℕ
-      ram₁ = deletionRam g d j ram
+      ram₁ = deletionRam h g d j ram
 
-      did : Did (unitOf sizes) (DA g .first) (DA g .first + (sizes .daBlocks)) (DA g .ram) C ram ram₁ ops
-      did = deletion-did h g (ok .e) (units.unit sizes ok) H n n (keyFilters g n) j C ram (I .parts) room-d
-
-      less-one : Parts h g (withDeletion H j) n n (d + 1) (keyFilters g n) C₁ ram₁
-      less-one = deletion-parts h g (ok .e) (units.unit sizes ok) H n n (keyFilters g n) j C ram (I .parts) room-d
-
-      past : Beyond g C C₁ ram ram₁
-      past =
-          frame-beyond g (DA g .first) (DA g .first + (sizes .daBlocks)) (DA g .ram) C C₁ ram ram₁ (did .frame) (omega arith) (omega arith)
+      removed : Removed h g (withDeletion H j) n n (d + 1) (keyFilters g n) C ram ops ram₁
+      removed =
+          deletion-changes h g (ok .e) (units.unit sizes ok) H n n (keyFilters g n) j C ram (I .parts) room-d
+          (omega (arith, below, volumes.n-word h sizes ok H C ram I))
+          (λ i l. omega (arith, I .gone i l, volumes.n-word h sizes ok H C ram I))
 
       fresh₀ : allFresh (C .spare) ops ≡ true
-      fresh₀ = did .fresh (C .spare) (λ x l m. refl)
+      fresh₀ = removed .fresh (C .spare) (λ x l. refl)
 
       inside₀ : allFresh (take (spareSize g) (C .spare)) ops ≡ true
-      inside₀ = did .fresh (take (spareSize g) (C .spare)) (λ x l m. getD-take (spareSize g) (C .spare) x 0 (omega arith))
+      inside₀ = removed .fresh (take (spareSize g) (C .spare)) (λ x l. getD-take (spareSize g) (C .spare) x 0 l)
 
       delete-accepted : length (H .deleted) < length (H .records)
-          → CallDone h sizes H C ram (commit g v n (d + 1) (deletionPlan g d j ram ++ []) (deletionRam g d j ram))
+          → CallDone h sizes H C ram (commit g v n (d + 1) (deletionPlan h g d j ram ++ []) (deletionRam h g d j ram))
           (historyStep accepts (withDeletion H j))
       delete-accepted less =
-          commit-done (withDeletion H j) n (d + 1) (deletionPlan g d j ram ++ []) ops ram₁
-          (ap (λ (ps : List Planned). planOps (unitOf sizes) ps C) (append-nil (deletionPlan g d j ram))) refl
-          (length-deletion j) less-one (did .allowed) past fresh₀
+          commit-done (withDeletion H j) n (d + 1) (deletionPlan h g d j ram ++ []) ops ram₁
+          (ap (λ (ps : List Planned). planOps (unitOf sizes) ps C) (append-nil (deletionPlan h g d j ram))) refl
+          (length-deletion j) (removed .grown) (removed .allowed) (removed .beyond) fresh₀
           (fresh-below (spareSize g) (C .spare) ops inside₀)
           (I .n-cap) (omega (arith, room-d)) (omega arith) (I .keys) (gone-deletion j below)
 
       update-accepted : (r : Record) → KeyOk (r .key) → leb (recordCapacity g) (length (H .records)) ≡ false
           → CallDone h sizes H C ram
-          (commit g v (n + 1) (d + 1) (deletionPlan g d j ram ++ insertionPlan h g n (r .key) (recordBytes r) ram)
-          (insertionRam h g n (r .key) (recordBytes r) (deletionRam g d j ram)))
+          (commit g v (n + 1) (d + 1) (deletionPlan h g d j ram ++ insertionPlan h g n (r .key) (recordBytes r) ram)
+          (insertionRam h g n (r .key) (recordBytes r) (deletionRam h g d j ram)))
           (historyStep accepts (withRecord (withDeletion H j) r))
       update-accepted r word c5 =
           let room : length (H .records) < recordCapacity g = leb-false (recordCapacity g) (length (H .records)) c5 in
           let more : List Op = planOps (unitOf sizes) (insertionPlan h g n (r .key) (recordBytes r) ram₁) C₁ in
-          let X : Changed h g (withRecord (withDeletion H j) r) (n + 1) (d + 1) C₁ ram₁
+          let X : Changed h g (withRecord (withDeletion H j) r) (n + 1) (d + 1) (deletionFilters g (d + 1)) C₁ ram₁
           (planOps (unitOf sizes) (insertionPlan h g n (r .key) (recordBytes r) ram₁) C₁) (insertionRam h g n (r .key) (recordBytes r) ram₁)
-          = insertion-changes h g (ok .e) (units.unit sizes ok) (withDeletion H j) r (d + 1) C₁ ram₁ less-one room word (I .keys) in
-          let both : planOps (unitOf sizes) (deletionPlan g d j ram ++ insertionPlan h g n (r .key) (recordBytes r) ram) C ≡ ops
+          = insertion-changes h g (ok .e) (units.unit sizes ok) (withDeletion H j) r (d + 1) (deletionFilters g (d + 1)) C₁ ram₁
+          (removed .grown) room word (I .keys) in
+          let both : planOps (unitOf sizes) (deletionPlan h g d j ram ++ insertionPlan h g n (r .key) (recordBytes r) ram) C ≡ ops
           ++ planOps (unitOf sizes) (insertionPlan h g n (r .key) (recordBytes r) ram₁) C₁
-          = ops-append (unitOf sizes) (deletionPlan g d j ram) (insertionPlan h g n (r .key) (recordBytes r) ram) C
+          = ops-append (unitOf sizes) (deletionPlan h g d j ram) (insertionPlan h g n (r .key) (recordBytes r) ram) C
           ∙ ap (λ (ps : List Planned). ops ++ planOps (unitOf sizes) ps C₁) (insertion-after h g n (r .key) (recordBytes r) pu d j ram) in
           let done = apply-append (unitOf sizes) ops more C in
           commit-done (withRecord (withDeletion H j) r) (n + 1) (d + 1) _ (ops ++ more)
           (insertionRam h g n (r .key) (recordBytes r) ram₁) both (length-record r) (length-deletion j)
-          (rw done (X .grown)) (allowed-append (unitOf sizes) ops more C (did .allowed) (X .allowed))
-          (rw done (beyond-then g C C₁ _ ram ram₁ _ past (X .beyond)))
-          (fresh-append (C .spare) ops more fresh₀ (X .fresh (C .spare) (λ x l o. sym (did .frame .spare x o))))
+          (rw done (X .grown)) (allowed-append (unitOf sizes) ops more C (removed .allowed) (X .allowed))
+          (rw done (beyond-then g C C₁ _ ram ram₁ _ (removed .beyond) (X .beyond)))
+          (fresh-append (C .spare) ops more fresh₀ (X .fresh (C .spare) (λ x o. sym (removed .outside x o))))
           (fresh-below (spareSize g) (C .spare) _ (fresh-append (take (spareSize g) (C .spare)) ops more inside₀
-          (X .fresh (take (spareSize g) (C .spare)) (λ x l o. getD-take (spareSize g) (C .spare) x 0 l ∙ sym (did .frame .spare x o)))))
+          (X .fresh (take (spareSize g) (C .spare))
+          (λ x o. getD-take (spareSize g) (C .spare) x 0 (omega (arith, o .0)) ∙ sym (removed .outside x o)))))
           (omega arith) (omega (arith, room-d)) (omega (arith, I .d-le)) (keys-record r word)
           (λ i l. omega (arith, gone-deletion j below i l))
 
@@ -306,10 +307,11 @@ module _ (h : Family) (sizes : Sizes) (ok : SizesSound sizes) (can : allowed siz
 
     -- ---- lookup
 
-    lookup-done : (k : Key) (opened : ℕ) → opened ≤ length (H .records) / entriesPerPage (unitOf sizes) → (o : Option ℕ) → findLive H k ≡ o
-        → CallDone h sizes H C ram (lookupAfter g v opened (Option·map found o)) (lookupHistory H o)
+    lookup-done : (k : Key) (opened daPages : ℕ) → opened ≤ length (H .records) / entriesPerPage (unitOf sizes)
+        → (o : Option ℕ) → findLive H k ≡ o
+        → CallDone h sizes H C ram (lookupAfter g v opened daPages (Option·map found o)) (lookupHistory H o)
     unfolding lookupAfter
-    lookup-done k opened le none q = record {
+    lookup-done k opened daPages le none q = record {
       says = refl;
       possible = tt;
       handed-on = refl;
@@ -321,7 +323,7 @@ module _ (h : Family) (sizes : Sizes) (ok : SizesSound sizes) (can : allowed siz
       beyond = beyond-same g C ram;
       count-le = le;
     }
-    lookup-done k opened le (some j) q = record {
+    lookup-done k opened daPages le (some j) q = record {
       says = ap hits (volumes.record-is h sizes ok H C ram I j (found-below H k j q .0));
       possible = tt;
       handed-on = refl;
@@ -348,7 +350,7 @@ module _ (h : Family) (sizes : Sizes) (ok : SizesSound sizes) (can : allowed siz
     answer-done (delete key) w less = rw (volumes.search-is h sizes ok H C ram I key) (delete-done key (less key) (findLive H key) refl)
     answer-done (lookup key) w less =
         rw (volumes.search-is h sizes ok H C ram I key)
-        (lookup-done key _ (volumes.count-is h sizes ok H C ram I key) (findLive H key) refl)
+        (lookup-done key _ _ (volumes.count-is h sizes ok H C ram I key) (findLive H key) refl)
 
     pub call-done : (c : Call) → KeyWord c → ((k : Key) (j : ℕ) → findLive H k ≡ some j → length (H .deleted) < length (H .records))
         → CallDone h sizes H C ram (call h v c) (stepHistory (recordCapacity g) (deletionCapacity g) H c)

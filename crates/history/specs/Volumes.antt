@@ -1,39 +1,41 @@
 -- A volume that holds the image of a history: its search finds the history's live records, by bounds those of an earlier one.
 use mathlib.Core.Path.{_≡_, refl, sym, ap, _∙_}
-use mathlib.Core.Bool.{true, false, cond}
+use mathlib.Core.Bool.{true, false, cond, or-true}
 use mathlib.Core.Option.{none, some, Option·map}
 use mathlib.Core.List.{List, [], _∷_}
-use Prim.Native.Nat.{ℕ, _+_, _*_, _/_, _%_, _^_, _≤_, _<_}
+use Prim.Native.Nat.{ℕ, _+_, _-_, _*_, _/_, _%_, _^_, _≤_, _<_}
 use native.Mathlib.Nat.{mul-le-mul-right, mod-lt, le-div-iff-mul-le}
 use native.Mathlib.Omega.{arith}
 use lib.ListN.{length, getD}
 use lib.Arith.{digits-lt}
 use lib.Dec.{eqb}
 use borrow.Author.Tests.{lt-leb, le-ltb}
-use Rattle.memory.specs.Cases.{either, bool?}
+use Rattle.memory.specs.Cases.{either, bool?, lt?, eq?}
 use Rattle.memory.specs.Numbers.{euclid}
 use Rattle.memory.specs.Ranges.{any-ext, any-at, memb, any-memb, allOf-true, memb-tab-all}
 use Rattle.memory.specs.Lists.{tab, is-tab}
-use Rattle.memory.specs.Words.{byteOf, words-byte}
+use Rattle.memory.specs.Words.{bytes4, byteOf, words-byte}
 use Rattle.layout.specs.Keys.{Key, KeyOk, sameKey, keyBytes, keyIn, numberIn}
 use Rattle.layout.specs.Geometry.{Geometry, geometry, allowed, page, block, filterBits, entriesPerPage, kaBlocks, fullSets, recordCapacity}
-use Rattle.layout.specs.Geometry.{deletionCapacity, workRam, Sizes, unitOf, stateOf}
+use Rattle.layout.specs.Geometry.{deletionCapacity, deletionSets, workRam, Sizes, unitOf, stateOf}
 use Rattle.layout.specs.Flash.{Flash}
 use Rattle.layout.specs.Hash.{Family, positions}
-use Rattle.layout.specs.Items.{Record, RA, KA, DA, itemWord, itemPlace, bytesAt, recordBytes, entryBytes, deletionBytes}
+use Rattle.layout.specs.Items.{Record, RA, KA, DA, itemWord, itemPlace, bytesAt, recordBytes, entryBytes}
 use Rattle.layout.specs.Index.{filterBit}
-use Rattle.layout.specs.Search.{found}
+use Rattle.layout.specs.Search.{found, isFound}
 use Rattle.layout.specs.Calls.{Volume, keyIndex, keyFilters, keyPositions, badState, tooShort, isDeleted, entryWord, tryAt, maybeIn}
-use Rattle.layout.specs.Calls.{searchAt, search}
+use Rattle.layout.specs.Calls.{searchAt, search, deletionIndex, deletionFilters, numberPositions, tryDeletion, deletionBits, maybeDeleted}
+use Rattle.layout.specs.Calls.{testDeletion, testedDeleted}
 use Rattle.history.specs.Image.{History, recordsIn, deletionsIn, filtersIn, recordAt, raItem, kaItem, daItem, keyFilter}
+use Rattle.history.specs.Image.{deletionFiltersIn, deletionFilter}
 use Rattle.history.specs.Before.{Before, before-same, record-kept, deletion-kept, records-le, deleted-le}
 use Rattle.history.specs.Live.{liveAt, findLive, live-key}
-use Rattle.history.specs.ScanLaws.{search-all, search-opened, scan-live}
+use Rattle.history.specs.ScanLaws.{search-all, search-opened, scan-live, scan-any}
 use Rattle.history.specs.AreaLaws.{read-word, read-bytes}
 use Rattle.history.specs.IndexLaws.{read-filter}
 use Rattle.history.specs.Parts.{Parts}
-use Rattle.laws.specs.ItemLaws.{length-record, entry-key}
-use Rattle.laws.specs.SetLaws.{places-suffice}
+use Rattle.laws.specs.ItemLaws.{length-record, entry-key, deletion-number}
+use Rattle.laws.specs.SetLaws.{places-suffice, deletion-places-suffice}
 use Rattle.laws.specs.Lengths.{not-short}
 use Rattle.laws.specs.Sound.{SizesSound}
 use Rattle.laws.specs.Sound as units
@@ -44,17 +46,14 @@ entry-number : (key : Key) (j b : ℕ) → b < 4 → getD (entryBytes key j) (1 
 unfolding entryBytes
 entry-number key j b h = words-byte (key ∷ j ∷ []) 1 b (omega arith) h
 
-deletion-number : (j b : ℕ) → b < 4 → getD (deletionBytes j) (0 * 4 + b) 0 ≡ byteOf j b
-unfolding deletionBytes
-deletion-number j b h = words-byte (j ∷ []) 0 b (omega arith) h
-
 tab-record : (r : Record) → tab 16 (λ b. getD (recordBytes r) b 0) ≡ recordBytes r
 tab-record r = sym (is-tab (recordBytes r) 16 (λ b. getD (recordBytes r) b 0) (length-record r) (λ i h. refl))
 
 -- ---- the image of a history, as an invariant
 
 pub record Holds (h : Family) (sizes : Sizes) (H : History) (C : Flash) (ram : List ℕ) : Type 0 where
-  pub parts : Parts h (geometry sizes) H (recordsIn H) (recordsIn H) (deletionsIn H) (filtersIn (geometry sizes) H) C ram
+  pub parts : Parts h (geometry sizes) H (recordsIn H) (recordsIn H) (deletionsIn H) (filtersIn (geometry sizes) H)
+      (deletionFiltersIn (geometry sizes) H) C ram
   pub work : (i : ℕ) → i < page (unitOf sizes) → getD ram (workRam (unitOf sizes) + i) 0 ≡ 0
   pub n-cap : recordsIn H ≤ recordCapacity (geometry sizes)
   pub d-cap : deletionsIn H ≤ deletionCapacity (geometry sizes)
@@ -85,7 +84,7 @@ module _ (h : Family) (sizes : Sizes) (ok : SizesSound sizes) where
     v = volumeOf sizes H C ram
 
     -- record numbers are 32-bit numbers
-    n-word : length (H .records) < 2 ^ 32
+    pub n-word : length (H .records) < 2 ^ 32
     n-word =
         let a : (sizes .raBlocks) * (unitOf sizes) ≤ 4096 * (unitOf sizes) = mul-le-mul-right (unitOf sizes) (ok .R-le) in
         omega (arith, I .n-cap, units.u-le sizes ok)
@@ -123,14 +122,15 @@ module _ (h : Family) (sizes : Sizes) (ok : SizesSound sizes) where
         (I .parts .filters)
         (places-suffice (unitOf sizes) (sizes .raBlocks) (length (H .records)) pu (I .n-cap)) f x l m
 
-    pub position-lt : (k : Key) (x : ℕ) → memb x (keyPositions h g k) ≡ true → x < filterBits (unitOf sizes)
+    -- positions lie in a filter, whatever bytes are hashed
+    pub position-lt : (bytes : List ℕ) (x : ℕ) → memb x (positions h (g .k) (g .u) bytes) ≡ true → x < filterBits (unitOf sizes)
     unfolding positions
-    position-lt k x q =
+    position-lt bytes x q =
         memb-tab-all (λ y. y < 64 * (unitOf sizes)) (g .k)
-        (λ j. h 0 (keyBytes k) % 4 * (16 * (unitOf sizes)) + h (j + 1) (keyBytes k) % (16 * (unitOf sizes)))
+        (λ j. h 0 bytes % 4 * (16 * (unitOf sizes)) + h (j + 1) bytes % (16 * (unitOf sizes)))
         (λ j l.
-        let a : h 0 (keyBytes k) % 4 * (16 * (unitOf sizes)) + h (j + 1) (keyBytes k) % (16 * (unitOf sizes)) < 4 * (16 * (unitOf sizes))
-        = digits-lt (mod-lt (h 0 (keyBytes k)) {m = 4} (omega arith)) (mod-lt (h (j + 1) (keyBytes k)) (omega (arith, pu))) in
+        let a : h 0 bytes % 4 * (16 * (unitOf sizes)) + h (j + 1) bytes % (16 * (unitOf sizes)) < 4 * (16 * (unitOf sizes))
+        = digits-lt (mod-lt (h 0 bytes) {m = 4} (omega arith)) (mod-lt (h (j + 1) bytes) (omega (arith, pu))) in
         omega arith)
         x q
 
@@ -140,8 +140,42 @@ module _ (h : Family) (sizes : Sizes) (ok : SizesSound sizes) where
     unfolding maybeIn keyFilter
     passes k f i l m q =
         allOf-true _ (keyPositions h g k) (λ x a.
-        filter-is f x l (position-lt k x a)
+        filter-is f x l (position-lt (keyBytes k) x a)
         ∙ any-at (λ i. memb x (keyPositions h g (recordAt H (f * (8 * (unitOf sizes)) + i) .key))) (8 * (unitOf sizes)) i m (rw q a))
+
+    -- ---- the same of the index over DA
+
+    pub deletion-filter-is : (f x : ℕ) → f < 2 * (length (H .deleted) / (16 * unitOf sizes)) → x < filterBits (unitOf sizes)
+        → filterBit (unitOf sizes) (deletionIndex g) (C .main) ram (deletionFilters g d) f x ≡ deletionFilter h g H f x
+    deletion-filter-is f x l m =
+        read-filter (unitOf sizes) (ok .e) (units.unit sizes ok) (deletionIndex g) (deletionSets g) (deletionFilter h g H)
+        (deletionFilters g d) (C .main) (C .spare) ram (I .parts .deletions)
+        (deletion-places-suffice (unitOf sizes) (sizes .daBlocks) (length (H .deleted)) pu (I .d-cap)) f x l m
+
+    -- a filter with the number among its own has all its bits
+    half-passes : (j f i : ℕ) → f < 2 * (length (H .deleted) / (16 * unitOf sizes)) → i < 8 * unitOf sizes
+        → getD (H .deleted) (f * (8 * unitOf sizes) + i) 0 ≡ j → deletionBits g v (numberPositions h g j) f ≡ true
+    unfolding deletionFilter
+    half-passes j f i l m q =
+        allOf-true _ (numberPositions h g j) (λ x a.
+        deletion-filter-is f x l (position-lt (bytes4 j) x a)
+        ∙ any-at (λ i. memb x (numberPositions h g (getD (H .deleted) (f * (8 * unitOf sizes) + i) 0))) (8 * unitOf sizes) i m (rw q a))
+
+    -- a page that holds the number is opened: no false negatives
+    pub deletion-passes : (j p i : ℕ) → p < length (H .deleted) / (16 * unitOf sizes) → i < 16 * unitOf sizes
+        → getD (H .deleted) (p * (16 * unitOf sizes) + i) 0 ≡ j → maybeDeleted g v (numberPositions h g j) p ≡ true
+    unfolding maybeDeleted
+    deletion-passes j p i l m q =
+        either (lt? i (8 * unitOf sizes))
+        (λ a.
+        let s : 2 * p * (8 * unitOf sizes) + i ≡ p * (16 * unitOf sizes) + i = omega arith in
+        let first = half-passes j (2 * p) i (omega arith) (a .1) (ap (λ (y : ℕ). getD (H .deleted) y 0) s ∙ q) in
+        rw first)
+        (λ a.
+        let s : (2 * p + 1) * (8 * unitOf sizes) + (i - 8 * unitOf sizes) ≡ p * (16 * unitOf sizes) + i = omega arith in
+        let second = half-passes j (2 * p + 1) (i - 8 * unitOf sizes) (omega arith) (omega arith)
+        (ap (λ (y : ℕ). getD (H .deleted) y 0) s ∙ q) in
+        rw second (or-true (deletionBits g v (numberPositions h g j) (2 * p))))
 
     -- ---- the search among the records and deletions of an earlier history, whose counts are its bounds
 
@@ -152,6 +186,7 @@ module _ (h : Family) (sizes : Sizes) (ok : SizesSound sizes) where
       abbrev d₀ : ℕ
       d₀ = length (H₀ .deleted)
 
+      -- the plain test of a record number
       deleted-then : (j : ℕ) → isDeleted g v d₀ j ≡ memb j (H₀ .deleted)
       unfolding isDeleted
       deleted-then j =
@@ -159,11 +194,43 @@ module _ (h : Family) (sizes : Sizes) (ok : SizesSound sizes) where
           (λ i l. ap (λ (x : ℕ). eqb x j) (deletion-at i (omega (arith, deleted-le H₀ H B)) ∙ deletion-kept H₀ H B i l))
           ∙ any-memb j (H₀ .deleted)
 
-      pub try-then : (k : Key) (j : ℕ) → j < length (H₀ .records) → tryAt g v n₀ d₀ k j ≡ cond (liveAt H₀ k j) (some (found j)) none
+      -- the test by filters
+      tried-then : (j i : ℕ) → i < length (H₀ .deleted)
+          → tryDeletion g v j i ≡ cond (eqb (getD (H₀ .deleted) i 0) j) (some (found j)) none
+      unfolding tryDeletion
+      tried-then j i l = rw (deletion-at i (omega (arith, deleted-le H₀ H B)), deletion-kept H₀ H B i l)
+
+      -- a page that was full then has its filters now
+      shut-then : (j p i : ℕ) → p < length (H₀ .deleted) / (16 * unitOf sizes) → i < 16 * unitOf sizes
+          → maybeDeleted g v (numberPositions h g j) p ≡ false → tryDeletion g v j (p * (16 * unitOf sizes) + i) ≡ none
+      shut-then j p i l m c =
+          let q : 0 < 16 * unitOf sizes = omega (arith, pu) in
+          let E = euclid (length (H₀ .deleted)) (16 * unitOf sizes) q in
+          let b : p * (16 * unitOf sizes) + i < length (H₀ .deleted) = omega (arith, mul-le-mul-right (16 * unitOf sizes) l, E .whole) in
+          let now : p < length (H .deleted) / (16 * unitOf sizes)
+          = le-div-iff-mul-le q .1 (omega (arith, mul-le-mul-right (16 * unitOf sizes) l, E .whole, deleted-le H₀ H B)) in
+          tried-then j (p * (16 * unitOf sizes) + i) b
+          ∙ either (eq? (getD (H₀ .deleted) (p * (16 * unitOf sizes) + i) 0) j)
+          (λ t. let z : false ≡ true = sym c ∙ deletion-passes j p i now m (deletion-kept H₀ H B _ b ∙ t .1) in cc)
+          (λ t. rw (t .0))
+
+      tested-then : (j : ℕ) → testedDeleted h g v d₀ j ≡ memb j (H₀ .deleted)
+      unfolding testDeletion
+      tested-then j =
+          ap isFound (search-all (maybeDeleted g v (numberPositions h g j)) (tryDeletion g v j) (16 * unitOf sizes) (length (H₀ .deleted))
+          (omega (arith, pu)) (shut-then j))
+          ∙ scan-any (tryDeletion g v j) (λ i. eqb (getD (H₀ .deleted) i 0) j) (found j) (length (H₀ .deleted)) (tried-then j)
+          ∙ any-memb j (H₀ .deleted)
+
+      -- both agree
+      pub tests-agree : (j : ℕ) → testedDeleted h g v d₀ j ≡ isDeleted g v d₀ j
+      tests-agree j = tested-then j ∙ sym (deleted-then j)
+
+      pub try-then : (k : Key) (j : ℕ) → j < length (H₀ .records) → tryAt h g v n₀ d₀ k j ≡ cond (liveAt H₀ k j) (some (found j)) none
       unfolding tryAt liveAt
       try-then k j l =
           let b : j < length (H .records) = omega (arith, records-le H₀ H B) in
-          rw (key-at j b, number-at j b, record-kept H₀ H B j l, lt-leb (length (H₀ .records)) j l, deleted-then j)
+          rw (key-at j b, number-at j b, record-kept H₀ H B j l, lt-leb (length (H₀ .records)) j l, tested-then j)
           (either (bool? (sameKey (recordAt H₀ j .key) k))
           (λ a. either (bool? (memb j (H₀ .deleted))) (λ b. rw (a, b)) (λ b. rw (a, b)))
           (λ a. rw a))
@@ -171,7 +238,7 @@ module _ (h : Family) (sizes : Sizes) (ok : SizesSound sizes) where
       -- a page that was full then has its filter now, wherever it lies
       skipped : (k : Key) (f i : ℕ) → f < length (H₀ .records) / (8 * unitOf sizes) → i < 8 * unitOf sizes
           → maybeIn g v (keyPositions h g k) f ≡ false
-          → tryAt g v n₀ d₀ k (f * (8 * unitOf sizes) + i) ≡ none
+          → tryAt h g v n₀ d₀ k (f * (8 * unitOf sizes) + i) ≡ none
       skipped k f i l m c =
           let q : 0 < 8 * unitOf sizes = omega (arith, pu) in
           let E = euclid (length (H₀ .records)) (8 * unitOf sizes) q in
@@ -191,9 +258,9 @@ module _ (h : Family) (sizes : Sizes) (ok : SizesSound sizes) where
       pub search-then : (k : Key) → searchAt h g v n₀ d₀ k .stop ≡ Option·map found (findLive H₀ k)
       unfolding searchAt
       search-then k =
-          search-all (maybeIn g v (keyPositions h g k)) (tryAt g v n₀ d₀ k) (8 * unitOf sizes) (length (H₀ .records)) (omega (arith, pu))
+          search-all (maybeIn g v (keyPositions h g k)) (tryAt h g v n₀ d₀ k) (8 * unitOf sizes) (length (H₀ .records)) (omega (arith, pu))
           (skipped k)
-          ∙ scan-live (tryAt g v n₀ d₀ k) (liveAt H₀ k) (length (H₀ .records)) (try-then k)
+          ∙ scan-live (tryAt h g v n₀ d₀ k) (liveAt H₀ k) (length (H₀ .records)) (try-then k)
 
     -- the search ends at the newest live record of the key, or finds none
     pub search-is : (k : Key) → search h g v k .stop ≡ Option·map found (findLive H k)
@@ -201,7 +268,7 @@ module _ (h : Family) (sizes : Sizes) (ok : SizesSound sizes) where
 
     pub count-is : (k : Key) → search h g v k .opened ≤ length (H .records) / entriesPerPage (unitOf sizes)
     unfolding searchAt
-    count-is k = search-opened (maybeIn g v (keyPositions h g k)) (tryAt g v n d k) (8 * unitOf sizes) (length (H .records))
+    count-is k = search-opened (maybeIn g v (keyPositions h g k)) (tryAt h g v n d k) (8 * unitOf sizes) (length (H .records))
 
     -- the bytes of a record where it lies
     pub record-is : (j : ℕ) → j < length (H .records)

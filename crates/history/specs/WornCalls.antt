@@ -15,7 +15,8 @@ use Rattle.layout.specs.Keys.{Key}
 use Rattle.layout.specs.Refusals as refusal
 use Rattle.layout.specs.Search.{Stop, found, corrupt}
 use Rattle.layout.specs.Calls.{Volume, Call, insert, update, delete, lookup, refused, Result, refuse, badState, tooShort, judgeFirst}
-use Rattle.layout.specs.Calls.{isDeleted, tryAt, maybeIn, searchAt, search, commit, noRoom, noDeletion, lookupAfter, Edit, one, change}
+use Rattle.layout.specs.Calls.{tryAt, maybeIn, searchAt, search, commit, noRoom, noDeletion, lookupAfter, Edit, one, change}
+use Rattle.layout.specs.Calls.{tryDeletion, maybeDeleted, testDeletion, tryCost, daPagesAt, searchDaPages}
 use Rattle.layout.specs.Calls.{deletes, ramDeleted, inserts, ramInserted}
 use Rattle.layout.specs.Calls.{formatted, format, insertAfter, updateAfter, deleteAfter, answer, call}
 use Rattle.history.specs.Runs.{Possible}
@@ -29,6 +30,7 @@ redone sizes spare v r =
     record {
       outcome = r .outcome;
       count = r .count;
+      daPages = r .daPages;
       volume = record {
         state = r .volume .state;
         flash = applyAll (unitOf sizes) (r .ops) (flashOf (v .flash .main) spare);
@@ -79,19 +81,24 @@ module _ (h : Family) (v : Volume) (spare : List ℕ) where
   refuse-alike : (i : ℕ) → Alike v spare (refuse v i) (refuse w i)
   refuse-alike i = record { is = λ p l. refl }
 
-  lookup-alike : (opened : ℕ) (s : Option Stop) → Alike v spare (lookupAfter g v opened s) (lookupAfter g w opened s)
+  lookup-alike : (opened daPages : ℕ) (s : Option Stop)
+      → Alike v spare (lookupAfter g v opened daPages s) (lookupAfter g w opened daPages s)
   unfolding lookupAfter
-  lookup-alike opened (some corrupt) = refuse-alike refusal.corruptEntry
-  lookup-alike opened none = record { is = λ p l. refl }
-  lookup-alike opened (some (found j)) = record { is = λ p l. refl }
+  lookup-alike opened daPages (some corrupt) = refuse-alike refusal.corruptEntry
+  lookup-alike opened daPages none = record { is = λ p l. refl }
+  lookup-alike opened daPages (some (found j)) = record { is = λ p l. refl }
 
   -- the search does not look at marks
   pub search-same : (key : Key) → search h g w key ≡ search h g v key
-  unfolding searchAt tryAt isDeleted maybeIn
+  unfolding searchAt tryAt tryDeletion maybeDeleted testDeletion maybeIn
   search-same key = refl
 
+  pages-same : (key : Key) → searchDaPages h g w key ≡ searchDaPages h g v key
+  unfolding daPagesAt tryAt tryCost tryDeletion maybeDeleted testDeletion maybeIn
+  pages-same key = refl
+
   -- nor does what a change plans
-  deleted-same : (o : Option ℕ) → (deletes g w o ≡ deletes g v o) × (ramDeleted g w o ≡ ramDeleted g v o)
+  deleted-same : (o : Option ℕ) → (deletes h g w o ≡ deletes h g v o) × (ramDeleted h g w o ≡ ramDeleted h g v o)
   deleted-same none = (refl, refl)
   deleted-same (some j) = (refl, refl)
 
@@ -118,7 +125,7 @@ module _ (h : Family) (v : Volume) (spare : List ℕ) where
     unfolding change
     change-alike e =
         let D = deleted-same (e .deletes) in
-        let I = inserted-same (e .inserts) (ramDeleted g v (e .deletes)) in
+        let I = inserted-same (e .inserts) (ramDeleted h g v (e .deletes)) in
         rw (D .0, D .1, I .0, I .1)
         (alike-either (one (e .inserts) && noRoom g v) _ _ _ _ (refuse-alike refusal.full)
         (alike-either (one (e .deletes) && noDeletion g v) _ _ _ _ (refuse-alike refusal.deletionsFull) (commit-alike _ _ _ _)))
@@ -142,7 +149,7 @@ module _ (h : Family) (v : Volume) (spare : List ℕ) where
     answer-alike (insert r) = rw (search-same (r .key)) (insert-alike r (search h g v (r .key) .stop))
     answer-alike (update r) = rw (search-same (r .key)) (update-alike r (search h g v (r .key) .stop))
     answer-alike (delete key) = rw (search-same key) (delete-alike (search h g v key .stop))
-    answer-alike (lookup key) = rw (search-same key) (lookup-alike (search h g v key .opened) (search h g v key .stop))
+    answer-alike (lookup key) = rw (search-same key, pages-same key) (lookup-alike (search h g v key .opened) _ (search h g v key .stop))
 
     all-alike : (c : Call) → length spare ≡ length (v .flash .spare) → Alike v spare (call h v c) (call h w c)
     unfolding call judgeFirst

@@ -11,12 +11,14 @@ use lib.Seq.{getD-set-same, getD-set-other}
 use Rattle.memory.specs.Cases.{either, lt?, eq?}
 use Rattle.memory.specs.Lists.{write, length-write, getD-write-before, getD-write-in, getD-write-after}
 use Rattle.layout.specs.Geometry.{Geometry, sectorsPerPage, sectorsPerBlock, sector, block, sideBlocks, kaBlock, daBlock, indexBlock}
+use Rattle.layout.specs.Geometry.{deletionIndexBlock}
 use Rattle.layout.specs.Flash.{Flash, Op, program, erase, fresh, apply, applyAll, Planned, known, made, wipe, opOn, planOps}
 use Rattle.layout.specs.Flash.{allFresh}
 use Rattle.layout.specs.Items.{Area, RA, KA, DA}
 use Rattle.layout.specs.Index.{flushesPerRound, inL1, inSet, inFull, setBlocks}
 use Rattle.laws.specs.FreshLaws.{Written, wrongBits, mostWrong, none-wrong}
-use Rattle.history.specs.Image.{History, recordsIn, deletionsIn, filtersIn, areaSpareByte, indexSpareByte, spareImage}
+use Rattle.history.specs.Image.{History, recordsIn, deletionsIn, filtersIn, deletionFiltersIn, areaSpareByte, indexSpareByte}
+use Rattle.history.specs.Image.{spareImage}
 use Rattle.history.specs.ProgramOrder.{Below}
 use Rattle.history.specs.Worn.{ByteKept}
 
@@ -49,7 +51,9 @@ image-written g H x =
     written-if (ltb x (kaBlock g * sectorsPerBlock)) _ _ (area-written (RA g) (recordsIn H) x)
     (written-if (ltb x (daBlock g * sectorsPerBlock)) _ _ (area-written (KA g) (recordsIn H) (x - kaBlock g * sectorsPerBlock))
     (written-if (ltb x (indexBlock g * sectorsPerBlock)) _ _ (area-written (DA g) (deletionsIn H) (x - daBlock g * sectorsPerBlock))
-    (index-written (g .u) (filtersIn g H) (x - indexBlock g * sectorsPerBlock))))
+    (written-if (ltb x (deletionIndexBlock g * sectorsPerBlock)) _ _
+    (index-written (g .u) (filtersIn g H) (x - indexBlock g * sectorsPerBlock))
+    (index-written (g .u) (deletionFiltersIn g H) (x - deletionIndexBlock g * sectorsPerBlock)))))
 
 -- ---- what one operation does to a byte of two spare areas
 

@@ -162,6 +162,17 @@ fn small_has(chip: Chip, at: usize, j: u32, s: &[u8]) -> bool
     few_have(at + FEW_BYTES, j, s)
 }
 
+// Is one of the words of a full page the number j.
+pub fn page_has(chip: Chip, at: usize, j: u32, s: &[u8]) -> bool
+    requires { ⌜ UnitSound (chip .unit) × (at + page (chip .unit) ≤ length (now s)) ⌝ }
+    ensures { λ r. ⌜ r ≡ hasWord (before s) at (wordsPerPage (chip .unit)) j ⌝ }
+{
+    if chip.unit < 5 {
+        return small_has(chip, at, j, s);
+    }
+    has_word(at, chip.deletions_per_page(), j, s)
+}
+
 // The newest entry of a full page with the key, plus one; 0 if there is none. In pages of more than four units it is looked for from the
 // newest 64 words on that have the key.
 pub fn find_in_page(chip: Chip, at: usize, key: u32, s: &[u8]) -> usize

@@ -35,14 +35,14 @@ second-fails true b e = absurd (false≢true (sym e))
 second-fails false b e = e
 
 -- where nothing is programmed, that is all
-module _ (g : Geometry) (pos : 0 < g .u) (new bits : List ℕ) where
+module _ (g : Geometry) (pos : 0 < g .u) (new filters : List ℕ) where
   no-entry : (n : ℕ) → fills (RA g) n ≡ false → fills (KA g) n ≡ false
   no-entry n e = either (bool? (fills (KA g) n)) (λ t. absurd (false≢true (sym e ∙ entry-then-record g n pos t))) (λ t. t)
 
-  record-appended : (n : ℕ) (ram : List ℕ) → fills (RA g) n ≡ false → recordAppended g n new ram ≡ recordKept g n new bits ram
+  record-appended : (n : ℕ) (ram : List ℕ) → fills (RA g) n ≡ false → recordAppended g n new ram ≡ recordKept g n new filters ram
   record-appended n ram e = rw (e, no-entry n e)
 
-  pub kept-appended : (ram : List ℕ) (e : Slots) → programsIn g e ≡ false → appended g new ram e ≡ kept g new bits ram e
+  pub kept-appended : (ram : List ℕ) (e : Slots) → programsIn g e ≡ false → appended g new ram e ≡ kept g new filters ram e
   kept-appended ram (Delete d) t = rw t
   kept-appended ram (Insert n) t = record-appended n ram t
   kept-appended ram (Update d n) t =

@@ -1,25 +1,19 @@
--- A filter in the SKA page, fourth after fourth.
+-- New filters in a SKA page, sector after sector.
 use mathlib.Core.Path.{_≡_, refl, sym, ap, _∙_}
 use mathlib.Core.List.{List}
-use Prim.Native.Nat.{ℕ, zero, suc, _+_, _-_, _*_, _%_, _≤_, _<_}
+use Prim.Native.Nat.{ℕ, zero, suc, _+_, _-_, _*_, _≤_, _<_}
 use native.Mathlib.Nat.{mul-le-mul-right}
 use native.Mathlib.Omega.{arith}
 use lib.ListN.{length, getD, take, drop, replicate}
-use Rattle.memory.specs.Bits.{pack}
-use Rattle.memory.specs.Lists.{pieces, tab, write}
-use Rattle.layout.specs.Geometry.{sectorsPerPage, sector, page, fourthSize}
+use Rattle.memory.specs.Lists.{pieces, tab, write, tab-part}
+use Rattle.layout.specs.Geometry.{sector, page, fourthSize}
 use Rattle.layout.specs.Items.{zeroPage}
-use Rattle.layout.specs.Index.{Index, inSka, withFilter}
-use Rattle.filter.specs.Filter.{arrayBit}
-use Rattle.filter.specs.Pieces.{piece-of}
+use Rattle.layout.specs.Index.{inSka}
+use Rattle.filter.specs.Fourths.{withFourths}
 
--- the first k pieces, each of a sector of so many bytes
+-- in the first k sectors
 abbrev pub piecesOf : ℕ → ℕ → ℕ → ℕ → List ℕ → List ℕ → List ℕ
-piecesOf size piece at k bits ram = pieces piece size at k (λ i y. pack 8 (λ b. arrayBit bits (i * size + (y * 8 + b)))) ram
-
--- the four fourths
-abbrev pub fourths : ℕ → ℕ → List ℕ → List ℕ → List ℕ
-fourths u at bits ram = piecesOf (sector u) (fourthSize u) at sectorsPerPage bits ram
+piecesOf u piece at k fourths ram = pieces piece (sector u) at k (λ i y. getD fourths (i * piece + y) 0) ram
 
 -- one more piece at the end
 pub pieces-more : {A : Type 0} (L d at k : ℕ) (f : ℕ → ℕ → A) (l : List A)
@@ -30,51 +24,54 @@ pieces-more L d at (suc k) f l =
     let e : at + suc k * d ≡ at + d + k * d = omega arith in
     rw e (pieces-more L d (at + d) k (λ j. f (suc j)) (write l at (tab L (f zero))))
 
-pub none-yet : (size piece at : ℕ) (bits ram : List ℕ) → ram ≡ piecesOf size piece at 0 bits ram
-unfolding pieces
-none-yet size piece at bits ram = refl
-
 -- a page zeroed; `at` and `size` are what code computes
 pub zero-at : (u place at size : ℕ) (ram : List ℕ) → at ≡ place → size ≡ page u → write ram at (replicate size 0) ≡ zeroPage u place ram
 zero-at u place at size ram e d = rw (e, d)
 
--- `piece` and `off` are what code computes
-module _ (u piece : ℕ) (piece-is : piece ≡ fourthSize u) where
-  pub in-bits : (i : ℕ) → i < 4 → u ≤ 32 → i * piece + piece ≤ 256
-  in-bits i h small = rw piece-is (omega (arith, mul-le-mul-right (2 * u) h, small))
+module _ (u piece at : ℕ) where
+  pub none-yet : (fourths ram : List ℕ) → ram ≡ piecesOf u piece at 0 fourths ram
+  unfolding pieces
+  none-yet fourths ram = refl
 
-  pub in-page : (at i ram : ℕ) → i < 4 → at + 3 * sector u + 2 * u ≤ ram → at + i * sector u + piece ≤ ram
-  in-page at i ram h fits =
+  pub in-fourths : (i fourths : ℕ) → i < 4 → 4 * piece ≤ fourths → i * piece + piece ≤ fourths
+  in-fourths i fourths h fits = omega (arith, mul-le-mul-right piece h, fits)
+
+  pub in-page : (i ram : ℕ) → i < 4 → at + 3 * sector u + piece ≤ ram → at + i * sector u + piece ≤ ram
+  in-page i ram h fits =
       let l : i ≤ 3 = omega arith in
-      rw piece-is (omega (arith, mul-le-mul-right (sector u) l, fits))
+      omega (arith, mul-le-mul-right (sector u) l, fits)
 
-  -- one turn
-  pub more-pieces : (at i off : ℕ) → off ≡ i * sector u → (bits ram₀ ram ram′ : List ℕ)
-      → ((k : ℕ) → getD bits k 0 < 256) → length bits ≡ 256 → u ≤ 32 → i < 4
-      → ram ≡ piecesOf (sector u) piece at i bits ram₀
-      → ram′ ≡ write ram (at + off) (take (i * piece + piece - i * piece) (drop (i * piece) bits))
-      → ram′ ≡ piecesOf (sector u) piece at (i + 1) bits ram₀
-  more-pieces at i off o bits ram₀ ram ram′ bytes len small h a b =
+  -- one turn; `off` is what code computes
+  pub more-pieces : (i off : ℕ) → off ≡ i * sector u → (fourths ram₀ ram ram′ : List ℕ) → i < 4 → 4 * piece ≤ length fourths
+      → ram ≡ piecesOf u piece at i fourths ram₀
+      → ram′ ≡ write ram (at + off) (take (i * piece + piece - i * piece) (drop (i * piece) fourths))
+      → ram′ ≡ piecesOf u piece at (i + 1) fourths ram₀
+  more-pieces i off o fourths ram₀ ram ram′ h fits a b =
       let s : i + 1 ≡ suc i = omega arith in
-      let l = mul-le-mul-right (2 * u) h in
-      let t = piece-of u i (i * (2 * u)) (i * (2 * u) + 2 * u) bits bytes refl refl (omega (arith, l, len, small)) in
-      let f : ℕ → ℕ → ℕ = λ i y. pack 8 (λ b. arrayBit bits (i * sector u + (y * 8 + b))) in
-      let a′ : ram ≡ pieces (2 * u) (sector u) at i f ram₀ = rw piece-is at a in
-      let b′ : ram′ ≡ write ram (at + i * sector u) (tab (2 * u) (f i)) = rw (piece-is, o, t) at b in
-      rw (s, piece-is)
-      (b′ ∙ ap (λ (l : List ℕ). write l (at + i * sector u) (tab (2 * u) (f i))) a′ ∙ sym (pieces-more (2 * u) (sector u) at i f ram₀))
+      let n : i * piece + piece - i * piece ≡ piece = omega arith in
+      let f : ℕ → ℕ → ℕ = λ i y. getD fourths (i * piece + y) 0 in
+      let t : take piece (drop (i * piece) fourths) ≡ tab piece (f i)
+      = sym (tab-part fourths (i * piece) piece (in-fourths i (length fourths) h fits)) in
+      let b′ : ram′ ≡ write ram (at + i * sector u) (tab piece (f i)) = rw (n, o, t) at b in
+      rw s
+      (b′ ∙ ap (λ (l : List ℕ). write l (at + i * sector u) (tab piece (f i))) a ∙ sym (pieces-more piece (sector u) at i f ram₀))
 
-  pub all-pieces : (at k : ℕ) (bits ram₀ ram : List ℕ) → k ≡ 4
-      → ram ≡ piecesOf (sector u) piece at k bits ram₀ → ram ≡ fourths u at bits ram₀
-  all-pieces at k bits ram₀ ram h a = rw (h, piece-is) at a
+  pub all-pieces : (k : ℕ) (fourths ram₀ ram : List ℕ) → k ≡ 4 → ram ≡ piecesOf u piece at k fourths ram₀
+      → ram ≡ withFourths u piece at fourths ram₀
+  all-pieces k fourths ram₀ ram h a = rw h at a
 
--- filter F in the SKA page; `piece` is what code computes
-module _ (u piece : ℕ) (piece-is : piece ≡ fourthSize u) (F : ℕ) where
-  pub slot-fits : (ska ram : ℕ) → ska + page u ≤ ram → ska + F % 8 * piece + 3 * sector u + 2 * u ≤ ram
-  slot-fits ska ram h =
-      let l : F % 8 + 1 ≤ 8 = omega arith in
-      rw piece-is (omega (arith, mul-le-mul-right (2 * u) l, h))
+-- n filters from number F on in the SKA page; `fourth` is what code computes
+module _ (u fourth : ℕ) (fourth-is : fourth ≡ fourthSize u) (F n : ℕ) where
+  -- their bytes of each sector
+  pub slots-fit : (ska ram : ℕ) → inSka F + n ≤ 8 → ska + page u ≤ ram → ska + inSka F * fourth + 3 * sector u + n * fourth ≤ ram
+  slots-fit ska ram l h = rw fourth-is (omega (arith, mul-le-mul-right (2 * u) l, h))
 
-  pub filter-put : (ix : Index) (bits ram : List ℕ)
-      → fourths u (ix .ska + F % 8 * piece) bits ram ≡ withFilter u ix (inSka F) (arrayBit bits) ram
-  filter-put ix bits ram = rw piece-is
+  pub piece-fits : n ≤ 2 → n * fourth ≤ sector u
+  piece-fits l = rw fourth-is (omega (arith, mul-le-mul-right (2 * u) l))
+
+  pub fourths-fit : (fourths : ℕ) → 4 * (n * fourthSize u) ≤ fourths → 4 * (n * fourth) ≤ fourths
+  fourths-fit fourths h = rw fourth-is h
+
+  pub filters-put : (ska : ℕ) (fourths ram : List ℕ) → withFourths u (n * fourth) (ska + inSka F * fourth) fourths ram
+      ≡ withFourths u (n * fourthSize u) (ska + inSka F * fourthSize u) fourths ram
+  filters-put ska fourths ram = rw fourth-is

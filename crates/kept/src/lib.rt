@@ -1,15 +1,16 @@
 // The RAM after a change: written once, after the chip. Nothing here touches the flash.
 ghost use mathlib.Core.Path.{_≡_};
-ghost use Prim.Native.Nat.{_+_, _*_, _%_, _<_, _≤_};
+ghost use Prim.Native.Nat.{_+_, _*_, _%_, _≤_};
 ghost use lib.ListN.{length};
 ghost use Rattle.memory.specs.Lent.{before, after};
 ghost use Rattle.layout.specs.Geometry.{sector, page, fourthSize, ramSize, workRam};
 ghost use Rattle.layout.specs.Items.{put, itemRam, zeroPage};
+ghost use Rattle.layout.specs.Index.{filtersPerFlush, inSka};
 ghost use Rattle.geometry.specs.Shape.{shape, Sound, area, AreaSound};
 ghost use Rattle.geometry.specs.Indexes.{indexOf};
-ghost use Rattle.plan.specs.Plans.{newLength};
-ghost use Rattle.kept.specs.Pieces.{fourths};
-ghost use Rattle.kept.specs.Kept.{filterKept, deletionKept, recordKept, kept};
+ghost use Rattle.filter.specs.Fourths.{withFourths};
+ghost use Rattle.plan.specs.Plans.{newLength, filtersLength};
+ghost use Rattle.kept.specs.Kept.{filtersKept, deletionKept, recordKept, kept};
 ghost use Rattle.kept.specs.Appended.{deletionAppended, recordAppended, appended};
 use geometry::Area;
 use geometry::Chip;
@@ -33,58 +34,64 @@ fn keep_item(chip: Chip, a: Area, n: usize, item: &[u8], ram: &mut [u8])
     words::fill_at(ram, a.ram, chip.page_size(), 0);
 }
 
-// A filter from byte `at` of the first sector of its page on: a fourth of it in each sector.
-fn put_fourths(chip: Chip, at: usize, bits: &[u8], ram: &mut [u8])
-    requires { ⌜ (0 < chip .unit) × (chip .unit ≤ 32) × (length (now bits) ≡ 256) ⌝ }
-    requires { ⌜ at + 3 * sector (chip .unit) + fourthSize (chip .unit) ≤ length (now ram) ⌝ }
-    ensures { λ _. ⌜ after ram ≡ fourths (chip .unit) at (before bits) (before ram) ⌝ }
+// The fourths of new filters, `piece` bytes in each sector of a page, from byte `at` of its first sector on.
+fn put_fourths(chip: Chip, at: usize, piece: usize, fourths: &[u8], ram: &mut [u8])
+    requires { ⌜ (chip .unit ≤ 32) × (4 * piece ≤ length (now fourths)) × (piece ≤ sector (chip .unit)) ⌝ }
+    requires { ⌜ at + 3 * sector (chip .unit) + piece ≤ length (now ram) ⌝ }
+    ensures { λ _. ⌜ after ram ≡ withFourths (chip .unit) piece at (before fourths) (before ram) ⌝ }
 {
-    let piece = chip.fourth_size();
     let mut i = 0;
     while i < Chip::SECTORS_PER_PAGE {
         let lo = i * piece;
         let hi = lo + piece;
-        words::copy_at(ram, at + chip.sector_address(i), &bits[lo..hi]);
+        words::copy_at(ram, at + chip.sector_address(i), &fourths[lo..hi]);
         i += 1;
     }
 }
 
-// Filter number `filters`: to its place in the SKA page, or, where it fills that page, the page zeroed.
-fn keep_filter(chip: Chip, ix: Index, filters: usize, bits: &[u8], ram: &mut [u8])
-    requires { ⌜ (0 < chip .unit) × (chip .unit ≤ 32) × (length (now bits) ≡ 256)
-        × (ix .ska + page (chip .unit) ≤ length (now ram)) ⌝ }
-    ensures { λ _. ⌜ after ram ≡ filterKept (chip .unit) (indexOf ix) filters (before bits) (before ram) ⌝ }
+// n new filters, the first of them number `first`: to their places in the SKA page, or, where they fill that page, the page zeroed.
+fn keep_filters(chip: Chip, ix: Index, first: usize, n: usize, fourths: &[u8], ram: &mut [u8])
+    requires { ⌜ (chip .unit ≤ 32) × (1 ≤ n) × (n ≤ 2) × (inSka first + n ≤ filtersPerFlush) ⌝ }
+    requires { ⌜ (4 * (n * fourthSize (chip .unit)) ≤ length (now fourths)) × (ix .ska + page (chip .unit) ≤ length (now ram)) ⌝ }
+    ensures { λ _. ⌜ after ram ≡ filtersKept (chip .unit) (indexOf ix) first n (before fourths) (before ram) ⌝ }
 {
-    let slot = filters % sets::FILTERS_PER_FLUSH;
-    let piece = chip.fourth_size();
-    put_fourths(chip, ix.ska + slot * piece, bits, ram);
-    if !sets::fills_ska(filters) {
+    let slot = first % sets::FILTERS_PER_FLUSH;
+    let fourth = chip.fourth_size();
+    put_fourths(chip, ix.ska + slot * fourth, n * fourth, fourths, ram);
+    if !sets::fills_ska(first + (n - 1)) {
         return;
     }
     words::fill_at(ram, ix.ska, chip.page_size(), 0);
 }
 
-// ---- the items of a change, out of its new bytes
+// ---- the items of a change, out of its new bytes, and its new filters
 
-// Deletion d.
-fn keep_deletion(g: Geometry, d: usize, new: &[u8], ram: &mut [u8])
-    requires { ⌜ Sound g × (length (now new) ≡ newLength) × (ramSize (shape g) ≤ length (now ram)) ⌝ }
-    ensures { λ _. ⌜ after ram ≡ deletionKept (shape g) d (before new) (before ram) ⌝ }
+// Deletion d, and both filters of the page that it fills.
+fn keep_deletion(g: Geometry, d: usize, new: &[u8], filters: &[u8], ram: &mut [u8])
+    requires { ⌜ Sound g × (length (now new) ≡ newLength) × (length (now filters) ≡ filtersLength)
+        × (ramSize (shape g) ≤ length (now ram)) ⌝ }
+    ensures { λ _. ⌜ after ram ≡ deletionKept (shape g) d (before new) (before filters) (before ram) ⌝ }
 {
-    keep_item(
+    let deletions = geometry::deletion_area(g);
+    keep_item(g.chip, deletions, d, &new[0..plan::RECORD_AT], ram);
+    if !deletions.fills(d) {
+        return;
+    }
+    keep_filters(
         g.chip,
-        geometry::deletion_area(g),
-        d,
-        &new[0..plan::RECORD_AT],
+        sets::deletion_index(g),
+        2 * (d / deletions.per_page),
+        2,
+        &filters[0..plan::ENTRY_FILTER_AT],
         ram,
     );
 }
 
 // Record n and its entry, and the filter of the page that the entry fills.
-fn keep_record(g: Geometry, n: usize, new: &[u8], bits: &[u8], ram: &mut [u8])
-    requires { ⌜ Sound g × (length (now new) ≡ newLength) × (length (now bits) ≡ 256)
+fn keep_record(g: Geometry, n: usize, new: &[u8], filters: &[u8], ram: &mut [u8])
+    requires { ⌜ Sound g × (length (now new) ≡ newLength) × (length (now filters) ≡ filtersLength)
         × (ramSize (shape g) ≤ length (now ram)) ⌝ }
-    ensures { λ _. ⌜ after ram ≡ recordKept (shape g) n (before new) (before bits) (before ram) ⌝ }
+    ensures { λ _. ⌜ after ram ≡ recordKept (shape g) n (before new) (before filters) (before ram) ⌝ }
 {
     let entries = geometry::entry_area(g);
     keep_item(
@@ -104,7 +111,14 @@ fn keep_record(g: Geometry, n: usize, new: &[u8], bits: &[u8], ram: &mut [u8])
     if !entries.fills(n) {
         return;
     }
-    keep_filter(g.chip, sets::key_index(g), n / entries.per_page, bits, ram);
+    keep_filters(
+        g.chip,
+        sets::key_index(g),
+        n / entries.per_page,
+        1,
+        &filters[plan::ENTRY_FILTER_AT..plan::FILTERS_SIZE],
+        ram,
+    );
 }
 
 // ---- a change that fills no page
@@ -169,24 +183,24 @@ fn clear_work(g: Geometry, ram: &mut [u8])
 }
 
 // The RAM after a change, once the chip has all of it.
-pub fn finish(g: Geometry, e: Slots, new: &[u8], bits: &[u8], ram: &mut [u8])
-    requires { ⌜ Sound g × (length (now new) ≡ newLength) × (length (now bits) ≡ 256)
+pub fn finish(g: Geometry, e: Slots, new: &[u8], filters: &[u8], ram: &mut [u8])
+    requires { ⌜ Sound g × (length (now new) ≡ newLength) × (length (now filters) ≡ filtersLength)
         × (ramSize (shape g) ≤ length (now ram)) ⌝ }
     ensures { λ _. ⌜ after ram
-        ≡ zeroPage (g .chip .unit) (workRam (g .chip .unit)) (kept (shape g) (before new) (before bits) (before ram) e) ⌝ }
+        ≡ zeroPage (g .chip .unit) (workRam (g .chip .unit)) (kept (shape g) (before new) (before filters) (before ram) e) ⌝ }
 {
     match e {
         Slots::Delete(d) => {
-            keep_deletion(g, d, new, ram);
+            keep_deletion(g, d, new, filters, ram);
             clear_work(g, ram);
         }
         Slots::Insert(n) => {
-            keep_record(g, n, new, bits, ram);
+            keep_record(g, n, new, filters, ram);
             clear_work(g, ram);
         }
         Slots::Update(d, n) => {
-            keep_deletion(g, d, new, ram);
-            keep_record(g, n, new, bits, ram);
+            keep_deletion(g, d, new, filters, ram);
+            keep_record(g, n, new, filters, ram);
             clear_work(g, ram);
         }
     }

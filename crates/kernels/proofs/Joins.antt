@@ -274,3 +274,28 @@ first-64 i h = low-at 1 64 1 64 i refl h
 
 pub squeezed-64 : (x : ℕ) → Squeezed 64 x (bitAnd x 1)
 squeezed-64 x = all-of 64 x (bitAnd x 1) 1 (picked 64 x 1 first-64 (λ i l t. omega arith)) (λ i l. omega arith) (λ i l. omega arith)
+
+-- ---- pairs of bits
+
+keep : (t : Bool) → (t && true) ≡ t
+keep true = refl
+keep false = refl
+
+drop-all : (t : Bool) → (t && false) ≡ false
+drop-all true = refl
+drop-all false = refl
+
+-- the mask has the even bits
+pub pairs-are : (x r : ℕ) → r ≡ bitAnd (bitOr x (x / 2 ^ 1)) 6148914691236517205
+    → (i : ℕ) → i < 32 → (bit r (2 * i) ≡ (bit x (2 * i) || bit x (2 * i + 1))) × (bit r (2 * i + 1) ≡ false)
+pairs-are x r is i h =
+    let a : 1 + 2 * i ≡ 2 * i + 1 = omega arith in
+    let e : 2 * i % 2 ≡ 0 = omega arith in
+    let o : (2 * i + 1) % 2 ≡ 1 = omega arith in
+    let m = first-2 (2 * i) (omega arith) in
+    let n = first-2 (2 * i + 1) (omega arith) in
+    rw is (
+      rw (bit-and (bitOr x (x / 2 ^ 1)) 6148914691236517205 (2 * i), bit-or x (x / 2 ^ 1) (2 * i), bit-shr x 1 (2 * i), m, e, a)
+          (keep (bit x (2 * i) || bit x (2 * i + 1))),
+      rw (bit-and (bitOr x (x / 2 ^ 1)) 6148914691236517205 (2 * i + 1), n, o) (drop-all (bit (bitOr x (x / 2 ^ 1)) (2 * i + 1))),
+    )

@@ -1,6 +1,6 @@
 // Fast passes over rows of bits: which filters have all of their bits, as the bits of words.
 ghost use mathlib.Core.Path.{_≡_};
-ghost use mathlib.Core.Bool.{true, false, _&&_, not};
+ghost use mathlib.Core.Bool.{true, false, _&&_, _||_, not};
 ghost use Prim.Native.Nat.{ℕ, _+_, _-_, _*_, _/_, _%_, _^_, _≤_, _<_, min};
 ghost use lib.Bits.{bitAnd, bitOr};
 ghost use lib.Count.{leadingZeros};
@@ -173,6 +173,13 @@ fn squeeze(x: u64, w: usize) -> u64
         return join(x & 0x0000_0001_0000_0001, 31, 0x0000_0000_0000_0003);
     }
     x & 1
+}
+
+// Which pairs of bits have one that is set: bit 2i for bits 2i and 2i + 1.
+pub fn pairs(bits: u64) -> u64
+    ensures { λ r. ⌜ ((i : ℕ) → i < 32 → (bit r (2 * i) ≡ (bit bits (2 * i) || bit bits (2 * i + 1))) × (bit r (2 * i + 1) ≡ false)) ⌝ }
+{
+    join(bits, 1, 0x5555_5555_5555_5555)
 }
 
 // A row's word, moved down by `low`.

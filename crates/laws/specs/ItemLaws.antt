@@ -27,3 +27,7 @@ length-deletion j = length-words (j ∷ [])
 pub entry-key : (key : Key) (j b : ℕ) → b < 4 → getD (entryBytes key j) (0 * 4 + b) 0 ≡ byteOf key b
 unfolding entryBytes
 entry-key key j b h = words-byte (key ∷ j ∷ []) 0 b (omega arith) h
+
+pub deletion-number : (j b : ℕ) → b < 4 → getD (deletionBytes j) (0 * 4 + b) 0 ≡ byteOf j b
+unfolding deletionBytes
+deletion-number j b h = words-byte (j ∷ []) 0 b (omega arith) h

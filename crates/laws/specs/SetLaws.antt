@@ -5,11 +5,12 @@ use native.Mathlib.Nat.{mul-le-mul-right, div-mul-le-self, le-div-iff-mul-le, le
 use native.Mathlib.Omega.{arith}
 use lib.Pow.{pow-pos}
 use lib.Dec.{eqb}
-use borrow.Author.Tests.{lt-ltb, le-ltb}
+use mathlib.Core.Bool.{false}
+use borrow.Author.Tests.{lt-ltb, le-ltb, ne-eqb}
 use Rattle.memory.specs.Cases.{either, bool?}
 use Rattle.memory.specs.Numbers.{div-of}
 use Rattle.memory.specs.Power.{log2up, log2up-enough, width}
-use Rattle.layout.specs.Index.{Index, setPages, setWidth, fullFilters, sideBlock, setPlace, l1Place, flashPlace}
+use Rattle.layout.specs.Index.{Index, filtersPerFlush, inSka, setPages, setWidth, fullFilters, sideBlock, setPlace, l1Place, flashPlace}
 
 -- ---- pages, blocks and width of the set of c rounds
 
@@ -76,3 +77,20 @@ places-suffice u R n pu h =
     let all : n / (8 * u) / 8 / 16 / (4 * u) * (64 * u) * (64 * u) ≤ R * (64 * u)
     = omega (arith, mul-le-mul-right (16 * 8 * (8 * u)) z, mul-le-mul-right (8 * (8 * u)) c, mul-le-mul-right (8 * u) t, f) in
     le-div-iff-mul-le pos .1 (le-of-mul-le-mul-right all pos)
+
+-- those of the index over DA too: d deletions give 2 floor(d / S) filters
+pub deletion-places-suffice : (u D d : ℕ) → 0 < u → d ≤ 16 * D * (16 * u) → 2 * (d / (16 * u)) / 8 / 16 / (4 * u) ≤ D / (16 * u)
+deletion-places-suffice u D d pu h =
+    let f = div-mul-le-self d (16 * u) in
+    let t = div-mul-le-self (2 * (d / (16 * u))) 8 in
+    let c = div-mul-le-self (2 * (d / (16 * u)) / 8) 16 in
+    let z = div-mul-le-self (2 * (d / (16 * u)) / 8 / 16) (4 * u) in
+    let pos : 0 < 16 * u = omega arith in
+    let all : 2 * (d / (16 * u)) / 8 / 16 / (4 * u) * (16 * u) * (256 * u) ≤ D * (256 * u)
+    = omega (arith, mul-le-mul-right (16 * 8 * (8 * u)) z, mul-le-mul-right (8 * (8 * u)) c, mul-le-mul-right (8 * u) t, f) in
+    let wide : 0 < 256 * u = omega arith in
+    le-div-iff-mul-le pos .1 (le-of-mul-le-mul-right all wide)
+
+-- the first filter of a DA page never fills the SKA page: their number is even
+pub first-of-pair : (p : ℕ) → eqb (inSka (2 * p) + 1) filtersPerFlush ≡ false
+first-of-pair p = ne-eqb (2 * p % 8 + 1) 8 (λ e. omega arith)

@@ -1,4 +1,4 @@
--- The five calls, for any state and any lent bytes. Document 01, "Calls".
+-- The five calls, for any state and any lent bytes. Document 01, "Calls"; document 02, §5: filters over deletions.
 use mathlib.Core.Bool.{Bool, true, false, not, _&&_, _||_, cond}
 use mathlib.Core.Option.{Option, none, some}
 use mathlib.Core.List.{List, [], _++_}
@@ -7,16 +7,18 @@ use lib.ListN.{length, replicate}
 use lib.Dec.{ltb, leb, eqb}
 use Rattle.memory.specs.Lists.{write}
 use Rattle.memory.specs.Ranges.{any, memb, allOf}
+use Rattle.memory.specs.Words.{word, bytes4}
 use Rattle.layout.specs.Keys.{Key, keyBytes, keyIn, numberIn, keyAt}
 use Rattle.layout.specs.Geometry.{State, Geometry, geometry, Sizes, stateOf, allowed, recordCapacity, deletionCapacity, mainSize}
 use Rattle.layout.specs.Geometry.{spareSize, ramSize, blocks, indexBlock, entriesPerPage, kaRam, skaRam, workRam}
+use Rattle.layout.specs.Geometry.{deletionIndexBlock, deletionsPerPage, deletionsPerFilter, daRam, deletionSkaRam}
 use Rattle.layout.specs.Flash.{Flash, Op, applyAll, erases, Planned, planOps, allFresh}
 use Rattle.layout.specs.Hash.{Family, positions}
 use Rattle.layout.specs.Index.{Index, filterBit, withFilter, filterPlan, filterRam, inSka}
 use Rattle.layout.specs.Items.{RA, KA, DA, Record, recordBytes, entryBytes, deletionBytes, Place, itemPlace, bytesAt, itemWord, put}
-use Rattle.layout.specs.Items.{recordSize, entrySize, fills, itemPlan, itemRam, zeroPage}
+use Rattle.layout.specs.Items.{recordSize, entrySize, deletionSize, fills, itemPlan, itemRam, zeroPage}
 use Rattle.layout.specs.Refusals as refusal
-use Rattle.layout.specs.Search.{Stop, found, corrupt, Found, tryEntry, searchFrom}
+use Rattle.layout.specs.Search.{Stop, found, corrupt, Found, isFound, tryEntry, entryCost, searchFrom, costFrom}
 
 -- ---- what is handed in and what comes back
 
@@ -45,12 +47,14 @@ pub data Outcome : Type 0 where
 pub record Result : Type 0 where
   pub outcome : Outcome
   pub count : ℕ
+  -- §5: "the DA pages opened, 0 on a refusal, one opened twice counting twice"
+  pub daPages : ℕ
   pub volume : Volume
   pub ops : List Op
 
--- a refusal changes nothing: "The state comes back as handed in", and so do all bytes; its count is 0
+-- a refusal changes nothing: "The state comes back as handed in", and so do all bytes; its counts are 0
 abbrev pub refuse : Volume → ℕ → Result
-refuse v i = record { outcome = refused i; count = 0; volume = v; ops = [] }
+refuse v i = record { outcome = refused i; count = 0; daPages = 0; volume = v; ops = [] }
 
 -- ---- refusals 1 and 2
 
@@ -61,7 +65,7 @@ badState s =
     || (ltb (recordCapacity (geometry (s .sizes))) (s .records)
     || (ltb (deletionCapacity (geometry (s .sizes))) (s .deletions) || ltb (s .records) (s .deletions)))
 
--- "cells under 64SB, marks under 64B or desk under 20S bytes"
+-- "cells under 64SB, marks under 64B or desk under 20S bytes"; §5: "Refusal 2 uses the larger sums"
 unfoldable pub tooShort : Geometry → Flash → List ℕ → Bool
 tooShort g c ram = ltb (length (c .main)) (mainSize g) || (ltb (length (c .spare)) (spareSize g) || ltb (length ram) (ramSize g))
 
@@ -81,6 +85,7 @@ formatted v sizes =
     record {
       outcome = accepted;
       count = 0;
+      daPages = 0;
       volume = record {
         state = stateOf sizes 0 0;
         flash = applyAll (g .u) ops (v .flash);
@@ -103,52 +108,133 @@ keyIndex g = record { first = indexBlock g; ska = skaRam (g .u) }
 abbrev pub keyFilters : Geometry → ℕ → ℕ
 keyFilters g n = n / entriesPerPage (g .u)
 
+-- §5: the index over DA, "an L1, sides and sealed sets of their own"
+abbrev pub deletionIndex : Geometry → Index
+deletionIndex g = record { first = deletionIndexBlock g; ska = deletionSkaRam (g .u) }
+
+-- "Each full DA page gives two filters of m bits"
+abbrev pub deletionFilters : Geometry → ℕ → ℕ
+deletionFilters g d = 2 * (d / deletionsPerPage (g .u))
+
+-- the k positions of a key
+abbrev pub keyPositions : Family → Geometry → Key → List ℕ
+keyPositions h g key = positions h (g .k) (g .u) (keyBytes key)
+
+-- and of a record number: "from the four bytes of each record number, hashed as keys are"
+abbrev pub numberPositions : Family → Geometry → ℕ → List ℕ
+numberPositions h g j = positions h (g .k) (g .u) (bytes4 j)
+
 -- ---- the search on a volume, by bounds n₀ and d₀: among the first n₀ records and the first d₀ deletions.
 -- Where these and the filters lie goes by the volume's own n and d, of which the bounds are at most as many
 
--- is record number j one of the first d₀ in DA
+-- number i of DA
+abbrev pub deletedNumber : Geometry → Volume → ℕ → ℕ
+deletedNumber g v i = itemWord (g .u) (DA g) (v .state .deletions) (v .flash .main) (v .ram) i 0
+
+-- is record number j one of the first d₀ in DA, read without filters
 unfoldable pub isDeleted : Geometry → Volume → ℕ → ℕ → Bool
-isDeleted g v d₀ j = any (λ i. eqb (itemWord (g .u) (DA g) (v .state .deletions) (v .flash .main) (v .ram) i 0) j) d₀
+isDeleted g v d₀ j = any (λ i. eqb (deletedNumber g v i) j) d₀
+
+-- §5: is number i of DA the one that is tested, "and ends where the number is met"
+unfoldable pub tryDeletion : Geometry → Volume → ℕ → ℕ → Option Stop
+tryDeletion g v j i = cond (eqb (deletedNumber g v i) j) (some (found j)) none
+
+-- has filter f over DA all bits of these positions
+abbrev pub deletionBits : Geometry → Volume → List ℕ → ℕ → Bool
+deletionBits g v ps f =
+    allOf (filterBit (g .u) (deletionIndex g) (v .flash .main) (v .ram) (deletionFilters g (v .state .deletions)) f) ps
+
+-- full page p of DA: "opening one if either of its filters has the bits"
+unfoldable pub maybeDeleted : Geometry → Volume → List ℕ → ℕ → Bool
+maybeDeleted g v ps p = deletionBits g v ps (2 * p) || deletionBits g v ps (2 * p + 1)
+
+-- "Each test of a record number takes the desk's numbers first, then DA pages newest first", as a search for a key does in KA; pages that
+-- d₀ deletions fill are opened by their filters, the numbers past them are tried first
+unfoldable pub testDeletion : Family → Geometry → Volume → ℕ → ℕ → Found
+testDeletion h g v d₀ j = searchFrom (maybeDeleted g v (numberPositions h g j)) (tryDeletion g v j) (deletionsPerPage (g .u)) d₀
+
+-- does it meet the number
+abbrev pub testedDeleted : Family → Geometry → Volume → ℕ → ℕ → Bool
+testedDeleted h g v d₀ j = isFound (testDeletion h g v d₀ j .stop)
 
 -- word i of entry j of KA
 abbrev pub entryWord : Geometry → Volume → ℕ → ℕ → ℕ
 entryWord g v j i = itemWord (g .u) (KA g) (v .state .records) (v .flash .main) (v .ram) j i
 
 -- entry j of KA; a number of n₀ or more is no record's
-unfoldable pub tryAt : Geometry → Volume → ℕ → ℕ → Key → ℕ → Option Stop
-tryAt g v n₀ d₀ key j = tryEntry n₀ (isDeleted g v d₀) key (keyIn (entryWord g v j 0) (entryWord g v j 1)) (numberIn (entryWord g v j 1))
+unfoldable pub tryAt : Family → Geometry → Volume → ℕ → ℕ → Key → ℕ → Option Stop
+tryAt h g v n₀ d₀ key j =
+    tryEntry n₀ (testedDeleted h g v d₀) key (keyIn (entryWord g v j 0) (entryWord g v j 1)) (numberIn (entryWord g v j 1))
+
+-- DA pages opened to try it; none where its number is not tested
+unfoldable pub tryCost : Family → Geometry → Volume → ℕ → ℕ → Key → ℕ → ℕ
+tryCost h g v n₀ d₀ key j =
+    entryCost n₀ (λ i. testDeletion h g v d₀ i .opened) key (keyIn (entryWord g v j 0) (entryWord g v j 1)) (numberIn (entryWord g v j 1))
 
 -- has the filter of full page f all bits of these positions, "read from the bytes lent"
 unfoldable pub maybeIn : Geometry → Volume → List ℕ → ℕ → Bool
 maybeIn g v ps f = allOf (filterBit (g .u) (keyIndex g) (v .flash .main) (v .ram) (keyFilters g (v .state .records)) f) ps
 
--- the k positions of a key
-abbrev pub keyPositions : Family → Geometry → Key → List ℕ
-keyPositions h g key = positions h (g .k) (g .u) (keyBytes key)
-
 -- pages that n₀ records fill are opened by their filters; the entries past
 -- them are tried first, as those in RAM are, wherever they lie by now
 unfoldable pub searchAt : Family → Geometry → Volume → ℕ → ℕ → Key → Found
-searchAt h g v n₀ d₀ key = searchFrom (maybeIn g v (keyPositions h g key)) (tryAt g v n₀ d₀ key) (entriesPerPage (g .u)) n₀
+searchAt h g v n₀ d₀ key = searchFrom (maybeIn g v (keyPositions h g key)) (tryAt h g v n₀ d₀ key) (entriesPerPage (g .u)) n₀
+
+-- DA pages that it opens, "one opened twice counting twice"
+unfoldable pub daPagesAt : Family → Geometry → Volume → ℕ → ℕ → Key → ℕ
+daPagesAt h g v n₀ d₀ key =
+    costFrom (maybeIn g v (keyPositions h g key)) (tryAt h g v n₀ d₀ key) (tryCost h g v n₀ d₀ key) (entriesPerPage (g .u)) n₀
 
 -- among all of them
 abbrev pub search : Family → Geometry → Volume → Key → Found
 search h g v key = searchAt h g v (v .state .records) (v .state .deletions) key
 
+abbrev pub searchDaPages : Family → Geometry → Volume → Key → ℕ
+searchDaPages h g v key = daPagesAt h g v (v .state .records) (v .state .deletions) key
+
 -- ---- what an accepted change plans, and the RAM after it. Every sector is planned out of the RAM handed in, which no change touches
 -- before its last operation
 
--- "A deletion appends the 4-byte record number to DA"
-unfoldable pub deletionPlan : Geometry → ℕ → ℕ → List ℕ → List Planned
-deletionPlan g d j ram = itemPlan (g .u) (DA g) d (deletionBytes j) ram
-
-unfoldable pub deletionRam : Geometry → ℕ → ℕ → List ℕ → List ℕ
-deletionRam g d j ram = itemRam (g .u) (DA g) d (deletionBytes j) ram
+-- bit x of the filter of `count` items, item i with the positions `ps i`: "with the positions of all its keys set"
+abbrev pub filterOf : (ℕ → List ℕ) → ℕ → ℕ → Bool
+filterOf ps count x = any (λ i. memb x (ps i)) count
 
 module _ (h : Family) where
+  -- §5: "two filters .., first half first": half i of the DA page in these bytes
+  unfoldable pub halfFilter : Geometry → ℕ → List ℕ → ℕ → Bool
+  halfFilter g i ram =
+      filterOf (λ y. numberPositions h g (word ram (daRam (g .u) + (i * deletionsPerFilter (g .u) + y) * deletionSize)))
+      (deletionsPerFilter (g .u))
+
+  -- half i of the page that deletion d fills
+  abbrev pub newHalf : Geometry → ℕ → ℕ → ℕ → List ℕ → ℕ → Bool
+  newHalf g d j i ram = halfFilter g i (put (DA g) d (deletionBytes j) ram)
+
+  -- the index's SKA page with the first filter of that page, and what that leaves with the second; `numbers` is the RAM of the DA page
+  abbrev pub firstHalf : Geometry → ℕ → ℕ → List ℕ → List ℕ → List ℕ
+  firstHalf g d j numbers ram = withFilter (g .u) (deletionIndex g) (inSka (deletionFilters g d)) (newHalf g d j 0 numbers) ram
+
+  abbrev pub secondHalf : Geometry → ℕ → ℕ → List ℕ → List ℕ → List ℕ
+  secondHalf g d j numbers ram =
+      withFilter (g .u) (deletionIndex g) (inSka (deletionFilters g d + 1)) (newHalf g d j 1 numbers)
+      (filterRam (g .u) (deletionIndex g) (deletionFilters g d) (firstHalf g d j numbers ram))
+
+  -- "A deletion appends the 4-byte record number to DA"; §5: "the deletion filters and their erases follow the DA page directly"
+  unfoldable pub deletionPlan : Geometry → ℕ → ℕ → List ℕ → List Planned
+  deletionPlan g d j ram =
+      itemPlan (g .u) (DA g) d (deletionBytes j) ram
+      ++ cond (fills (DA g) d)
+      (filterPlan (g .u) (deletionIndex g) (deletionFilters g d) (firstHalf g d j ram ram)
+      ++ filterPlan (g .u) (deletionIndex g) (deletionFilters g d + 1) (secondHalf g d j ram ram)) []
+
+  unfoldable pub deletionRam : Geometry → ℕ → ℕ → List ℕ → List ℕ
+  deletionRam g d j ram =
+      let appended : List ℕ = itemRam (g .u) (DA g) d (deletionBytes j) ram in
+      cond (fills (DA g) d) (filterRam (g .u) (deletionIndex g) (deletionFilters g d + 1) (secondHalf g d j ram appended)) appended
+
   -- "A full KA page gives one filter of m bits with the positions of all its keys set"; the keys in the page's bytes
   unfoldable pub pageFilter : Geometry → List ℕ → ℕ → Bool
-  pageFilter g ram x = any (λ i. memb x (keyPositions h g (keyAt ram (kaRam (g .u) + i * entrySize)))) (entriesPerPage (g .u))
+  pageFilter g ram = filterOf (λ i. keyPositions h g (keyAt ram (kaRam (g .u) + i * entrySize))) (entriesPerPage (g .u))
 
   -- the filter of the page that entry n fills
   abbrev pub newFilter : Geometry → ℕ → Key → List ℕ → ℕ → Bool
@@ -178,6 +264,7 @@ commit g v n d plan ram =
     (record {
       outcome = accepted;
       count = 0;
+      daPages = 0;
       volume = record {
         state = stateOf (v .state .sizes) n d;
         flash = applyAll (g .u) ops (v .flash);
@@ -200,13 +287,14 @@ noDeletion g v = leb (deletionCapacity g) (v .state .deletions)
 abbrev pub recordPlace : Geometry → Volume → ℕ → Place
 recordPlace g v j = itemPlace (g .u) (RA g) (v .state .records) j
 
-unfoldable pub lookupAfter : Geometry → Volume → ℕ → Option Stop → Result
-lookupAfter g v opened (some corrupt) = refuse v refusal.corruptEntry
-lookupAfter g v opened none = record { outcome = miss; count = opened; volume = v; ops = [] }
-lookupAfter g v opened (some (found j)) =
+unfoldable pub lookupAfter : Geometry → Volume → ℕ → ℕ → Option Stop → Result
+lookupAfter g v opened daPages (some corrupt) = refuse v refusal.corruptEntry
+lookupAfter g v opened daPages none = record { outcome = miss; count = opened; daPages = daPages; volume = v; ops = [] }
+lookupAfter g v opened daPages (some (found j)) =
     record {
       outcome = hit (recordPlace g v j) (bytesAt (v .flash .main) (v .ram) (recordPlace g v j) recordSize);
       count = opened;
+      daPages = daPages;
       volume = v;
       ops = [];
     }
@@ -225,16 +313,16 @@ abbrev pub more : {A : Type 0} → ℕ → Option A → ℕ
 more n none = n
 more n (some x) = n + 1
 
--- its deletion, on the RAM handed in
-abbrev pub deletes : Geometry → Volume → Option ℕ → List Planned
-deletes g v none = []
-deletes g v (some j) = deletionPlan g (v .state .deletions) j (v .ram)
-
-abbrev pub ramDeleted : Geometry → Volume → Option ℕ → List ℕ
-ramDeleted g v none = v .ram
-ramDeleted g v (some j) = deletionRam g (v .state .deletions) j (v .ram)
-
 module _ (h : Family) where
+  -- its deletion, on the RAM handed in
+  abbrev pub deletes : Geometry → Volume → Option ℕ → List Planned
+  deletes g v none = []
+  deletes g v (some j) = deletionPlan h g (v .state .deletions) j (v .ram)
+
+  abbrev pub ramDeleted : Geometry → Volume → Option ℕ → List ℕ
+  ramDeleted g v none = v .ram
+  ramDeleted g v (some j) = deletionRam h g (v .state .deletions) j (v .ram)
+
   -- its insertion
   abbrev pub inserts : Geometry → Volume → Option Record → List Planned
   inserts g v none = []
@@ -273,7 +361,7 @@ module _ (h : Family) where
   answer g v (insert r) = insertAfter g v r (search h g v (r .key) .stop)
   answer g v (update r) = updateAfter g v r (search h g v (r .key) .stop)
   answer g v (delete key) = deleteAfter g v (search h g v key .stop)
-  answer g v (lookup key) = let f : Found = search h g v key in lookupAfter g v (f .opened) (f .stop)
+  answer g v (lookup key) = let f : Found = search h g v key in lookupAfter g v (f .opened) (searchDaPages h g v key) (f .stop)
 
   -- a call on a volume
   unfoldable pub call : Volume → Call → Result

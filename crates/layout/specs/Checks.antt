@@ -2,24 +2,26 @@
 use mathlib.Core.Path.{_≡_, refl}
 use mathlib.Core.Bool.{Bool, true, false, _&&_, cond}
 use mathlib.Core.Option.{Option, none, some}
-use mathlib.Core.List.{List, [], _∷_}
+use mathlib.Core.List.{List, [], _∷_, _++_}
 use Prim.Native.Nat.{ℕ, suc, _+_, _*_}
-use lib.ListN.{length, getD, take, replicate}
+use lib.ListN.{length, getD, take, drop, replicate}
 use lib.Dec.{eqb}
 use lib.Count.{onesIn}
 use Rattle.memory.specs.Lists.{write, tab, tabFrom, pieces}
-use Rattle.memory.specs.Bits.{num, pack}
+use Rattle.memory.specs.Bits.{num, bit, pack}
 use Rattle.memory.specs.Power.{log2up}
 use Rattle.memory.specs.Words.{bytes4, wordsBytes}
-use Rattle.memory.specs.Ranges.{any, memb}
+use Rattle.memory.specs.Ranges.{any, memb, allOf}
 use Rattle.layout.specs.Keys.{sameKey}
-use Rattle.layout.specs.Geometry.{State, sizesOf, stateOf, geometry, allowed, indexBlock, sector, page, block}
+use Rattle.layout.specs.Geometry.{State, Geometry, sizesOf, stateOf, geometry, allowed, indexBlock, sector, page, block}
 use Rattle.layout.specs.Flash.{flashOf, program, fresh, allFresh, apply, Planned, known, made, wipe, planOps}
 use Rattle.layout.specs.Hash.{fnvFrom, fnvFamily, positions}
-use Rattle.layout.specs.Index.{BitPlace, rowBit, rowByte, withFilter, filterPlace, filterPlan, flushAndBuild}
-use Rattle.layout.specs.Items.{recordOf, recordBytes, entryBytes, deletionBytes, itemWord}
-use Rattle.layout.specs.Search.{Stop, found, corrupt, tryEntry, scan, searchPages, searchFrom}
-use Rattle.layout.specs.Calls.{Volume, Call, insert, update, delete, lookup, keyIndex, badState, tooShort, isDeleted, tryAt, searchAt}
+use Rattle.layout.specs.Index.{BitPlace, bitAt, filterBit, rowBit, rowByte, withFilter, filterPlace, filterPlan, flushAndBuild}
+use Rattle.layout.specs.Items.{recordOf, recordBytes, entryBytes, deletionBytes, itemWord, put}
+use Rattle.layout.specs.Search.{Stop, found, corrupt, Found, reply, tryEntry, scan, searchPages, searchFrom, scanCost, pagesCost}
+use Rattle.layout.specs.Search.{costFrom}
+use Rattle.layout.specs.Calls.{Volume, Call, insert, update, delete, lookup, keyIndex, badState, tooShort, tryAt, searchAt}
+use Rattle.layout.specs.Calls.{halfFilter, tryDeletion, maybeDeleted, testDeletion, tryCost, daPagesAt, deletionRam, deletionFilters}
 use Rattle.layout.specs.Calls.{pageFilter, Outcome, accepted, hit, miss, refused, Result, deletionPlan, insertionPlan, commit, change}
 use Rattle.layout.specs.Calls.{updateAfter}
 use Rattle.layout.specs.FiniteMap.{Map, emptyMap, Reply, accepts, hits, misses, refuses, stepMap, find, without}
@@ -58,6 +60,25 @@ pub full-set : length (sectorsOf fifth) ∷ getD (sectorsOf fifth) 4 0 ∷ block
     ∷ (indexBlock (geometry (sizesOf 16 64 1 3)) + 4) ∷ []
 unfolding log2up flushAndBuild
 full-set = refl
+
+-- §5: "the deletion filters and their erases follow the DA page directly": an update at S = 16, R = 16, D = 4 that builds set 2 of both
+-- indexes
+abbrev both : List Planned
+both =
+    let g : Geometry = geometry (sizesOf 16 16 4 3) in
+    deletionPlan fnvFamily g 1023 5 [] ++ insertionPlan fnvFamily g 1023 7 [] []
+
+pub update-order : beforeErase both ∷ length (sectorsOf both) ∷ getD (sectorsOf both) 0 0 ∷ getD (sectorsOf both) 4 0
+    ∷ getD (sectorsOf both) 8 0 ∷ getD (sectorsOf both) 72 0 ∷ getD (sectorsOf both) 76 0 ∷ getD (sectorsOf both) 80 0
+    ∷ getD (sectorsOf both) 84 0 ∷ blocksOf both
+    ≡ 72 ∷ 148 ∷ (24 * 64 + 252) ∷ (37 * 64 + 15) ∷ (38 * 64) ∷ 1020 ∷ (16 * 64 + 508) ∷ (28 * 64 + 15) ∷ (29 * 64) ∷ 37 ∷ 28 ∷ []
+unfolding log2up flushAndBuild deletionPlan insertionPlan
+update-order = refl
+
+-- a DA page that is not the fourth leaves its filters in RAM: page 62 programs nothing but itself
+pub filters-wait : length (sectorsOf (deletionPlan fnvFamily (geometry (sizesOf 16 16 4 3)) 1007 5 [])) ≡ 4
+unfolding log2up flushAndBuild deletionPlan
+filters-wait = refl
 
 -- ---- where filters lie at S = 16 with 1000 filters: one full set of 512, three rounds on side A, 13 flushes in L1, none in RAM
 
@@ -128,6 +149,13 @@ pub search-shut : searchFrom (λ p. false) (tryExample 8) 4 8 ≡ record { stop 
 unfolding sameKey searchPages scan memb
 search-shut = refl
 
+-- what it pays: entry j costs 10 and j, those after its end nothing, shut pages nothing
+pub search-costs : costFrom gateExample (tryExample 10) (λ j. 10 + j) 4 10
+    ∷ costFrom (λ p. eqb p 0) (tryExample 8) (λ j. 10 + j) 4 8 ∷ costFrom (λ p. false) (tryExample 8) (λ j. 10 + j) 4 8 ∷ []
+    ≡ 135 ∷ 36 ∷ 0 ∷ []
+unfolding sameKey scanCost pagesCost scan memb
+search-costs = refl
+
 -- ---- the search by bounds
 
 -- nine records, the first eight entries on flash, and a deletion of record
@@ -147,8 +175,61 @@ among n₀ d₀ key = searchAt fnvFamily (geometry (sizesOf 16 1 1 3)) nine n₀
 -- the last of the first n₀ entries is on flash by now; a deletion of later does not count, nor does a record
 pub search-among : among 3 0 7 ∷ among 3 1 7 ∷ among 7 1 7 ∷ among 4 0 9 ∷ among 6 0 9 ∷ among 3 1 9 ∷ []
     ≡ some (found 2) ∷ some (found 1) ∷ some (found 6) ∷ some corrupt ∷ some (found 5) ∷ none ∷ []
-unfolding write wordsBytes any sameKey itemWord scan searchPages isDeleted tryAt searchAt
+unfolding write wordsBytes sameKey itemWord scan searchPages tryDeletion testDeletion tryAt searchAt
 search-among = refl
+
+-- ---- the test of a record number: 16 deletions on flash with their two filters in RAM, the 17th in RAM; key 7 has entries 16 to 19
+
+-- the SKA page with the filters of 1, 2, 3, 4, 17, 18, 19, 20 and of 9, 10, 11, 12, 25, 26, 27, 28
+abbrev pairPage : List ℕ
+pairPage =
+    66 ∷ 128 ∷ 128 ∷ 66 ∷ 0 ∷ 0 ∷ 0 ∷ 0 ∷ 0 ∷ 0 ∷ 0 ∷ 0 ∷ 0 ∷ 0 ∷ 0 ∷ 0 ∷ 129 ∷ 64 ∷ 64 ∷ 129 ∷ 0 ∷ 0
+    ∷ 0 ∷ 0 ∷ 0 ∷ 0 ∷ 0 ∷ 0 ∷ 0 ∷ 0 ∷ 0 ∷ 0 ∷ 24 ∷ 32 ∷ 32 ∷ 24 ∷ 0 ∷ 0 ∷ 0 ∷ 0 ∷ 0 ∷ 0 ∷ 0 ∷ 0 ∷ 0 ∷ 0
+    ∷ 0 ∷ 0 ∷ 66 ∷ 1 ∷ 1 ∷ 66 ∷ 0 ∷ 0 ∷ 0 ∷ 0 ∷ 0 ∷ 0 ∷ 0 ∷ 0 ∷ 0 ∷ 0 ∷ 0 ∷ 0 ∷ []
+
+abbrev tested : Volume
+tested =
+    record {
+      state = stateOf (sizesOf 16 1 1 3) 20 17;
+      flash = flashOf (write (replicate 2112 255) 2048
+          (wordsBytes (1 ∷ 2 ∷ 3 ∷ 4 ∷ 17 ∷ 18 ∷ 19 ∷ 20 ∷ 9 ∷ 10 ∷ 11 ∷ 12 ∷ 25 ∷ 26 ∷ 27 ∷ 28 ∷ []))) [];
+      ram = write
+          (write (write (replicate 384 0) 64 (wordsBytes (7 ∷ 0 ∷ 7 ∷ 12 ∷ 7 ∷ 5 ∷ 7 ∷ 3 ∷ []))) 128 (wordsBytes (5 ∷ []))) 320 pairPage;
+    }
+
+abbrev testOf : ℕ → ℕ → Found
+testOf d₀ j = testDeletion fnvFamily (geometry (sizesOf 16 1 1 3)) tested d₀ j
+
+-- met in RAM; on the page, by its first filter, by its second; no filter has the bits; one has them in vain; by bounds, the 17th is of
+-- later, and eight numbers are tried without filters
+pub deletion-tests : testOf 17 5 ∷ testOf 17 3 ∷ testOf 17 12 ∷ testOf 17 0 ∷ testOf 17 33 ∷ testOf 16 5 ∷ testOf 8 12 ∷ testOf 8 3 ∷ []
+    ≡ reply (some (found 5)) 0 ∷ reply (some (found 3)) 1 ∷ reply (some (found 12)) 1 ∷ reply none 0 ∷ reply none 1 ∷ reply none 0
+    ∷ reply none 0 ∷ reply (some (found 3)) 0 ∷ []
+unfolding write wordsBytes itemWord scan searchPages tryDeletion maybeDeleted testDeletion allOf filterBit bitAt bit positions tab tabFrom
+    fnvFrom
+deletion-tests = refl
+
+-- the numbers 3, 5 and 12 of its entries are deleted, 0 is not: of the four tests two open the page
+pub da-pages : daPagesAt fnvFamily (geometry (sizesOf 16 1 1 3)) tested 20 17 7 ≡ 2
+unfolding write wordsBytes sameKey itemWord scan scanCost searchPages tryDeletion maybeDeleted testDeletion tryAt tryCost daPagesAt allOf
+    filterBit bitAt bit positions tab tabFrom fnvFrom
+da-pages = refl
+
+-- the call that fills the DA page leaves them so, "first half first", and the DA page zeroed
+abbrev filled : List ℕ
+filled =
+    deletionRam fnvFamily (geometry (sizesOf 16 1 1 3)) 15 28
+    (write (replicate 384 0) 128 (wordsBytes (1 ∷ 2 ∷ 3 ∷ 4 ∷ 17 ∷ 18 ∷ 19 ∷ 20 ∷ 9 ∷ 10 ∷ 11 ∷ 12 ∷ 25 ∷ 26 ∷ 27 ∷ [])))
+
+pub filters-put : drop 320 filled ≡ pairPage
+unfolding write wordsBytes deletionBytes put pieces pack halfFilter any memb positions tab tabFrom fnvFrom deletionRam
+filters-put = refl
+
+-- full pages alone have filters
+pub filter-counts : deletionFilters (geometry (sizesOf 16 1 1 3)) 15 ∷ deletionFilters (geometry (sizesOf 16 1 1 3)) 16
+    ∷ deletionFilters (geometry (sizesOf 16 1 1 3)) 31 ∷ deletionFilters (geometry (sizesOf 16 1 1 3)) 32 ∷ []
+    ≡ 0 ∷ 2 ∷ 2 ∷ 4 ∷ []
+filter-counts = refl
 
 -- ---- refusals 1 and 2: n and d may be at capacity, "under" is strict
 
@@ -176,7 +257,7 @@ hash-counts = refl
 abbrev shorts : ℕ → ℕ → ℕ → ℕ
 shorts main spare ram = cond (tooShort (geometry (sizesOf 16 1 1 3)) (flashOf (replicate main 0) (replicate spare 0)) (replicate ram 0)) 1 0
 
-pub lengths : shorts 12288 768 320 ∷ shorts 12287 768 320 ∷ shorts 12288 767 320 ∷ shorts 12288 768 319 ∷ [] ≡ 0 ∷ 1 ∷ 1 ∷ 1 ∷ []
+pub lengths : shorts 21504 1344 384 ∷ shorts 21503 1344 384 ∷ shorts 21504 1343 384 ∷ shorts 21504 1344 383 ∷ [] ≡ 0 ∷ 1 ∷ 1 ∷ 1 ∷ []
 unfolding tooShort
 lengths = refl
 
@@ -272,6 +353,21 @@ pageBit x = num (pageFilter fnvFamily (geometry (sizesOf 16 1 1 3)) keyPage x)
 pub filter-bits : pageBit 0 ∷ pageBit 1 ∷ pageBit 52 ∷ pageBit 53 ∷ [] ≡ 0 ∷ 1 ∷ 1 ∷ 0 ∷ []
 unfolding write wordsBytes pageFilter any memb positions tab tabFrom fnvFrom
 filter-bits = refl
+
+-- the two filters of a DA page with the numbers 1 to 16, "first half first"
+abbrev numberPage : List ℕ
+numberPage =
+    write (replicate 384 0) 128
+    (wordsBytes (1 ∷ 2 ∷ 3 ∷ 4 ∷ 5 ∷ 6 ∷ 7 ∷ 8 ∷ 9 ∷ 10 ∷ 11 ∷ 12 ∷ 13 ∷ 14 ∷ 15 ∷ 16 ∷ []))
+
+abbrev halfBit : ℕ → ℕ → ℕ
+halfBit i x = num (halfFilter fnvFamily (geometry (sizesOf 16 1 1 3)) i numberPage x)
+
+pub half-bits : halfBit 0 0 ∷ halfBit 0 1 ∷ halfBit 0 3 ∷ halfBit 0 61 ∷ halfBit 0 62 ∷ halfBit 1 0 ∷ halfBit 1 1 ∷ halfBit 1 3
+    ∷ halfBit 1 61 ∷ halfBit 1 62 ∷ []
+    ≡ 0 ∷ 1 ∷ 0 ∷ 1 ∷ 0 ∷ 0 ∷ 0 ∷ 1 ∷ 0 ∷ 1 ∷ []
+unfolding write wordsBytes halfFilter any memb positions tab tabFrom fnvFrom
+half-bits = refl
 
 pub filter-bytes : take 32 (withFilter 1 (record { first = 0; ska = 0 }) 2 (λ x. memb x (0 ∷ 9 ∷ 18 ∷ 31 ∷ [])) (replicate 64 7))
     ≡ 7 ∷ 7 ∷ 7 ∷ 7 ∷ 1 ∷ 2 ∷ 7 ∷ 7 ∷ 7 ∷ 7 ∷ 7 ∷ 7 ∷ 7 ∷ 7 ∷ 7 ∷ 7 ∷ 7 ∷ 7 ∷ 7 ∷ 7 ∷ 4 ∷ 128 ∷ 7 ∷ 7 ∷ 7 ∷ 7 ∷ 7 ∷ 7 ∷ 7 ∷ 7 ∷ 7 ∷ 7 ∷ []

@@ -80,14 +80,14 @@ examples h key bytes =
     -- FNV-1a of nothing, and of the letter a
     line (fnv1a []) 0x811C9DC5
     ∷ line (fnv1a (97 ∷ [])) 0xE40C292C
-    -- S = 16, D = 1: B, and the capacity at R = 1
-    ∷ line (B 16 1 1) 12
+    -- S = 16, D = 1: B, with the index over DA (document 02, §5), and the capacity at R = 1
+    ∷ line (B 16 1 1) 21
     ∷ line (recordCapacity (geometry (sizesOf 16 1 1 3))) 64
-    ∷ line (B 16 32 1) 58
-    ∷ line (B 16 63 1) 105
-    ∷ line (B 16 64 1) 110
+    ∷ line (B 16 32 1) 67
+    ∷ line (B 16 63 1) 114
+    ∷ line (B 16 64 1) 119
     -- S = 512, R = 2048, D = 1
-    ∷ line (B 512 2048 1) 3458
+    ∷ line (B 512 2048 1) 3715
     -- P for i = 2 to 6; set i has i - 1 rounds
     ∷ line (setPages (2 - 1)) 16
     ∷ line (setPages (3 - 1)) 32

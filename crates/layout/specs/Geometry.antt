@@ -1,4 +1,4 @@
--- Sizes, areas and capacities. Document 01, "The chip and the desk"; the number of hash functions, document 02, §2.
+-- Sizes, areas and capacities. Document 01, "The chip and the desk"; document 02, §2: the number of hash functions, §5: a second index.
 -- Every allowed sector size is a multiple of 16, so all sizes are counted in units of a sixteenth of a sector:
 -- with S = 16 u, the table's S/4, S/2 and 4S are 4 u, 8 u and 64 u (`Examples.rows` shows it for each row).
 use mathlib.Core.Bool.{Bool, _&&_}
@@ -96,6 +96,10 @@ module _ (u : ℕ) where
   abbrev pub filterBits : ℕ
   filterBits = 64 * u
 
+  -- §5: a filter over DA is of half a page's numbers
+  abbrev pub deletionsPerFilter : ℕ
+  deletionsPerFilter = 8 * u
+
   -- bytes of a fourth of a filter: S/8
   abbrev pub fourthSize : ℕ
   fourthSize = 2 * u
@@ -103,6 +107,10 @@ module _ (u : ℕ) where
   -- blocks of a side, and of a full partition set: S/4
   abbrev pub sideBlocks : ℕ
   sideBlocks = 4 * u
+
+  -- blocks of an index with `places` for full sets: L1, both sides, the places
+  abbrev pub indexBlocks : ℕ → ℕ
+  indexBlocks places = 1 + 2 * sideBlocks + places * sideBlocks
 
 -- ---- areas in order; each starts where the one before it ends
 
@@ -127,9 +135,17 @@ module _ (g : Geometry) where
   abbrev pub fullSets : ℕ
   fullSets = g .R / filterBits (g .u)
 
+  -- the index over DA: "B gains 1 + S/2 + floor(D/S) × S/4 blocks after the present ones"
+  abbrev pub deletionIndexBlock : ℕ
+  deletionIndexBlock = indexBlock + indexBlocks (g .u) fullSets
+
+  -- its places for full sets: floor(D/S)
+  abbrev pub deletionSets : ℕ
+  deletionSets = g .D / sector (g .u)
+
   -- B
   abbrev pub blocks : ℕ
-  blocks = indexBlock + (1 + 2 * sideBlocks (g .u) + fullSets * sideBlocks (g .u))
+  blocks = deletionIndexBlock + indexBlocks (g .u) deletionSets
 
   -- "Record capacity is 4RS, deletion capacity 16DS"
   abbrev pub recordCapacity : ℕ
@@ -138,7 +154,7 @@ module _ (g : Geometry) where
   abbrev pub deletionCapacity : ℕ
   deletionCapacity = 16 * g .D * sector (g .u)
 
-  -- bytes of data ("cells"), of spare ("marks", one a sector), of RAM ("desk")
+  -- bytes of data ("cells"), of spare ("marks", one a sector), of RAM ("desk"), a page more since §5
   abbrev pub mainSize : ℕ
   mainSize = blocks * block (g .u)
 
@@ -146,9 +162,10 @@ module _ (g : Geometry) where
   spareSize = blocks * sectorsPerBlock
 
   abbrev pub ramSize : ℕ
-  ramSize = 5 * page (g .u)
+  ramSize = 6 * page (g .u)
 
--- ---- the RAM's pages: RA, KA, DA, SKA and work, in that order
+-- ---- the RAM's pages: RA, KA, DA, SKA and work, in that order, and the SKA page of the index over DA: "a page of 4S bytes after the work
+-- page"
 
 module _ (u : ℕ) where
   abbrev pub raRam : ℕ
@@ -165,3 +182,6 @@ module _ (u : ℕ) where
 
   abbrev pub workRam : ℕ
   workRam = 4 * page u
+
+  abbrev pub deletionSkaRam : ℕ
+  deletionSkaRam = 5 * page u

@@ -5,7 +5,7 @@ use Prim.Native.Nat.{ℕ}
 abbrev pub badState : ℕ
 badState = 1
 
--- "cells under 64SB, marks under 64B or desk under 20S bytes"
+-- "cells under 64SB, marks under 64B or desk under 20S bytes"; §5: "the larger sums", 24S bytes of RAM
 abbrev pub tooShort : ℕ
 tooShort = 2
 

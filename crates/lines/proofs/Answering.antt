@@ -15,7 +15,7 @@ use Rattle.layout.specs.Geometry.{Geometry, geometry}
 use Rattle.layout.specs.Hash.{Family}
 use Rattle.layout.specs.Search.{Stop, found, corrupt}
 use Rattle.layout.specs.Calls.{Volume, Outcome, accepted, hit, miss, refused, Result}
-use Rattle.layout.specs.Calls.{badState, tooShort, judgeFirst, lookup, lookupAfter, search, call}
+use Rattle.layout.specs.Calls.{badState, tooShort, judgeFirst, lookup, lookupAfter, search, searchDaPages, call}
 use Rattle.state.specs.Contract.{Effect, effectOf, changeEffect}
 use Rattle.state.specs.declared.Change.{Change}
 use Rattle.lookup.specs.Results.{lookupBy, lookupOf, partOf}
@@ -69,17 +69,18 @@ LookupOutcome (refused i) = i ≢ 0
 LookupOutcome accepted = ⊥
 
 module _ (h : Family) where
-  after-outcome : (g : Geometry) (v : Volume) (opened : ℕ) (o : Option Stop) → LookupOutcome (lookupAfter g v opened o .outcome)
+  after-outcome : (g : Geometry) (v : Volume) (opened daPages : ℕ) (o : Option Stop)
+      → LookupOutcome (lookupAfter g v opened daPages o .outcome)
   unfolding lookupAfter
-  after-outcome g v opened none = tt
-  after-outcome g v opened (some corrupt) = λ e. omega arith
-  after-outcome g v opened (some (found j)) = length-tab 16 _
+  after-outcome g v opened daPages none = tt
+  after-outcome g v opened daPages (some corrupt) = λ e. omega arith
+  after-outcome g v opened daPages (some (found j)) = length-tab 16 _
 
-  after-keeps : (g : Geometry) (v : Volume) (opened : ℕ) (o : Option Stop) → lookupAfter g v opened o .volume ≡ v
+  after-keeps : (g : Geometry) (v : Volume) (opened daPages : ℕ) (o : Option Stop) → lookupAfter g v opened daPages o .volume ≡ v
   unfolding lookupAfter
-  after-keeps g v opened none = refl
-  after-keeps g v opened (some corrupt) = refl
-  after-keeps g v opened (some (found j)) = refl
+  after-keeps g v opened daPages none = refl
+  after-keeps g v opened daPages (some corrupt) = refl
+  after-keeps g v opened daPages (some (found j)) = refl
 
   call-outcome : (v : Volume) (key : ℕ) → LookupOutcome (call h v (lookup key) .outcome)
   unfolding call judgeFirst
@@ -91,6 +92,7 @@ module _ (h : Family) where
       (λ b. rw (a, b) (λ e. omega arith))
       (λ b. rw (a, b)
       (after-outcome (geometry (v .state .sizes)) v (search h (geometry (v .state .sizes)) v key .opened)
+      (searchDaPages h (geometry (v .state .sizes)) v key)
       (search h (geometry (v .state .sizes)) v key .stop))))
 
   call-keeps : (v : Volume) (key : ℕ) → call h v (lookup key) .volume ≡ v
@@ -103,25 +105,26 @@ module _ (h : Family) where
       (λ b. rw (a, b))
       (λ b. rw (a, b)
       (after-keeps (geometry (v .state .sizes)) v (search h (geometry (v .state .sizes)) v key .opened)
+      (searchDaPages h (geometry (v .state .sizes)) v key)
       (search h (geometry (v .state .sizes)) v key .stop))))
 
 -- the answer by the three numbers and the part that a lookup gives
-refused-answer : (r : Result) (o : Outcome) (i : ℕ) → i ≡ lookupBy o (r .count) .refusal → i ≢ 0 → answers.no i ≡ resultAnswer r o
+refused-answer : (r : Result) (o : Outcome) (i : ℕ) → i ≡ lookupBy o (r .count) (r .daPages) .refusal → i ≢ 0 → answers.no i ≡ resultAnswer r o
 refused-answer r accepted i e n = absurd (n e)
 refused-answer r (hit place bytes) i e n = absurd (n e)
 refused-answer r miss i e n = absurd (n e)
 refused-answer r (refused j) i e n = ap answers.no e
 
-missed-answer : (r : Result) (o : Outcome) (i f n : ℕ) → LookupOutcome o → i ≡ lookupBy o (r .count) .refusal
-    → f ≡ lookupBy o (r .count) .found → n ≡ lookupBy o (r .count) .count
+missed-answer : (r : Result) (o : Outcome) (i f n : ℕ) → LookupOutcome o → i ≡ lookupBy o (r .count) (r .daPages) .refusal
+    → f ≡ lookupBy o (r .count) (r .daPages) .found → n ≡ lookupBy o (r .count) (r .daPages) .count
     → i ≡ 0 → f ≡ 0 → answers.miss n ≡ resultAnswer r o
 missed-answer r accepted i f n l ei ef en zi zf = absurd l
 missed-answer r (hit place bytes) i f n l ei ef en zi zf = absurd (omega arith)
 missed-answer r miss i f n l ei ef en zi zf = ap answers.miss en
 missed-answer r (refused j) i f n l ei ef en zi zf = absurd (l (sym ei ∙ zi))
 
-hit-answer : (r : Result) (o : Outcome) (f n : ℕ) (bytes : List ℕ) → LookupOutcome o → f ≡ lookupBy o (r .count) .found
-    → n ≡ lookupBy o (r .count) .count → bytes ≡ partOf o
+hit-answer : (r : Result) (o : Outcome) (f n : ℕ) (bytes : List ℕ) → LookupOutcome o → f ≡ lookupBy o (r .count) (r .daPages) .found
+    → n ≡ lookupBy o (r .count) (r .daPages) .count → bytes ≡ partOf o
     → f ≢ 0 → (length bytes ≡ 16) × (answers.hit (word bytes 4) n ≡ resultAnswer r o)
 hit-answer r accepted f n bytes l ef en eb nf = absurd l
 hit-answer r (hit place b) f n bytes l ef en eb nf = rw (eb, en) (l, refl)

@@ -48,11 +48,11 @@ fn after_change(c: Change) -> Reply
 fn lookup<'a>(s: State, key: u32, main: &'a [u8], spare: &[u8], ram: &'a [u8]) -> Answer
     ensures { λ r. ⌜ answerOf r ≡ perform (given s main spare ram) (call (lookup key)) .answer ⌝ }
 {
-    let mut numbers = [0u32; 3];
+    let mut numbers = [0u64; 4];
     let bytes = lookup::lookup(s, key, main, spare, ram, &mut numbers);
-    let refusal = numbers[0];
+    let refusal = numbers[0] as u32;
     let found = numbers[1];
-    let count = numbers[2];
+    let count = numbers[2] as u32;
     if refusal != state::ACCEPTED {
         return Answer::No(refusal);
     }

@@ -19,17 +19,17 @@ fn tab_buffer() -> [u8; 262145]
     [0; 262145]
 }
 
-// The volume: S = 64, R = 32 and D = 32 have 113 blocks and room for 8,192 records.
-fn main_buffer() -> [u8; 462848]
-    ensures { λ r. ⌜ 462848 ≡ length r ⌝ }
+// The volume: S = 64, R = 32 and D = 32 have 146 blocks and room for 8,192 records.
+fn main_buffer() -> [u8; 598016]
+    ensures { λ r. ⌜ 598016 ≡ length r ⌝ }
 {
-    [0; 462848]
+    [0; 598016]
 }
 
-fn spare_buffer() -> [u8; 7232]
-    ensures { λ r. ⌜ 7232 ≡ length r ⌝ }
+fn spare_buffer() -> [u8; 9344]
+    ensures { λ r. ⌜ 9344 ≡ length r ⌝ }
 {
-    [0; 7232]
+    [0; 9344]
 }
 
 fn complain(reason: &[u8]) {
@@ -61,7 +61,7 @@ fn print_answer(rows: u32, refusal: u32) {
 fn load_new(tab: &[u8]) {
     let mut main_area = main_buffer();
     let mut spare = spare_buffer();
-    let mut ram = [0u8; 1280];
+    let mut ram = [0u8; 1536];
     let sizes = Sizes {
         sector_size: 64,
         ra_blocks: 32,

@@ -13,7 +13,7 @@ use Rattle.layout.specs.Items.{Place, itemPlace, RA}
 use Rattle.layout.specs.Search as find
 use Rattle.layout.specs.Search.{found, corrupt}
 use Rattle.layout.specs.Refusals as refusal
-use Rattle.layout.specs.Calls.{Volume, lookup, call, answer, search, lookupAfter}
+use Rattle.layout.specs.Calls.{Volume, lookup, call, answer, search, searchDaPages, lookupAfter}
 use Rattle.geometry.specs.Shape.{shape, Sound}
 use Rattle.geometry.specs.Bounds.{record-capacity-le}
 use Rattle.geometry.specs.declared.Geometry.{Geometry}
@@ -25,29 +25,29 @@ use Rattle.lookup.specs.declared.LookupResult.{LookupResult}
 
 -- what a refused lookup answers
 abbrev pub refusedLookup : ℕ → LookupResult
-refusedLookup i = record { refusal = i; found = 0; count = 0; «in_ram» = 0; offset = 0 }
+refusedLookup i = record { refusal = i; found = 0; count = 0; «in_ram» = 0; offset = 0; «deletion_count» = 0 }
 
 module _ (h : Family) (g : layout.Geometry) (v : Volume) (key : ℕ) where
   pub lookup-corrupt : (k : ℕ) → search h g v key ≡ find.reply (some corrupt) k → refusedLookup refusal.corruptEntry ≡ lookupOf (answer h g v (lookup key))
   unfolding lookupAfter
   lookup-corrupt k e = rw e
 
-  pub lookup-nothing : (k : ℕ) → search h g v key ≡ find.reply none k
-      → record { refusal = 0; found = 0; count = k; «in_ram» = 0; offset = 0 } ≡ lookupOf (answer h g v (lookup key))
+  pub lookup-nothing : (k m : ℕ) → search h g v key ≡ find.reply none k → searchDaPages h g v key ≡ m
+      → record { refusal = 0; found = 0; count = k; «in_ram» = 0; offset = 0; «deletion_count» = m } ≡ lookupOf (answer h g v (lookup key))
   unfolding lookupAfter
-  lookup-nothing k e = rw e
+  lookup-nothing k m e d = rw (e, d)
 
-  pub lookup-ram : (k j o : ℕ) (b : Bool) → search h g v key ≡ find.reply (some (found j)) k
+  pub lookup-ram : (k m j o : ℕ) (b : Bool) → search h g v key ≡ find.reply (some (found j)) k → searchDaPages h g v key ≡ m
       → record { inRam = b; at = o } ≡ itemPlace (g .u) (RA g) (v .state .records) j → b ≡ true
-      → record { refusal = 0; found = 1; count = k; «in_ram» = 1; offset = o } ≡ lookupOf (answer h g v (lookup key))
+      → record { refusal = 0; found = 1; count = k; «in_ram» = 1; offset = o; «deletion_count» = m } ≡ lookupOf (answer h g v (lookup key))
   unfolding lookupAfter
-  lookup-ram k j o b e p t = rw (e, ← p, t)
+  lookup-ram k m j o b e d p t = rw (e, d, ← p, t)
 
-  pub lookup-main : (k j o : ℕ) (b : Bool) → search h g v key ≡ find.reply (some (found j)) k
+  pub lookup-main : (k m j o : ℕ) (b : Bool) → search h g v key ≡ find.reply (some (found j)) k → searchDaPages h g v key ≡ m
       → record { inRam = b; at = o } ≡ itemPlace (g .u) (RA g) (v .state .records) j → b ≡ false
-      → record { refusal = 0; found = 1; count = k; «in_ram» = 0; offset = o } ≡ lookupOf (answer h g v (lookup key))
+      → record { refusal = 0; found = 1; count = k; «in_ram» = 0; offset = o; «deletion_count» = m } ≡ lookupOf (answer h g v (lookup key))
   unfolding lookupAfter
-  lookup-main k j o b e p t = rw (e, ← p, t)
+  lookup-main k m j o b e d p t = rw (e, d, ← p, t)
 
 -- a record's place is a 32-bit number
 module _ (g : Geometry) (s : Sound g) (n j : ℕ) (m : n ≤ layout.recordCapacity (shape g)) where

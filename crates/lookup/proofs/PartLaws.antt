@@ -18,7 +18,7 @@ use Rattle.layout.specs.Items.{Place, bytesAt, source}
 use Rattle.layout.specs.Hash.{Family}
 use Rattle.layout.specs.Refusals as refusal
 use Rattle.layout.specs.Search.{Stop, found, corrupt}
-use Rattle.layout.specs.Calls.{Volume, Outcome, accepted, hit, miss, refused, refuse, badState, tooShort, judgeFirst, lookup, lookupAfter, recordPlace, search, answer, call}
+use Rattle.layout.specs.Calls.{Volume, Outcome, accepted, hit, miss, refused, refuse, badState, tooShort, judgeFirst, lookup, lookupAfter, recordPlace, search, searchDaPages, answer, call}
 use Rattle.memory.specs.Lists.{tab-part}
 use Rattle.lookup.specs.Results.{lookupBy, lookupOf, partOf, whereOf}
 use Rattle.lookup.specs.declared.LookupResult.{LookupResult}
@@ -45,11 +45,11 @@ isHit (refused i) = false
 isHit accepted = false
 
 -- an answer with `found` set is a hit
-pub found-hit : (o : Outcome) (c : ℕ) → lookupBy o c .found ≢ 0 → (p : Place) × (b : List ℕ) × (o ≡ hit p b)
-found-hit (hit p b) c n = (p, b, refl)
-found-hit miss c n = absurd (n refl)
-found-hit (refused i) c n = absurd (n refl)
-found-hit accepted c n = absurd (n refl)
+pub found-hit : (o : Outcome) (c d : ℕ) → lookupBy o c d .found ≢ 0 → (p : Place) × (b : List ℕ) × (o ≡ hit p b)
+found-hit (hit p b) c d n = (p, b, refl)
+found-hit miss c d n = absurd (n refl)
+found-hit (refused i) c d n = absurd (n refl)
+found-hit accepted c d n = absurd (n refl)
 
 -- a part of 16 bytes at a place, inside its slice
 abbrev Inside : List ℕ → List ℕ → Place → List ℕ → Type 0
@@ -76,12 +76,12 @@ module _ (h : Family) (v : Volume) where
       (λ a. rw (a .0) (omega (arith, div-mul-le-self (v .state .records) (4 * u), cap, read .main-fits)))
       (λ a. rw (a .0) (omega (arith, mul-le-mul-right 16 (mod-lt j {m = 4 * u} (omega (arith, u-pos))), read .ram-fits)))
 
-  after-inside : badState (v .state) ≡ false → tooShort g (v .flash) (v .ram) ≡ false → (opened : ℕ) (o : Option Stop) (p : Place) (b : List ℕ)
-      → lookupAfter g v opened o .outcome ≡ hit p b → Inside (v .flash .main) (v .ram) p b
+  after-inside : badState (v .state) ≡ false → tooShort g (v .flash) (v .ram) ≡ false → (opened daPages : ℕ) (o : Option Stop) (p : Place) (b : List ℕ)
+      → lookupAfter g v opened daPages o .outcome ≡ hit p b → Inside (v .flash .main) (v .ram) p b
   unfolding lookupAfter
-  after-inside bad short opened none p b e = absurd (false≢true (ap isHit e))
-  after-inside bad short opened (some corrupt) p b e = absurd (false≢true (ap isHit e))
-  after-inside bad short opened (some (found j)) p b e =
+  after-inside bad short opened daPages none p b e = absurd (false≢true (ap isHit e))
+  after-inside bad short opened daPages (some corrupt) p b e = absurd (false≢true (ap isHit e))
+  after-inside bad short opened daPages (some (found j)) p b e =
       let q : recordPlace g v j ≡ p = ap (placeOf p) e in
       let r : bytesAt (v .flash .main) (v .ram) (recordPlace g v j) 16 ≡ b = ap (bytesOf b) e in
       (sym r ∙ ap (λ (x : Place). bytesAt (v .flash .main) (v .ram) x 16) q, rw q at (place-inside bad short j))
@@ -94,7 +94,7 @@ module _ (h : Family) (v : Volume) where
           → cond x (refuse v refusal.badState) (cond y (refuse v refusal.tooShort) (answer h g v (lookup key))) .outcome ≡ hit p b → Inside (v .flash .main) (v .ram) p b
       go true y bx by q = absurd (false≢true (ap isHit q))
       go false true bx by q = absurd (false≢true (ap isHit q))
-      go false false bx by q = after-inside bx by (search h g v key .opened) (search h g v key .stop) p b q
+      go false false bx by q = after-inside bx by (search h g v key .opened) (searchDaPages h g v key) (search h g v key .stop) p b q
 
 -- ---- the part by the numbers of `find`
 
@@ -107,11 +107,11 @@ num-false true q = absurd (q refl)
 num-false false q = refl
 
 -- an answer with `found` 0 hands out nothing
-pub empty-part : (m r : ℕ × ℕ) (o : Outcome) (c : ℕ) → lookupBy o c .found ≡ 0 → (partOf o ≡ []) × (whereOf m r o ≡ (m .0, 0 + m .1))
-empty-part m r (hit p b) c q = absurd (omega (arith, q))
-empty-part m r miss c q = (refl, refl)
-empty-part m r (refused i) c q = (refl, refl)
-empty-part m r accepted c q = (refl, refl)
+pub empty-part : (m r : ℕ × ℕ) (o : Outcome) (c d : ℕ) → lookupBy o c d .found ≡ 0 → (partOf o ≡ []) × (whereOf m r o ≡ (m .0, 0 + m .1))
+empty-part m r (hit p b) c d q = absurd (omega (arith, q))
+empty-part m r miss c d q = (refl, refl)
+empty-part m r (refused i) c d q = (refl, refl)
+empty-part m r accepted c d q = (refl, refl)
 
 -- a place by its two numbers
 as-place : (p : Place) (x : Bool) (q : ℕ) → p .inRam ≡ x → q ≡ p .at → p ≡ record { inRam = x; at = q }
@@ -125,12 +125,13 @@ module _ (h : Family) (v : Volume) (key : ℕ) (f : LookupResult) (is : f ≡ lo
   o = call h v (lookup key) .outcome
 
   at-hit : (p : Place) × (b : List ℕ) × (call h v (lookup key) .outcome ≡ hit p b)
-  at-hit = found-hit (call h v (lookup key) .outcome) (call h v (lookup key) .count) (rw is at there)
+  at-hit = found-hit (call h v (lookup key) .outcome) (call h v (lookup key) .count) (call h v (lookup key) .daPages) (rw is at there)
 
   -- its numbers are those of the place
   numbers : (f .offset ≡ at-hit .0 .at) × (f .«in_ram» ≡ num (at-hit .0 .inRam))
   numbers =
-      let e : f ≡ lookupBy (hit (at-hit .0) (at-hit .1)) (call h v (lookup key) .count) = is ∙ ap (λ (x : Outcome). lookupBy x (call h v (lookup key) .count)) (at-hit .2) in
+      let e : f ≡ lookupBy (hit (at-hit .0) (at-hit .1)) (call h v (lookup key) .count) (call h v (lookup key) .daPages)
+      = is ∙ ap (λ (x : Outcome). lookupBy x (call h v (lookup key) .count) (call h v (lookup key) .daPages)) (at-hit .2) in
       (ap (λ (x : LookupResult). x .offset) e, ap (λ (x : LookupResult). x .«in_ram») e)
 
   inside : Inside (v .flash .main) (v .ram) (at-hit .0) (at-hit .1)

@@ -6,19 +6,21 @@ use Rattle.memory.specs.Bits.{num}
 use Rattle.layout.specs.Calls.{Outcome, accepted, hit, miss, refused, Result}
 use Rattle.lookup.specs.declared.LookupResult.{LookupResult}
 
--- "hit, count and the 16 record bytes .. or miss, count and an empty part; its refusals give count 0 and an empty part"
-abbrev pub lookupBy : Outcome → ℕ → LookupResult
-lookupBy (hit place bytes) count = record { refusal = 0; found = 1; count = count; «in_ram» = num (place .inRam); offset = place .at }
-lookupBy miss count = record { refusal = 0; found = 0; count = count; «in_ram» = 0; offset = 0 }
-lookupBy (refused i) count = record { refusal = i; found = 0; count = 0; «in_ram» = 0; offset = 0 }
-lookupBy accepted count = record { refusal = 0; found = 0; count = 0; «in_ram» = 0; offset = 0 }
+-- "hit, count and the 16 record bytes .. or miss, count and an empty part; its refusals give count 0 and an empty part"; document 02,
+-- §5: "also gives the DA pages opened, 0 on a refusal"
+abbrev pub lookupBy : Outcome → ℕ → ℕ → LookupResult
+lookupBy (hit place bytes) count daPages =
+    record { refusal = 0; found = 1; count = count; «in_ram» = num (place .inRam); offset = place .at; «deletion_count» = daPages }
+lookupBy miss count daPages = record { refusal = 0; found = 0; count = count; «in_ram» = 0; offset = 0; «deletion_count» = daPages }
+lookupBy (refused i) count daPages = record { refusal = i; found = 0; count = 0; «in_ram» = 0; offset = 0; «deletion_count» = 0 }
+lookupBy accepted count daPages = record { refusal = 0; found = 0; count = 0; «in_ram» = 0; offset = 0; «deletion_count» = 0 }
 
 abbrev pub lookupOf : Result → LookupResult
-lookupOf r = lookupBy (r .outcome) (r .count)
+lookupOf r = lookupBy (r .outcome) (r .count) (r .daPages)
 
--- the three numbers beside the part that lookup hands out: the refusal, whether there is a record, the count
+-- the four numbers beside the part that lookup hands out: the refusal, whether there is a record, the count, the DA pages
 abbrev pub answerNumbers : LookupResult → List ℕ
-answerNumbers r = r .refusal ∷ r .found ∷ r .count ∷ []
+answerNumbers r = r .refusal ∷ r .found ∷ r .count ∷ r .«deletion_count» ∷ []
 
 -- the bytes of that part
 abbrev pub partOf : Outcome → List ℕ

@@ -14,7 +14,7 @@ use state::Judgement;
 use state::State;
 
 // The answer of a lookup. found 1: the record's 16 bytes start at `offset` of the RAM (in_ram 1) or of the
-// main area (in_ram 0).
+// main area (in_ram 0). count and deletion_count are the pages of entries and of deletions opened.
 #[repr(C)]
 pub struct LookupResult {
     pub refusal: u32,
@@ -22,10 +22,11 @@ pub struct LookupResult {
     pub count: u32,
     pub in_ram: u32,
     pub offset: u32,
+    pub deletion_count: u64,
 }
 
 fn refuse_lookup(i: u32) -> LookupResult
-    ensures { λ r. ⌜ r ≡ record { refusal = i; found = 0; count = 0; «in_ram» = 0; offset = 0 } ⌝ }
+    ensures { λ r. ⌜ r ≡ record { refusal = i; found = 0; count = 0; «in_ram» = 0; offset = 0; «deletion_count» = 0 } ⌝ }
 {
     LookupResult {
         refusal: i,
@@ -33,6 +34,7 @@ fn refuse_lookup(i: u32) -> LookupResult
         count: 0,
         in_ram: 0,
         offset: 0,
+        deletion_count: 0,
     }
 }
 
@@ -44,6 +46,7 @@ fn find_in(g: Geometry, s: State, key: u32, main: &[u8], spare: &[u8], ram: &[u8
     let f = search::search(search::all(g, n, s.deletions as usize), key, main, ram);
     let end = f.end;
     let opened = f.opened;
+    let deletion_count = f.da_pages;
     match end {
         End::Corrupt => {
             return refuse_lookup(state::CORRUPT_ENTRY);
@@ -55,6 +58,7 @@ fn find_in(g: Geometry, s: State, key: u32, main: &[u8], spare: &[u8], ram: &[u8
                 count: opened,
                 in_ram: 0,
                 offset: 0,
+                deletion_count,
             };
         }
         End::Live(j) => {
@@ -68,6 +72,7 @@ fn find_in(g: Geometry, s: State, key: u32, main: &[u8], spare: &[u8], ram: &[u8
                     count: opened,
                     in_ram: 1,
                     offset: at as u32,
+                    deletion_count,
                 };
             }
             return LookupResult {
@@ -76,6 +81,7 @@ fn find_in(g: Geometry, s: State, key: u32, main: &[u8], spare: &[u8], ram: &[u8
                 count: opened,
                 in_ram: 0,
                 offset: at as u32,
+                deletion_count,
             };
         }
     }
@@ -96,14 +102,14 @@ pub fn find(s: State, key: u32, main: &[u8], spare: &[u8], ram: &[u8]) -> Lookup
 }
 
 // A level's newest record where it lies: 16 bytes of the main area or of the RAM, or an empty part. `numbers` gets the refusal's number,
-// whether there is a record, and the count.
+// whether there is a record, the count, and the pages of deletions opened.
 pub fn lookup<'a>(
     s: State,
     key: u32,
     main: &'a [u8],
     spare: &[u8],
     ram: &'a [u8],
-    numbers: &mut [u32; 3],
+    numbers: &mut [u64; 4],
 ) -> &'a [u8]
     ensures part { λ r. ⌜ (now r ≡ partOf (call fnvFamily (given s main spare ram) (lookup key) .outcome))
         × (r .ptr ≡ whereOf ((main .entry) .ptr) ((ram .entry) .ptr)
@@ -111,7 +117,12 @@ pub fn lookup<'a>(
     ensures numbers { λ r. ⌜ after numbers ≡ answerNumbers (lookupOf (call fnvFamily (given s main spare ram) (lookup key))) ⌝ }
 {
     let f = find(s, key, main, spare, ram);
-    *numbers = [f.refusal, f.found, f.count];
+    *numbers = [
+        f.refusal as u64,
+        f.found as u64,
+        f.count as u64,
+        f.deletion_count,
+    ];
     let hit = f.found;
     let at = f.offset as usize;
     let in_ram = f.in_ram;

@@ -3,11 +3,12 @@ use mathlib.Core.Path.{_≡_}
 use Prim.Native.Nat.{ℕ, _+_, _-_, _*_, _≤_, _<_}
 use native.Mathlib.Nat.{mul-le-mul-right}
 use native.Mathlib.Omega.{arith}
-use Rattle.layout.specs.Geometry.{sectorsPerPage, sectorsPerBlock, sector, page, block, fourthSize, sideBlocks}
+use Rattle.layout.specs.Geometry.{sectorsPerPage, sectorsPerBlock, sector, page, block, sideBlocks}
 use Rattle.layout.specs.Index.{flushesPerRound, fullBlock, setPages, setBlock}
 use Rattle.geometry.specs.Indexes.{indexOf}
 use Rattle.laws.specs.Units.{UnitSound}
 use Rattle.plan.specs.declared.Page.{Page}
+use Rattle.plan.specs.declared.Flush.{Flush}
 use Rattle.plan.specs.declared.Segment.{Segment}
 use Rattle.geometry.specs.declared.sets.Set.{Set}
 
@@ -21,12 +22,14 @@ pub record PageFits (u : ℕ) (p : Page) (main spare ram : ℕ) : Type 0 where
 abbrev pub flushReach : ℕ
 flushReach = (sectorsPerPage - 1) * flushesPerRound + 1
 
-pub record FlushFits (u : ℕ) (p : Page) (main spare ram : ℕ) : Type 0 where
+pub record FlushFits (u : ℕ) (f : Flush) (fourths main spare ram : ℕ) : Type 0 where
   pub some : 0 < u
   pub small : u ≤ 32
-  pub in-main : (p .sector + flushReach) * sector u ≤ main
-  pub in-spare : p .sector + flushReach ≤ spare
-  pub in-ram : p .at + page u ≤ ram
+  pub in-sector : f .piece ≤ sector u
+  pub in-fourths : sectorsPerPage * f .piece ≤ fourths
+  pub in-main : (f .sector + flushReach) * sector u ≤ main
+  pub in-spare : f .sector + flushReach ≤ spare
+  pub in-ram : f .at + page u ≤ ram
 
 -- the first n sectors of the next set from sector s on, and what they are made of
 pub record NextFits (u : ℕ) (set : Set) (s n main spare : ℕ) : Type 0 where
@@ -61,8 +64,8 @@ module _ (u : ℕ) (p : Page) (main spare ram : ℕ) (F : PageFits u p main spar
   pub page-in-ram : (size off : ℕ) → size ≡ sector u → off ≡ j * sector u → p .at + off + size ≤ ram
   page-in-ram size off e o = rw (e, o) (omega (arith, mul-le-mul-right (sector u) h, F .in-ram))
 
--- sector j of a flush; `size`, `off` and `piece` are what code computes
-module _ (u : ℕ) (p : Page) (main spare ram : ℕ) (F : FlushFits u p main spare ram) (j : ℕ) (h : j < 4) where
+-- sector j of a flush; `size` and `off` are what code computes
+module _ (u : ℕ) (p : Flush) (fourths main spare ram : ℕ) (F : FlushFits u p fourths main spare ram) (j : ℕ) (h : j < 4) where
   pub flush-on-flash : (p .sector + j * 16) * sector u + sector u ≤ main
   flush-on-flash =
       let s : p .sector + j * 16 + 1 ≤ p .sector + 49 = omega arith in
@@ -71,8 +74,8 @@ module _ (u : ℕ) (p : Page) (main spare ram : ℕ) (F : FlushFits u p main spa
   pub flush-in-ram : (size off : ℕ) → size ≡ sector u → off ≡ j * sector u → p .at + off + size ≤ ram
   flush-in-ram size off e o = rw (e, o) (omega (arith, mul-le-mul-right (sector u) h, F .in-ram))
 
-  pub flush-in-bits : (piece : ℕ) → piece ≡ fourthSize u → j * piece + piece ≤ 256
-  flush-in-bits piece q = rw q (omega (arith, mul-le-mul-right (fourthSize u) h, F .small))
+  pub flush-in-fourths : j * p .piece + p .piece ≤ fourths
+  flush-in-fourths = omega (arith, mul-le-mul-right (p .piece) h, F .in-fourths)
 
 -- fewer sectors of the next set
 pub fewer : (u : ℕ) (set : Set) (s n main spare : ℕ) → NextFits u set s n main spare → (k : ℕ) → k ≤ n → NextFits u set s k main spare

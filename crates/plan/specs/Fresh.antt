@@ -12,16 +12,23 @@ use Rattle.layout.specs.Index.{flushesPerRound, setByte}
 use Rattle.flash.specs.Fresh.{freshRun}
 use Rattle.geometry.specs.Indexes.{indexOf}
 use Rattle.plan.specs.declared.Page.{Page}
+use Rattle.plan.specs.declared.Summary.{Summary}
 use Rattle.plan.specs.declared.Plan.{Plan}
-use Rattle.plan.specs.Segments.{withItem, withEighth, filledPage, flushed, nextSet, wiped}
-use Rattle.plan.specs.Plans.{deletionIn, recordIn, entryIn, daPage, raPage, kaPage, flushPage, planned}
+use Rattle.plan.specs.Segments.{withItem, withEnds, filledPage, flushed, nextSet, wiped}
+use Rattle.plan.specs.Plans.{deletionIn, recordIn, entryIn, deletionFourths, entryFourths}
+use Rattle.plan.specs.Plans.{daPage, raPage, kaPage, flushOf, summaryOf, planned}
 
+-- those of an index
+abbrev pub indexFresh : Summary → List ℕ → Bool
+indexFresh s spare = freshRun spare flushesPerRound (s .flush .first) (s .flush .count) && freshRun spare 1 (s .set .first) (s .set .count)
+
+-- those of a plan
 unfoldable pub planFresh : List ℕ → Plan → Bool
 planFresh spare p =
     freshRun spare 1 (p .da .first) (p .da .count)
+    && (indexFresh (p .«da_index») spare
     && (freshRun spare 1 (p .ra .first) (p .ra .count)
-    && (freshRun spare 1 (p .ka .first) (p .ka .count)
-    && (freshRun spare flushesPerRound (p .flush .first) (p .flush .count) && freshRun spare 1 (p .set .first) (p .set .count))))
+    && (freshRun spare 1 (p .ka .first) (p .ka .count) && indexFresh (p .«ka_index») spare)))
 
 -- ---- tests in a row
 
@@ -35,9 +42,9 @@ passes x false a rest e q h = absurd (let z : _≡_ {A = ℕ} 0 1 = cc in omega 
 
 pub plan-fresh-is : (spare : List ℕ) (p : Plan) (x : Bool)
     → x ≡ (freshRun spare 1 (p .da .first) (p .da .count)
+    && (indexFresh (p .«da_index») spare
     && (freshRun spare 1 (p .ra .first) (p .ra .count)
-    && (freshRun spare 1 (p .ka .first) (p .ka .count)
-    && (freshRun spare flushesPerRound (p .flush .first) (p .flush .count) && freshRun spare 1 (p .set .first) (p .set .count)))))
+    && (freshRun spare 1 (p .ka .first) (p .ka .count) && indexFresh (p .«ka_index») spare))))
     → x ≡ planFresh spare p
 unfolding planFresh
 plan-fresh-is spare p x h = h
@@ -98,55 +105,66 @@ module _ (spare : List ℕ) (u : ℕ) where
   two-ask : (xs ys : List Planned) (a b : Bool) → Asks xs a → Asks ys b → Asks (xs ++ ys) (a && b)
   two-ask xs ys a b h k c = both-ask xs ys b k c ∙ ap (λ (t : Bool). t && b) (h c)
 
-  -- seven, of which the last two erase
-  seven-ask : (A B C F S L O : List Planned) (a b c f s : Bool)
-      → Asks A a → Asks B b → Asks C c → Asks F f → Asks S s → Asks L true → Asks O true
-      → Asks ((A ++ (B ++ C)) ++ (F ++ (S ++ (L ++ O)))) (a && (b && (c && (f && s))))
-  seven-ask A B C F S L O a b c f s hA hB hC hF hS hL hO flash =
-      two-ask (A ++ (B ++ C)) (F ++ (S ++ (L ++ O))) (a && (b && c)) (f && (s && (true && true)))
-      (two-ask A (B ++ C) a (b && c) hA (two-ask B C b c hB hC))
-      (two-ask F (S ++ (L ++ O)) f (s && (true && true)) hF (two-ask S (L ++ O) s (true && true) hS (two-ask L O true true hL hO))) flash
-      ∙ in-row a b c f s
-    where
-      in-row : (a b c d e : Bool) → ((a && (b && c)) && (d && (e && (true && true)))) ≡ (a && (b && (c && (d && e))))
-      in-row false b c d e = refl
-      in-row true false c d e = refl
-      in-row true true false d e = refl
-      in-row true true true d e = ap (λ (t : Bool). d && t) (and-true e)
+  -- two, and three
+  five-ask : (A B C D E : List Planned) (a b c d e : Bool) → Asks A a → Asks B b → Asks C c → Asks D d → Asks E e
+      → Asks ((A ++ B) ++ (C ++ (D ++ E))) (a && (b && (c && (d && e))))
+  five-ask A B C D E a b c d e hA hB hC hD hE flash =
+      two-ask (A ++ B) (C ++ (D ++ E)) (a && b) (c && (d && e)) (two-ask A B a b hA hB)
+      (two-ask C (D ++ E) c (d && e) hC (two-ask D E d e hD hE)) flash
+      ∙ and-assoc a b (c && (d && e))
+
+  -- four, of which the last two erase
+  four-ask : (F S L O : List Planned) (f s : Bool) → Asks F f → Asks S s → Asks L true → Asks O true → Asks (F ++ (S ++ (L ++ O))) (f && s)
+  four-ask F S L O f s hF hS hL hO flash =
+      two-ask F (S ++ (L ++ O)) f (s && (true && true)) hF (two-ask S (L ++ O) s (true && true) hS (two-ask L O true true hL hO)) flash
+      ∙ ap (λ (t : Bool). f && t) (and-true s)
+
+  -- the bytes of sector j
+  abbrev bytes : ℕ → List ℕ → ℕ → List ℕ
+  bytes at l j = tab (sector u) (λ y. getD l (at + (j * sector u + y)) 0)
+
+  page-ask : (q : Page) (item ram : List ℕ) (n : ℕ) → Asks (plannedFrom (filledPage u q item ram) 0 n) (freshRun spare 1 (q .sector) n)
+  page-ask q item ram n =
+      let z : q .sector + 0 ≡ q .sector = omega arith in
+      rw z at (row-ask (q .sector) (bytes (q .at) (withItem u (q .at) item ram)) 0 n)
+
+  index-ask : (s : Summary) (fourths ram : List ℕ) → Asks (summaryOf u s fourths ram) (indexFresh s spare)
+  index-ask s fourths ram =
+      let y : s .flush .first + 0 * 16 ≡ s .flush .first = omega arith in
+      let z : s .set .first + 0 ≡ s .set .first = omega arith in
+      let made-of : ℕ → List ℕ → List ℕ
+      = λ j main. tab (sector u) (setByte u (indexOf (s .next .index)) main (s .next .«full_sets») (s .next .rounds) j) in
+      four-ask (plannedFrom (flushed u (flushOf s) fourths ram) 0 (s .flush .count))
+      (plannedFrom (nextSet u (s .next) (s .set .first)) 0 (s .set .count))
+      (plannedFrom (wiped (s .l1 .first)) 0 (s .l1 .count))
+      (plannedFrom (wiped (s .old .first)) 0 (s .old .count))
+      (freshRun spare flushesPerRound (s .flush .first) (s .flush .count))
+      (freshRun spare 1 (s .set .first) (s .set .count))
+      (rw y at (known-ask (s .flush .first) 16 (bytes (s .next .index .ska) (withEnds u (flushOf s) fourths ram)) 0 (s .flush .count)))
+      (rw z at (made-ask (s .set .first) made-of 0 (s .set .count)))
+      (wipes-ask (s .l1 .first) 0 (s .l1 .count))
+      (wipes-ask (s .old .first) 0 (s .old .count))
 
 -- the plan's test is that of its operations, whatever the bytes and the chip
-pub plan-fresh : (spare : List ℕ) (p : Plan) (new bits ram : List ℕ) (c : Flash)
-    → planFresh spare p ≡ allFresh spare (planOps (p .chip .unit) (planned p new bits ram) c)
+pub plan-fresh : (spare : List ℕ) (p : Plan) (new filters ram : List ℕ) (c : Flash)
+    → planFresh spare p ≡ allFresh spare (planOps (p .chip .unit) (planned p new filters ram) c)
 unfolding planFresh
-plan-fresh spare p new bits ram c =
+plan-fresh spare p new filters ram c =
     let u : ℕ = p .chip .unit in
-    let z : (s : ℕ) → s + 0 ≡ s = λ s. omega arith in
-    let y : p .flush .first + 0 * 16 ≡ p .flush .first = omega arith in
-    let bytes : ℕ → List ℕ → ℕ → List ℕ = λ at l j. tab (sector u) (λ y. getD l (at + (j * sector u + y)) 0) in
-    let page : (q : Page) (item : List ℕ) (n : ℕ)
-    → Asks spare u (plannedFrom (filledPage u q item ram) 0 n) (freshRun spare 1 (q .sector) n)
-    = λ q item n. rw (z (q .sector)) at (row-ask spare u (q .sector) (bytes (q .at) (withItem u (q .at) item ram)) 0 n) in
-    let ska : ℕ = p .next .index .ska in
-    let made-of : ℕ → List ℕ → List ℕ
-    = λ j main. tab (sector u) (setByte u (indexOf (p .next .index)) main (p .next .«full_sets») (p .next .rounds) j) in
     sym
-    (seven-ask spare u
+    (five-ask spare u
     (plannedFrom (filledPage u (daPage p) (deletionIn new) ram) 0 (p .da .count))
+    (summaryOf u (p .«da_index») (deletionFourths filters) ram)
     (plannedFrom (filledPage u (raPage p) (recordIn new) ram) 0 (p .ra .count))
     (plannedFrom (filledPage u (kaPage p) (entryIn new) ram) 0 (p .ka .count))
-    (plannedFrom (flushed u (flushPage p) bits ram) 0 (p .flush .count))
-    (plannedFrom (nextSet u (p .next) (p .set .first)) 0 (p .set .count))
-    (plannedFrom (wiped (p .l1 .first)) 0 (p .l1 .count))
-    (plannedFrom (wiped (p .old .first)) 0 (p .old .count))
+    (summaryOf u (p .«ka_index») (entryFourths filters) ram)
     (freshRun spare 1 (p .da .first) (p .da .count))
+    (indexFresh (p .«da_index») spare)
     (freshRun spare 1 (p .ra .first) (p .ra .count))
     (freshRun spare 1 (p .ka .first) (p .ka .count))
-    (freshRun spare flushesPerRound (p .flush .first) (p .flush .count))
-    (freshRun spare 1 (p .set .first) (p .set .count))
-    (page (daPage p) (deletionIn new) (p .da .count))
-    (page (raPage p) (recordIn new) (p .ra .count))
-    (page (kaPage p) (entryIn new) (p .ka .count))
-    (rw y at (known-ask spare u (p .flush .first) 16 (bytes ska (withEighth u ska bits ram)) 0 (p .flush .count)))
-    (rw (z (p .set .first)) at (made-ask spare u (p .set .first) made-of 0 (p .set .count)))
-    (wipes-ask spare u (p .l1 .first) 0 (p .l1 .count))
-    (wipes-ask spare u (p .old .first) 0 (p .old .count)) c)
+    (indexFresh (p .«ka_index») spare)
+    (page-ask spare u (daPage p) (deletionIn new) ram (p .da .count))
+    (index-ask spare u (p .«da_index») (deletionFourths filters) ram)
+    (page-ask spare u (raPage p) (recordIn new) ram (p .ra .count))
+    (page-ask spare u (kaPage p) (entryIn new) ram (p .ka .count))
+    (index-ask spare u (p .«ka_index») (entryFourths filters) ram) c)

@@ -1,5 +1,5 @@
 -- The segments of a plan by their first sector, and where the bytes of a sector lie: a part of the RAM, then new bytes.
-use mathlib.Core.Path.{_≡_, refl, sym, ap, _∙_}
+use mathlib.Core.Path.{_≡_, sym, ap, _∙_}
 use mathlib.Core.Logic.{inl, inr}
 use mathlib.Core.List.{List, _++_}
 use Prim.Native.Nat.{ℕ, _+_, _-_, _*_, _≤_, _<_}
@@ -8,16 +8,15 @@ use native.Mathlib.Omega.{arith}
 use lib.ListN.{length, getD, take, drop, length-take, length-drop, length-append, List·getD-append}
 use lib.Seq.{getD-take, getD-drop, getD-append-add}
 use Rattle.memory.specs.Cases.{either, lt?}
-use Rattle.memory.specs.Bits.{pack}
-use Rattle.memory.specs.Lists.{tab, is-tab, tab-ext, getD-tab, write, getD-write-before, getD-write-in, pieces-in, pieces-out}
-use Rattle.layout.specs.Geometry.{sector, page, fourthSize}
+use Rattle.memory.specs.Lists.{tab, is-tab, tab-ext, write, getD-write-before, getD-write-in, pieces-in, pieces-out}
+use Rattle.layout.specs.Geometry.{sector, page}
 use Rattle.layout.specs.Flash.{Planned, known, made, wipe}
-use Rattle.layout.specs.Index.{Index, flushesPerRound, withFilter, setByte}
+use Rattle.layout.specs.Index.{Index, flushesPerRound, setByte}
 use Rattle.memory.specs.Lists.{tab-part}
 use Rattle.geometry.specs.Indexes.{indexOf}
-use Rattle.filter.specs.Filter.{arrayBit}
-use Rattle.filter.specs.Pieces.{fourthOf, piece-of}
+use Rattle.filter.specs.Fourths.{withFourths}
 use Rattle.plan.specs.declared.Page.{Page}
+use Rattle.plan.specs.declared.Flush.{Flush}
 use Rattle.geometry.specs.declared.sets.Set.{Set}
 
 module _ (u : ℕ) where
@@ -31,19 +30,19 @@ module _ (u : ℕ) where
   abbrev pub setFrom : ℕ → Index → ℕ → ℕ → ℕ → Planned
   setFrom s ix z c j = made (s + j) (λ main. tab (sector u) (setByte u ix main z c j))
 
-  -- the RAM with an item over the end of its page at `at`, and with the eighth filter in the SKA page there
+  -- the RAM with an item over the end of its page at `at`, and with new fourths over the ends of the sectors of a SKA page
   abbrev pub withItem : ℕ → List ℕ → List ℕ → List ℕ
   withItem at item ram = write ram (at + (page u - length item)) item
 
-  abbrev pub withEighth : ℕ → List ℕ → List ℕ → List ℕ
-  withEighth at bits ram = withFilter u (record { first = 0; ska = at }) 7 (arrayBit bits) ram
+  abbrev pub withEnds : Flush → List ℕ → List ℕ → List ℕ
+  withEnds f fourths ram = withFourths u (f .piece) (f .at + (sector u - f .piece)) fourths ram
 
-  -- a page that an item fills, a flush of eight filters, the next set, blocks to erase
+  -- a page that an item fills, a flush, the next set, blocks to erase
   abbrev pub filledPage : Page → List ℕ → List ℕ → ℕ → Planned
   filledPage p item ram = pageFrom (p .sector) (p .at) (withItem (p .at) item ram)
 
-  abbrev pub flushed : Page → List ℕ → List ℕ → ℕ → Planned
-  flushed p bits ram = flushFrom (p .sector) (p .at) (withEighth (p .at) bits ram)
+  abbrev pub flushed : Flush → List ℕ → List ℕ → ℕ → Planned
+  flushed f fourths ram = flushFrom (f .sector) (f .at) (withEnds f fourths ram)
 
   abbrev pub nextSet : Set → ℕ → ℕ → Planned
   nextSet set s = setFrom s (indexOf (set .index)) (set .«full_sets») (set .rounds)
@@ -107,56 +106,49 @@ module _ (u at : ℕ) (item ram : List ℕ) (short : length item ≤ sector u) (
         ∙ sym (getD-write-in ram (at + (page u - length item)) item (at + (j * sector u + (sector u - length item + y))) 0
         (omega (arith, m, short)) (omega (arith, m, l, short)) (omega (arith, m, l, short, fits)))))
 
--- ---- those of a flush: seven eighths of the RAM's, then a fourth of the filter
+-- ---- those of a flush: a part of the RAM's, then `piece` bytes of the fourths
 
-module _ (u at : ℕ) (bits ram : List ℕ) (bytes : (k : ℕ) → getD bits k 0 < 256) (small : u ≤ 32) (size-bits : length bits ≡ 256)
-    (fits : at + page u ≤ length ram) where
+module _ (u : ℕ) (f : Flush) (fourths ram : List ℕ) (short : f .piece ≤ sector u) (given : 4 * f .piece ≤ length fourths)
+    (fits : f .at + page u ≤ length ram) where
+  -- byte y of sector j, and that of its piece of the fourths
   abbrev flush-byte : ℕ → ℕ → ℕ
-  flush-byte j y = getD (withEighth u at bits ram) (at + (j * sector u + y)) 0
+  flush-byte j y = getD (withEnds u f fourths ram) (f .at + (j * sector u + y)) 0
 
   abbrev fourth-byte : ℕ → ℕ → ℕ
-  fourth-byte i y = pack 8 (λ b. arrayBit bits (i * sector u + (y * 8 + b)))
+  fourth-byte j y = getD fourths (j * f .piece + y) 0
 
-  flush-old : (j y : ℕ) → j < 4 → y < 14 * u → flush-byte j y ≡ getD ram (at + (j * sector u + y)) 0
-  flush-old j y hj hy =
-      pieces-out (2 * u) (sector u) (at + 7 * (2 * u)) 4 fourth-byte ram (at + (j * sector u + y)) 0
+  flush-old : (j y : ℕ) → y < sector u - f .piece → flush-byte j y ≡ getD ram (f .at + (j * sector u + y)) 0
+  flush-old j y h =
+      pieces-out (f .piece) (sector u) (f .at + (sector u - f .piece)) 4 fourth-byte ram (f .at + (j * sector u + y)) 0
       (λ i l. either (lt? i j)
-      (λ q. inr (omega (arith, hy, mul-le-mul-right (sector u) (q .1))))
-      (λ q. inl (omega (arith, hy, mul-le-mul-right (sector u) (q .1)))))
+      (λ q. inr (omega (arith, short, mul-le-mul-right (sector u) (q .1))))
+      (λ q. inl (omega (arith, h, mul-le-mul-right (sector u) (q .1)))))
 
-  flush-new : (j y : ℕ) → j < 4 → y < 2 * u → flush-byte j (14 * u + y) ≡ fourth-byte j y
-  flush-new j y hj hy =
-      let e : at + (j * sector u + (14 * u + y)) ≡ at + 7 * (2 * u) + j * sector u + y = omega arith in
-      rw e (pieces-in (2 * u) (sector u) (at + 7 * (2 * u)) 4 fourth-byte ram j y 0 (omega arith)
-      (omega (arith, fits, mul-le-mul-right (sector u) hj)) hj hy)
+  flush-new : (j y : ℕ) → j < 4 → y < f .piece → flush-byte j (sector u - f .piece + y) ≡ fourth-byte j y
+  flush-new j y h l =
+      let e : f .at + (j * sector u + (sector u - f .piece + y)) ≡ f .at + (sector u - f .piece) + j * sector u + y = omega arith in
+      rw e (pieces-in (f .piece) (sector u) (f .at + (sector u - f .piece)) 4 fourth-byte ram j y 0 short
+      (omega (arith, short, fits, mul-le-mul-right (sector u) h)) h l)
 
-  -- in the numbers of the layout
-  flush-parts : (j : ℕ) → j < 4
-      → take (14 * u) (drop (at + j * sector u) ram) ++ take (2 * u) (drop (j * (2 * u)) bits) ≡ tab (sector u) (flush-byte j)
-  flush-parts j h =
+  -- `size` and `off` are what code computes
+  pub flush-sector : (size off j : ℕ) → size ≡ sector u → off ≡ j * sector u → j < 4
+      → take (f .at + off + (size - f .piece) - (f .at + off)) (drop (f .at + off) ram)
+      ++ take (j * f .piece + f .piece - j * f .piece) (drop (j * f .piece) fourths) ≡ tab (sector u) (flush-byte j)
+  flush-sector size off j size-is off-is h =
       let m = mul-le-mul-right (sector u) h in
-      let m2 = mul-le-mul-right (2 * u) h in
-      let d : j * (2 * u) + 2 * u - j * (2 * u) ≡ 2 * u = omega arith in
-      let t : take (2 * u) (drop (j * (2 * u)) bits) ≡ fourthOf u (arrayBit bits) j
-      = rw d at (piece-of u j (j * (2 * u)) (j * (2 * u) + 2 * u) bits bytes refl refl (omega (arith, m2, size-bits, small))) in
-      let n : length (take (2 * u) (drop (j * (2 * u)) bits)) ≡ 2 * u
-      = simp (length-take, length-drop) (omega (arith, m2, size-bits, small)) in
-      joined-tab (take (14 * u) (drop (at + j * sector u) ram)) (take (2 * u) (drop (j * (2 * u)) bits)) (14 * u) (sector u) (flush-byte j)
+      let n : length (take (f .piece) (drop (j * f .piece) fourths)) ≡ f .piece
+      = simp (length-take, length-drop) (omega (arith, mul-le-mul-right (f .piece) h, given)) in
+      let a : f .at + j * sector u + (sector u - f .piece) - (f .at + j * sector u) ≡ sector u - f .piece = omega arith in
+      let d : j * f .piece + f .piece - j * f .piece ≡ f .piece = omega arith in
+      rw (size-is, off-is, a, d)
+      (joined-tab (take (sector u - f .piece) (drop (f .at + j * sector u) ram)) (take (f .piece) (drop (j * f .piece) fourths))
+      (sector u - f .piece) (sector u) (flush-byte j)
       (simp (length-take, length-drop) (omega (arith, m, fits)))
-      (omega (arith, n))
+      (omega (arith, n, short))
       (λ y l.
-      let a : at + j * sector u + y ≡ at + (j * sector u + y) = omega arith in
-      getD-take (14 * u) (drop (at + j * sector u) ram) y 0 l ∙ getD-drop (at + j * sector u) ram y 0
-      ∙ ap (λ (x : ℕ). getD ram x 0) a ∙ sym (flush-old j y h l))
+      let b : f .at + j * sector u + y ≡ f .at + (j * sector u + y) = omega arith in
+      getD-take (sector u - f .piece) (drop (f .at + j * sector u) ram) y 0 l ∙ getD-drop (f .at + j * sector u) ram y 0
+      ∙ ap (λ (x : ℕ). getD ram x 0) b ∙ sym (flush-old j y l))
       (λ y l.
-      let b : y < 2 * u = omega (arith, n, l) in
-      ap (λ (q : List ℕ). getD q y 0) t ∙ getD-tab (2 * u) (fourth-byte j) y 0 b ∙ sym (flush-new j y h b))
-
-  -- `size`, `off` and `piece` are what code computes
-  pub flush-sector : (size off piece j : ℕ) → size ≡ sector u → off ≡ j * sector u → piece ≡ fourthSize u → j < 4
-      → take (at + off + (size - piece) - (at + off)) (drop (at + off) ram)
-      ++ take (j * piece + piece - j * piece) (drop (j * piece) bits) ≡ tab (sector u) (flush-byte j)
-  flush-sector size off piece j e o q h =
-      let a : at + j * (16 * u) + (16 * u - 2 * u) - (at + j * (16 * u)) ≡ 14 * u = omega arith in
-      let d : j * (2 * u) + 2 * u - j * (2 * u) ≡ 2 * u = omega arith in
-      rw (q, e, o, a, d) (flush-parts j h)
+      let b : y < f .piece = omega (arith, n, l) in
+      getD-take (f .piece) (drop (j * f .piece) fourths) y 0 b ∙ getD-drop (j * f .piece) fourths y 0 ∙ sym (flush-new j y h b)))

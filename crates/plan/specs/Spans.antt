@@ -113,6 +113,10 @@ span-all (x ∷ xs) (suc n) e =
 pub span-none : (xs : List Planned) (s : Span) → s .to ≡ 0 → span xs s ≡ []
 span-none xs s e = rw (e, no-less (s .from))
 
+-- those among all n of it
+pub span-among : (xs : List Planned) (n : ℕ) (s r : Span) → length xs ≡ n → r ≡ among s n → span xs r ≡ span xs s
+span-among xs n s r size r-is = rw (r-is, ← size) (sym (cut-min xs (s .from) (s .to)))
+
 -- ---- the flash after a span of lists in a row
 
 module _ (u : ℕ) where

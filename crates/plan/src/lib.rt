@@ -17,8 +17,9 @@ ghost use Rattle.plan.specs.Spans.{span, among, behind, runOf};
 ghost use Rattle.plan.specs.Segments.{filledPage, flushed, nextSet, wiped};
 ghost use Rattle.plan.specs.Groups.{bufferSize, atOnce, Steps, upTo, OfPage, Beside};
 ghost use Rattle.plan.specs.Fits.{PageFits, FlushFits, NextFits, WipeFits};
-ghost use Rattle.plan.specs.Plans.{newLength, pagesOf, buildOf, planned, plannedCount, wholeOf};
-ghost use Rattle.plan.specs.Plans.{PagesFit, BuildFits, PlanFits, SpareFits};
+ghost use Rattle.plan.specs.Plans.{newLength, filtersLength, buildOf, summaryOf, summaryCount, deletionOf, deletionCount, recordOf};
+ghost use Rattle.plan.specs.Plans.{planned, plannedCount, wholeOf, BuildFits, SummaryFits, PlanFits, IndexSpareFits, SpareFits};
+ghost use Rattle.plan.specs.Fresh.{indexFresh};
 use geometry::Chip;
 use geometry::Geometry;
 use geometry::areas;
@@ -33,18 +34,26 @@ pub struct Segment {
     pub count: usize,
 }
 
-// The operations of a change, in order: the pages that its deletion, its record and its entry fill, the flush of the filters, the
-// next set, the erases of L1 and of the set before. What a change does not do has a count of 0.
-pub struct Plan {
-    pub chip: Chip,
-    pub da: Segment,
-    pub ra: Segment,
-    pub ka: Segment,
+// How filters leave the SKA page of an index: the flush, of whose sectors `piece` bytes are new, the next set, the erases of L1 and of the
+// set before. What is not done has a count of 0.
+pub struct Summary {
+    pub piece: usize,
     pub flush: Segment,
     pub set: Segment,
     pub l1: Segment,
     pub old: Segment,
     pub next: Set,
+}
+
+// The operations of a change, in order: the page that its deletion fills and the index over the deletions, the pages that its record and
+// its entry fill and the index over the entries.
+pub struct Plan {
+    pub chip: Chip,
+    pub da: Segment,
+    pub da_index: Summary,
+    pub ra: Segment,
+    pub ka: Segment,
+    pub ka_index: Summary,
 }
 
 // The new bytes of a change: a deletion, then the record and then its entry.
@@ -53,6 +62,11 @@ pub const RECORD_AT: usize = areas::DELETION_SIZE;
 pub const ENTRY_AT: usize = RECORD_AT + areas::RECORD_SIZE;
 
 pub const NEW_SIZE: usize = ENTRY_AT + areas::ENTRY_SIZE;
+
+// Its new filters, by the fourths of their bits: two of the page of deletions, then that of the page of entries.
+pub const ENTRY_FILTER_AT: usize = 512;
+
+pub const FILTERS_SIZE: usize = 768;
 
 // Operations `from` to `to` - 1 of a list.
 pub struct Span {
@@ -106,6 +120,13 @@ pub struct Page {
     pub at: usize,
 }
 
+// Where the sectors of a flush begin, the SKA page whose bytes they get, and how many bytes at the end of each are new.
+pub struct Flush {
+    pub sector: usize,
+    pub at: usize,
+    pub piece: usize,
+}
+
 // Sector j of a page that an item fills: its bytes are those of the RAM page, those of the last one end with the item.
 fn page_step(
     chip: Chip,
@@ -155,32 +176,32 @@ fn page_run(
     }
 }
 
-// Sector j of a flush: seven eighths are those of the SKA page, the last is a fourth of the new filter.
+// Sector j of a flush: its bytes are those of the SKA page, and at its end those of the new fourths.
 fn flush_step(
     chip: Chip,
-    page: Page,
+    f: Flush,
     j: usize,
-    bits: &[u8],
+    fourths: &[u8],
     main: &mut [u8],
     spare: &mut [u8],
     ram: &[u8],
 )
-    requires { ⌜ FlushFits (chip .unit) page (length (now main)) (length (now spare)) (length (now ram)) ⌝ }
-    requires { ⌜ (j < sectorsPerPage) × (length (now bits) ≡ 256) ⌝ }
+    requires { ⌜ FlushFits (chip .unit) f (length (now fourths)) (length (now main)) (length (now spare)) (length (now ram)) ⌝ }
+    requires { ⌜ j < sectorsPerPage ⌝ }
     ensures { λ _. ⌜ flashAfter main spare
-        ≡ doneOne (chip .unit) (flushed (chip .unit) page (before bits) (before ram) j) (flashBefore main spare) ⌝ }
+        ≡ doneOne (chip .unit) (flushed (chip .unit) f (before fourths) (before ram) j) (flashBefore main spare) ⌝ }
 {
     let size = chip.sector_size();
-    let piece = chip.fourth_size();
-    let from = page.at + chip.sector_address(j);
+    let piece = f.piece;
+    let from = f.at + chip.sector_address(j);
     let to = from + (size - piece);
     let lo = j * piece;
     let hi = lo + piece;
     flash::program_joined(
         chip,
-        page.sector + j * sets::FLUSHES_PER_ROUND,
+        f.sector + j * sets::FLUSHES_PER_ROUND,
         &ram[from..to],
-        &bits[lo..hi],
+        &fourths[lo..hi],
         main,
         spare,
     );
@@ -189,21 +210,21 @@ fn flush_step(
 // A span of the sectors of a flush.
 fn flush_run(
     chip: Chip,
-    page: Page,
+    f: Flush,
     part: Span,
-    bits: &[u8],
+    fourths: &[u8],
     main: &mut [u8],
     spare: &mut [u8],
     ram: &[u8],
 )
-    requires { ⌜ FlushFits (chip .unit) page (length (now main)) (length (now spare)) (length (now ram)) ⌝ }
-    requires { ⌜ (part .to ≤ sectorsPerPage) × (length (now bits) ≡ 256) ⌝ }
+    requires { ⌜ FlushFits (chip .unit) f (length (now fourths)) (length (now main)) (length (now spare)) (length (now ram)) ⌝ }
+    requires { ⌜ part .to ≤ sectorsPerPage ⌝ }
     ensures { λ _. ⌜ flashAfter main spare
-        ≡ runOf (chip .unit) (flushed (chip .unit) page (before bits) (before ram)) part (flashBefore main spare) ⌝ }
+        ≡ runOf (chip .unit) (flushed (chip .unit) f (before fourths) (before ram)) part (flashBefore main spare) ⌝ }
 {
     let mut j = part.from;
     while j < part.to {
-        flush_step(chip, page, j, bits, main, spare, ram);
+        flush_step(chip, f, j, fourths, main, spare, ram);
         j += 1;
     }
 }
@@ -309,29 +330,99 @@ fn wipe_run(chip: Chip, blocks: Segment, part: Span, main: &mut [u8], spare: &mu
     );
 }
 
+// ---- the index of a plan
+
+// Operations of the next set and of the erases.
+fn build(chip: Chip, s: Summary, part: Span, main: &mut [u8], spare: &mut [u8])
+    requires { ⌜ BuildFits (chip .unit) s (length (now main)) (length (now spare)) ⌝ }
+    ensures { λ _. ⌜ flashAfter main spare ≡ done (chip .unit) (span (buildOf (chip .unit) s) part) (flashBefore main spare) ⌝ }
+{
+    let second = part.behind(s.set.count);
+    let third = second.behind(s.l1.count);
+    set_run(
+        chip,
+        s.next,
+        s.set.first,
+        part.among(s.set.count),
+        main,
+        spare,
+    );
+    wipe_run(chip, s.l1, second.among(s.l1.count), main, spare);
+    wipe_run(chip, s.old, third.among(s.old.count), main, spare);
+}
+
+// How many operations there are.
+fn summary_count(s: Summary) -> usize
+    requires { ⌜ summaryCount s < 2 ^ 64 ⌝ }
+    ensures { λ r. ⌜ r ≡ summaryCount s ⌝ }
+{
+    s.flush.count + (s.set.count + s.l1.count + s.old.count)
+}
+
+// Operations of an index: its flush, with the new fourths, and what is built.
+fn index_run(
+    chip: Chip,
+    s: Summary,
+    part: Span,
+    fourths: &[u8],
+    main: &mut [u8],
+    spare: &mut [u8],
+    ram: &[u8],
+)
+    requires { ⌜ SummaryFits (chip .unit) s (length (now fourths)) (length (now main)) (length (now spare)) (length (now ram)) ⌝ }
+    ensures { λ _. ⌜ flashAfter main spare
+        ≡ done (chip .unit) (span (summaryOf (chip .unit) s (before fourths) (before ram)) part) (flashBefore main spare) ⌝ }
+{
+    if part.to == 0 {
+        return;
+    }
+    let later = part.behind(s.flush.count);
+    let f = Flush {
+        sector: s.flush.first,
+        at: s.next.index.ska,
+        piece: s.piece,
+    };
+    flush_run(
+        chip,
+        f,
+        part.among(s.flush.count),
+        fourths,
+        main,
+        spare,
+        ram,
+    );
+    if later.to == 0 {
+        return; // nothing is built where the run ends before
+    }
+    build(chip, s, later, main, spare);
+}
+
 // ---- plans
 
-// Operations of the three pages.
-fn pages(p: Plan, part: Span, new: &[u8], main: &mut [u8], spare: &mut [u8], ram: &[u8])
-    requires { ⌜ PagesFit p (length (now main)) (length (now spare)) (length (now ram)) × (length (now new) ≡ newLength) ⌝ }
+// Operations of the deletion: its page and the index over the deletions.
+fn deletion_run(
+    p: Plan,
+    part: Span,
+    new: &[u8],
+    filters: &[u8],
+    main: &mut [u8],
+    spare: &mut [u8],
+    ram: &[u8],
+)
+    requires { ⌜ PlanFits p (length (now main)) (length (now spare)) (length (now ram)) ⌝ }
+    requires { ⌜ (length (now new) ≡ newLength) × (length (now filters) ≡ filtersLength) ⌝ }
     ensures { λ _. ⌜ flashAfter main spare
-        ≡ done (p .chip .unit) (span (pagesOf p (before new) (before ram)) part) (flashBefore main spare) ⌝ }
+        ≡ done (p .chip .unit) (span (deletionOf p (before new) (before filters) (before ram)) part) (flashBefore main spare) ⌝ }
 {
+    if part.to == 0 {
+        return;
+    }
     let chip = p.chip;
     let da = Page {
         sector: p.da.first,
         at: chip.page_address(Geometry::DA_PAGE),
     };
-    let ra = Page {
-        sector: p.ra.first,
-        at: chip.page_address(Geometry::RA_PAGE),
-    };
-    let ka = Page {
-        sector: p.ka.first,
-        at: chip.page_address(Geometry::KA_PAGE),
-    };
     let second = part.behind(p.da.count);
-    let third = second.behind(p.ra.count);
     page_run(
         chip,
         da,
@@ -341,10 +432,47 @@ fn pages(p: Plan, part: Span, new: &[u8], main: &mut [u8], spare: &mut [u8], ram
         spare,
         ram,
     );
+    index_run(
+        chip,
+        p.da_index,
+        second,
+        &filters[0..ENTRY_FILTER_AT],
+        main,
+        spare,
+        ram,
+    );
+}
+
+// Operations of the record: its page, its entry's and the index over the entries.
+fn record_run(
+    p: Plan,
+    part: Span,
+    new: &[u8],
+    filters: &[u8],
+    main: &mut [u8],
+    spare: &mut [u8],
+    ram: &[u8],
+)
+    requires { ⌜ PlanFits p (length (now main)) (length (now spare)) (length (now ram)) ⌝ }
+    requires { ⌜ (length (now new) ≡ newLength) × (length (now filters) ≡ filtersLength) ⌝ }
+    ensures { λ _. ⌜ flashAfter main spare
+        ≡ done (p .chip .unit) (span (recordOf p (before new) (before filters) (before ram)) part) (flashBefore main spare) ⌝ }
+{
+    let chip = p.chip;
+    let ra = Page {
+        sector: p.ra.first,
+        at: chip.page_address(Geometry::RA_PAGE),
+    };
+    let ka = Page {
+        sector: p.ka.first,
+        at: chip.page_address(Geometry::KA_PAGE),
+    };
+    let second = part.behind(p.ra.count);
+    let third = second.behind(p.ka.count);
     page_run(
         chip,
         ra,
-        second.among(p.ra.count),
+        part.among(p.ra.count),
         &new[RECORD_AT..ENTRY_AT],
         main,
         spare,
@@ -353,32 +481,29 @@ fn pages(p: Plan, part: Span, new: &[u8], main: &mut [u8], spare: &mut [u8], ram
     page_run(
         chip,
         ka,
-        third.among(p.ka.count),
+        second.among(p.ka.count),
         &new[ENTRY_AT..NEW_SIZE],
+        main,
+        spare,
+        ram,
+    );
+    index_run(
+        chip,
+        p.ka_index,
+        third,
+        &filters[ENTRY_FILTER_AT..FILTERS_SIZE],
         main,
         spare,
         ram,
     );
 }
 
-// Operations of the next set and of the erases.
-fn build(p: Plan, part: Span, main: &mut [u8], spare: &mut [u8])
-    requires { ⌜ BuildFits p (length (now main)) (length (now spare)) ⌝ }
-    ensures { λ _. ⌜ flashAfter main spare ≡ done (p .chip .unit) (span (buildOf p) part) (flashBefore main spare) ⌝ }
+// Operations of the deletion: how many there are.
+fn deletion_count(p: Plan) -> usize
+    requires { ⌜ deletionCount p < 2 ^ 64 ⌝ }
+    ensures { λ r. ⌜ r ≡ deletionCount p ⌝ }
 {
-    let chip = p.chip;
-    let second = part.behind(p.set.count);
-    let third = second.behind(p.l1.count);
-    set_run(
-        chip,
-        p.next,
-        p.set.first,
-        part.among(p.set.count),
-        main,
-        spare,
-    );
-    wipe_run(chip, p.l1, second.among(p.l1.count), main, spare);
-    wipe_run(chip, p.old, third.among(p.old.count), main, spare);
+    p.da.count + summary_count(p.da_index)
 }
 
 // All operations of a plan.
@@ -386,59 +511,57 @@ pub fn whole(p: Plan) -> Span
     requires { ⌜ plannedCount p < 2 ^ 64 ⌝ }
     ensures { λ r. ⌜ r ≡ wholeOf p ⌝ }
 {
-    let pages = p.da.count + p.ra.count + p.ka.count;
+    let records = p.ra.count + p.ka.count + summary_count(p.ka_index);
     Span {
         from: 0,
-        to: pages + p.flush.count + (p.set.count + p.l1.count + p.old.count),
+        to: deletion_count(p) + records,
     }
 }
 
-// Operations of a plan, out of the RAM as handed in, with the new item over the end of a page that it fills and the new filter over the
-// ends of the sectors of a flush.
+// Operations of a plan, out of the RAM as handed in, with the new item over the end of a page that it fills and the fourths of the new
+// filters over the ends of the sectors of a flush.
 pub fn run(
     p: Plan,
     part: Span,
     new: &[u8],
-    bits: &[u8],
+    filters: &[u8],
     main: &mut [u8],
     spare: &mut [u8],
     ram: &[u8],
 )
     requires { ⌜ PlanFits p (length (now main)) (length (now spare)) (length (now ram)) ⌝ }
-    requires { ⌜ (length (now new) ≡ newLength) × (length (now bits) ≡ 256) ⌝ }
+    requires { ⌜ (length (now new) ≡ newLength) × (length (now filters) ≡ filtersLength) ⌝ }
     ensures { λ _. ⌜ flashAfter main spare
-        ≡ done (p .chip .unit) (span (planned p (before new) (before bits) (before ram)) part)
+        ≡ done (p .chip .unit) (span (planned p (before new) (before filters) (before ram)) part)
         (flashBefore main spare) ⌝ }
 {
-    let filters = part.behind(p.da.count + p.ra.count + p.ka.count);
-    let later = filters.behind(p.flush.count);
-    let page = Page {
-        sector: p.flush.first,
-        at: p.next.index.ska,
-    };
-    pages(p, part, new, main, spare, ram);
-    flush_run(
-        p.chip,
-        page,
-        filters.among(p.flush.count),
-        bits,
-        main,
-        spare,
-        ram,
-    );
-    if later.to == 0 {
-        return; // nothing is built where the run ends before
+    let n = deletion_count(p);
+    let second = part.behind(n);
+    deletion_run(p, part.among(n), new, filters, main, spare, ram);
+    record_run(p, second, new, filters, main, spare, ram);
+}
+
+// Are the sectors fresh that an index programs.
+fn index_fresh(s: Summary, spare: &[u8]) -> bool
+    requires { ⌜ IndexSpareFits s (length (now spare)) ⌝ }
+    ensures { λ r. ⌜ r ≡ indexFresh s (before spare) ⌝ }
+{
+    if !flash::all_fresh(s.flush.first, sets::FLUSHES_PER_ROUND, s.flush.count, spare) {
+        return false;
     }
-    build(p, later, main, spare);
+    flash::all_fresh(s.set.first, 1, s.set.count, spare)
 }
 
 // Are all sectors fresh that the plan programs, whatever the bytes.
 pub fn fresh(p: Plan, spare: &[u8]) -> bool
     requires { ⌜ SpareFits p (length (now spare)) ⌝ }
-    ensures { λ r. ⌜ ((new bits ram : List ℕ) (flash : Flash)
-        → r ≡ allFresh (before spare) (planOps (p .chip .unit) (planned p new bits ram) flash)) ⌝ }
+    ensures { λ r. ⌜ ((new filters ram : List ℕ) (flash : Flash)
+        → r ≡ allFresh (before spare) (planOps (p .chip .unit) (planned p new filters ram) flash)) ⌝ }
 {
     if !flash::all_fresh(p.da.first, 1, p.da.count, spare) {
+        return false;
+    }
+    if !index_fresh(p.da_index, spare) {
         return false;
     }
     if !flash::all_fresh(p.ra.first, 1, p.ra.count, spare) {
@@ -447,8 +570,5 @@ pub fn fresh(p: Plan, spare: &[u8]) -> bool
     if !flash::all_fresh(p.ka.first, 1, p.ka.count, spare) {
         return false;
     }
-    if !flash::all_fresh(p.flush.first, sets::FLUSHES_PER_ROUND, p.flush.count, spare) {
-        return false;
-    }
-    flash::all_fresh(p.set.first, 1, p.set.count, spare)
+    index_fresh(p.ka_index, spare)
 }

@@ -1,26 +1,27 @@
 -- The plans out of the numbers that code computes.
 use mathlib.Core.Path.{_≡_, refl, sym, ap, _∙_}
-use mathlib.Core.Bool.{Bool, true, false, not, cond}
+use mathlib.Core.Bool.{Bool, true, false, not}
 use Prim.Native.Nat.{ℕ, _+_, _*_, _/_, _%_, _^_, _≤_, _<_}
 use native.Mathlib.Nat.{mul-le-mul-left}
 use native.Mathlib.Omega.{arith}
 use lib.Dec.{eqb}
 use borrow.Author.Tests.{eq-eqb, ne-eqb}
-use Rattle.memory.specs.Booleans.{cond-pos, cond-neg}
-use Rattle.memory.specs.Cases.{either, bool?}
 use Rattle.memory.specs.Numbers.{euclid, div-lt}
 use Rattle.memory.specs.Power.{log2up}
-use Rattle.layout.specs.Geometry.{Geometry, sectorsPerPage, sectorsPerBlock, sideBlocks, entriesPerPage, indexBlock}
-use Rattle.layout.specs.Items.{Area, RA, KA, fills}
-use Rattle.layout.specs.Index.{filtersPerFlush, inSka, inFull, setBlock, sideBlock, setBlocks}
-use Rattle.layout.specs.Calls.{keyFilters}
+use Rattle.layout.specs.Geometry.{Geometry, sectorsPerPage, sectorsPerBlock, fourthSize, sideBlocks, entriesPerPage}
+use Rattle.layout.specs.Items.{Area, RA, KA, DA, fills}
+use Rattle.layout.specs.Index.{inSka, inL1, inFull, filtersPerFlush, setBlock, sideBlock, setBlocks}
+use Rattle.layout.specs.Calls.{deletionFilters}
 use Rattle.geometry.specs.Shape.{chipOf}
 use Rattle.geometry.specs.declared.chip.Chip.{Chip}
-use Rattle.geometry.specs.Indexes.{indexOf, indexFor}
+use Rattle.geometry.specs.Indexes.{indexOf, indexFor, deletionIndexFor}
 use Rattle.geometry.specs.declared.sets.Index.{Index}
 use Rattle.plan.specs.declared.Plan.{Plan}
 use Rattle.plan.specs.declared.Segment.{Segment}
-use Rattle.planning.specs.Numbers.{none, pageOf, startPlan, addPages, addFlush, addSet, addFilter, addRecord}
+use Rattle.plan.specs.declared.Summary.{Summary}
+use Rattle.planning.specs.Numbers.{none, pageOf, noSummary, flushSegment, flushSummary, setSummary, summaryAt}
+use Rattle.planning.specs.Numbers.{noDeletions, noEntries, deletionSummary, entrySummary}
+use Rattle.planning.specs.Numbers.{deletionNumbers, insertionNumbers, updateNumbers}
 
 -- ---- numbers
 
@@ -32,6 +33,12 @@ pub full-le : (u R n q : ℕ) → q ≡ entriesPerPage u → 0 < u → R ≤ 409
 full-le u R n q e pos h l =
     let F : n / (8 * u) < 8 * R = div-lt n (8 * u) (8 * R) (omega arith) (omega (arith, l)) in
     rw e (omega (arith, F, h, quotient-le (n / (8 * u) / 8 / 16) (4 * u) (omega arith)))
+
+-- those of the index over the deletions, of which a page gives two filters
+pub deletion-full-le : (u D d F : ℕ) → F ≡ 2 * (d / (16 * u)) → 0 < u → D ≤ 4096 → d < 16 * D * (16 * u) → inFull u (F + 1) ≤ 1024
+deletion-full-le u D d F e pos h l =
+    let p : d / (16 * u) < 16 * D = div-lt d (16 * u) (16 * D) (omega arith) (omega (arith, l)) in
+    rw e (omega (arith, p, h, quotient-le ((2 * (d / (16 * u)) + 1) / 8 / 16) (4 * u) (omega arith)))
 
 -- ---- segments
 
@@ -51,105 +58,101 @@ module _ (a : Area) (n s t : ℕ) (e : s ≡ a .first * sectorsPerBlock) (d : t 
   pub page-full : fills a n ≡ true → _≡_ {A = Segment} (record { first = s + t; count = sectorsPerPage }) (pageOf a n)
   page-full h = rw (e, d, h)
 
--- ---- plans
+-- ---- what new filters add to an index
 
-pub start-is : (g : Geometry) (da z : Segment) (chip : Chip) (ix : Index) → z ≡ none → chip ≡ chipOf g → ix ≡ indexFor g
-    → _≡_ {A = Plan} (record {
-      chip = chip;
-      da = da;
-      ra = z;
-      ka = z;
-      flush = z;
-      set = z;
-      l1 = z;
-      old = z;
-      next = record { index = ix; «full_sets» = 0; rounds = 0 };
-    }) (startPlan g da)
-start-is g da z chip ix e d h = rw (e, d, h)
+module _ (piece : ℕ) (ix : Index) where
+  pub no-summary-is : (z : Segment) → z ≡ none
+      → _≡_ {A = Summary} (record {
+        piece = piece;
+        flush = z;
+        set = z;
+        l1 = z;
+        old = z;
+        next = record { index = ix; «full_sets» = 0; rounds = 0 };
+      }) (noSummary 0 piece ix)
+  no-summary-is z e = rw e
 
--- `side`, `b`, `s`, `k`, `t`, `o` and `m` are what code computes
-pub set-is : (g : Geometry) (F : ℕ) (p : Plan) (ix : Index) (side b s k t o m : ℕ) → ix ≡ indexFor g → side ≡ sideBlocks (g .u)
-    → b ≡ setBlock (g .u) (indexOf ix) (F / 8 / 16 / side) (F / 8 / 16 % side) → s ≡ b * sectorsPerBlock
-    → k ≡ 16 * 2 ^ log2up (F / 8 / 16 % side + 1) → t ≡ k * sectorsPerPage → o ≡ sideBlock (g .u) (indexOf ix) (F / 8 / 16 % side)
-    → m ≡ setBlocks (F / 8 / 16 % side)
-    → _≡_ {A = Plan} (record {
-      chip = p .chip;
-      da = p .da;
-      ra = p .ra;
-      ka = p .ka;
-      flush = p .flush;
-      set = record { first = s; count = t };
-      l1 = record { first = ix .first; count = 1 };
-      old = record { first = o; count = m };
-      next = record { index = ix; «full_sets» = F / 8 / 16 / side; rounds = F / 8 / 16 % side };
-    }) (addSet g F p)
-set-is g F p ix side b s k t o m ix-is side-is b-is s-is k-is t-is o-is m-is = rw (s-is, b-is, t-is, k-is, o-is, m-is, ix-is, side-is)
+  module _ (F : ℕ) where
+    -- `s` and `k` are what code computes
+    pub flush-segment-is : (s k : ℕ) → s ≡ ix .first * sectorsPerBlock → k ≡ inL1 F
+        → _≡_ {A = Segment} (record { first = s + k; count = sectorsPerPage }) (flushSegment 0 0 ix F)
+    flush-segment-is s k e d = rw (e, d)
 
-pub flush-is : (g : Geometry) (F : ℕ) (p : Plan) (b s : ℕ) → b ≡ indexBlock g → s ≡ b * sectorsPerBlock
-    → _≡_ {A = Plan} (record {
-      chip = p .chip;
-      da = p .da;
-      ra = p .ra;
-      ka = p .ka;
-      flush = record { first = s + F / 8 % 16; count = 4 };
-      set = p .set;
-      l1 = p .l1;
-      old = p .old;
-      next = p .next;
-    }) (addFlush g F p)
-flush-is g F p b s b-is s-is = rw (s-is, b-is)
+    pub flush-summary-is : (x : Summary) (f : Segment) → x ≡ noSummary 0 piece ix → f ≡ flushSegment 0 0 ix F
+        → _≡_ {A = Summary} (record { piece = x .piece; flush = f; set = x .set; l1 = x .l1; old = x .old; next = x .next })
+        (flushSummary 0 piece ix F)
+    flush-summary-is x f e d = rw (e, d)
 
-pub pages-are : (g : Geometry) (n : ℕ) (p : Plan) (ra ka : Segment) (a b : Area) → a ≡ RA g → b ≡ KA g → ra ≡ pageOf a n → ka ≡ pageOf b n
-    → _≡_ {A = Plan} (record {
-      chip = p .chip;
-      da = p .da;
-      ra = ra;
-      ka = ka;
-      flush = p .flush;
-      set = p .set;
-      l1 = p .l1;
-      old = p .old;
-      next = p .next;
-    }) (addPages g n p)
-pages-are g n p ra ka a b a-is b-is e d = rw (e, d, a-is, b-is)
+    module _ (u : ℕ) where
+      -- `side`, `r`, `b`, `s`, `k`, `t`, `o` and `m` are what code computes
+      pub set-summary-is : (f : Segment) (side r b s k t o m : ℕ) → f ≡ flushSegment 0 0 ix F → side ≡ sideBlocks u → r ≡ F / 8 / 16 % side
+          → b ≡ setBlock u (indexOf ix) (F / 8 / 16 / side) r → s ≡ b * sectorsPerBlock → k ≡ 16 * 2 ^ log2up (r + 1)
+          → t ≡ k * sectorsPerPage → o ≡ sideBlock u (indexOf ix) r → m ≡ setBlocks r
+          → _≡_ {A = Summary} (record {
+            piece = piece;
+            flush = f;
+            set = record { first = s; count = t };
+            l1 = record { first = ix .first; count = 1 };
+            old = record { first = o; count = m };
+            next = record { index = ix; «full_sets» = F / 8 / 16 / side; rounds = r };
+          }) (setSummary u piece ix F)
+      set-summary-is f side r b s k t o m f-is side-is r-is b-is s-is k-is t-is o-is m-is =
+          rw (f-is, s-is, b-is, t-is, k-is, o-is, m-is, r-is, side-is)
 
--- ---- what filter F adds
+      -- the three cases of filter F
+      pub no-flush : eqb (inSka F + 1) filtersPerFlush ≡ false → noSummary 0 piece ix ≡ summaryAt u piece ix F
+      unfolding summaryAt
+      no-flush h = rw h
 
-module _ (g : Geometry) (F : ℕ) (p : Plan) where
-  pub no-flush : eqb (inSka F + 1) filtersPerFlush ≡ false → p ≡ addFilter g F p
-  unfolding addFilter
-  no-flush h = rw h
+      pub a-flush : (k : ℕ) → k ≡ inL1 F → eqb (inSka F + 1) filtersPerFlush ≡ true → (k + 1 ≡ 16 → ⊥)
+          → flushSummary 0 piece ix F ≡ summaryAt u piece ix F
+      unfolding summaryAt
+      a-flush k k-is e h = rw (e, ne-eqb (inL1 F + 1) 16 (λ q. h (ap (λ (x : ℕ). x + 1) k-is ∙ q)))
 
-  pub a-flush : eqb (inSka F + 1) filtersPerFlush ≡ true → (F / 8 % 16 + 1 ≡ 16 → ⊥) → addFlush g F p ≡ addFilter g F p
-  unfolding addFilter
-  a-flush e h = rw (e, ne-eqb (F / 8 % 16 + 1) 16 h)
+      pub a-set : (k : ℕ) → k ≡ inL1 F → eqb (inSka F + 1) filtersPerFlush ≡ true → k + 1 ≡ 16
+          → setSummary u piece ix F ≡ summaryAt u piece ix F
+      unfolding summaryAt
+      a-set k k-is e h = rw (e, eq-eqb (inL1 F + 1) 16 (ap (λ (x : ℕ). x + 1) (sym k-is) ∙ h))
 
-  pub a-set : eqb (inSka F + 1) filtersPerFlush ≡ true → F / 8 % 16 + 1 ≡ 16 → addSet g F (addFlush g F p) ≡ addFilter g F p
-  unfolding addFilter
-  a-set e h = rw (e, eq-eqb (F / 8 % 16 + 1) 16 h)
+-- ---- both indexes; `ix`, `p`, `F` and `q` are what code computes
 
--- ---- record n after a deletion's page; `q` is what code computes
+module _ (g : Geometry) (ix : Index) (p : ℕ) where
+  pub no-deletions-is : ix ≡ deletionIndexFor g → p ≡ fourthSize (g .u) → noSummary 0 (2 * p) ix ≡ noDeletions g
+  no-deletions-is e d = rw (e, d)
 
-module _ (g : Geometry) (da : Segment) (n : ℕ) (o : Plan) (o-is : o ≡ addPages g n (startPlan g da)) where
-  abbrev p : Plan
-  p = addPages g n (startPlan g da)
+  pub no-entries-is : ix ≡ indexFor g → p ≡ fourthSize (g .u) → noSummary 0 p ix ≡ noEntries g
+  no-entries-is e d = rw (e, d)
 
-  count-is : o .ka .count ≡ cond (fills (KA g) n) sectorsPerPage 0
-  count-is = ap (λ (x : Plan). x .ka .count) o-is
+  pub deletion-summary-is : (d F : ℕ) → fills (DA g) d ≡ true → ix ≡ deletionIndexFor g → p ≡ fourthSize (g .u)
+      → F ≡ deletionFilters g d → summaryAt (g .u) (2 * p) ix (F + 1) ≡ deletionSummary g d
+  deletion-summary-is d F full e f h = rw (full, e, f, h)
 
-  -- an entry that fills no page has no sectors
-  pub no-filter : o .ka .count ≡ 0 → o ≡ addRecord g da n
-  unfolding addRecord
-  no-filter h =
-      either (bool? (fills (KA g) n))
-      (λ f. absurd (let z : 4 ≡ 0 = sym (count-is ∙ cond-pos (fills (KA g) n) 4 0 f) ∙ h in omega arith))
-      (λ f. o-is ∙ sym (cond-neg (fills (KA g) n) (addFilter g (keyFilters g n) p) p f))
+  pub entry-summary-is : (n q : ℕ) → fills (KA g) n ≡ true → ix ≡ indexFor g → p ≡ fourthSize (g .u) → q ≡ entriesPerPage (g .u)
+      → summaryAt (g .u) p ix (n / q) ≡ entrySummary g n
+  entry-summary-is n q full e f h = rw (full, e, f, h)
 
-  pub a-filter : (q : ℕ) → q ≡ entriesPerPage (g .u) → (o .ka .count ≡ 0 → ⊥) → addFilter g (n / q) o ≡ addRecord g da n
-  unfolding addRecord
-  a-filter q q-is h =
-      either (bool? (fills (KA g) n))
-      (λ f.
-      ap (addFilter g (n / q)) o-is ∙ ap (λ (x : ℕ). addFilter g (n / x) p) q-is
-      ∙ sym (cond-pos (fills (KA g) n) (addFilter g (keyFilters g n) p) p f))
-      (λ f. absurd (h (count-is ∙ cond-neg (fills (KA g) n) 4 0 f)))
+pub no-deletion-summary : (g : Geometry) (d : ℕ) → fills (DA g) d ≡ false → noDeletions g ≡ deletionSummary g d
+no-deletion-summary g d e = rw e
+
+pub no-entry-summary : (g : Geometry) (n : ℕ) → fills (KA g) n ≡ false → noEntries g ≡ entrySummary g n
+no-entry-summary g n e = rw e
+
+-- ---- plans; `z`, `a`, `b`, `da`, `ra`, `ka`, `x` and `y` are what code computes
+
+module _ (g : Geometry) (chip : Chip) (chip-is : chip ≡ chipOf g) where
+  pub deletion-is : (d : ℕ) (z da : Segment) (a : Area) (x y : Summary) → z ≡ none → a ≡ DA g → da ≡ pageOf a d → x ≡ deletionSummary g d
+      → y ≡ noEntries g
+      → _≡_ {A = Plan} (record { chip = chip; da = da; «da_index» = x; ra = z; ka = z; «ka_index» = y }) (deletionNumbers g d)
+  deletion-is d z da a x y z-is a-is da-is x-is y-is = rw (chip-is, z-is, da-is, a-is, x-is, y-is)
+
+  pub insertion-is : (n : ℕ) (z ra ka : Segment) (a b : Area) (x y : Summary) → z ≡ none → x ≡ noDeletions g → a ≡ RA g → ra ≡ pageOf a n
+      → b ≡ KA g → ka ≡ pageOf b n → y ≡ entrySummary g n
+      → _≡_ {A = Plan} (record { chip = chip; da = z; «da_index» = x; ra = ra; ka = ka; «ka_index» = y }) (insertionNumbers g n)
+  insertion-is n z ra ka a b x y z-is x-is a-is ra-is b-is ka-is y-is = rw (chip-is, z-is, x-is, ra-is, a-is, ka-is, b-is, y-is)
+
+-- record n after deletion d
+pub update-is : (g : Geometry) (d n : ℕ) (p : Plan) (da : Segment) (a : Area) (x : Summary) → p ≡ insertionNumbers g n → a ≡ DA g
+    → da ≡ pageOf a d → x ≡ deletionSummary g d
+    → _≡_ {A = Plan} (record { chip = p .chip; da = da; «da_index» = x; ra = p .ra; ka = p .ka; «ka_index» = p .«ka_index» })
+    (updateNumbers g d n)
+update-is g d n p da a x p-is a-is da-is x-is = rw (p-is, da-is, a-is, x-is)

@@ -2,23 +2,23 @@
 use mathlib.Core.Path.{_≡_, sym, _∙_}
 use mathlib.Core.Bool.{Bool, true, false, _||_, false≢true}
 use mathlib.Core.List.{List, [], _++_}
-use Prim.Native.Nat.{ℕ, _+_, _-_, _*_, _/_, _%_, _<_}
+use Prim.Native.Nat.{ℕ, _+_, _-_, _*_, _/_, _%_, _≤_, _<_}
 use native.Mathlib.Omega.{arith}
 use lib.ListN.{length}
 use borrow.Author.Tests.{eqb-true, eq-eqb}
 use Rattle.memory.specs.Cases.{either, bool?}
 use Rattle.memory.specs.Numbers.{euclid, mod-of}
-use Rattle.layout.specs.Geometry.{Geometry, recordCapacity, deletionCapacity, filterBits}
+use Rattle.layout.specs.Geometry.{Geometry, recordCapacity, deletionCapacity, ramSize}
 use Rattle.layout.specs.Flash.{Planned}
 use Rattle.layout.specs.Hash.{Family}
 use Rattle.layout.specs.Items.{RA, KA, DA, fills, deletionBytes, entryBytes}
-use Rattle.layout.specs.Calls.{newFilter, deletionPlan, deletionRam, insertionPlan, insertionRam}
+use Rattle.layout.specs.Calls.{newFilter, newHalf, deletionPlan, deletionRam, insertionPlan, insertionRam}
 use Rattle.laws.specs.Lengths.{Long}
 use Rattle.geometry.specs.declared.Geometry.{Geometry as CodeGeometry}
 use Rattle.geometry.specs.Shape.{shape, Sound}
-use Rattle.filter.specs.Filter.{arrayBit}
+use Rattle.filter.specs.Fourths.{FourthsOf}
 use Rattle.plan.specs.declared.Plan.{Plan}
-use Rattle.plan.specs.Plans.{PlanFits, deletionIn, recordIn, entryIn, planned}
+use Rattle.plan.specs.Plans.{PlanFits, deletionIn, recordIn, entryIn, deletionFourths, entryFourths, planned}
 use Rattle.planning.specs.declared.Slots.{Slots}
 use Rattle.planning.specs.declared.Slots.the-variants.{Delete, Insert, Update}
 use Rattle.planning.specs.Numbers.{deletionNumbers, insertionNumbers, updateNumbers}
@@ -45,36 +45,44 @@ module _ (g : Geometry) where
   -- the layout's plan and RAM, of the deletion of record j and of a record with its key and bytes
   module _ (h : Family) (j key : ℕ) (bytes ram : List ℕ) where
     abbrev pub planOf : Slots → List Planned
-    planOf (Delete d) = deletionPlan g d j ram
+    planOf (Delete d) = deletionPlan h g d j ram
     planOf (Insert n) = insertionPlan h g n key bytes ram
-    planOf (Update d n) = deletionPlan g d j ram ++ insertionPlan h g n key bytes ram
+    planOf (Update d n) = deletionPlan h g d j ram ++ insertionPlan h g n key bytes ram
 
     abbrev pub ramOf : Slots → List ℕ
-    ramOf (Delete d) = deletionRam g d j ram
+    ramOf (Delete d) = deletionRam h g d j ram
     ramOf (Insert n) = insertionRam h g n key bytes ram
-    ramOf (Update d n) = insertionRam h g n key bytes (deletionRam g d j ram)
+    ramOf (Update d n) = insertionRam h g n key bytes (deletionRam h g d j ram)
 
--- ---- the new bytes and the bits are those of a change
+-- ---- the new bytes and the fourths of the new filters are those of a change
 
--- of record n and its entry; the bits where the entry fills its page
-pub record RecordGiven (h : Family) (g : Geometry) (n key : ℕ) (bytes new bits ram : List ℕ) : Type 0 where
+-- of deletion d, of record j; the filters where the deletion fills its page
+pub record DeletionGiven (h : Family) (g : Geometry) (d j : ℕ) (new filters ram : List ℕ) : Type 0 where
+  pub number-is : deletionIn new ≡ deletionBytes j
+  pub filters-are : fills (DA g) d ≡ true → FourthsOf (g .u) 2 (λ i. newHalf h g d j i ram) (deletionFourths filters)
+
+-- of record n and its entry; the filter where the entry fills its page
+pub record RecordGiven (h : Family) (g : Geometry) (n key : ℕ) (bytes new filters ram : List ℕ) : Type 0 where
   pub size : length bytes ≡ 16
   pub record-is : recordIn new ≡ bytes
   pub entry-is : entryIn new ≡ entryBytes key n
-  pub filter-is : fills (KA g) n ≡ true → (x : ℕ) → x < filterBits (g .u) → arrayBit bits x ≡ newFilter h g n key ram x
+  pub filter-is : fills (KA g) n ≡ true → FourthsOf (g .u) 1 (λ i. newFilter h g n key ram) (entryFourths filters)
 
-module _ (h : Family) (g : Geometry) (j key : ℕ) (bytes new bits ram : List ℕ) where
+module _ (h : Family) (g : Geometry) (j key : ℕ) (bytes new filters ram : List ℕ) where
   abbrev pub Given : Slots → Type 0
-  Given (Delete d) = deletionIn new ≡ deletionBytes j
-  Given (Insert n) = RecordGiven h g n key bytes new bits ram
-  Given (Update d n) = (deletionIn new ≡ deletionBytes j) × RecordGiven h g n key bytes new bits ram
+  Given (Delete d) = DeletionGiven h g d j new filters ram
+  Given (Insert n) = RecordGiven h g n key bytes new filters ram
+  Given (Update d n) = DeletionGiven h g d j new filters ram × RecordGiven h g n key bytes new filters ram
 
   -- then the plan stands for the layout's
-  pub edit-planned : (e : Slots) → Given e → planned (numbersOf g e) new bits ram ≡ planOf g h j key bytes ram e
-  edit-planned (Delete d) G = deletion-planned g d j new bits ram G
-  edit-planned (Insert n) G = insertion-planned h g n key bytes new bits ram (G .size) (G .record-is) (G .entry-is) (G .filter-is)
-  edit-planned (Update d n) G =
-      update-planned h g n key bytes new bits ram (G .1 .size) (G .1 .record-is) (G .1 .entry-is) (G .1 .filter-is) d j (G .0)
+  pub edit-planned : 0 < g .u → ramSize g ≤ length ram → (e : Slots) → Given e
+      → planned (numbersOf g e) new filters ram ≡ planOf g h j key bytes ram e
+  edit-planned pos long (Delete d) G = deletion-planned h g d j new filters ram pos long (G .number-is) (G .filters-are)
+  edit-planned pos long (Insert n) G =
+      insertion-planned h g n key bytes new filters ram (G .size) (G .record-is) (G .entry-is) (G .filter-is)
+  edit-planned pos long (Update d n) G =
+      update-planned h g n key bytes new filters ram (G .1 .size) (G .1 .record-is) (G .1 .entry-is) (G .1 .filter-is)
+      d j pos long (G .0 .number-is) (G .0 .filters-are)
 
 -- and it fits
 pub edit-fits : (g : CodeGeometry) → Sound g → (main spare ram : List ℕ) → Long (shape g) main spare ram → (e : Slots) → Room (shape g) e
@@ -95,7 +103,7 @@ entry-then-record g n pos e =
     eq-eqb (n % (4 * g .u) + 1) (4 * g .u) (omega (arith, r, pos))
 
 module _ (h : Family) (g : Geometry) (pos : 0 < g .u) (j key : ℕ) (bytes ram : List ℕ) where
-  deletion-none : (d : ℕ) → fills (DA g) d ≡ false → deletionPlan g d j ram ≡ []
+  deletion-none : (d : ℕ) → fills (DA g) d ≡ false → deletionPlan h g d j ram ≡ []
   unfolding deletionPlan
   deletion-none d e = rw e
 

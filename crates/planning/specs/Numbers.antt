@@ -3,14 +3,16 @@ use mathlib.Core.Path.{_≡_, refl}
 use mathlib.Core.Bool.{Bool, true, false, cond}
 use Prim.Native.Nat.{ℕ, _+_, _*_, _/_}
 use lib.Dec.{eqb}
-use Rattle.layout.specs.Geometry.{Geometry, sectorsPerPage, sectorsPerBlock}
+use Rattle.layout.specs.Geometry.{Geometry, sectorsPerPage, sectorsPerBlock, fourthSize}
 use Rattle.layout.specs.Items.{Area, RA, KA, DA, fills}
 use Rattle.layout.specs.Index.{inSka, inL1, inSet, inFull, filtersPerFlush, flushesPerRound, setBlock, setPages, sideBlock, setBlocks}
-use Rattle.layout.specs.Calls.{keyIndex, keyFilters}
+use Rattle.layout.specs.Calls.{keyFilters, deletionFilters}
 use Rattle.geometry.specs.Shape.{chipOf}
-use Rattle.geometry.specs.Indexes.{indexFor}
+use Rattle.geometry.specs.Indexes.{indexOf, indexFor, deletionIndexFor}
+use Rattle.geometry.specs.declared.sets.Index.{Index}
 use Rattle.plan.specs.declared.Plan.{Plan}
 use Rattle.plan.specs.declared.Segment.{Segment}
+use Rattle.plan.specs.declared.Summary.{Summary}
 
 abbrev pub none : Segment
 none = record { first = 0; count = 0 }
@@ -23,112 +25,107 @@ by-test : {A : Type 0} (Q : A → Type 0) (b : Bool) (x y : A) → (b ≡ true �
 by-test Q true x y t f = t refl
 by-test Q false x y t f = f refl
 
-module _ (g : Geometry) where
-  -- the page of a deletion, and no more
-  abbrev pub startPlan : Segment → Plan
-  startPlan da = record {
-    chip = chipOf g;
-    da = da;
-    ra = none;
-    ka = none;
+-- ---- what new filters add to an index of which `piece` bytes of each flushed sector are new
+
+module _ (u piece : ℕ) (ix : Index) where
+  -- nothing
+  abbrev pub noSummary : Summary
+  noSummary = record {
+    piece = piece;
     flush = none;
     set = none;
     l1 = none;
     old = none;
-    next = record { index = indexFor g; «full_sets» = 0; rounds = 0 };
+    next = record { index = ix; «full_sets» = 0; rounds = 0 };
   }
 
-  -- with the pages of record n and of its entry
-  abbrev pub addPages : ℕ → Plan → Plan
-  addPages n p = record {
-    chip = p .chip;
-    da = p .da;
-    ra = pageOf (RA g) n;
-    ka = pageOf (KA g) n;
-    flush = p .flush;
-    set = p .set;
-    l1 = p .l1;
-    old = p .old;
-    next = p .next;
-  }
+  module _ (F : ℕ) where
+    -- the flush that filter F makes
+    abbrev pub flushSegment : Segment
+    flushSegment = record { first = ix .first * sectorsPerBlock + inL1 F; count = sectorsPerPage }
 
-  -- with the flush that filter F makes
-  abbrev pub addFlush : ℕ → Plan → Plan
-  addFlush F p = record {
-    chip = p .chip;
-    da = p .da;
-    ra = p .ra;
-    ka = p .ka;
-    flush = record { first = keyIndex g .first * sectorsPerBlock + inL1 F; count = sectorsPerPage };
-    set = p .set;
-    l1 = p .l1;
-    old = p .old;
-    next = p .next;
-  }
+    abbrev pub flushSummary : Summary
+    flushSummary = record {
+      piece = piece;
+      flush = flushSegment;
+      set = none;
+      l1 = none;
+      old = none;
+      next = record { index = ix; «full_sets» = 0; rounds = 0 };
+    }
 
-  -- with the set that it completes, and the erases
-  abbrev pub addSet : ℕ → Plan → Plan
-  addSet F p = record {
-    chip = p .chip;
-    da = p .da;
-    ra = p .ra;
-    ka = p .ka;
-    flush = p .flush;
-    set = record {
-      first = setBlock (g .u) (keyIndex g) (inFull (g .u) F) (inSet (g .u) F) * sectorsPerBlock;
-      count = setPages (inSet (g .u) F + 1) * sectorsPerPage;
-    };
-    l1 = record { first = keyIndex g .first; count = 1 };
-    old = record { first = sideBlock (g .u) (keyIndex g) (inSet (g .u) F); count = setBlocks (inSet (g .u) F) };
-    next = record { index = indexFor g; «full_sets» = inFull (g .u) F; rounds = inSet (g .u) F };
-  }
+    -- with the set that it completes, and the erases
+    abbrev pub setSummary : Summary
+    setSummary = record {
+      piece = piece;
+      flush = flushSegment;
+      set = record {
+        first = setBlock u (indexOf ix) (inFull u F) (inSet u F) * sectorsPerBlock;
+        count = setPages (inSet u F + 1) * sectorsPerPage;
+      };
+      l1 = record { first = ix .first; count = 1 };
+      old = record { first = sideBlock u (indexOf ix) (inSet u F); count = setBlocks (inSet u F) };
+      next = record { index = ix; «full_sets» = inFull u F; rounds = inSet u F };
+    }
 
-  -- what filter F adds: the flush where it is an eighth, and the set where that ends a round
-  unfoldable pub addFilter : ℕ → Plan → Plan
-  addFilter F p =
-      cond (eqb (inSka F + 1) filtersPerFlush)
-      (cond (eqb (inL1 F + 1) flushesPerRound) (addSet F (addFlush F p)) (addFlush F p)) p
+    -- what filter F, the last of the new ones, adds: the flush where it is an eighth, and the set where that ends a round
+    unfoldable pub summaryAt : Summary
+    summaryAt = cond (eqb (inSka F + 1) filtersPerFlush) (cond (eqb (inL1 F + 1) flushesPerRound) setSummary flushSummary) noSummary
 
-  -- record n and its entry after the page of a deletion
-  unfoldable pub addRecord : Segment → ℕ → Plan
-  addRecord da n =
-      let p : Plan = addPages n (startPlan da) in
-      cond (fills (KA g) n) (addFilter (keyFilters g n) p) p
+    -- what holds of it: without a flush, with the flush, and with the set
+    module _ (Q : Summary → Type 0) where
+      pub by-summary : (eqb (inSka F + 1) filtersPerFlush ≡ false → Q noSummary)
+          → (eqb (inSka F + 1) filtersPerFlush ≡ true → eqb (inL1 F + 1) flushesPerRound ≡ false → Q flushSummary)
+          → (eqb (inSka F + 1) filtersPerFlush ≡ true → eqb (inL1 F + 1) flushesPerRound ≡ true → Q setSummary) → Q summaryAt
+      unfolding summaryAt
+      by-summary no-flush no-set all =
+          by-test Q (eqb (inSka F + 1) filtersPerFlush) _ _
+          (λ eight. by-test Q (eqb (inL1 F + 1) flushesPerRound) _ _ (all eight) (no-set eight)) no-flush
 
-  -- what holds of a record's plan: of its pages alone, with the flush, and with the set
-  module _ (Q : Plan → Type 0) (da : Segment) (n : ℕ) where
-    abbrev F : ℕ
-    F = keyFilters g n
+module _ (g : Geometry) where
+  -- an index to which nothing is added; a page of deletions adds two filters, one of entries adds one
+  abbrev pub noDeletions : Summary
+  noDeletions = noSummary (g .u) (2 * fourthSize (g .u)) (deletionIndexFor g)
 
-    abbrev p : Plan
-    p = addPages n (startPlan da)
+  abbrev pub noEntries : Summary
+  noEntries = noSummary (g .u) (fourthSize (g .u)) (indexFor g)
 
-    -- an entry fills its page, its filter the SKA page, and that the round
-    abbrev page? : Bool
-    page? = fills (KA g) n
+  -- what deletion d adds, and what entry n does, where it fills its page
+  abbrev pub deletionSummary : ℕ → Summary
+  deletionSummary d =
+      cond (fills (DA g) d) (summaryAt (g .u) (2 * fourthSize (g .u)) (deletionIndexFor g) (deletionFilters g d + 1)) noDeletions
 
-    abbrev flush? : Bool
-    flush? = eqb (inSka F + 1) filtersPerFlush
-
-    abbrev set? : Bool
-    set? = eqb (inL1 F + 1) flushesPerRound
-
-    pub by-record : (page? ≡ false → Q p) → (page? ≡ true → flush? ≡ false → Q p)
-        → (page? ≡ true → flush? ≡ true → set? ≡ false → Q (addFlush F p))
-        → (page? ≡ true → flush? ≡ true → set? ≡ true → Q (addSet F (addFlush F p))) → Q (addRecord da n)
-    unfolding addRecord addFilter
-    by-record no-page no-flush no-set all =
-        by-test Q page? _ _
-        (λ full. by-test Q flush? _ _ (λ eight. by-test Q set? _ _ (all full eight) (no-set full eight)) (no-flush full))
-        no-page
+  abbrev pub entrySummary : ℕ → Summary
+  entrySummary n = cond (fills (KA g) n) (summaryAt (g .u) (fourthSize (g .u)) (indexFor g) (keyFilters g n)) noEntries
 
   -- ---- the plans
 
   abbrev pub deletionNumbers : ℕ → Plan
-  deletionNumbers d = startPlan (pageOf (DA g) d)
+  deletionNumbers d = record {
+    chip = chipOf g;
+    da = pageOf (DA g) d;
+    «da_index» = deletionSummary d;
+    ra = none;
+    ka = none;
+    «ka_index» = noEntries;
+  }
 
   abbrev pub insertionNumbers : ℕ → Plan
-  insertionNumbers n = addRecord none n
+  insertionNumbers n = record {
+    chip = chipOf g;
+    da = none;
+    «da_index» = noDeletions;
+    ra = pageOf (RA g) n;
+    ka = pageOf (KA g) n;
+    «ka_index» = entrySummary n;
+  }
 
   abbrev pub updateNumbers : ℕ → ℕ → Plan
-  updateNumbers d n = addRecord (pageOf (DA g) d) n
+  updateNumbers d n = record {
+    chip = chipOf g;
+    da = pageOf (DA g) d;
+    «da_index» = deletionSummary d;
+    ra = pageOf (RA g) n;
+    ka = pageOf (KA g) n;
+    «ka_index» = entrySummary n;
+  }

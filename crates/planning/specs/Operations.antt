@@ -1,28 +1,32 @@
 -- The lists that the plans stand for are the layout's.
 use mathlib.Core.Path.{_≡_, refl, sym, ap, _∙_}
 use mathlib.Core.Bool.{Bool, true, false, cond}
-use mathlib.Core.List.{List, [], _++_, append-nil, append-assoc}
-use Prim.Native.Nat.{ℕ, _+_, _-_, _*_, _%_, _<_}
+use mathlib.Core.List.{List, [], _++_, append-nil}
+use Prim.Native.Nat.{ℕ, _+_, _-_, _*_, _/_, _%_, _≤_, _<_}
 use native.Mathlib.Omega.{arith}
 use lib.Dec.{eqb}
 use lib.ListN.{length}
 use borrow.Author.Tests.{eqb-true}
+use Rattle.memory.specs.Booleans.{cond-pos, cond-neg}
 use Rattle.memory.specs.Lists.{write}
-use Rattle.layout.specs.Geometry.{Geometry, page, filterBits}
+use Rattle.layout.specs.Geometry.{Geometry, sector, page, fourthSize, ramSize}
 use Rattle.layout.specs.Flash.{Planned, plannedFrom}
 use Rattle.layout.specs.Hash.{Family}
 use Rattle.layout.specs.Items.{Area, RA, KA, DA, put, fills, itemPlan, entryBytes, deletionBytes}
-use Rattle.layout.specs.Index.{inSka, inL1, inSet, inFull, withFilter, flushSector, buildPlan, flushAndBuild, filterPlan}
-use Rattle.layout.specs.Calls.{keyIndex, keyFilters, deletionPlan, newFilter, summarized, insertionPlan}
+use Rattle.layout.specs.Index as layout
+use Rattle.layout.specs.Index.{inSka, inL1, inSet, inFull, withFilter, buildPlan, flushAndBuild, filterPlan, filterRam}
+use Rattle.layout.specs.Calls.{keyIndex, keyFilters, newFilter, summarized, insertionPlan}
+use Rattle.layout.specs.Calls.{deletionIndex, deletionFilters, newHalf, firstHalf, secondHalf, deletionPlan}
 use Rattle.laws.specs.ItemLaws.{length-entry, length-deletion}
-use Rattle.filter.specs.Filter.{arrayBit}
-use Rattle.filter.specs.Pieces.{with-filter-ext}
-use Rattle.plan.specs.declared.Plan.{Plan}
-use Rattle.plan.specs.declared.Segment.{Segment}
-use Rattle.plan.specs.Segments.{pageFrom, withItem, withEighth, filledPage, flushFrom, flushed}
-use Rattle.plan.specs.Plans.{deletionIn, recordIn, entryIn, flushPage, buildOf, planned}
-use Rattle.planning.specs.Numbers.{none, pageOf, addRecord, by-record, deletionNumbers, insertionNumbers, updateNumbers}
-use Rattle.memory.specs.Booleans.{cond-pos, cond-neg}
+use Rattle.laws.specs.SetLaws.{first-of-pair}
+use Rattle.geometry.specs.declared.sets.Index.{Index}
+use Rattle.geometry.specs.Indexes.{indexOf, indexFor, deletionIndexFor}
+use Rattle.filter.specs.Fourths.{FourthsOf, withFourths, one-filter, two-filters}
+use Rattle.plan.specs.declared.Summary.{Summary}
+use Rattle.plan.specs.Segments.{pageFrom, withItem, filledPage, flushFrom}
+use Rattle.plan.specs.Plans.{deletionIn, recordIn, entryIn, deletionFourths, entryFourths, summaryOf, deletionOf, planned}
+use Rattle.planning.specs.Numbers.{pageOf, summaryAt, by-summary, deletionSummary, entrySummary}
+use Rattle.planning.specs.Numbers.{deletionNumbers, insertionNumbers, updateNumbers}
 
 -- ---- a page that item n fills
 
@@ -52,113 +56,143 @@ module _ (u : ℕ) (a : Area) (n : ℕ) (item ram : List ℕ) (whole : a .perPag
       by-fill false q = refl
       by-fill true q = ap four (item-last q)
 
--- ---- a deletion
+-- ---- what new filters add to an index
 
-pub deletion-planned : (g : Geometry) (d j : ℕ) (new bits ram : List ℕ) → deletionIn new ≡ deletionBytes j
-    → planned (deletionNumbers g d) new bits ram ≡ deletionPlan g d j ram
-unfolding deletionPlan
-deletion-planned g d j new bits ram e =
-    let xs : List Planned = pagePlan (g .u) (DA g) d ram (deletionIn new) in
-    append-nil (xs ++ []) ∙ append-nil xs ∙ ap (pagePlan (g .u) (DA g) d ram) e
-    ∙ page-planned (g .u) (DA g) d (deletionBytes j) ram (omega arith) (length-deletion j)
+module _ (u piece : ℕ) (ix : Index) (F : ℕ) (fourths ram new : List ℕ) where
+  -- `new` is the RAM with the new filters, of which F is the last
+  abbrev Joined : Type 0
+  Joined = eqb (inSka F + 1) 8 ≡ true → withFourths u piece (ix .ska + (sector u - piece)) fourths ram ≡ new
 
--- ---- a record and its entry after the page of a deletion
-
-module _ (h : Family) (g : Geometry) (n key : ℕ) (bytes new bits ram : List ℕ) where
-  abbrev u : ℕ
-  u = g .u
-
-  abbrev F : ℕ
-  F = keyFilters g n
-
-  -- the bits are those of the filter of the page that the entry fills
-  abbrev pub IsFilter : Type 0
-  IsFilter = fills (KA g) n ≡ true → (x : ℕ) → x < filterBits (g .u) → arrayBit bits x ≡ newFilter h g n key ram x
-
-  -- what comes behind the pages
-  abbrev tail : Plan → List Planned
-  tail p = plannedFrom (flushed (p .chip .unit) (flushPage p) bits ram) 0 (p .flush .count) ++ buildOf p
-
-  abbrev filter-plan : List Planned
-  filter-plan = cond (fills (KA g) n) (filterPlan u (keyIndex g) F (summarized h g n key ram ram)) []
-
-  abbrev flush-plan : List Planned
-  flush-plan = plannedFrom (flushSector u (keyIndex g) (inL1 F) (summarized h g n key ram ram)) 0 4
-
-  flush-planned : IsFilter → fills (KA g) n ≡ true → eqb (inSka F + 1) 8 ≡ true
-      → plannedFrom (flushFrom u (keyIndex g .first * 64 + inL1 F) (keyIndex g .ska) (withEighth u (keyIndex g .ska) bits ram)) 0 4
-      ≡ flush-plan
-  flush-planned is full eight =
-      let seven : 7 ≡ inSka F = omega (arith, eqb-true (inSka F + 1) 8 eight) in
-      let r : withEighth u (keyIndex g .ska) bits ram ≡ summarized h g n key ram ram
-      = with-filter-ext u (keyIndex g) 7 (arrayBit bits) (newFilter h g n key ram) ram (is full)
-      ∙ ap (λ (s : ℕ). withFilter u (keyIndex g) s (newFilter h g n key ram) ram) seven in
-      ap (λ (l : List ℕ). plannedFrom (flushFrom u (keyIndex g .first * 64 + inL1 F) (keyIndex g .ska) l) 0 4) r
+  abbrev flush-plan : List ℕ → List Planned
+  flush-plan r = plannedFrom (flushFrom u (ix .first * 64 + inL1 F) (ix .ska) r) 0 4
 
   abbrev set-plan : List Planned
-  set-plan = buildPlan u (keyIndex g) (inFull u F) (inSet u F)
+  set-plan = buildPlan u (indexOf ix) (inFull u F) (inSet u F)
 
-  full-plan : fills (KA g) n ≡ true → eqb (inSka F + 1) 8 ≡ true
-      → filter-plan ≡ flush-plan ++ cond (eqb (inL1 F + 1) 16) set-plan []
+  flush-first : eqb (inSka F + 1) 8 ≡ true → filterPlan u (indexOf ix) F new ≡ flush-plan new ++ cond (eqb (inL1 F + 1) 16) set-plan []
   unfolding flushAndBuild
-  full-plan full eight =
-      cond-pos (fills (KA g) n) (filterPlan u (keyIndex g) F (summarized h g n key ram ram)) [] full
-      ∙ cond-pos (eqb (inSka F + 1) 8) (flushAndBuild u (keyIndex g) F (summarized h g n key ram ram)) [] eight
+  flush-first eight = cond-pos (eqb (inSka F + 1) 8) (flushAndBuild u (indexOf ix) F new) [] eight
 
-  tail-planned : (da : Segment) → IsFilter → tail (addRecord g da n) ≡ filter-plan
-  tail-planned da is =
-      by-record g (λ p. tail p ≡ filter-plan) da n
-      (λ full. sym (cond-neg (fills (KA g) n) (filterPlan u (keyIndex g) F (summarized h g n key ram ram)) [] full))
-      (λ full eight.
-      sym (cond-pos (fills (KA g) n) (filterPlan u (keyIndex g) F (summarized h g n key ram ram)) [] full
-      ∙ cond-neg (eqb (inSka F + 1) 8) (flushAndBuild u (keyIndex g) F (summarized h g n key ram ram)) [] eight))
-      (λ full eight last.
-      ap (λ (l : List Planned). l ++ []) (flush-planned is full eight)
-      ∙ sym (full-plan full eight
-      ∙ ap (λ (l : List Planned). flush-plan ++ l) (cond-neg (eqb (inL1 F + 1) 16) set-plan [] last)))
-      (λ full eight last.
-      ap (λ (l : List Planned). l ++ set-plan) (flush-planned is full eight)
-      ∙ sym (full-plan full eight
-      ∙ ap (λ (l : List Planned). flush-plan ++ l) (cond-pos (eqb (inL1 F + 1) 16) set-plan [] last)))
+  summary-planned : Joined → summaryOf u (summaryAt u piece ix F) fourths ram ≡ filterPlan u (indexOf ix) F new
+  summary-planned joined =
+      by-summary u piece ix F (λ s. summaryOf u s fourths ram ≡ filterPlan u (indexOf ix) F new)
+      (λ eight. sym (cond-neg (eqb (inSka F + 1) 8) (flushAndBuild u (indexOf ix) F new) [] eight))
+      (λ eight last.
+      ap (λ (r : List ℕ). flush-plan r ++ []) (joined eight)
+      ∙ sym (flush-first eight ∙ ap (λ (l : List Planned). flush-plan new ++ l) (cond-neg (eqb (inL1 F + 1) 16) set-plan [] last)))
+      (λ eight last.
+      ap (λ (r : List ℕ). flush-plan r ++ set-plan) (joined eight)
+      ∙ sym (flush-first eight ∙ ap (λ (l : List Planned). flush-plan new ++ l) (cond-pos (eqb (inL1 F + 1) 16) set-plan [] last)))
 
-  -- the page of a deletion, whatever it holds
-  abbrev deletion-page : Segment → List Planned
-  deletion-page da = plannedFrom (filledPage u (record { sector = da .first; at = DA g .ram }) (deletionIn new) ram) 0 (da .count)
+-- a page that is not full adds nothing
+by-page : (u : ℕ) (b : Bool) (s none : Summary) (fourths ram : List ℕ) (plan : List Planned) → summaryOf u none fourths ram ≡ []
+    → (b ≡ true → summaryOf u s fourths ram ≡ plan) → summaryOf u (cond b s none) fourths ram ≡ cond b plan []
+by-page u true s none fourths ram plan e f = f refl
+by-page u false s none fourths ram plan e f = e
 
-  -- every plan of a record has the same pages
-  abbrev pages : Segment → List Planned
-  pages da = deletion-page da ++ (pagePlan u (RA g) n ram (recordIn new) ++ pagePlan u (KA g) n ram (entryIn new))
+-- ---- a deletion
 
-  parts : (da : Segment) → planned (addRecord g da n) new bits ram ≡ pages da ++ tail (addRecord g da n)
-  parts da =
-      by-record g (λ p. planned p new bits ram ≡ pages da ++ tail p) da n (λ a. refl) (λ a b. refl) (λ a b c. refl) (λ a b c. refl)
+-- the filter before the eighth is the seventh
+seventh : (F : ℕ) → inSka (F + 1) + 1 ≡ 8 → 6 ≡ inSka F
+seventh F e = omega (arith, e)
 
-  module _ (size : length bytes ≡ 16) (record-is : recordIn new ≡ bytes) (entry-is : entryIn new ≡ entryBytes key n) (is : IsFilter) where
-    record-planned : pagePlan u (RA g) n ram (recordIn new) ≡ itemPlan u (RA g) n bytes ram
-    record-planned = ap (pagePlan u (RA g) n ram) record-is ∙ page-planned u (RA g) n bytes ram (omega arith) size
+module _ (h : Family) (g : Geometry) (d j : ℕ) (new filters ram : List ℕ) (pos : 0 < g .u) (long : ramSize g ≤ length ram)
+    (number-is : deletionIn new ≡ deletionBytes j)
+    (filters-are : fills (DA g) d ≡ true → FourthsOf (g .u) 2 (λ i. newHalf h g d j i ram) (deletionFourths filters)) where
+  abbrev F : ℕ
+  F = deletionFilters g d
 
-    entry-planned : pagePlan u (KA g) n ram (entryIn new) ≡ itemPlan u (KA g) n (entryBytes key n) ram
-    entry-planned =
-        ap (pagePlan u (KA g) n ram) entry-is ∙ page-planned u (KA g) n (entryBytes key n) ram (omega arith) (length-entry key n)
+  abbrev ix : layout.Index
+  ix = deletionIndex g
 
-    all-planned : (da : Segment) → planned (addRecord g da n) new bits ram ≡ deletion-page da ++ insertionPlan h g n key bytes ram
-    unfolding insertionPlan
-    all-planned da =
-        let A : List Planned = deletion-page da in
-        let R : List Planned = pagePlan u (RA g) n ram (recordIn new) in
-        let E : List Planned = pagePlan u (KA g) n ram (entryIn new) in
-        let T : List Planned = tail (addRecord g da n) in
-        parts da ∙ append-assoc A (R ++ E) T ∙ ap (λ (l : List Planned). A ++ l) (append-assoc R E T)
-        ∙ (λ q. A ++ (record-planned q ++ (entry-planned q ++ tail-planned da is q)))
+  abbrev half : ℕ → ℕ → Bool
+  half i = newHalf h g d j i ram
 
-    pub insertion-planned : planned (insertionNumbers g n) new bits ram ≡ insertionPlan h g n key bytes ram
-    insertion-planned = all-planned none
+  -- the first filter of the page flushes nothing
+  abbrev first-plan : List Planned
+  first-plan = filterPlan (g .u) ix F (firstHalf h g d j ram ram)
 
-    -- "An update is a deletion followed by an insertion, in one call"
-    pub update-planned : (d j : ℕ) → deletionIn new ≡ deletionBytes j
-        → planned (updateNumbers g d n) new bits ram ≡ deletionPlan g d j ram ++ insertionPlan h g n key bytes ram
-    unfolding deletionPlan
-    update-planned d j e =
-        all-planned (pageOf (DA g) d)
-        ∙ ap (λ (l : List Planned). l ++ insertionPlan h g n key bytes ram)
-        (ap (pagePlan u (DA g) d ram) e ∙ page-planned u (DA g) d (deletionBytes j) ram (omega arith) (length-deletion j))
+  first-none : first-plan ≡ []
+  first-none = cond-neg (eqb (inSka F + 1) 8) (flushAndBuild (g .u) ix F (firstHalf h g d j ram ram)) [] (first-of-pair (d / (16 * g .u)))
+
+  first-stays : filterRam (g .u) ix F (firstHalf h g d j ram ram) ≡ firstHalf h g d j ram ram
+  first-stays = cond-neg (eqb (inSka F + 1) 8) _ (firstHalf h g d j ram ram) (first-of-pair (d / (16 * g .u)))
+
+  -- and the second is flushed with both
+  both-joined : fills (DA g) d ≡ true → eqb (inSka (F + 1) + 1) 8 ≡ true
+      → withFourths (g .u) (2 * fourthSize (g .u)) (ix .ska + (sector (g .u) - 2 * fourthSize (g .u))) (deletionFourths filters) ram
+      ≡ secondHalf h g d j ram ram
+  both-joined full eight =
+      let seven : 7 ≡ inSka (F + 1) = omega (arith, eqb-true (inSka (F + 1) + 1) 8 eight) in
+      let six : 6 ≡ inSka F = seventh F (eqb-true (inSka (F + 1) + 1) 8 eight) in
+      let at : ix .ska + (sector (g .u) - 2 * fourthSize (g .u)) ≡ ix .ska + 6 * fourthSize (g .u) = omega arith in
+      let joined = two-filters (g .u) (2 * fourthSize (g .u)) ix 6 half (deletionFourths filters) ram refl pos (omega arith)
+      (omega (arith, long)) (filters-are full) in
+      ap (λ (a : ℕ). withFourths (g .u) (2 * fourthSize (g .u)) a (deletionFourths filters) ram) at ∙ joined
+      ∙ (λ q. withFilter (g .u) ix (seven q) (half 1) (withFilter (g .u) ix (six q) (half 0) ram))
+      ∙ sym (ap (withFilter (g .u) ix (inSka (F + 1)) (half 1)) first-stays)
+
+  filters-planned : summaryOf (g .u) (deletionSummary g d) (deletionFourths filters) ram
+      ≡ cond (fills (DA g) d) (first-plan ++ filterPlan (g .u) ix (F + 1) (secondHalf h g d j ram ram)) []
+  filters-planned =
+      by-page (g .u) (fills (DA g) d) _ _ (deletionFourths filters) ram _ refl
+      (λ full.
+      summary-planned (g .u) (2 * fourthSize (g .u)) (deletionIndexFor g) (F + 1) (deletionFourths filters) ram (secondHalf h g d j ram ram)
+      (both-joined full)
+      ∙ sym (ap (λ (l : List Planned). l ++ filterPlan (g .u) ix (F + 1) (secondHalf h g d j ram ram)) first-none))
+
+  -- its page, and the index over the deletions
+  deletion-part : deletionOf (deletionNumbers g d) new filters ram ≡ deletionPlan h g d j ram
+  unfolding deletionPlan
+  deletion-part =
+      let item = ap (pagePlan (g .u) (DA g) d ram) number-is
+      ∙ page-planned (g .u) (DA g) d (deletionBytes j) ram (omega arith) (length-deletion j) in
+      (λ q. item q ++ filters-planned q)
+
+  pub deletion-planned : planned (deletionNumbers g d) new filters ram ≡ deletionPlan h g d j ram
+  deletion-planned = append-nil (deletionOf (deletionNumbers g d) new filters ram) ∙ deletion-part
+
+-- ---- a record and its entry
+
+module _ (h : Family) (g : Geometry) (n key : ℕ) (bytes new filters ram : List ℕ) (size : length bytes ≡ 16)
+    (record-is : recordIn new ≡ bytes) (entry-is : entryIn new ≡ entryBytes key n)
+    (filter-is : fills (KA g) n ≡ true → FourthsOf (g .u) 1 (λ i. newFilter h g n key ram) (entryFourths filters)) where
+  abbrev K : ℕ
+  K = keyFilters g n
+
+  one-joined : fills (KA g) n ≡ true → eqb (inSka K + 1) 8 ≡ true
+      → withFourths (g .u) (fourthSize (g .u)) (keyIndex g .ska + (sector (g .u) - fourthSize (g .u))) (entryFourths filters) ram
+      ≡ summarized h g n key ram ram
+  one-joined full eight =
+      let seven : 7 ≡ inSka K = omega (arith, eqb-true (inSka K + 1) 8 eight) in
+      let at : keyIndex g .ska + (sector (g .u) - fourthSize (g .u)) ≡ keyIndex g .ska + 7 * fourthSize (g .u) = omega arith in
+      ap (λ (a : ℕ). withFourths (g .u) (fourthSize (g .u)) a (entryFourths filters) ram) at
+      ∙ one-filter (g .u) (fourthSize (g .u)) (keyIndex g) 7 (λ i. newFilter h g n key ram) (entryFourths filters) ram refl (filter-is full)
+      ∙ ap (λ (s : ℕ). withFilter (g .u) (keyIndex g) s (newFilter h g n key ram) ram) seven
+
+  filter-planned : summaryOf (g .u) (entrySummary g n) (entryFourths filters) ram
+      ≡ cond (fills (KA g) n) (filterPlan (g .u) (keyIndex g) K (summarized h g n key ram ram)) []
+  filter-planned =
+      by-page (g .u) (fills (KA g) n) _ _ (entryFourths filters) ram _ refl
+      (λ full.
+      summary-planned (g .u) (fourthSize (g .u)) (indexFor g) K (entryFourths filters) ram (summarized h g n key ram ram) (one-joined full))
+
+  record-planned : pagePlan (g .u) (RA g) n ram (recordIn new) ≡ itemPlan (g .u) (RA g) n bytes ram
+  record-planned = ap (pagePlan (g .u) (RA g) n ram) record-is ∙ page-planned (g .u) (RA g) n bytes ram (omega arith) size
+
+  entry-planned : pagePlan (g .u) (KA g) n ram (entryIn new) ≡ itemPlan (g .u) (KA g) n (entryBytes key n) ram
+  entry-planned =
+      ap (pagePlan (g .u) (KA g) n ram) entry-is
+      ∙ page-planned (g .u) (KA g) n (entryBytes key n) ram (omega arith) (length-entry key n)
+
+  pub insertion-planned : planned (insertionNumbers g n) new filters ram ≡ insertionPlan h g n key bytes ram
+  unfolding insertionPlan
+  insertion-planned q = record-planned q ++ (entry-planned q ++ filter-planned q)
+
+  -- "An update is a deletion followed by an insertion, in one call"
+  pub update-planned : (d j : ℕ) → 0 < g .u → ramSize g ≤ length ram → deletionIn new ≡ deletionBytes j
+      → (fills (DA g) d ≡ true → FourthsOf (g .u) 2 (λ i. newHalf h g d j i ram) (deletionFourths filters))
+      → planned (updateNumbers g d n) new filters ram ≡ deletionPlan h g d j ram ++ insertionPlan h g n key bytes ram
+  update-planned d j pos long number-is filters-are =
+      let part = deletion-part h g d j new filters ram pos long number-is filters-are in
+      (λ q. part q ++ insertion-planned q)

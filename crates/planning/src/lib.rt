@@ -3,19 +3,25 @@ ghost use mathlib.Core.Path.{_≡_};
 ghost use Prim.Native.Nat.{_<_, _≤_};
 ghost use Rattle.layout.specs.Geometry.{recordCapacity, deletionCapacity};
 ghost use Rattle.layout.specs.Items as layout;
-ghost use Rattle.layout.specs.Items.{RA, DA};
-ghost use Rattle.layout.specs.Index.{inFull};
+ghost use Rattle.layout.specs.Items.{RA, KA, DA};
+ghost use Rattle.layout.specs.Index.{inL1, inFull};
+ghost use Rattle.layout.specs.Calls.{deletionFilters};
+ghost use Rattle.laws.specs.Units.{UnitSound};
 ghost use Rattle.geometry.specs.Shape.{shape, Sound, area, AreaSound};
-ghost use Rattle.planning.specs.Numbers.{none, pageOf, startPlan, addSet, addFilter};
-ghost use Rattle.planning.specs.Numbers.{addRecord, deletionNumbers, insertionNumbers, updateNumbers};
+ghost use Rattle.planning.specs.Numbers.{none, pageOf, noSummary, flushSegment, flushSummary, setSummary, summaryAt};
+ghost use Rattle.planning.specs.Numbers.{noDeletions, noEntries, deletionSummary, entrySummary};
+ghost use Rattle.planning.specs.Numbers.{deletionNumbers, insertionNumbers, updateNumbers};
 ghost use Rattle.planning.specs.Edits.{Room, numbersOf, programsIn};
 use geometry::Area;
 use geometry::Chip;
 use geometry::Geometry;
+use geometry::areas;
 use geometry::sets;
+use geometry::sets::Index;
 use geometry::sets::Set;
 use plan::Plan;
 use plan::Segment;
+use plan::Summary;
 
 // ---- segments
 
@@ -40,102 +46,154 @@ fn page(a: Area, n: usize) -> Segment
     }
 }
 
-// ---- parts of a plan
+// ---- what new filters add to an index of which `piece` bytes of each flushed sector are new
 
-// The page of a deletion, and no more.
-fn start(g: Geometry, da: Segment) -> Plan
-    requires { ⌜ Sound g ⌝ }
-    ensures { λ r. ⌜ r ≡ startPlan (shape g) da ⌝ }
+// Nothing.
+fn no_summary(index: Index, piece: usize) -> Summary
+    ensures { λ r. ⌜ r ≡ noSummary 0 piece index ⌝ }
 {
-    let chip = g.chip;
     let none = nothing();
-    Plan {
-        chip,
-        da,
-        ra: none,
-        ka: none,
+    Summary {
+        piece,
         flush: none,
         set: none,
         l1: none,
         old: none,
         next: Set {
-            index: sets::key_index(g),
+            index,
             full_sets: 0,
             rounds: 0,
         },
     }
 }
 
-// The set that filter number `filters` completes, and the erases after it.
-fn add_set(g: Geometry, p: Plan, filters: usize) -> Plan
-    requires { ⌜ Sound g × (inFull (g .chip .unit) filters ≤ 1024) ⌝ }
-    ensures { λ r. ⌜ r ≡ addSet (shape g) filters p ⌝ }
+// The flush of a round that filter number `filters` makes.
+fn flush_number(filters: usize) -> usize
+    ensures { λ r. ⌜ r ≡ inL1 filters ⌝ }
 {
-    let mut o = p;
-    let index = sets::key_index(g);
+    filters / sets::FILTERS_PER_FLUSH % sets::FLUSHES_PER_ROUND
+}
+
+// Its sectors.
+fn flush_segment(index: Index, filters: usize) -> Segment
+    requires { ⌜ index .first ≤ 20000 ⌝ }
+    ensures { λ r. ⌜ r ≡ flushSegment 0 0 index filters ⌝ }
+{
+    let number = flush_number(filters);
+    Segment {
+        first: Chip::first_sector(index.first) + number,
+        count: Chip::SECTORS_PER_PAGE,
+    }
+}
+
+// That flush alone.
+fn flush_summary(index: Index, piece: usize, filters: usize) -> Summary
+    requires { ⌜ index .first ≤ 20000 ⌝ }
+    ensures { λ r. ⌜ r ≡ flushSummary 0 piece index filters ⌝ }
+{
+    let mut s = no_summary(index, piece);
+    s.flush = flush_segment(index, filters);
+    s
+}
+
+// With the set that it completes, and the erases.
+fn set_summary(chip: Chip, index: Index, piece: usize, filters: usize) -> Summary
+    requires { ⌜ UnitSound (chip .unit) × (index .first ≤ 20000) × (inFull (chip .unit) filters ≤ 1024) ⌝ }
+    ensures { λ r. ⌜ r ≡ setSummary (chip .unit) piece index filters ⌝ }
+{
     let rounds = filters / sets::FILTERS_PER_FLUSH / sets::FLUSHES_PER_ROUND;
-    let side = g.chip.side_blocks();
-    let z = rounds / side;
-    let c = rounds % side;
+    let side = chip.side_blocks();
+    let c = areas::slot(side, rounds);
     let next = Set {
         index,
-        full_sets: z,
+        full_sets: rounds / side,
         rounds: c,
     };
-    let set = Segment {
-        first: Chip::first_sector(sets::set_block(g.chip, next)),
-        count: Chip::page_sectors(sets::set_pages(c + 1)),
-    };
-    let l1 = Segment {
-        first: index.first,
-        count: 1,
-    };
-    let old = Segment {
-        first: sets::side_block(g.chip, index, c),
-        count: sets::set_blocks(c),
-    };
-    o.set = set;
-    o.l1 = l1;
-    o.old = old;
-    o.next = next;
-    o
+    Summary {
+        piece,
+        flush: flush_segment(index, filters),
+        set: Segment {
+            first: Chip::first_sector(sets::set_block(chip, next)),
+            count: Chip::page_sectors(sets::set_pages(c + 1)),
+        },
+        l1: Segment {
+            first: index.first,
+            count: 1,
+        },
+        old: Segment {
+            first: sets::side_block(chip, index, c),
+            count: sets::set_blocks(c),
+        },
+        next,
+    }
 }
 
-// What filter number `filters` adds: the flush where it is an eighth, and the set where that ends a round.
-fn add_filter(g: Geometry, p: Plan, filters: usize) -> Plan
-    requires { ⌜ Sound g × (inFull (g .chip .unit) filters ≤ 1024) ⌝ }
-    ensures { λ r. ⌜ r ≡ addFilter (shape g) filters p ⌝ }
+// What filter number `filters`, the last new one, adds: the flush where it is an eighth, and the set where that ends a round.
+fn summary(chip: Chip, index: Index, piece: usize, filters: usize) -> Summary
+    requires { ⌜ UnitSound (chip .unit) × (index .first ≤ 20000) × (inFull (chip .unit) filters ≤ 1024) ⌝ }
+    ensures { λ r. ⌜ r ≡ summaryAt (chip .unit) piece index filters ⌝ }
 {
     if !sets::fills_ska(filters) {
-        return p;
+        return no_summary(index, piece);
     }
-    let mut o = p;
-    let number = filters / sets::FILTERS_PER_FLUSH % sets::FLUSHES_PER_ROUND;
-    let flush = Segment {
-        first: Chip::first_sector(g.index_block()) + number,
-        count: Chip::SECTORS_PER_PAGE,
-    };
-    o.flush = flush;
-    if number + 1 != sets::FLUSHES_PER_ROUND {
-        return o;
+    if flush_number(filters) + 1 != sets::FLUSHES_PER_ROUND {
+        return flush_summary(index, piece, filters);
     }
-    add_set(g, o, filters)
+    set_summary(chip, index, piece, filters)
 }
 
-// Record n and its entry after the page of a deletion.
-fn add_record(g: Geometry, da: Segment, n: usize) -> Plan
-    requires { ⌜ Sound g × (n < recordCapacity (shape g)) ⌝ }
-    ensures { λ r. ⌜ r ≡ addRecord (shape g) da n ⌝ }
+// ---- both indexes: a page of deletions adds two filters, one of entries adds one
+
+fn no_deletions(g: Geometry) -> Summary
+    requires { ⌜ Sound g ⌝ }
+    ensures { λ r. ⌜ r ≡ noDeletions (shape g) ⌝ }
 {
-    let mut p = start(g, da);
-    let ra = page(geometry::record_area(g), n);
-    let ka = page(geometry::entry_area(g), n);
-    p.ra = ra;
-    p.ka = ka;
-    if ka.count == 0 {
-        return p;
+    no_summary(sets::deletion_index(g), 2 * g.chip.fourth_size())
+}
+
+fn no_entries(g: Geometry) -> Summary
+    requires { ⌜ Sound g ⌝ }
+    ensures { λ r. ⌜ r ≡ noEntries (shape g) ⌝ }
+{
+    no_summary(sets::key_index(g), g.chip.fourth_size())
+}
+
+// Filters of the pages before that of deletion d, two of each.
+fn deletion_filters(g: Geometry, d: usize) -> usize
+    requires { ⌜ Sound g × (d < deletionCapacity (shape g)) ⌝ }
+    ensures { λ r. ⌜ r ≡ deletionFilters (shape g) d ⌝ }
+{
+    let per_page = g.deletions_per_page();
+    2 * (d / per_page)
+}
+
+// What deletion d adds; the second of its page's filters is the last.
+fn deletion_summary(g: Geometry, d: usize) -> Summary
+    requires { ⌜ Sound g × (d < deletionCapacity (shape g)) ⌝ }
+    ensures { λ r. ⌜ r ≡ deletionSummary (shape g) d ⌝ }
+{
+    if !deletion_fills(g, d) {
+        return no_deletions(g);
     }
-    add_filter(g, p, n / g.entries_per_page())
+    let filters = deletion_filters(g, d);
+    summary(
+        g.chip,
+        sets::deletion_index(g),
+        2 * g.chip.fourth_size(),
+        filters + 1,
+    )
+}
+
+// What entry n adds.
+fn entry_summary(g: Geometry, n: usize) -> Summary
+    requires { ⌜ Sound g × (n < recordCapacity (shape g)) ⌝ }
+    ensures { λ r. ⌜ r ≡ entrySummary (shape g) n ⌝ }
+{
+    if !entry_fills(g, n) {
+        return no_entries(g);
+    }
+    let filters = n / g.entries_per_page();
+    summary(g.chip, sets::key_index(g), g.chip.fourth_size(), filters)
 }
 
 // ---- plans
@@ -145,7 +203,16 @@ fn deletion(g: Geometry, d: usize) -> Plan
     requires { ⌜ Sound g × (d < deletionCapacity (shape g)) ⌝ }
     ensures { λ r. ⌜ r ≡ deletionNumbers (shape g) d ⌝ }
 {
-    start(g, page(geometry::deletion_area(g), d))
+    let chip = g.chip;
+    let none = nothing();
+    Plan {
+        chip,
+        da: page(geometry::deletion_area(g), d),
+        da_index: deletion_summary(g, d),
+        ra: none,
+        ka: none,
+        ka_index: no_entries(g),
+    }
 }
 
 // Record n and its entry.
@@ -153,7 +220,15 @@ fn insertion(g: Geometry, n: usize) -> Plan
     requires { ⌜ Sound g × (n < recordCapacity (shape g)) ⌝ }
     ensures { λ r. ⌜ r ≡ insertionNumbers (shape g) n ⌝ }
 {
-    add_record(g, nothing(), n)
+    let chip = g.chip;
+    Plan {
+        chip,
+        da: nothing(),
+        da_index: no_deletions(g),
+        ra: page(geometry::record_area(g), n),
+        ka: page(geometry::entry_area(g), n),
+        ka_index: entry_summary(g, n),
+    }
 }
 
 // Deletion d, then record n and its entry.
@@ -161,7 +236,10 @@ fn update(g: Geometry, d: usize, n: usize) -> Plan
     requires { ⌜ Sound g × (d < deletionCapacity (shape g)) × (n < recordCapacity (shape g)) ⌝ }
     ensures { λ r. ⌜ r ≡ updateNumbers (shape g) d n ⌝ }
 {
-    add_record(g, page(geometry::deletion_area(g), d), n)
+    let mut p = insertion(g, n);
+    p.da = page(geometry::deletion_area(g), d);
+    p.da_index = deletion_summary(g, d);
+    p
 }
 
 // ---- the three changes
@@ -199,6 +277,14 @@ fn record_fills(g: Geometry, n: usize) -> bool
     ensures { λ r. ⌜ r ≡ layout.fills (RA (shape g)) n ⌝ }
 {
     geometry::record_area(g).fills(n)
+}
+
+// Does entry n fill its page.
+fn entry_fills(g: Geometry, n: usize) -> bool
+    requires { ⌜ Sound g ⌝ }
+    ensures { λ r. ⌜ r ≡ layout.fills (KA (shape g)) n ⌝ }
+{
+    geometry::entry_area(g).fills(n)
 }
 
 // Does a change program anything: an entry fills no page where its record fills none.

@@ -1,5 +1,5 @@
 // The replay program over more bytes, for a test of what `replay` cannot reach: sets 4 and 5, a full set and a
-// second cycle at S = 16, and a set at S = 64. Its script and answers are made by the Rust model.
+// second cycle at S = 16, sets over deletions, and a set at S = 64. Its script and answers are made by the Rust model.
 ghost use mathlib.Core.Path.{_≡_};
 ghost use lib.ListN.{length};
 
@@ -20,9 +20,9 @@ fn main() {
     let mut input = chunk();
     let mut output = answers();
     let mut line = [0u8; 64];
-    let mut main_area = [0u8; 335872];
-    let mut spare = [0u8; 10176];
-    let mut ram = [0u8; 1280];
+    let mut main_area = [0u8; 487424];
+    let mut spare = [0u8; 12224];
+    let mut ram = [0u8; 1536];
     console::run(
         &mut input,
         &mut line,

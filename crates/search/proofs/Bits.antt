@@ -11,7 +11,7 @@ use lib.ListN.{getD}
 use borrow.Author.Tests.{lt-ltb, le-ltb}
 use Rattle.memory.specs.Bits.{bit}
 use Rattle.memory.specs.Cases.{lt?, either}
-use Rattle.layout.specs.Search.{Stop, reply, scan, searchPages}
+use Rattle.layout.specs.Search.{Stop, reply, scan, scanCost, searchPages, pagesCost}
 use Rattle.kernels.specs.Blocks.{Upto, OpenBlock}
 use Rattle.search.proofs.Pages.{after, Pages, pages-first, pages-few, pages-skip}
 use Rattle.search.proofs.Tries.{count, newest, newest-le, newest-set, Through, through}
@@ -86,37 +86,38 @@ module _ (gate : ℕ → Bool) where
 
 -- ---- the words of a block, whatever opens its pages
 
-module _ (try : ℕ → Option Stop) (q first below : ℕ) (words : List ℕ) where
+module _ (try : ℕ → Option Stop) (cost : ℕ → ℕ) (q first below : ℕ) (words : List ℕ) where
   abbrev pub Gates : (ℕ → Bool) → Type 0
   Gates gate = OpenBlock gate first (below - first) words
 
-  -- the words from w on are done, `opened` pages among them were opened
-  pub record Words (opened w : ℕ) : Type 0 where
+  -- the words from w on are done, `opened` pages among them were opened, `sum` was paid
+  pub record Words (opened sum w : ℕ) : Type 0 where
     pub used : w * 64 ≤ below - first + 63
-    pub left : (gate : ℕ → Bool) → Gates gate → Pages gate try q below opened (lesser (first + w * 64) below)
+    pub left : (gate : ℕ → Bool) → Gates gate → Pages gate try cost q below opened sum (lesser (first + w * 64) below)
 
   -- and of word w the pages whose bits are gone
-  pub record Word (opened w bits : ℕ) : Type 0 where
+  pub record Word (opened sum w bits : ℕ) : Type 0 where
     pub page : ℕ
     pub shown : (gate : ℕ → Bool) → Gates gate → Bits gate (first + w * 64) page bits
-    pub left : (gate : ℕ → Bool) → Gates gate → Pages gate try q below opened page
+    pub left : (gate : ℕ → Bool) → Gates gate → Pages gate try cost q below opened sum page
 
-  pub words-first : first < below → Words 0 ((below - first + 63) / 64)
+  pub words-first : first < below → Words 0 0 ((below - first + 63) / 64)
   words-first h =
       let e : lesser (first + (below - first + 63) / 64 * 64) below ≡ below = omega arith in
       record {
         used = omega arith;
-        left = λ gate shows. rw e (pages-first gate try q below);
+        left = λ gate shows. rw e (pages-first gate try cost q below);
       }
 
-  pub words-end : (opened w : ℕ) → Words opened w → w ≤ 0 → first < below → (gate : ℕ → Bool) → Gates gate
-      → searchPages gate try q below ≡ after opened (searchPages gate try q first)
-  words-end opened w W h l gate shows =
+  pub words-end : (opened sum w : ℕ) → Words opened sum w → w ≤ 0 → first < below → (gate : ℕ → Bool) → Gates gate
+      → (searchPages gate try q below ≡ after opened (searchPages gate try q first))
+      × (pagesCost gate try cost q below ≡ sum + pagesCost gate try cost q first)
+  words-end opened sum w W h l gate shows =
       let e : lesser (first + w * 64) below ≡ first = omega arith in
-      rw e at (W .left gate shows .rest)
+      (rw e at (W .left gate shows .rest), rw e at (W .left gate shows .paid))
 
-  pub word-first : (opened w : ℕ) → Words opened w → 0 < w → w - 1 < 8 → Word opened (w - 1) (getD words (w - 1) 0)
-  word-first opened w W h l =
+  pub word-first : (opened sum w : ℕ) → Words opened sum w → 0 < w → w - 1 < 8 → Word opened sum (w - 1) (getD words (w - 1) 0)
+  word-first opened sum w W h l =
       let e : first + w * 64 ≡ first + ((w - 1) * 64 + 64) = omega arith in
       record {
         page = lesser (first + ((w - 1) * 64 + 64)) below;
@@ -124,8 +125,8 @@ module _ (try : ℕ → Option Stop) (q first below : ℕ) (words : List ℕ) wh
         left = λ gate shows. rw e at (W .left gate shows);
       }
 
-  module _ (opened w bits : ℕ) (R : Word opened w bits) where
-    pub words-next : bits ≡ 0 → first + w * 64 < below → Words opened w
+  module _ (opened sum w bits : ℕ) (R : Word opened sum w bits) where
+    pub words-next : bits ≡ 0 → first + w * 64 < below → Words opened sum w
     words-next z l =
         let e : lesser (first + w * 64) below ≡ first + w * 64 = omega arith in
         record {
@@ -133,24 +134,29 @@ module _ (try : ℕ → Option Stop) (q first below : ℕ) (words : List ℕ) wh
           left = λ gate shows.
               let B = R .shown gate shows in
               let shut = bits-none gate (first + w * 64) (R .page) bits B z in
-              rw e (pages-skip gate try q below opened (R .page) (R .left gate shows) (first + w * 64) (B .some) shut);
+              rw e (pages-skip gate try cost q below opened sum (R .page) (R .left gate shows) (first + w * 64) (B .some) shut);
         }
 
     -- its pages are opened until one has an entry with the key
     module _ (entry : ℕ → ℕ)
-        (other : (i : ℕ) → bit bits i ≡ true → first + w * 64 + i < below → entry i ≡ 0 → scan try ((first + w * 64 + i) * q) q ≡ none) where
+        (other : (i : ℕ) → bit bits i ≡ true → first + w * 64 + i < below → entry i ≡ 0
+        → (scan try ((first + w * 64 + i) * q) q ≡ none) × (scanCost try cost ((first + w * 64 + i) * q) q ≡ 0)) where
       abbrev k : ℕ
       k = opened + count bits entry 64
 
       abbrev n : ℕ
       n = newest bits entry 64
 
+      -- what the entries of the newest page cost
+      abbrev pub page-cost : ℕ
+      page-cost = scanCost try cost ((first + w * 64 + (n - 1)) * q) q
+
       module _ (gate : ℕ → Bool) (shows : Gates gate) where
         abbrev B : Bits gate (first + w * 64) (R .page) bits
         B = R .shown gate shows
 
-        abbrev T : Through gate try q below (first + w * 64) k n
-        T = through gate try q below (first + w * 64) (bit bits) entry other 64 opened (R .page) (R .left gate shows) (B .some) (B .few) (B .shown)
+        abbrev T : Through gate try cost q below (first + w * 64) k sum n
+        T = through gate try cost q below (first + w * 64) (bit bits) entry other 64 opened sum (R .page) (R .left gate shows) (B .some) (B .few) (B .shown)
 
         pub word-in : (i : ℕ) → i < 64 → bit bits i ≡ true → first + w * 64 + i < below
         word-in i h s = omega (arith, set-left gate (first + w * 64) (R .page) bits B i h s, R .left gate shows .low)
@@ -159,10 +165,14 @@ module _ (try : ℕ → Option Stop) (q first below : ℕ) (words : List ℕ) wh
         word-few =
             either (lt? 0 n)
             (λ t. T .one (t .1) .few)
-            (λ t. omega (arith, pages-few gate try q below k (first + w * 64) (T .all (omega (arith, t .1)))))
+            (λ t. omega (arith, pages-few gate try cost q below k sum (first + w * 64) (T .all (omega (arith, t .1)))))
 
-        pub word-ended : 0 < n → (r : Stop) → scan try ((first + w * 64 + (n - 1)) * q) q ≡ some r → searchPages gate try q below ≡ reply (some r) k
+        pub word-ended : 0 < n → (r : Stop) → scan try ((first + w * 64 + (n - 1)) * q) q ≡ some r
+            → (searchPages gate try q below ≡ reply (some r) k) × (pagesCost gate try cost q below ≡ sum + page-cost)
         word-ended h = T .one h .ended
+
+        pub word-most : 0 < n → sum + page-cost ≤ pagesCost gate try cost q below
+        word-most h = T .one h .most
 
         lower-left : first + w * 64 + (n - 1) ≤ R .page
         lower-left =
@@ -170,18 +180,22 @@ module _ (try : ℕ → Option Stop) (q first below : ℕ) (words : List ℕ) wh
             (λ t. omega (arith, set-left gate (first + w * 64) (R .page) bits B (n - 1) (omega (arith, newest-le (bit bits) entry 64)) (newest-set (bit bits) entry 64 (t .1))))
             (λ t. omega (arith, t .1, B .some))
 
-        vain : (0 < n → scan try ((first + w * 64 + (n - 1)) * q) q ≡ none) → Pages gate try q below k (first + w * 64 + (n - 1))
-        vain e =
-            either (lt? 0 n)
-            (λ t. T .one (t .1) .vain (e (t .1)))
-            (λ t. let z : first + w * 64 + (n - 1) ≡ first + w * 64 = omega (arith, t .1) in rw z (T .all (omega (arith, t .1))))
+        module _ (paid : ℕ) (spent : 0 < n → paid ≡ sum + page-cost) (free : n ≡ 0 → paid ≡ sum) where
+          vain : (0 < n → scan try ((first + w * 64 + (n - 1)) * q) q ≡ none) → Pages gate try cost q below k paid (first + w * 64 + (n - 1))
+          vain e =
+              either (lt? 0 n)
+              (λ t. rw (spent (t .1)) (T .one (t .1) .vain (e (t .1))))
+              (λ t.
+              let z : first + w * 64 + (n - 1) ≡ first + w * 64 = omega (arith, t .1) in
+              rw (z, free (omega (arith, t .1))) (T .all (omega (arith, t .1))))
 
       pub word-next : (r : ℕ) → ((i : ℕ) → i < 64 → bit r i ≡ (ltb i (n - 1) && bit bits i))
-          → (0 < n → scan try ((first + w * 64 + (n - 1)) * q) q ≡ none) → Word k w r
-      word-next r is e =
+          → (0 < n → scan try ((first + w * 64 + (n - 1)) * q) q ≡ none) → (paid : ℕ) → (0 < n → paid ≡ sum + page-cost) → (n ≡ 0 → paid ≡ sum)
+          → Word k paid w r
+      word-next r is e paid spent free =
           record {
             page = first + w * 64 + (n - 1);
             shown = λ gate shows.
                 bits-lower gate (first + w * 64) (R .page) bits (R .shown gate shows) (n - 1) r (omega (arith, newest-le (bit bits) entry 64)) (lower-left gate shows) is;
-            left = λ gate shows. vain gate shows e;
+            left = λ gate shows. vain gate shows paid spent free e;
           }

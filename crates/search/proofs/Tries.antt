@@ -9,9 +9,9 @@ use borrow.Author.Tests.{lt-ltb, le-ltb, ne-eqb}
 use Rattle.memory.specs.Bits.{bit, bit-zero}
 use Rattle.memory.specs.Candidate.{candidate, candidate-le, candidate-open, candidate-shut, candidate-opens, candidate-skip, candidate-top}
 use Rattle.memory.specs.Cases.{bool?, lt?, eq?, either}
-use Rattle.layout.specs.Search.{Stop, reply, scan, searchPages}
+use Rattle.layout.specs.Search.{Stop, reply, scan, scanCost, searchPages, pagesCost}
 use Rattle.search.specs.Tries.{newestOf, openedOf}
-use Rattle.search.proofs.Pages.{Pages, pages-few, pages-skip, pages-ended, pages-vain}
+use Rattle.search.proofs.Pages.{Pages, pages-few, pages-skip, pages-most, pages-ended, pages-vain}
 
 never : true ≡ false → ⊥
 never z = let o : _≡_ {A = ℕ} 0 1 = cc in omega arith
@@ -209,34 +209,37 @@ module _ (bits : ℕ) (entry : ℕ → ℕ) where
 
 -- ---- what a search has found in them
 
-module _ (gated : ℕ → Bool) (try : ℕ → Option Stop) (q N from : ℕ) where
-  -- page f was the last of k that were opened, those before it in vain
-  pub record Reached (k f : ℕ) : Type 0 where
+module _ (gated : ℕ → Bool) (try : ℕ → Option Stop) (cost : ℕ → ℕ) (q N from : ℕ) where
+  -- page f was the last of k that were opened, those before it in vain; `sum` was paid before it
+  pub record Reached (k sum f : ℕ) : Type 0 where
     pub low : f < N
     pub few : k ≤ N + 1
-    pub ended : (r : Stop) → scan try (f * q) q ≡ some r → searchPages gated try q N ≡ reply (some r) k
-    pub vain : scan try (f * q) q ≡ none → Pages gated try q N k f
+    pub most : sum + scanCost try cost (f * q) q ≤ pagesCost gated try cost q N
+    pub ended : (r : Stop) → scan try (f * q) q ≡ some r
+        → (searchPages gated try q N ≡ reply (some r) k) × (pagesCost gated try cost q N ≡ sum + scanCost try cost (f * q) q)
+    pub vain : scan try (f * q) q ≡ none → Pages gated try cost q N k (sum + scanCost try cost (f * q) q) f
 
   -- all were opened in vain, or the newest with an entry was reached
-  pub record Through (k newest : ℕ) : Type 0 where
-    pub all : newest ≡ 0 → Pages gated try q N k from
-    pub one : 0 < newest → Reached k (from + (newest - 1))
+  pub record Through (k sum newest : ℕ) : Type 0 where
+    pub all : newest ≡ 0 → Pages gated try cost q N k sum from
+    pub one : 0 < newest → Reached k sum (from + (newest - 1))
 
   module _ (set : ℕ → Bool) (entry : ℕ → ℕ)
-      (other : (i : ℕ) → set i ≡ true → from + i < N → entry i ≡ 0 → scan try ((from + i) * q) q ≡ none) where
+      (other : (i : ℕ) → set i ≡ true → from + i < N → entry i ≡ 0
+      → (scan try ((from + i) * q) q ≡ none) × (scanCost try cost ((from + i) * q) q ≡ 0)) where
     -- from page p on, which the lowest m bits reach
     abbrev Goes : ℕ → Type 0
     Goes m =
-        (k p : ℕ) → Pages gated try q N k p → from ≤ p → p ≤ from + m → ((i : ℕ) → i < m → set i ≡ (ltb (from + i) p && gated (from + i)))
-        → Through (k + openedOf set entry m) (newestOf set entry m)
+        (k sum p : ℕ) → Pages gated try cost q N k sum p → from ≤ p → p ≤ from + m → ((i : ℕ) → i < m → set i ≡ (ltb (from + i) p && gated (from + i)))
+        → Through (k + openedOf set entry m) sum (newestOf set entry m)
 
-    module _ (m : ℕ) (rest : Goes m) (k p : ℕ) (P : Pages gated try q N k p) (a : from ≤ p) (b : p ≤ from + suc m)
+    module _ (m : ℕ) (rest : Goes m) (k sum p : ℕ) (P : Pages gated try cost q N k sum p) (a : from ≤ p) (b : p ≤ from + suc m)
         (shown : (i : ℕ) → i < suc m → set i ≡ (ltb (from + i) p && gated (from + i))) where
       lower : (i : ℕ) → i < m → from + m ≤ p → set i ≡ (ltb (from + i) (from + m) && gated (from + i))
       lower i h l = shown i (omega arith) ∙ rw (lt-ltb (from + i) p (omega arith), lt-ltb (from + i) (from + m) (omega arith))
 
       opened-one : set m ≡ true → gated (from + m) ≡ true → from + m < p → ((i : ℕ) → from + m < i → i < p → gated i ≡ false)
-          → Through (k + openedOf set entry (suc m)) (newestOf set entry (suc m))
+          → Through (k + openedOf set entry (suc m)) sum (newestOf set entry (suc m))
       opened-one t o l gap =
           either (lt? 0 (entry m))
           (λ s.
@@ -248,19 +251,22 @@ module _ (gated : ℕ → Bool) (try : ℕ → Option Stop) (q N from : ℕ) whe
                 let e : from + (suc m - 1) ≡ from + m = omega arith in
                 rw e record {
                   low = omega (arith, P .low);
-                  few = omega (arith, pages-few gated try q N k p P);
-                  ended = pages-ended gated try q N k p P (from + m) l o gap;
-                  vain = pages-vain gated try q N k p P (from + m) l o gap;
+                  few = omega (arith, pages-few gated try cost q N k sum p P);
+                  most = pages-most gated try cost q N k sum p P (from + m) l o gap;
+                  ended = pages-ended gated try cost q N k sum p P (from + m) l o gap;
+                  vain = pages-vain gated try cost q N k sum p P (from + m) l o gap;
                 };
           })
           (λ s.
           let z : entry m ≡ 0 = omega (arith, s .1) in
           let w : newestOf set entry (suc m) ≡ newestOf set entry m = candidate-shut (gate set entry) m (gate-vain set entry m z) in
           let c : k + openedOf set entry (suc m) ≡ k + 1 + openedOf set entry m = omega (arith, opened-vain set entry m t z) in
-          let v = pages-vain gated try q N k p P (from + m) l o gap (other m t (omega (arith, P .low)) z) in
-          rw (w, c) (rest (k + 1) (from + m) v (omega arith) (omega arith) (λ i h. lower i h (omega arith))))
+          let e = other m t (omega (arith, P .low)) z in
+          let s : sum + scanCost try cost ((from + m) * q) q ≡ sum = omega (arith, e .1) in
+          let v = rw s at (pages-vain gated try cost q N k sum p P (from + m) l o gap (e .0)) in
+          rw (w, c) (rest (k + 1) sum (from + m) v (omega arith) (omega arith) (λ i h. lower i h (omega arith))))
 
-      passed : set m ≡ false → Through (k + openedOf set entry (suc m)) (newestOf set entry (suc m))
+      passed : set m ≡ false → Through (k + openedOf set entry (suc m)) sum (newestOf set entry (suc m))
       passed t =
           let none-set : (i : ℕ) → m ≤ i → i < suc m → set i ≡ false = λ i c d. (let e : i ≡ m = omega arith in rw e t) in
           let w : newestOf set entry (suc m) ≡ newestOf set entry m = newest-skip set entry (suc m) m (omega arith) none-set in
@@ -269,13 +275,13 @@ module _ (gated : ℕ → Bool) (try : ℕ → Option Stop) (q N from : ℕ) whe
           (λ s.
           let l = s .1 in
           let shut : gated (from + m) ≡ false = (rw (s .0) at (sym (shown m (omega arith)))) ∙ t in
-          let v = pages-skip gated try q N k p P (from + m) (omega arith) (λ i c d. (let e : i ≡ from + m = omega arith in rw e shut)) in
-          rw (w, c) (rest k (from + m) v (omega arith) (omega arith) (λ i h. lower i h (omega arith))))
+          let v = pages-skip gated try cost q N k sum p P (from + m) (omega arith) (λ i c d. (let e : i ≡ from + m = omega arith in rw e shut)) in
+          rw (w, c) (rest k sum (from + m) v (omega arith) (omega arith) (λ i h. lower i h (omega arith))))
           (λ s.
           let l = s .1 in
-          rw (w, c) (rest k p P a (omega arith) (λ i h. shown i (omega arith))))
+          rw (w, c) (rest k sum p P a (omega arith) (λ i h. shown i (omega arith))))
 
-      one-more : Through (k + openedOf set entry (suc m)) (newestOf set entry (suc m))
+      one-more : Through (k + openedOf set entry (suc m)) sum (newestOf set entry (suc m))
       one-more =
           either (bool? (set m))
           (λ t.
@@ -285,14 +291,14 @@ module _ (gated : ℕ → Bool) (try : ℕ → Option Stop) (q N from : ℕ) whe
           (λ t. passed t)
 
     pub through : (m : ℕ) → Goes m
-    through zero k p P a b shown =
+    through zero k sum p P a b shown =
         let e : p ≡ from = omega arith in
         let z : k + openedOf set entry 0 ≡ k = omega (arith, opened-end set entry) in
         rw (z, newest-end set entry) record {
           all = λ h. rw e at P;
           one = λ h. absurd (omega arith);
         }
-    through (suc m) k p P a b shown = one-more m (through m) k p P a b shown
+    through (suc m) k sum p P a b shown = one-more m (through m) k sum p P a b shown
 
 -- ---- the bits left
 

@@ -1,5 +1,6 @@
 -- What the search's contract compares: the code's answers as the layout's, and the volume as far as a search reads it.
 use mathlib.Core.Path.{_≡_, sym}
+use mathlib.Core.Bool.{Bool}
 use mathlib.Core.Option.{Option, none, some}
 use mathlib.Core.List.{List, []}
 use Prim.Native.Nat.{ℕ, _+_, _*_, _/_, _≤_, _<_}
@@ -10,9 +11,10 @@ use Rattle.layout.specs.Keys.{wordSize, Key, keyAt, numberIn}
 use Rattle.layout.specs.Geometry as layout
 use Rattle.layout.specs.Flash.{flashOf}
 use Rattle.layout.specs.Items.{entrySize}
-use Rattle.layout.specs.Hash.{Family}
+use Rattle.layout.specs.Hash.{Family, fnvFamily}
 use Rattle.layout.specs.Search as find
-use Rattle.layout.specs.Calls.{Volume, isDeleted, tryAt, maybeIn, searchAt, search}
+use Rattle.layout.specs.Calls.{Volume, tryDeletion, maybeDeleted, testDeletion, testedDeleted, tryAt, tryCost, maybeIn}
+use Rattle.layout.specs.Calls.{searchAt, daPagesAt, search, searchDaPages}
 use Rattle.laws.specs.Lengths.{Readable}
 use Rattle.geometry.specs.declared.Geometry.{Geometry}
 use Rattle.geometry.specs.Shape.{shape, Sound}
@@ -73,25 +75,53 @@ module _ (w : Volume) (g : Geometry) (v : View) (is : v ≡ whole g (w .state .r
   pub search-is : (h : Family) (key : Key) (r : Found)
       → foundOf r ≡ searchAt h (shape (v .g)) (viewed v (w .flash .main) (w .ram)) (v .n0) (v .d0) key
       → search h (shape g) w key ≡ foundOf r
-  unfolding searchAt maybeIn tryAt isDeleted
+  unfolding searchAt maybeIn tryAt testDeletion tryDeletion maybeDeleted
   search-is h key r e = sym (rw is at e)
+
+  -- and so are the pages of deletions that it opened
+  pub search-pages : (h : Family) (key : Key) (r : Found)
+      → r .«da_pages» ≡ daPagesAt h (shape (v .g)) (viewed v (w .flash .main) (w .ram)) (v .n0) (v .d0) key
+      → searchDaPages h (shape g) w key ≡ r .«da_pages»
+  unfolding daPagesAt maybeIn tryAt tryCost testDeletion tryDeletion maybeDeleted
+  search-pages h key r e = sym (rw is at e)
 
 -- ---- its parts
 
--- entry j of the view
+-- entry j of the view, and the pages of deletions opened to try it
 abbrev pub tryOf : View → List ℕ → List ℕ → Key → ℕ → Option find.Stop
-tryOf v main ram key = tryAt (shape (v .g)) (viewed v main ram) (v .n0) (v .d0) key
+tryOf v main ram key = tryAt fnvFamily (shape (v .g)) (viewed v main ram) (v .n0) (v .d0) key
 
--- entry k of those that lie from byte `start` of a page's bytes on
+abbrev pub costOf : View → List ℕ → List ℕ → Key → ℕ → ℕ
+costOf v main ram key = tryCost fnvFamily (shape (v .g)) (viewed v main ram) (v .n0) (v .d0) key
+
+-- is number j among its deletions, and the pages opened to test it
+abbrev pub deletedOf : View → List ℕ → List ℕ → ℕ → Bool
+deletedOf v main ram = testedDeleted fnvFamily (shape (v .g)) (viewed v main ram) (v .d0)
+
+abbrev pub testCost : View → List ℕ → List ℕ → ℕ → ℕ
+testCost v main ram j = testDeletion fnvFamily (shape (v .g)) (viewed v main ram) (v .d0) j .opened
+
+-- entry k of those that lie from byte `start` of a page's bytes on, and what trying it costs
 abbrev pub tryIn : View → List ℕ → List ℕ → Key → List ℕ → ℕ → ℕ → Option find.Stop
 tryIn v main ram key bytes start k =
-    find.tryEntry (v .n0) (isDeleted (shape (v .g)) (viewed v main ram) (v .d0)) key (keyAt bytes (start + k * entrySize))
+    find.tryEntry (v .n0) (deletedOf v main ram) key (keyAt bytes (start + k * entrySize))
+    (numberIn (word bytes (start + k * entrySize + wordSize)))
+
+abbrev pub costIn : View → List ℕ → List ℕ → Key → List ℕ → ℕ → ℕ → ℕ
+costIn v main ram key bytes start k =
+    find.entryCost (v .n0) (testCost v main ram) key (keyAt bytes (start + k * entrySize))
     (numberIn (word bytes (start + k * entrySize + wordSize)))
 
 -- the full pages below a number, opened by the bits of some positions
 abbrev pub pagesBelow : View → List ℕ → List ℕ → Key → List ℕ → ℕ → find.Found
 pagesBelow v main ram key ps below =
     find.searchPages (maybeIn (shape (v .g)) (viewed v main ram) ps) (tryOf v main ram key) (layout.entriesPerPage (v .g .chip .unit)) below
+
+-- what the search of them costs
+abbrev pub costBelow : View → List ℕ → List ℕ → Key → List ℕ → ℕ → ℕ
+costBelow v main ram key ps below =
+    find.pagesCost (maybeIn (shape (v .g)) (viewed v main ram) ps) (tryOf v main ram key) (costOf v main ram key)
+    (layout.entriesPerPage (v .g .chip .unit)) below
 
 -- what is found in all by a search that ended so after k pages, if it ended nowhere with what the search of older pages finds
 abbrev pub onward : Option find.Stop → ℕ → find.Found → find.Found

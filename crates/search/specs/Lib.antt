@@ -1,3 +1,2 @@
-pub mod Deletions
 pub mod Find
 pub mod Tries

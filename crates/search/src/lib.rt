@@ -9,14 +9,16 @@ ghost use Rattle.layout.specs.Keys.{wordSize, numberIn};
 ghost use Rattle.layout.specs.Geometry.{entriesPerPage};
 ghost use Rattle.layout.specs.Items.{entrySize};
 ghost use Rattle.layout.specs.Hash.{fnvFamily};
-ghost use Rattle.layout.specs.Calls.{searchAt};
-ghost use Rattle.layout.specs.Search.{scan};
+ghost use Rattle.layout.specs.Calls.{testDeletion, searchAt, daPagesAt};
+ghost use Rattle.layout.specs.Search.{scan, scanCost, unlessEnded};
 ghost use Rattle.geometry.specs.Shape.{shape, Sound};
-ghost use Rattle.search.specs.Find.{stopOf, foundOf, whole, viewed, Ready, tryOf, tryIn, pagesBelow, onward, Low, filtersOf};
-ghost use Rattle.search.specs.Deletions.{DeletionsFit, amongFirst};
+ghost use Rattle.deletions.specs.Test.{testedOf};
+ghost use Rattle.search.specs.Find.{stopOf, foundOf, whole, viewed, Ready, tryOf, costOf, tryIn, costIn};
+ghost use Rattle.search.specs.Find.{pagesBelow, costBelow, onward, Low, filtersOf};
 ghost use Rattle.search.specs.Tries.{pageStart, PagesIn, TriedAt};
+use deletions::Deletions;
+use deletions::Tested;
 use filter::Filters;
-use geometry::Chip;
 use geometry::Geometry;
 use geometry::areas;
 use geometry::sets;
@@ -51,10 +53,11 @@ pub enum End {
     Corrupt,
 }
 
-// Where it ended, and the pages opened.
+// Where it ended, the pages of entries opened, and the pages of deletions opened.
 pub struct Found {
     pub end: End,
     pub opened: u32,
+    pub da_pages: u64,
 }
 
 // ---- an entry
@@ -73,24 +76,27 @@ fn number_at(at: usize, k: usize, s: &[u8]) -> u32
     words::get32(s, at + k * areas::ENTRY_SIZE + areas::NUMBER_AT)
 }
 
-// Is record j among the first d0 of d deletions, from block `first` on: first those of full pages, in a row on flash, then those in
-// RAM. It takes numbers, for a view would be copied for each page.
-fn deleted(chip: Chip, first: usize, d: usize, d0: usize, j: u32, main: &[u8], ram: &[u8]) -> bool
-    requires { ⌜ DeletionsFit (chip .unit) first d (now main) (now ram) × (d0 ≤ d) ⌝ }
-    ensures { λ r. ⌜ r ≡ amongFirst (chip .unit) first d (before main) (before ram) d0 j ⌝ }
+// Is record j among the first d0 of d deletions, and the pages of deletions opened.
+fn tested(v: View, j: u32, main: &[u8], ram: &[u8]) -> Tested
+    requires { ⌜ Ready v (now main) (now ram) ⌝ }
+    ensures { λ r. ⌜ testedOf j r ≡ testDeletion fnvFamily (shape (v .g)) (viewed v (before main) (before ram)) (v .d0) j ⌝ }
 {
-    let start = chip.block_address(first);
-    let full = areas::in_full_pages(chip.deletions_per_page(), d);
-    if d0 <= full {
-        return items::has_word(start, d0, j, main);
-    }
-    if items::has_word(start, full, j, main) {
-        return true;
-    }
-    items::has_word(chip.page_address(Geometry::DA_PAGE), d0 - full, j, ram)
+    let g = v.g;
+    let t = Deletions {
+        g,
+        d: v.d,
+        d0: v.d0,
+    };
+    deletions::test(t, j, main, ram)
 }
 
 // ---- entries past the last full page
+
+// Where the search of entries in a row ended, and the pages of deletions opened.
+struct Ended {
+    end: End,
+    da_pages: u64,
+}
 
 // The newest live one of `count` entries, which lie in `page` from byte `start` on.
 fn in_page(
@@ -101,23 +107,37 @@ fn in_page(
     page: &[u8],
     main: &[u8],
     ram: &[u8],
-) -> End
-    requires { ⌜ Ready v (now main) (now ram) × (start + count * entrySize ≤ length (now page)) ⌝ }
-    ensures { λ r. ⌜ stopOf r ≡ scan (tryIn v (before main) (before ram) key (before page) start) 0 count ⌝ }
+) -> Ended
+    requires { ⌜ Ready v (now main) (now ram) × (start + count * entrySize ≤ length (now page)) × (count ≤ v .n0) ⌝ }
+    ensures { λ r. ⌜ stopOf (r .end) ≡ scan (tryIn v (before main) (before ram) key (before page) start) 0 count ⌝ }
+    ensures pages { λ r. ⌜ r .«da_pages» ≡ scanCost (tryIn v (before main) (before ram) key (before page) start)
+        (costIn v (before main) (before ram) key (before page) start) 0 count ⌝ }
 {
+    let mut da_pages: u64 = 0;
     let mut e = items::find_entry(start, count, key, page);
     while e > 0 {
         let k = e - 1;
         let j = number_at(start, k, page);
         if wide(j) >= v.n0 {
-            return End::Corrupt;
+            return Ended {
+                end: End::Corrupt,
+                da_pages,
+            };
         }
-        if !deleted(v.g.chip, v.g.da_block(), v.d, v.d0, j, main, ram) {
-            return End::Live(j);
+        let seen = tested(v, j, main, ram);
+        da_pages += seen.opened as u64;
+        if !seen.met {
+            return Ended {
+                end: End::Live(j),
+                da_pages,
+            };
         }
         e = items::find_entry(start, k, key, page);
     }
-    End::Nothing
+    Ended {
+        end: End::Nothing,
+        da_pages,
+    }
 }
 
 // The first byte of page p of the entries on flash.
@@ -129,9 +149,11 @@ fn page_start(g: Geometry, p: usize) -> usize
 }
 
 // Those of the page that n0 records do not fill: in RAM, unless it has been filled since.
-fn in_open(v: View, key: u32, main: &[u8], ram: &[u8]) -> End
+fn in_open(v: View, key: u32, main: &[u8], ram: &[u8]) -> Ended
     requires { ⌜ Ready v (now main) (now ram) ⌝ }
-    ensures { λ r. ⌜ stopOf r ≡ scan (tryOf v (before main) (before ram) key)
+    ensures { λ r. ⌜ stopOf (r .end) ≡ scan (tryOf v (before main) (before ram) key)
+        (v .n0 / entriesPerPage (v .g .chip .unit) * entriesPerPage (v .g .chip .unit)) (v .n0 % entriesPerPage (v .g .chip .unit)) ⌝ }
+    ensures pages { λ r. ⌜ r .«da_pages» ≡ scanCost (tryOf v (before main) (before ram) key) (costOf v (before main) (before ram) key)
         (v .n0 / entriesPerPage (v .g .chip .unit) * entriesPerPage (v .g .chip .unit)) (v .n0 % entriesPerPage (v .g .chip .unit)) ⌝ }
 {
     let per_page = v.g.entries_per_page();
@@ -161,10 +183,12 @@ fn key_filters(v: View) -> Filters
     }
 }
 
-// What was found in a block of pages: where the search ended in it, the pages opened, and the block's first page.
+// What was found in a block of pages: where the search ended in it, the pages of entries and of deletions opened, and the block's
+// first page.
 struct Walk {
     end: End,
     opened: u32,
+    da_pages: u64,
     start: usize,
 }
 
@@ -224,11 +248,14 @@ fn in_block(
     ensures start { λ r. ⌜ r .start < below ⌝ }
     ensures found { λ r. ⌜ pagesBelow v (before main) (before ram) key (take count ps) below
         ≡ onward (stopOf (r .end)) (r .opened) (pagesBelow v (before main) (before ram) key (take count ps) (r .start)) ⌝ }
+    ensures pages { λ r. ⌜ costBelow v (before main) (before ram) key (take count ps) below
+        ≡ r .«da_pages» + unlessEnded (stopOf (r .end)) (costBelow v (before main) (before ram) key (take count ps) (r .start)) ⌝ }
 {
     let b = filter::block_below(key_filters(v), below, ps, count, main, ram);
     let first = b.start;
     let mut end = End::Nothing;
     let mut opened: u32 = 0;
+    let mut da_pages: u64 = 0;
     let mut w = (below - first + 63) / 64;
     'filters: while w > 0 {
         w -= 1;
@@ -247,7 +274,9 @@ fn in_block(
                     end = End::Corrupt;
                     break 'filters;
                 }
-                if !deleted(v.g.chip, v.g.da_block(), v.d, v.d0, j, main, ram) {
+                let seen = tested(v, j, main, ram);
+                da_pages += seen.opened as u64;
+                if !seen.met {
                     end = End::Live(j);
                     break 'filters;
                 }
@@ -258,6 +287,7 @@ fn in_block(
     Walk {
         end,
         opened,
+        da_pages,
         start: first,
     }
 }
@@ -267,12 +297,16 @@ fn in_pages(v: View, key: u32, ps: [u32; 8], count: usize, main: &[u8], ram: &[u
     requires { ⌜ Ready v (now main) (now ram) × Low (v .g) count ps ⌝ }
     ensures { λ r. ⌜ foundOf r
         ≡ pagesBelow v (before main) (before ram) key (take count ps) (v .n0 / entriesPerPage (v .g .chip .unit)) ⌝ }
+    ensures pages { λ r. ⌜ r .«da_pages»
+        ≡ costBelow v (before main) (before ram) key (take count ps) (v .n0 / entriesPerPage (v .g .chip .unit)) ⌝ }
 {
     let mut opened: u32 = 0;
+    let mut da_pages: u64 = 0;
     let mut below = v.n0 / v.g.entries_per_page();
     while below > 0 {
         let w = in_block(v, key, ps, count, below, main, ram);
         opened += w.opened;
+        da_pages += w.da_pages;
         let end = w.end;
         match end {
             End::Nothing => {}
@@ -280,12 +314,14 @@ fn in_pages(v: View, key: u32, ps: [u32; 8], count: usize, main: &[u8], ram: &[u
                 return Found {
                     end: End::Live(j),
                     opened,
+                    da_pages,
                 };
             }
             End::Corrupt => {
                 return Found {
                     end: End::Corrupt,
                     opened,
+                    da_pages,
                 };
             }
         }
@@ -294,6 +330,7 @@ fn in_pages(v: View, key: u32, ps: [u32; 8], count: usize, main: &[u8], ram: &[u
     Found {
         end: End::Nothing,
         opened,
+        da_pages,
     }
 }
 
@@ -301,31 +338,45 @@ fn in_pages(v: View, key: u32, ps: [u32; 8], count: usize, main: &[u8], ram: &[u
 
 pub fn search(v: View, key: u32, main: &[u8], ram: &[u8]) -> Found
     requires { ⌜ Ready v (now main) (now ram) ⌝ }
-    ensures { λ r. ⌜ foundOf r ≡ searchAt fnvFamily (shape (v .g)) (viewed v (before main) (before ram)) (v .n0) (v .d0) key ⌝ }
+    ensures found { λ r. ⌜ foundOf r ≡ searchAt fnvFamily (shape (v .g)) (viewed v (before main) (before ram)) (v .n0) (v .d0) key ⌝ }
+    ensures pages { λ r. ⌜ r .«da_pages»
+        ≡ daPagesAt fnvFamily (shape (v .g)) (viewed v (before main) (before ram)) (v .n0) (v .d0) key ⌝ }
 {
-    let end = in_open(v, key, main, ram);
+    let o = in_open(v, key, main, ram);
+    let da_pages = o.da_pages;
+    let end = o.end;
     match end {
         End::Nothing => {
             if v.n0 < v.g.entries_per_page() {
                 return Found {
                     end: End::Nothing,
                     opened: 0,
+                    da_pages,
                 }; // without a full page there is no filter, and the key is not hashed
             }
             let count = v.g.hashes;
             let ps = fnv::positions(v.g.chip, count, key);
-            return in_pages(v, key, ps, count, main, ram);
+            let f = in_pages(v, key, ps, count, main, ram);
+            let end = f.end;
+            let opened = f.opened;
+            return Found {
+                end,
+                opened,
+                da_pages: da_pages + f.da_pages,
+            };
         }
         End::Live(j) => {
             return Found {
                 end: End::Live(j),
                 opened: 0,
+                da_pages,
             };
         }
         End::Corrupt => {
             return Found {
                 end: End::Corrupt,
                 opened: 0,
+                da_pages,
             };
         }
     }

@@ -11,14 +11,15 @@ use Rattle.layout.specs.Flash.{fresh, allFresh}
 use Rattle.layout.specs.Hash.{fnvFrom, positions}
 use Rattle.layout.specs.Index.{rowBit, rowByte, bitAt, filterBit, setByte, flushAndBuild}
 use Rattle.layout.specs.Items.{recordBytes, entryBytes, deletionBytes, itemWord, put}
-use Rattle.layout.specs.Search.{scan, searchPages}
+use Rattle.layout.specs.Search.{scan, searchPages, scanCost, pagesCost}
 use Rattle.layout.specs.Keys.{sameKey}
-use Rattle.layout.specs.Calls.{badState, tooShort, judgeFirst, formatted, format, isDeleted, tryAt, maybeIn, searchAt, deletionPlan}
-use Rattle.layout.specs.Calls.{deletionRam, pageFilter, insertionPlan, insertionRam, commit, change, lookupAfter, call}
+use Rattle.layout.specs.Calls.{badState, tooShort, judgeFirst, formatted, format, tryDeletion, maybeDeleted, testDeletion, tryAt}
+use Rattle.layout.specs.Calls.{tryCost, maybeIn, searchAt, daPagesAt, halfFilter, deletionPlan, deletionRam, pageFilter, insertionPlan}
+use Rattle.layout.specs.Calls.{insertionRam, commit, change, lookupAfter, call}
 
 unfoldable pub calls : Unit {0}
 unfolding write tab tabFrom pieces bit pack log2up wordsBytes any memb allOf allowed onesIn fresh allFresh fnvFrom positions
     rowBit rowByte bitAt filterBit setByte flushAndBuild recordBytes entryBytes deletionBytes itemWord put sameKey scan searchPages
-    badState tooShort judgeFirst formatted format isDeleted tryAt maybeIn searchAt deletionPlan deletionRam pageFilter insertionPlan
-    insertionRam commit change lookupAfter call
+    scanCost pagesCost badState tooShort judgeFirst formatted format tryDeletion maybeDeleted testDeletion tryAt tryCost maybeIn searchAt
+    daPagesAt halfFilter deletionPlan deletionRam pageFilter insertionPlan insertionRam commit change lookupAfter call
 calls = tt

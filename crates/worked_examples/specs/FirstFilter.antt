@@ -16,8 +16,8 @@ abbrev sevenEntries : Volume
 sevenEntries =
     record {
       state = stateOf (sizesOf 16 1 1 3) 7 0;
-      flash = record { main = replicate 12288 255; spare = replicate 768 255 };
-      ram = write (replicate 320 0) 64 (wordsBytes (1 ∷ 0 ∷ 2 ∷ 1 ∷ 3 ∷ 2 ∷ 4 ∷ 3 ∷ 5 ∷ 4 ∷ 6 ∷ 5 ∷ 7 ∷ 6 ∷ []));
+      flash = record { main = replicate 21504 255; spare = replicate 1344 255 };
+      ram = write (replicate 384 0) 64 (wordsBytes (1 ∷ 0 ∷ 2 ∷ 1 ∷ 3 ∷ 2 ∷ 4 ∷ 3 ∷ 5 ∷ 4 ∷ 6 ∷ 5 ∷ 7 ∷ 6 ∷ []));
     }
 
 -- a sector of the SKA page: 16 bits of the filter in slot 0, nothing in the other slots

@@ -18,7 +18,7 @@ use Rattle.worked_examples.specs.Example.{unformatted}
 
 -- a volume of 64 records
 abbrev start : Volume
-start = format (unformatted 0 19456 1216 320) (sizesOf 16 1 1 3) .volume
+start = format (unformatted 0 21504 1344 384) (sizesOf 16 1 1 3) .volume
 
 abbrev loaded : String → Several
 loaded text = load fnvFamily start (ascii text)

@@ -1,4 +1,4 @@
--- The first changing calls of a published trace (tests/vectors/requests/4/trace/s16-sound), computed by the definitions: answers and the
+-- The first changing calls of a published trace (tests/vectors/requests/5/trace/s16-sound-k5), computed by the definitions: answers and the
 -- digest of the RAM's bytes. Its updates are of levels that are not there.
 use mathlib.Core.Path.{_≡_, refl}
 use mathlib.Core.List.{List, [], _∷_}
@@ -29,18 +29,18 @@ digest h (x ∷ xs) = digest (bitXor h x * 1099511628211 % 2 ^ 64) xs
 
 abbrev history : List Call
 history =
-    delete 11 ∷ insert (recordOf 31 20 67 1532385757) ∷ insert (recordOf 9 420538547 1434869212 1281025235)
-    ∷ update (recordOf 256 32912128 1244209929 80) ∷ delete 24 ∷ insert (recordOf 4294967295 1306373008 86 65) ∷ delete 255 ∷ delete 1
-    ∷ update (recordOf 3 97 23 314618339) ∷ []
+    insert (recordOf 49 91 73 8) ∷ insert (recordOf 3 16 2 6) ∷ insert (recordOf 57 3366767030 70 897348035) ∷ delete 5
+    ∷ update (recordOf 1 54 56 97) ∷ update (recordOf 2147483648 38 27494965 10) ∷ update (recordOf 55 94 99 14) ∷ delete 14 ∷ delete 42
+    ∷ update (recordOf 51 48 33 3044947761) ∷ []
 
-pub trace : run (format (unformatted 255 18432 1152 320) (sizesOf 16 5 1 3) .volume) history
-    ≡ no 4 ∷ ok 1 0 ∷ ok 2 0 ∷ ok 3 0 ∷ no 4 ∷ ok 4 0 ∷ no 4 ∷ no 4 ∷ ok 5 0 ∷ []
+pub trace : run (format (unformatted 90 32775 2051 384) (sizesOf 16 8 2 5) .volume) history
+    ≡ ok 1 0 ∷ ok 2 0 ∷ ok 3 0 ∷ no 4 ∷ ok 4 0 ∷ ok 5 0 ∷ ok 6 0 ∷ no 4 ∷ no 4 ∷ ok 7 0 ∷ []
 unfolding calls
 trace = refl
 
 abbrev last : Volume
-last = end (format (unformatted 255 18432 1152 320) (sizesOf 16 5 1 3) .volume) history
+last = end (format (unformatted 90 32775 2051 384) (sizesOf 16 8 2 5) .volume) history
 
-pub trace-ram : digest 0xcbf29ce484222325 (last .ram) ≡ 0x269bc61915bd3ddc
+pub trace-ram : digest 0xcbf29ce484222325 (last .ram) ≡ 0x807846bd20a2f794
 unfolding calls
 trace-ram = refl

@@ -21,7 +21,7 @@ pub fn write(file: &str, most: usize) -> io::Result<()> {
                     continue;
                 };
                 let ([proved, model, fast], opened) = lookups(&volume, call, Effort::TIMED);
-                let name = call.name();
+                let (name, opened) = (call.name(), opened.pages);
                 writeln!(
                     out,
                     "{sector_size},{name},{n},{proved:.4},{model:.4},{fast:.4},{opened:.3}"

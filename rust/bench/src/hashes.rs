@@ -55,6 +55,7 @@ pub fn misses() {
         for hash_count in [3, 4] {
             let volume = volume(sector_size, hash_count, Keys::Random);
             let (micros, opened) = lookups(&volume, Call::Miss, EFFORT);
+            let opened = opened.pages;
             let first = [sector_size, hash_count].map(|number| number.to_string());
             row(first
                 .into_iter()
@@ -66,8 +67,8 @@ pub fn misses() {
 
 fn volume(sector_size: u32, hash_count: u32, keys: Keys) -> Volume {
     let kind = Kind {
-        sector_size,
         hash_count,
+        ..Kind::of(sector_size)
     };
     Volume::filled(kind, RECORDS, ROOM, keys).expect("the sizes are allowed")
 }

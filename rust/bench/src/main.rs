@@ -50,6 +50,7 @@ fn main() -> ExitCode {
         }
     }
     tables::calls(most);
+    tables::deletions(most);
     tables::pages(most);
     tables::operations(most);
     tables::longest(most);

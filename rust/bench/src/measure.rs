@@ -106,8 +106,16 @@ pub fn measure(volume: &Volume, call: Call) -> [f64; 3] {
     }
 }
 
+/// Pages opened by a lookup on the average.
+#[derive(Clone, Copy)]
+pub struct Opened {
+    /// Of entries.
+    pub pages: f64,
+    pub deletion_pages: f64,
+}
+
 /// Microseconds a lookup of each store, and pages opened by one. All stores read the same bytes.
-pub fn lookups(volume: &Volume, call: Call, effort: Effort) -> ([f64; 3], f64) {
+pub fn lookups(volume: &Volume, call: Call, effort: Effort) -> ([f64; 3], Opened) {
     // Short ones need many calls to be timed.
     let count = ROOM * (100_000 / volume.state.records as usize).max(1);
     let keys = keys(volume, call, count);
@@ -125,8 +133,15 @@ pub fn lookups(volume: &Volume, call: Call, effort: Effort) -> ([f64; 3], f64) {
         let found = u32::from(call == Call::Hit);
         assert!(first.iter().all(|one| one.refusal == 0 && one.found == found));
     });
-    let opened: u64 = answers[0].iter().map(|one| u64::from(one.count)).sum();
-    (best.micros(count), opened as f64 / count as f64)
+    let average = |opened: fn(&LookupResult) -> u64| {
+        let sum: u64 = answers[0].iter().map(opened).sum();
+        sum as f64 / count as f64
+    };
+    let opened = Opened {
+        pages: average(|one| u64::from(one.count)),
+        deletion_pages: average(|one| one.deletion_count),
+    };
+    (best.micros(count), opened)
 }
 
 /// Microseconds a change of each store, each on its own copy of the bytes.

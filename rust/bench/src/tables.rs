@@ -2,7 +2,7 @@
 
 use crate::load::Load;
 use crate::measure::{changes, lookups, measure, Call, Effort, FAST, STORES, SUBJECT};
-use crate::volume::{geometry, Keys, Kind, Volume, ROOM};
+use crate::volume::{geometry, Deletions, Keys, Kind, Volume, ROOM};
 use store::{Geometry, State, HASH_COUNT_01};
 
 const SECTOR_SIZES: [u32; 3] = [16, 64, 512];
@@ -70,6 +70,44 @@ pub fn calls(most: usize) {
     }
 }
 
+/// What deletions cost: a hit tests one record number by them, an update too, a miss none.
+pub fn deletions(most: usize) {
+    let last = ["pages opened", "DA pages opened"].map(str::to_string);
+    times_head("Calls by deletions", &["S", "call", "n", "d"], &last);
+    for sector_size in SECTOR_SIZES {
+        for n in RECORDS.into_iter().filter(|&n| (10_000..=most).contains(&n)) {
+            for deletions in [Deletions::OnePage, Deletions::Tenth, Deletions::Half] {
+                let kind = Kind {
+                    deletions,
+                    ..Kind::of(sector_size)
+                };
+                let volume = Volume::filled(kind, n, ROOM, Keys::Random).expect("the sizes are allowed");
+                let (micros, opened) = lookups(&volume, Call::Hit, Effort::TIMED);
+                let opened = [opened.pages, opened.deletion_pages].map(|pages| format!("{pages:.2}"));
+                deletions_row(&volume, Call::Hit, micros, opened);
+                let micros = measure(&volume, Call::Update);
+                deletions_row(&volume, Call::Update, micros, [String::new(), String::new()]);
+            }
+        }
+    }
+}
+
+fn deletions_row(volume: &Volume, call: Call, micros: [f64; 3], opened: [String; 2]) {
+    let State {
+        sector_size,
+        records,
+        deletions,
+        ..
+    } = volume.state;
+    let first = [
+        sector_size.to_string(),
+        call.name().to_string(),
+        records.to_string(),
+        deletions.to_string(),
+    ];
+    row(first.into_iter().chain(times_and_ratios(micros)).chain(opened));
+}
+
 /// Pages that a lookup opens on the average, for random keys and for keys in order.
 pub fn pages(most: usize) {
     let columns = [
@@ -87,8 +125,10 @@ pub fn pages(most: usize) {
             let kind = Kind::of(sector_size);
             let volumes = [Keys::Random, Keys::InOrder]
                 .map(|keys| Volume::filled(kind, n, ROOM, keys).expect("the sizes are allowed"));
-            let opened =
-                |which: usize, call| format!("{:.2}", lookups(&volumes[which], call, Effort::rounds(1)).1);
+            let opened = |which: usize, call| {
+                let (_, opened) = lookups(&volumes[which], call, Effort::rounds(1));
+                format!("{:.2}", opened.pages)
+            };
             row([
                 sector_size.to_string(),
                 n.to_string(),
@@ -144,7 +184,7 @@ fn operations_row(sector_size: u32, rounds: String, inserts: usize, (sectors, bl
 fn round_operations(sector_size: u32, number: usize) -> (usize, usize) {
     let round = 64 * sector_size;
     let end = round * (number as u32 - 1);
-    let (ra_blocks, da_blocks) = geometry(sector_size, end as usize, 0).expect("a full set fits");
+    let (ra_blocks, da_blocks) = geometry(Kind::of(sector_size), end as usize, 0).expect("a full set fits");
     let geometry = Geometry::new(sector_size, ra_blocks, da_blocks, HASH_COUNT_01).expect("allowed");
     let of_insert = |records| {
         let state = State {

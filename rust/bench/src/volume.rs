@@ -1,4 +1,4 @@
-//! Volumes with a known history: every tenth record is an update, so that d = n/10.
+//! Volumes with a known history: inserts, with updates evenly among them; where nothing else is said, d = n/10.
 
 use difftest::random::Random;
 use store::{FastStore, Geometry, State, Store, HASH_COUNT_01};
@@ -6,21 +6,43 @@ use store::{FastStore, Geometry, State, Store, HASH_COUNT_01};
 /// Changes in a round, and room for them in a volume.
 pub const ROOM: usize = 64;
 
-/// S and k of a volume; R and D follow from its records.
+/// S and k of a volume, and how many of its records are updates; R and D follow from its records.
 #[derive(Clone, Copy, Debug, PartialEq, Eq)]
 pub struct Kind {
     pub sector_size: u32,
     pub hash_count: u32,
+    pub deletions: Deletions,
 }
 
 impl Kind {
-    /// Document 01's k.
+    /// Document 01's k, d = n/10.
     pub const fn of(sector_size: u32) -> Kind {
         Kind {
             sector_size,
             hash_count: HASH_COUNT_01,
+            deletions: Deletions::Tenth,
         }
     }
+
+    /// d of a volume with `n` records.
+    fn deletions_of(self, n: usize) -> usize {
+        match self.deletions {
+            Deletions::OnePage => (self.sector_size as usize + 1).min(n / 2),
+            Deletions::Tenth => n / 10,
+            Deletions::Half => n / 2,
+        }
+    }
+}
+
+/// How many records of a volume are updates.
+#[derive(Clone, Copy, Debug, PartialEq, Eq)]
+pub enum Deletions {
+    /// A full page and one more in RAM: d = S + 1.
+    OnePage,
+    /// d = n/10.
+    Tenth,
+    /// d = n/2.
+    Half,
 }
 
 /// Which keys are inserted.
@@ -61,11 +83,11 @@ pub struct Volume {
 }
 
 /// Blocks of RA and DA for `n` records and so many changes more; nothing if they are too many.
-pub fn geometry(sector_size: u32, n: usize, room: usize) -> Option<(u32, u32)> {
-    let s = sector_size as usize;
+pub fn geometry(kind: Kind, n: usize, room: usize) -> Option<(u32, u32)> {
+    let s = kind.sector_size as usize;
     let ra_blocks = (n + room).div_ceil(4 * s) as u32;
-    let da_blocks = (n / 10 + room).div_ceil(16 * s).max(1) as u32;
-    Geometry::new(sector_size, ra_blocks, da_blocks, HASH_COUNT_01).map(|_| (ra_blocks, da_blocks))
+    let da_blocks = (kind.deletions_of(n) + room).div_ceil(16 * s).max(1) as u32;
+    Geometry::new(kind.sector_size, ra_blocks, da_blocks, HASH_COUNT_01).map(|_| (ra_blocks, da_blocks))
 }
 
 impl Volume {
@@ -73,9 +95,9 @@ impl Volume {
     pub fn filled(kind: Kind, n: usize, room: usize, keys: Keys) -> Option<Volume> {
         let mut volume = Volume::formatted(kind, n, room, keys)?;
         let mut random = Random::new(0xF111);
-        for number in 0..n as u32 {
-            let (i, deleted) = volume.next_record(number, &mut random);
-            let record = [keys.key(i), number, 1, 0];
+        for number in 0..n {
+            let (i, deleted) = volume.next_record(kind, number, n, &mut random);
+            let record = [keys.key(i), number as u32, 1, 0];
             let Volume {
                 state,
                 data,
@@ -95,8 +117,9 @@ impl Volume {
         let Kind {
             sector_size: s,
             hash_count: k,
+            ..
         } = kind;
-        let (r, d) = geometry(s, n, room)?;
+        let (r, d) = geometry(kind, n, room)?;
         let geometry = Geometry::new(s, r, d, k)?;
         let mut data = vec![0; geometry.data_bytes()];
         let mut spare = vec![0; geometry.spare_bytes()];
@@ -114,13 +137,20 @@ impl Volume {
         })
     }
 
-    /// The key's number of the next record, and the record that it deletes.
-    fn next_record(&mut self, number: u32, random: &mut Random) -> (usize, Option<u32>) {
-        if number % 10 == 9 {
+    /// The key's number of the next one of `n` records, and the record that it deletes.
+    fn next_record(
+        &mut self,
+        kind: Kind,
+        number: usize,
+        n: usize,
+        random: &mut Random,
+    ) -> (usize, Option<u32>) {
+        let updates = |records: usize| records * kind.deletions_of(n) / n;
+        if updates(number + 1) > updates(number) {
             let i = random.below(self.newest.len());
-            (i, Some(std::mem::replace(&mut self.newest[i], number)))
+            (i, Some(std::mem::replace(&mut self.newest[i], number as u32)))
         } else {
-            self.newest.push(number);
+            self.newest.push(number as u32);
             (self.newest.len() - 1, None)
         }
     }
@@ -166,13 +196,14 @@ mod tests {
     fn by_calls(kind: Kind, n: usize, keys: Keys) -> Volume {
         let mut volume = Volume::formatted(kind, n, 0, keys).expect("allowed");
         let mut random = Random::new(0xF111);
-        for number in 0..n as u32 {
-            let (i, deleted) = volume.next_record(number, &mut random);
+        for number in 0..n {
+            let (i, deleted) = volume.next_record(kind, number, n, &mut random);
             let (key, state) = (keys.key(i), volume.state);
             let Volume { data, spare, ram, .. } = &mut volume;
+            let moves = number as u32;
             let change = match deleted {
-                None => ModelStore.insert(state, key, number, 1, 0, data, spare, ram),
-                Some(_) => ModelStore.update(state, key, number, 1, 0, data, spare, ram),
+                None => ModelStore.insert(state, key, moves, 1, 0, data, spare, ram),
+                Some(_) => ModelStore.update(state, key, moves, 1, 0, data, spare, ram),
             };
             assert_eq!(change.refusal, 0, "record {number}");
             volume.state = change.state;
@@ -182,20 +213,22 @@ mod tests {
 
     #[test]
     fn volumes_of_the_calls() {
-        for (sector_size, hash_count, n, keys) in [
-            (16, 3, 5000, Keys::Random),
-            (16, 3, 5000, Keys::InOrder),
-            (16, 8, 5000, Keys::Random),
-            (64, 3, 8300, Keys::Random),
-            (64, 1, 4200, Keys::Random),
-            (512, 3, 2500, Keys::Random),
+        for (sector_size, hash_count, n, deletions, d, keys) in [
+            (16, 3, 5000, Deletions::Tenth, 500, Keys::Random),
+            (16, 3, 5000, Deletions::Half, 2500, Keys::InOrder),
+            (16, 3, 5001, Deletions::OnePage, 17, Keys::InOrder),
+            (16, 8, 5000, Deletions::Half, 2500, Keys::Random),
+            (64, 3, 8300, Deletions::Half, 4150, Keys::Random),
+            (64, 1, 4200, Deletions::Tenth, 420, Keys::Random),
+            (512, 3, 2500, Deletions::OnePage, 513, Keys::Random),
         ] {
             let kind = Kind {
                 sector_size,
                 hash_count,
+                deletions,
             };
             let filled = Volume::filled(kind, n, 0, keys).expect("allowed");
-            assert_eq!(filled.state.deletions as usize, n / 10);
+            assert_eq!(filled.state.deletions, d);
             assert_eq!(filled.state.hash_count, hash_count);
             assert!(filled.same(&by_calls(kind, n, keys)), "{kind:?}");
         }

@@ -108,8 +108,13 @@ pub struct Counts {
     pub refusals: [u64; 10],
     /// Changes accepted and lookups answered on a volume of k hash functions, at index k.
     pub hash_counts: [u64; 9],
+    /// Sets built over entries, and over deletions.
     pub sets: u64,
     pub full_sets: u64,
+    pub deletion_sets: u64,
+    pub full_deletion_sets: u64,
+    /// Pages of deletions opened by lookups.
+    pub deletion_pages: u64,
 }
 
 impl Counts {
@@ -127,6 +132,9 @@ impl Counts {
         }
         self.sets += other.sets;
         self.full_sets += other.full_sets;
+        self.deletion_sets += other.deletion_sets;
+        self.full_deletion_sets += other.full_deletion_sets;
+        self.deletion_pages += other.deletion_pages;
     }
 
     fn count(&mut self, before: State, answer: Answer) {
@@ -144,12 +152,25 @@ impl Counts {
         if let Answer::Load(result) = answer {
             self.rows += u64::from(result.rows);
         }
-        if let Some(state) = answer.state().filter(|state| state.records > before.records) {
-            // A set is built when 128 full pages more are there, the last one of S/4 is full.
+        if let Answer::Lookup(result) = answer {
+            self.deletion_pages += result.deletion_count;
+        }
+        // A set is built when 128 filters more are there, the last one of S/4 is full: pages of S/2 entries have one, of S deletions two.
+        let built = |from: u32, to: u32| {
+            if to <= from {
+                return [0, 0];
+            }
+            // Something was accepted, so that the products are small.
             let round = 64 * before.sector_size;
-            let cycle = round * (before.sector_size / 4);
-            self.sets += u64::from(state.records / round - before.records / round);
-            self.full_sets += u64::from(state.records / cycle - before.records / cycle);
+            [round, round * (before.sector_size / 4)].map(|step| u64::from(to / step - from / step))
+        };
+        if let Some(state) = answer.state() {
+            let [sets, full_sets] = built(before.records, state.records);
+            self.sets += sets;
+            self.full_sets += full_sets;
+            let [sets, full_sets] = built(before.deletions, state.deletions);
+            self.deletion_sets += sets;
+            self.full_deletion_sets += full_sets;
         }
     }
 }
@@ -167,7 +188,12 @@ impl fmt::Display for Counts {
         for k in 1..=8 {
             write!(f, ", {} done with k = {k}", self.hash_counts[k])?;
         }
-        write!(f, "; {} sets built, {} of them full", self.sets, self.full_sets)
+        write!(f, "; {} sets built, {} of them full", self.sets, self.full_sets)?;
+        write!(
+            f,
+            "; over deletions {} sets, {} of them full, {} pages opened",
+            self.deletion_sets, self.full_deletion_sets, self.deletion_pages
+        )
     }
 }
 

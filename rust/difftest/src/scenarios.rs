@@ -121,9 +121,28 @@ pub fn all() -> Vec<Scenario> {
             move |test| history(test, s, r, d),
         ));
     }
+    // Histories of few levels, whose deletions fill pages, sets and full sets of their own.
+    for (s, r, d, long) in [
+        (16, 3, 2, false),
+        (16, 24, 5, false),
+        (16, 90, 21, false),
+        (32, 40, 9, false),
+        (64, 4, 1, false),
+        (64, 20, 5, true),
+        (32, 140, 33, true),
+        (128, 20, 5, true),
+        (512, 4, 1, true),
+    ] {
+        add(Scenario::new(
+            format!("deletions-{s}-{r}-{d}"),
+            long,
+            move |test| deletions(test, s, r, d),
+        ));
+    }
     // Histories with bytes and states altered between the calls.
     for (s, r, d, calls) in [
         (16, 3, 1, 4000),
+        (16, 20, 5, 6000),
         (16, 70, 2, 8000),
         (32, 2, 1, 4000),
         (32, 40, 2, 8000),
@@ -139,7 +158,11 @@ pub fn all() -> Vec<Scenario> {
     // Random bytes and a state shortly before a page, a flush, a set or a full set is due.
     for (s, r, d, times, long) in [
         (16, 140, 2, 150, false),
+        (16, 140, 34, 150, false),
         (32, 260, 2, 60, false),
+        (32, 264, 66, 30, false),
+        (64, 300, 70, 15, false),
+        (128, 64, 16, 15, false),
         (64, 260, 1, 40, false),
         (128, 64, 1, 30, false),
         (128, 520, 1, 15, false),
@@ -149,6 +172,8 @@ pub fn all() -> Vec<Scenario> {
         (512, 2048, 1, 1, false),
         (512, 2048, 3, 20, true),
         (512, 4096, 2, 8, true),
+        (256, 1040, 260, 5, true),
+        (512, 2048, 512, 4, true),
     ] {
         add(Scenario::new(
             format!("boundaries-{s}-{r}-{d}"),
@@ -256,6 +281,11 @@ const MANY_UPDATES: Mix = Mix {
     inserts: 5,
     updates: 11,
     deletes: 1,
+};
+const MOSTLY_UPDATES: Mix = Mix {
+    inserts: 1,
+    updates: 15,
+    deletes: 2,
 };
 const MANY_DELETES: Mix = Mix {
     inserts: 9,
@@ -370,10 +400,32 @@ fn history(test: &mut Test, s: u32, r: u32, d: u32) -> Result<(), Difference> {
     Ok(())
 }
 
+/// From a format until records or deletions are full, and some calls beyond. There are few levels, so that most changes delete.
+fn deletions(test: &mut Test, s: u32, r: u32, d: u32) -> Result<(), Difference> {
+    let geometry = geometry(s, r, d);
+    format(test, s, r, d)?;
+    let mut keys = Keys::below(20 + test.random.below_u32(geometry.deletions_per_page() as u32));
+    let full = |state: State| {
+        state.records as usize == geometry.record_capacity()
+            || state.deletions as usize == geometry.deletion_capacity()
+    };
+    while !full(test.pair.state) {
+        call_some(test, MOSTLY_UPDATES, &mut keys)?;
+    }
+    for _ in 0..100 {
+        call_some(test, MANY_DELETES, &mut keys)?;
+    }
+    Ok(())
+}
+
 /// A history with bytes and states altered between the calls.
 fn damaged(test: &mut Test, s: u32, r: u32, d: u32, calls: usize) -> Result<(), Difference> {
     let geometry = geometry(s, r, d);
-    let mut keys = Keys::below(geometry.record_capacity().min(calls) as u32);
+    // With few levels there are many deletions.
+    let mut keys = Keys::below(match test.random.below(2) {
+        0 => geometry.record_capacity().min(calls) as u32,
+        _ => 3 * s,
+    });
     let (extra, shift) = (test.random.below(3), test.random.below(16));
     test.pair.lend_for(geometry, extra, shift);
     let format = |test: &mut Test| {
@@ -426,7 +478,9 @@ fn damage(test: &mut Test, geometry: Geometry) -> Option<u32> {
     let pair = &mut test.pair;
     let page = geometry.page_size();
     let records = (pair.state.records as usize).min(geometry.record_capacity());
-    let index = geometry.l1_block() * 64 * geometry.sector_size();
+    let deletions = (pair.state.deletions as usize).min(geometry.deletion_capacity());
+    let index = random.pick(&[geometry.key_index(), geometry.deletion_index()]);
+    let index_start = index.l1_block() * 64 * geometry.sector_size();
 
     // A record, its entry and the entry's key.
     let newest = random.chance(1, 2);
@@ -454,7 +508,7 @@ fn damage(test: &mut Test, geometry: Geometry) -> Option<u32> {
         1 => 0xFF,
         _ => random.next_byte(),
     };
-    match random.below(12) {
+    match random.below(13) {
         // The entry's record number: n or more, or another record.
         0 => {
             let number = match random.below(3) {
@@ -477,7 +531,7 @@ fn damage(test: &mut Test, geometry: Geometry) -> Option<u32> {
         // A deletion of the record, or a deletion undone, on flash or in RAM.
         3 | 4 => {
             let page_starts = geometry.page_start(geometry.da_page(0));
-            let deletion = random.below(pair.state.deletions as usize + 2);
+            let deletion = random.below(deletions + 2);
             let number = if random.chance(2, 3) {
                 record as u32
             } else {
@@ -492,12 +546,12 @@ fn damage(test: &mut Test, geometry: Geometry) -> Option<u32> {
             }
             return key;
         }
-        // Filter bits in RAM, in L1 and in the sets.
-        5 => pair.write_ram(3 * page + random.below(page), &[byte]),
-        6 => pair.write_data(index + random.below(16 * page), &[byte]),
+        // Filter bits in RAM, in L1 and in the sets, of either index.
+        5 => pair.write_ram(geometry.ram_start(index.ska_page()) + random.below(page), &[byte]),
+        6 => pair.write_data(index_start + random.below(16 * page), &[byte]),
         7 => {
-            let rest = geometry.data_bytes() - index;
-            pair.write_data(index + random.below(rest), &[byte]);
+            let rest = geometry.data_bytes() - index_start;
+            pair.write_data(index_start + random.below(rest), &[byte]);
         }
         // A mark of the volume, or near the next record page.
         8 => pair.write_spare(random.below(geometry.spare_bytes()), &[random.pick(&SPARE_BYTES)]),
@@ -509,6 +563,15 @@ fn damage(test: &mut Test, geometry: Geometry) -> Option<u32> {
         10 => {
             let sector = records / geometry.records_per_page() * 4;
             pair.write_spare(sector, &std::array::from_fn::<u8, 4, _>(|_| worn_byte(random)));
+        }
+        // A mark of the next page of deletions, or of the next flush of its filters.
+        11 => {
+            let next = deletions / geometry.deletions_per_page();
+            let sector = match random.below(2) {
+                0 => 4 * geometry.da_page(next) + random.below(4),
+                _ => index.l1_sector(next / 4 % 16, random.below(4)),
+            };
+            pair.write_spare(sector, &[random.pick(&SPARE_BYTES)]);
         }
         // Any byte.
         _ => {
@@ -759,7 +822,7 @@ fn absent_key(random: &mut Random) -> u32 {
     0x4000_0000 + random.below_u32(1 << 30)
 }
 
-/// n up to three below a multiple of a page, a flush, a round or a cycle; d below a page of deletions or anything.
+/// n up to three below a multiple of a page, a flush, a round or a cycle; d up to two below one of its own, or anything.
 fn due_state(random: &mut Random, geometry: Geometry, s: u32, r: u32, d: u32) -> State {
     let capacity = geometry.record_capacity();
     let entries = geometry.entries_per_page();
@@ -772,13 +835,16 @@ fn due_state(random: &mut Random, geometry: Geometry, s: u32, r: u32, d: u32) ->
     let due = step * (1 + random.below((capacity / step).max(1)));
     let records = due.min(capacity) - 1 - random.below(3);
     let most = geometry.deletion_capacity().min(records);
-    let deletions = match random.below(3) {
+    // A page, a flush, a round or a cycle of the deletions' filters: two a page.
+    let page = geometry.deletions_per_page();
+    let filters = [2, 8, 128, geometry.filters_per_cycle()];
+    let deletions = match random.below(5) {
         0 => random.below(most.min(20) + 1),
-        1 => {
-            let page = geometry.deletions_per_page();
-            (page * (1 + random.below(most / page + 1)) - 1).min(most)
+        1 => random.below(most + 1),
+        _ => {
+            let step = random.pick(&filters) / 2 * page;
+            (step * (1 + random.below(most / step + 1)) - 1 - random.below(2)).min(most)
         }
-        _ => random.below(most + 1),
     };
     State {
         sector_size: s,
@@ -807,7 +873,7 @@ fn fill_likely(
     let wrong_numbers = random.chance(1, 4);
     let ka = geometry.page_start(geometry.ka_page(0));
     let da = geometry.page_start(geometry.da_page(0));
-    let index = geometry.l1_block() * 64 * geometry.sector_size();
+    let index = geometry.key_index().l1_block() * 64 * geometry.sector_size();
     fill_entries(random, state.records, keys, wrong_numbers, &mut data[ka..da]);
     fill_entries(
         random,
@@ -819,8 +885,17 @@ fn fill_likely(
     fill_numbers(random, state.records, &mut data[da..index]);
     fill_numbers(random, state.records, &mut ram[2 * page..3 * page]);
 
-    let density = random.below(6);
-    for bits in [&mut data[index..], &mut ram[3 * page..4 * page]] {
+    // The second index has a density of its own.
+    let densities = [random.below(6), random.below(6)];
+    let second = geometry.deletion_index().l1_block() * 64 * geometry.sector_size() - index;
+    let (keys_on_flash, deletions_on_flash) = data[index..].split_at_mut(second);
+    let (keys_in_ram, deletions_in_ram) = ram[3 * page..].split_at_mut(2 * page);
+    for (bits, density) in [
+        (keys_on_flash, densities[0]),
+        (&mut keys_in_ram[..page], densities[0]),
+        (deletions_on_flash, densities[1]),
+        (&mut deletions_in_ram[..page], densities[1]),
+    ] {
         match density {
             0 => bits.fill(0x00),
             1 => bits.fill(0xFF),

@@ -77,6 +77,26 @@ enum Fault {
     HashCount(HashCount),
     /// An update hands out document 01's k.
     HashCountLost,
+    /// Pages of deletions are opened, their count is 0.
+    DeletionCountZero,
+    /// However many pages of deletions are opened, one is counted.
+    DeletionCountOfOnePage,
+    /// The filters of a page of deletions change places.
+    HalvesSwapped,
+    /// The second filter of a page of deletions is left out.
+    SecondHalfMissing,
+    /// A byte of the deletions' filters is left in RAM after a flush.
+    DeletionFiltersKept,
+    /// A bit of a set over deletions is wrong from set 3 on.
+    DeletionSetsWrong,
+    /// A bit of a full set over deletions is wrong.
+    FullDeletionSetWrong,
+    /// A set over deletions leaves the sectors of L1 programmed.
+    DeletionsNoErase,
+    /// All pages of deletions are read, whatever their filters say; the count is the right one.
+    DeletionFiltersUnread,
+    /// A RAM of five pages is enough.
+    FivePages,
 }
 
 /// The k that is used of the one handed in.
@@ -216,30 +236,57 @@ impl Broken {
         let page = geometry.page_size();
         let block = 64 * geometry.sector_size();
         let set_built = grown && records.is_multiple_of(128 * entries);
+        let s = geometry.sector_size();
+        let second = geometry.deletion_index();
+        let deletions = change.state.deletions as usize;
+        let page_deleted = accepted && deletions > before.deletions as usize && deletions.is_multiple_of(s);
+        let deletion_flush = page_deleted && deletions.is_multiple_of(4 * s);
+        let deletion_set = page_deleted && deletions.is_multiple_of(64 * s);
+        // Where the two filters of the page are in each sector, unless they were flushed.
+        let pair_start = (deletions / s).saturating_sub(1) % 4 * (s / 4);
         match self.fault {
             Fault::LaterFiltersAllOnes if grown && records.is_multiple_of(entries) && records > entries => {
                 ram[3 * page..4 * page].fill(0xFF);
             }
             Fault::LaterSetsWrong if set_built && records == 2 * 128 * entries => {
-                data[geometry.side_b_first_block() * block + 5] ^= 0x10;
+                data[geometry.key_index().side_b_first_block() * block + 5] ^= 0x10;
             }
             Fault::FullSetWrong
                 if set_built && records.is_multiple_of(geometry.filters_per_cycle() * entries) =>
             {
-                data[geometry.full_sets_first_block() * block + 5] ^= 0x10;
+                data[geometry.key_index().full_sets_first_block() * block + 5] ^= 0x10;
             }
             Fault::WrongState if accepted && change.state.deletions > before.deletions => {
                 change.state.deletions += 1;
             }
             Fault::WrongSpareByte if grown && records == entries => spare[0] = 0x01,
             Fault::NoErase if set_built && records == 2 * 128 * entries => {
-                spare[geometry.side_a_first_block() * 64] = 0x00;
+                spare[geometry.key_index().side_a_first_block() * 64] = 0x00;
             }
             Fault::WorkPageKept if set_built => ram[4 * page] = 1,
             Fault::HalfCall if change.refusal == 7 => {
                 let place = before.records as usize % geometry.records_per_page() * 16;
                 ram[place] ^= 1;
             }
+            Fault::HalvesSwapped if page_deleted => {
+                for sector in ram[5 * page..6 * page].chunks_exact_mut(s) {
+                    let pair = &mut sector[pair_start..pair_start + s / 4];
+                    pair.rotate_left(s / 8);
+                }
+            }
+            Fault::SecondHalfMissing if page_deleted => {
+                for sector in ram[5 * page..6 * page].chunks_exact_mut(s) {
+                    sector[pair_start + s / 8..pair_start + s / 4].fill(0);
+                }
+            }
+            Fault::DeletionFiltersKept if deletion_flush => ram[5 * page] = 1,
+            Fault::DeletionSetsWrong if deletion_set && deletions == 2 * 64 * s => {
+                data[second.side_b_first_block() * block + 5] ^= 0x10;
+            }
+            Fault::FullDeletionSetWrong if deletion_set && deletions.is_multiple_of(16 * s * s) => {
+                data[second.full_sets_first_block() * block + 5] ^= 0x10;
+            }
+            Fault::DeletionsNoErase if deletion_set => spare[second.l1_sector(15, 0)] = 0x00,
             Fault::WrongOrder if change.refusal == 3 && records == geometry.record_capacity() => {
                 change.refusal = 5;
             }
@@ -424,6 +471,30 @@ impl Store for Broken {
                 offset: 0,
                 ..result
             },
+            Fault::DeletionCountZero => LookupResult {
+                deletion_count: 0,
+                ..result
+            },
+            Fault::DeletionCountOfOnePage => LookupResult {
+                deletion_count: result.deletion_count.min(1),
+                ..result
+            },
+            Fault::DeletionFiltersUnread if result.refusal == 0 => {
+                let (mut open, mut open_ram) = (data.to_vec(), ram.to_vec());
+                let geometry = Geometry::of_state(state).expect("allowed");
+                let start = geometry.deletion_index().l1_block() * 64 * geometry.sector_size();
+                open[start..geometry.data_bytes()].fill(0xFF);
+                open_ram[20 * geometry.sector_size()..geometry.ram_bytes()].fill(0xFF);
+                LookupResult {
+                    deletion_count: result.deletion_count,
+                    ..ModelStore.lookup(state, key, &open, spare, &open_ram)
+                }
+            }
+            Fault::FivePages if result.refusal == 2 && ram.len() >= 20 * state.sector_size as usize => {
+                let mut longer = ram.to_vec();
+                longer.resize(24 * state.sector_size as usize, 0);
+                ModelStore.lookup(state, key, data, spare, &longer)
+            }
             Fault::WrongOffset if result.found == 1 => LookupResult {
                 offset: result.offset ^ 16,
                 ..result
@@ -498,6 +569,13 @@ fn run(fault: Fault, parts: &[&str]) -> Result<Counts, Difference> {
 
 /// The scenarios of S = 16 and 32.
 const SMALL: [&str; 3] = ["-16", "-32", "wild"];
+/// Those with deletions enough for sets of their own, and some that alter filters and lengths.
+const DELETIONS: [&str; 4] = [
+    "deletions-16",
+    "damaged-16-20",
+    "lengths-16",
+    "boundaries-16-140-34",
+];
 /// Those of loads.
 const LOADS: [&str; 1] = ["tab"];
 
@@ -521,6 +599,8 @@ fn the_model_does_not_differ_from_itself() {
         assert!(counts.refusals[number] > 0, "no refusal {number}");
     }
     assert!(counts.sets > counts.full_sets && counts.full_sets > 0);
+    assert!(counts.deletion_sets > counts.full_deletion_sets && counts.full_deletion_sets > 0);
+    assert!(counts.deletion_pages > 0);
     for k in 1..=8 {
         assert!(counts.hash_counts[k] > 0, "nothing done with k = {k}");
     }
@@ -558,6 +638,24 @@ fn broken_stores_are_reported() {
         Fault::RunJoined,
     ] {
         assert_reported(&format!("{fault:?}"), fault, &SMALL);
+    }
+}
+
+#[test]
+fn wrong_filters_over_deletions_are_reported() {
+    for fault in [
+        Fault::DeletionCountZero,
+        Fault::DeletionCountOfOnePage,
+        Fault::HalvesSwapped,
+        Fault::SecondHalfMissing,
+        Fault::DeletionFiltersKept,
+        Fault::DeletionSetsWrong,
+        Fault::FullDeletionSetWrong,
+        Fault::DeletionsNoErase,
+        Fault::DeletionFiltersUnread,
+        Fault::FivePages,
+    ] {
+        assert_reported(&format!("{fault:?}"), fault, &DELETIONS);
     }
 }
 

@@ -26,7 +26,7 @@ fn scenarios_agree() {
     }
 }
 
-/// Sets of every S before and after each doubling of their pages, full ones too, out of random bits.
+/// Sets of every S and of both indexes before and after each doubling of their pages, full ones too, out of random bits.
 #[test]
 fn sets_of_every_width() {
     for sector_size in store::SECTOR_SIZES {
@@ -45,9 +45,9 @@ fn sets_of_every_width() {
     }
 }
 
-/// The insert that builds the set, and lookups of every k before and after it: the bits are random.
+/// The update that builds the set of both indexes, and lookups of every k before and after it: the bits are random.
 fn set(sector_size: u32, number: u32) -> Result<(), Difference> {
-    let (ra_blocks, da_blocks) = (16 * (number - 1), 1);
+    let (ra_blocks, da_blocks) = (16 * (number - 1), 4 * (number - 1));
     let geometry = Geometry::new(sector_size, ra_blocks, da_blocks, HASH_COUNT_01).expect("allowed");
     let mut random = Random::new(u64::from(sector_size + number));
     let mut pair = Pair::new(&ModelStore, &FastStore);
@@ -57,34 +57,47 @@ fn set(sector_size: u32, number: u32) -> Result<(), Difference> {
         random.fill(ram);
         spare.fill(0xFF);
     });
+    let due = 64 * sector_size * (number - 1);
     pair.state = State {
         sector_size,
         ra_blocks,
         da_blocks,
         hash_count: HASH_COUNT_01,
-        records: 64 * sector_size * (number - 1) - 1,
-        deletions: sector_size + 3,
+        records: due - 2,
+        deletions: due - 2,
     };
-    lookups(&mut pair, &mut random)?;
-    let answer = pair.call(Call::Insert {
-        key: random.next_u32(),
-        moves: 1,
-        goal: 2,
-        word: 3,
-    })?;
-    assert!(answer.accepted());
-    lookups(&mut pair, &mut random)
+    let key = random.next_u32();
+    let [moves, goal, word] = [1, 2, 3];
+    let insert = Call::Insert {
+        key,
+        moves,
+        goal,
+        word,
+    };
+    assert!(pair.call(insert)?.accepted());
+    // Random numbers are hardly this one, so that the record is live.
+    pair.state.deletions += 1;
+    lookups(&mut pair, &mut random, key)?;
+    let update = Call::Update {
+        key,
+        moves,
+        goal,
+        word,
+    };
+    assert!(pair.call(update)?.accepted());
+    assert_eq!((pair.state.records, pair.state.deletions), (due, due));
+    lookups(&mut pair, &mut random, key)
 }
 
-fn lookups(pair: &mut Pair, random: &mut Random) -> Result<(), Difference> {
+/// Of this key, whose record is tested by the deletions' filters, and of another one.
+fn lookups(pair: &mut Pair, random: &mut Random, key: u32) -> Result<(), Difference> {
     let state = pair.state;
     for hash_count in 1..=8 {
         pair.state.hash_count = hash_count;
-        for _ in 0..2 {
-            pair.call(Call::Lookup {
-                key: random.next_u32(),
-            })?;
-        }
+        pair.call(Call::Lookup { key })?;
+        pair.call(Call::Lookup {
+            key: random.next_u32(),
+        })?;
     }
     pair.state = state;
     Ok(())

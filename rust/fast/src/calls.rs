@@ -216,9 +216,14 @@ fn look_up<const S: usize>(
     ram: &[u8],
 ) -> Result<LookupResult, u32> {
     let layout = judge::<S>(state, data, spare, ram)?;
-    let Found { ending, opened } = search(&layout, state, key, data, ram);
+    let Found {
+        ending,
+        opened,
+        deletions_opened,
+    } = search(&layout, state, key, data, ram);
     let mut result = LookupResult {
         count: opened,
+        deletion_count: deletions_opened,
         ..LookupResult::default()
     };
     match ending {

@@ -1,7 +1,9 @@
 //! What an accepted change programs, erases and leaves in RAM.
 
 use crate::hash::{for_hash_count, positions};
-use crate::layout::{Layout, DELETION, ENTRY, FILTERS_PER_FLUSH, FILTERS_PER_ROUND, RECORD};
+use crate::layout::{
+    Index, Layout, DELETION, ENTRY, FILTERS_PER_DELETION_PAGE, FILTERS_PER_FLUSH, FILTERS_PER_ROUND, RECORD,
+};
 use crate::rebuild::rebuild;
 use model::State;
 
@@ -20,11 +22,18 @@ pub struct Lent<'a> {
     pub ram: &'a mut [u8],
 }
 
-/// What one call fills, by first bytes in `data`.
-struct Plan {
+/// What one call fills: pages, by first bytes in `data`, and what the filters of a page fill.
+struct Plan<'a, const S: usize> {
     deletions: Option<usize>,
+    deletion_filters: FilterPlan<'a, S>,
     records: Option<usize>,
     entries: Option<usize>,
+    key_filters: FilterPlan<'a, S>,
+}
+
+/// What the last filter of a full page fills in its index.
+struct FilterPlan<'a, const S: usize> {
+    index: &'a Index<S>,
     /// The first of a flush's four sectors; the next ones lie 16 sectors further each.
     flush: Option<usize>,
     set: Option<Set>,
@@ -47,7 +56,7 @@ pub fn change<const S: usize>(
     lent: Lent,
 ) -> Option<State> {
     let plan = Plan::new(layout, state, deleted.is_some(), inserted.is_some());
-    if !plan.fresh(layout, lent.spare) {
+    if !plan.fresh(lent.spare) {
         return None;
     }
     let mut next = state;
@@ -59,7 +68,7 @@ pub fn change<const S: usize>(
         append_record::<S>(state, record, lent.ram);
         next.records += 1;
     }
-    plan.carry_out(layout, state, lent);
+    plan.carry_out(state, lent);
     Some(next)
 }
 
@@ -79,83 +88,120 @@ fn append_record<const S: usize>(state: State, record: Record, ram: &mut [u8]) {
     ram[Layout::<S>::RAM_ENTRIES + place..][..ENTRY].copy_from_slice(&entry.to_le_bytes());
 }
 
-impl Plan {
-    fn new<const S: usize>(layout: &Layout<S>, state: State, deletes: bool, inserts: bool) -> Plan {
+impl<'a, const S: usize> Plan<'a, S> {
+    fn new(layout: &'a Layout<S>, state: State, deletes: bool, inserts: bool) -> Self {
         let (records, deletions) = (state.records as usize, state.deletions as usize);
         // The page that an item completes, if it does.
-        let page = |fills: bool, count: usize, per_page: usize, area: usize| {
-            (fills && (count + 1).is_multiple_of(per_page))
-                .then(|| area + count / per_page * Layout::<S>::PAGE)
+        let page = |fills: bool, count: usize, per_page: usize| {
+            (fills && (count + 1).is_multiple_of(per_page)).then_some(count / per_page)
         };
-        let entries = page(inserts, records, Layout::<S>::ENTRIES, layout.entries);
-        let filters = records / Layout::<S>::ENTRIES + 1;
-        let flushes = entries.is_some() && filters.is_multiple_of(FILTERS_PER_FLUSH);
-        let flush = (filters - 1) % FILTERS_PER_ROUND / FILTERS_PER_FLUSH;
-        let rounds = (filters - 1) / FILTERS_PER_ROUND;
-        let builds = flushes && filters.is_multiple_of(FILTERS_PER_ROUND);
+        let at = |area: usize| move |page: usize| area + page * Layout::<S>::PAGE;
+        let deletion_page = page(deletes, deletions, Layout::<S>::DELETIONS);
+        let entry_page = page(inserts, records, Layout::<S>::ENTRIES);
         Plan {
-            deletions: page(deletes, deletions, Layout::<S>::DELETIONS, layout.deletions),
-            records: page(inserts, records, Layout::<S>::RECORDS, 0),
-            entries,
-            flush: flushes.then(|| layout.l1 + flush * S),
-            set: builds.then(|| Set {
-                number: rounds % Layout::<S>::ROUNDS + 2,
-                full_sets: rounds / Layout::<S>::ROUNDS,
-            }),
+            deletions: deletion_page.map(at(layout.deletions)),
+            deletion_filters: FilterPlan::new(
+                &layout.deletion_index,
+                deletion_page.map(|page| FILTERS_PER_DELETION_PAGE * (page + 1)),
+            ),
+            records: page(inserts, records, Layout::<S>::RECORDS).map(at(0)),
+            entries: entry_page.map(at(layout.entries)),
+            key_filters: FilterPlan::new(&layout.key_index, entry_page.map(|page| page + 1)),
         }
     }
 
     /// Are all sectors to be programmed fresh?
-    fn fresh<const S: usize>(&self, layout: &Layout<S>, spare: &[u8]) -> bool {
+    fn fresh(&self, spare: &[u8]) -> bool {
         let pages = [self.deletions, self.records, self.entries];
-        let all = |start: usize, bytes: usize| all_fresh(&spare[start / S..][..bytes / S]);
-        let pages_fresh = pages.iter().flatten().all(|&page| all(page, Layout::<S>::PAGE));
-        let flush_fresh = |flush: usize| (0..4).all(|group| all(flush + group * 16 * S, S));
-        let set_fresh = |set: Set| all(set.start(layout), Layout::<S>::set_bytes(set.number));
-        pages_fresh && self.flush.is_none_or(flush_fresh) && self.set.is_none_or(set_fresh)
+        pages
+            .iter()
+            .flatten()
+            .all(|&page| fresh::<S>(page, Layout::<S>::PAGE, spare))
+            && self.deletion_filters.fresh(spare)
+            && self.key_filters.fresh(spare)
     }
 
-    fn carry_out<const S: usize>(&self, layout: &Layout<S>, state: State, lent: Lent) {
+    fn carry_out(&self, state: State, lent: Lent) {
         let Lent { data, spare, ram } = lent;
         if let Some(page) = self.deletions {
+            let first = state.deletions as usize / Layout::<S>::DELETIONS * FILTERS_PER_DELETION_PAGE;
+            for_hash_count!(state.hash_count, K => write_deletion_filters::<S, K>(first, self.deletion_filters.index, ram));
             program_page::<S>(page, Layout::<S>::RAM_DELETIONS, data, spare, ram);
         }
+        self.deletion_filters.carry_out(data, spare, ram);
         if let Some(page) = self.records {
             program_page::<S>(page, 0, data, spare, ram);
         }
         if let Some(page) = self.entries {
-            let slot = state.records as usize / Layout::<S>::ENTRIES % FILTERS_PER_FLUSH;
-            for_hash_count!(state.hash_count, K => write_filter::<S, K>(slot, ram));
+            let filter = state.records as usize / Layout::<S>::ENTRIES;
+            for_hash_count!(state.hash_count, K => write_key_filter::<S, K>(filter, self.key_filters.index, ram));
             program_page::<S>(page, Layout::<S>::RAM_ENTRIES, data, spare, ram);
         }
-        if let Some(flush) = self.flush {
-            program_flush::<S>(flush, data, spare, ram);
-        }
-        if let Some(set) = self.set {
-            set.build(layout, data, spare);
-        }
+        self.key_filters.carry_out(data, spare, ram);
         ram[Layout::<S>::RAM_WORK..][..Layout::<S>::PAGE].fill(0);
     }
 }
 
+impl<'a, const S: usize> FilterPlan<'a, S> {
+    /// Of an index that gets filters and has so many then; nothing if it gets none.
+    fn new(index: &'a Index<S>, filters: Option<usize>) -> Self {
+        let full = |of: usize| filters.filter(|filters| filters.is_multiple_of(of));
+        FilterPlan {
+            index,
+            flush: full(FILTERS_PER_FLUSH).map(|filters| {
+                let flush = (filters - 1) % FILTERS_PER_ROUND / FILTERS_PER_FLUSH;
+                index.l1 + flush * S
+            }),
+            set: full(FILTERS_PER_ROUND).map(|filters| {
+                let rounds = filters / FILTERS_PER_ROUND - 1;
+                Set {
+                    number: rounds % Layout::<S>::ROUNDS + 2,
+                    full_sets: rounds / Layout::<S>::ROUNDS,
+                }
+            }),
+        }
+    }
+
+    fn fresh(&self, spare: &[u8]) -> bool {
+        let flush_fresh = |flush: usize| (0..4).all(|group| fresh::<S>(flush + group * 16 * S, S, spare));
+        let set_fresh =
+            |set: Set| fresh::<S>(set.start(self.index), Layout::<S>::set_bytes(set.number), spare);
+        self.flush.is_none_or(flush_fresh) && self.set.is_none_or(set_fresh)
+    }
+
+    fn carry_out(&self, data: &mut [u8], spare: &mut [u8], ram: &mut [u8]) {
+        if let Some(flush) = self.flush {
+            program_flush::<S>(flush, self.index, data, spare, ram);
+        }
+        if let Some(set) = self.set {
+            set.build(self.index, data, spare);
+        }
+    }
+}
+
 impl Set {
-    fn start<const S: usize>(self, layout: &Layout<S>) -> usize {
-        layout.set(self.number, self.full_sets)
+    fn start<const S: usize>(self, index: &Index<S>) -> usize {
+        index.set(self.number, self.full_sets)
     }
 
     /// Programs the set's pages, then erases L1 and the earlier set.
     #[inline(never)]
-    fn build<const S: usize>(self, layout: &Layout<S>, data: &mut [u8], spare: &mut [u8]) {
+    fn build<const S: usize>(self, index: &Index<S>, data: &mut [u8], spare: &mut [u8]) {
         let bytes = Layout::<S>::set_bytes(self.number);
-        let start = self.start(layout);
-        rebuild(layout, self.number, start, data);
+        let start = self.start(index);
+        rebuild(index, self.number, start, data);
         spare[start / S..][..bytes / S].fill(PROGRAMMED);
-        erase::<S>(layout.l1, Layout::<S>::BLOCK, data, spare);
+        erase::<S>(index.l1, Layout::<S>::BLOCK, data, spare);
         if self.number > 2 {
-            let earlier = layout.set(self.number - 1, self.full_sets);
+            let earlier = index.set(self.number - 1, self.full_sets);
             erase::<S>(earlier, Layout::<S>::set_bytes(self.number - 1), data, spare);
         }
     }
+}
+
+/// Are the sectors of these bytes fresh?
+fn fresh<const S: usize>(start: usize, bytes: usize, spare: &[u8]) -> bool {
+    all_fresh(&spare[start / S..][..bytes / S])
 }
 
 /// No exit before the end: vector code.
@@ -173,9 +219,15 @@ fn program_page<const S: usize>(page: usize, from: usize, data: &mut [u8], spare
     from.fill(0);
 }
 
-/// Programs the four sectors of a flush, and zeroes RAM's filters.
-fn program_flush<const S: usize>(flush: usize, data: &mut [u8], spare: &mut [u8], ram: &mut [u8]) {
-    let filters = &mut ram[Layout::<S>::RAM_FILTERS..][..Layout::<S>::PAGE];
+/// Programs the four sectors of a flush, and zeroes the index's filters in RAM.
+fn program_flush<const S: usize>(
+    flush: usize,
+    index: &Index<S>,
+    data: &mut [u8],
+    spare: &mut [u8],
+    ram: &mut [u8],
+) {
+    let filters = &mut ram[index.ram..][..Layout::<S>::PAGE];
     for (group, sector) in filters.chunks_exact(S).enumerate() {
         let start = flush + group * 16 * S;
         data[start..][..S].copy_from_slice(sector);
@@ -189,16 +241,36 @@ fn erase<const S: usize>(start: usize, bytes: usize, data: &mut [u8], spare: &mu
     spare[start / S..][..bytes / S].fill(ERASED);
 }
 
-/// The filter of RAM's full page of entries replaces what its place in RAM's filters held.
-fn write_filter<const S: usize, const K: usize>(slot: usize, ram: &mut [u8]) {
-    let (before, filters) = ram.split_at_mut(Layout::<S>::RAM_FILTERS);
-    let (entries, _) = before[Layout::<S>::RAM_ENTRIES..][..Layout::<S>::PAGE].as_chunks::<ENTRY>();
+/// The filter of RAM's full page of entries.
+fn write_key_filter<const S: usize, const K: usize>(filter: usize, index: &Index<S>, ram: &mut [u8]) {
+    let (before, filters) = ram.split_at_mut(index.ram);
+    let (entries, _) = before[Layout::<S>::RAM_ENTRIES..][..Layout::<S>::PAGE].as_chunks();
+    write_filter::<S, K, ENTRY>(filter, entries, filters);
+}
+
+/// The two filters of RAM's full page of deletions, first half first.
+fn write_deletion_filters<const S: usize, const K: usize>(first: usize, index: &Index<S>, ram: &mut [u8]) {
+    let (before, filters) = ram.split_at_mut(index.ram);
+    let (numbers, _) = before[Layout::<S>::RAM_DELETIONS..][..Layout::<S>::PAGE].as_chunks();
+    for (half, numbers) in numbers.chunks_exact(numbers.len() / 2).enumerate() {
+        write_filter::<S, K, DELETION>(first + half, numbers, filters);
+    }
+}
+
+/// The filter of the first numbers of some items replaces what its place in RAM's filters held.
+fn write_filter<const S: usize, const K: usize, const ITEM: usize>(
+    filter: usize,
+    items: &[[u8; ITEM]],
+    filters: &mut [u8],
+) {
+    let slot = filter % FILTERS_PER_FLUSH;
     let filters = &mut filters[..Layout::<S>::PAGE];
     for sector in filters.chunks_exact_mut(S) {
         sector[slot * S / 8..][..S / 8].fill(0);
     }
-    for &[a, b, c, d, ..] in entries {
-        for position in positions::<S, K>(u32::from_le_bytes([a, b, c, d])) {
+    for item in items {
+        let number = u32::from_le_bytes([item[0], item[1], item[2], item[3]]);
+        for position in positions::<S, K>(number) {
             let sector = position / S * S;
             filters[sector + (slot * S + position % S) / 8] |= 1 << (position % 8);
         }

@@ -8,6 +8,8 @@ const MOST_HASHES: u32 = 8;
 
 pub const FILTERS_PER_FLUSH: usize = 8;
 pub const FILTERS_PER_ROUND: usize = 128;
+/// One of each half of a page of deletions; a page of entries has one.
+pub const FILTERS_PER_DELETION_PAGE: usize = 2;
 
 pub const RECORD: usize = 16;
 pub const ENTRY: usize = 8;
@@ -18,10 +20,8 @@ pub const DELETION: usize = 4;
 pub struct Layout<const S: usize> {
     pub entries: usize,
     pub deletions: usize,
-    pub l1: usize,
-    pub side_a: usize,
-    pub side_b: usize,
-    pub full_sets: usize,
+    pub key_index: Index<S>,
+    pub deletion_index: Index<S>,
     pub data_bytes: usize,
     pub record_capacity: usize,
     pub deletion_capacity: usize,
@@ -43,9 +43,10 @@ impl<const S: usize> Layout<S> {
     // First bytes of the pages in `ram`. RA's is byte 0.
     pub const RAM_ENTRIES: usize = Self::PAGE;
     pub const RAM_DELETIONS: usize = 2 * Self::PAGE;
-    pub const RAM_FILTERS: usize = 3 * Self::PAGE;
+    const RAM_KEY_FILTERS: usize = 3 * Self::PAGE;
     pub const RAM_WORK: usize = 4 * Self::PAGE;
-    pub const RAM_BYTES: usize = 5 * Self::PAGE;
+    const RAM_DELETION_FILTERS: usize = 5 * Self::PAGE;
+    pub const RAM_BYTES: usize = 6 * Self::PAGE;
 
     /// Nothing if R or D is not allowed.
     pub fn new(ra_blocks: u32, da_blocks: u32) -> Option<Self> {
@@ -56,18 +57,15 @@ impl<const S: usize> Layout<S> {
         let (r, d) = (ra_blocks as usize, da_blocks as usize);
         let entries = r * Self::BLOCK;
         let deletions = entries + r.div_ceil(2) * Self::BLOCK;
-        let l1 = deletions + d * Self::BLOCK;
-        let side_a = l1 + Self::BLOCK;
-        let side_b = side_a + Self::SIDE;
-        let full_sets = side_b + Self::SIDE;
+        let key_index = Index::new(deletions + d * Self::BLOCK, Self::RAM_KEY_FILTERS);
+        let second = key_index.full_sets + r / (4 * S) * Self::SIDE;
+        let deletion_index = Index::new(second, Self::RAM_DELETION_FILTERS);
         Some(Layout {
             entries,
             deletions,
-            l1,
-            side_a,
-            side_b,
-            full_sets,
-            data_bytes: full_sets + r / (4 * S) * Self::SIDE,
+            key_index,
+            deletion_index,
+            data_bytes: deletion_index.full_sets + d / S * Self::SIDE,
             record_capacity: 4 * r * S,
             deletion_capacity: 16 * d * S,
         })
@@ -87,17 +85,6 @@ impl<const S: usize> Layout<S> {
         data.len() >= self.data_bytes && spare.len() >= self.data_bytes / S && ram.len() >= Self::RAM_BYTES
     }
 
-    /// First byte of set `number` (from 2), built when `full_sets` full sets were there.
-    pub fn set(&self, number: usize, full_sets: usize) -> usize {
-        if number == Self::ROUNDS + 1 {
-            self.full_sets + full_sets * Self::SIDE
-        } else if number.is_multiple_of(2) {
-            self.side_a
-        } else {
-            self.side_b
-        }
-    }
-
     /// Bits of a filter in a page of set `number`, as a power of two: w = S/4 divided by the
     /// least power of two not below number - 1.
     pub fn width_log(number: usize) -> u32 {
@@ -107,5 +94,41 @@ impl<const S: usize> Layout<S> {
     /// Bytes of the pages of set `number`.
     pub fn set_bytes(number: usize) -> usize {
         (number - 1).next_power_of_two() * Self::BLOCK
+    }
+}
+
+/// First bytes of an index: in `data`, and of its page of filters in `ram`.
+#[derive(Clone, Copy)]
+pub struct Index<const S: usize> {
+    pub l1: usize,
+    pub side_a: usize,
+    pub side_b: usize,
+    pub full_sets: usize,
+    pub ram: usize,
+}
+
+impl<const S: usize> Index<S> {
+    fn new(l1: usize, ram: usize) -> Self {
+        let side_a = l1 + Layout::<S>::BLOCK;
+        let side_b = side_a + Layout::<S>::SIDE;
+        let full_sets = side_b + Layout::<S>::SIDE;
+        Index {
+            l1,
+            side_a,
+            side_b,
+            full_sets,
+            ram,
+        }
+    }
+
+    /// First byte of set `number` (from 2), built when `full_sets` full sets were there.
+    pub fn set(&self, number: usize, full_sets: usize) -> usize {
+        if number == Layout::<S>::ROUNDS + 1 {
+            self.full_sets + full_sets * Layout::<S>::SIDE
+        } else if number.is_multiple_of(2) {
+            self.side_a
+        } else {
+            self.side_b
+        }
     }
 }

@@ -5,7 +5,8 @@
 //! - every call is compiled for each of the six sector sizes, so that products and quotients with S are shifts
 //!   and a page has a length that the compiler knows;
 //! - the search and the making of a filter are compiled for each number of positions, 1 to 8, see `hash`;
-//! - filters are walked place by place (RAM page, L1, current set, full sets), up to 64 filters a word, see `walk`;
+//! - filters, of entries and of deletions alike, are walked place by place (RAM page, L1, current set, full sets), see `filters`,
+//!   up to 64 filters a word, see `walk`;
 //! - deletions and keys are compared without an exit inside a block, which the compiler turns into vector code, see `scan`;
 //! - a set is rebuilt by copies of bytes and merges of words, straight from flash to flash, see `rebuild`;
 //! - a tab is read in place, and each of its rows needs one search.
@@ -18,6 +19,7 @@
 mod bits;
 mod calls;
 mod change;
+mod filters;
 mod hash;
 mod layout;
 mod rebuild;

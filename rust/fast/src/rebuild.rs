@@ -5,7 +5,7 @@
 //! S bits each, in four rows: a field of each filter is taken.
 
 use crate::bits::{squeeze, transpose};
-use crate::layout::{Layout, FILTERS_PER_ROUND};
+use crate::layout::{Index, Layout, FILTERS_PER_ROUND};
 
 /// The earlier set: its pages, and what a page of the new set takes from them.
 struct Earlier<'a> {
@@ -17,14 +17,14 @@ struct Earlier<'a> {
     bytes: usize,
 }
 
-/// Builds set `number` at `start`. The bytes of its pages are all that changes.
-pub fn rebuild<const S: usize>(layout: &Layout<S>, number: usize, start: usize, data: &mut [u8]) {
+/// Builds set `number` of an index at `start`. The bytes of its pages are all that changes.
+pub fn rebuild<const S: usize>(index: &Index<S>, number: usize, start: usize, data: &mut [u8]) {
     let (before, from_new) = data.split_at_mut(start);
     let (new, behind) = from_new.split_at_mut(Layout::<S>::set_bytes(number));
-    let l1 = &before[layout.l1..][..Layout::<S>::BLOCK];
+    let l1 = &before[index.l1..][..Layout::<S>::BLOCK];
     let width_log = Layout::<S>::width_log(number);
     let earlier = Earlier {
-        pages: earlier_pages(layout, number, start + new.len(), before, behind),
+        pages: earlier_pages(index, number, start + new.len(), before, behind),
         halved: number > 2 && Layout::<S>::width_log(number - 1) != width_log,
         width_log,
         bytes: ((number - 2) * FILTERS_PER_ROUND) << width_log >> 3,
@@ -43,7 +43,7 @@ pub fn rebuild<const S: usize>(layout: &Layout<S>, number: usize, start: usize, 
 
 /// The pages of the set before set `number`, none of set 2: they lie before the new set or behind its end.
 fn earlier_pages<'a, const S: usize>(
-    layout: &Layout<S>,
+    index: &Index<S>,
     number: usize,
     end: usize,
     before: &'a [u8],
@@ -52,7 +52,7 @@ fn earlier_pages<'a, const S: usize>(
     if number == 2 {
         return &[];
     }
-    let start = layout.set(number - 1, 0);
+    let start = index.set(number - 1, 0);
     let bytes = Layout::<S>::set_bytes(number - 1);
     match start.checked_sub(end) {
         Some(offset) => &behind[offset..][..bytes],

@@ -3,7 +3,7 @@
 use crate::change::{change, Record};
 use crate::flash::erase_block;
 use crate::geometry::Geometry;
-use crate::search::{record_place, search, SearchResult};
+use crate::search::{record_place, search, Ending, SearchResult};
 use crate::{Change, LookupResult, State};
 
 const NOT_ALLOWED: u32 = 1;
@@ -61,10 +61,10 @@ pub fn insert(
         Ok(geometry) => geometry,
         Err(refusal) => return refused(refusal, state),
     };
-    match search(geometry, state, key, data, ram) {
-        SearchResult::WrongRecordNumber => return refused(WRONG_RECORD_NUMBER, state),
-        SearchResult::Live { .. } => return refused(LIVE, state),
-        SearchResult::NotLive { .. } => {}
+    match search(geometry, state, key, data, ram).ending {
+        Ending::WrongRecordNumber => return refused(WRONG_RECORD_NUMBER, state),
+        Ending::Live { .. } => return refused(LIVE, state),
+        Ending::NotLive => {}
     }
     if state.records as usize >= geometry.record_capacity() {
         return refused(RECORDS_FULL, state);
@@ -97,10 +97,10 @@ pub fn update(
         Ok(geometry) => geometry,
         Err(refusal) => return refused(refusal, state),
     };
-    let old = match search(geometry, state, key, data, ram) {
-        SearchResult::WrongRecordNumber => return refused(WRONG_RECORD_NUMBER, state),
-        SearchResult::NotLive { .. } => None,
-        SearchResult::Live { record, .. } => Some(record),
+    let old = match search(geometry, state, key, data, ram).ending {
+        Ending::WrongRecordNumber => return refused(WRONG_RECORD_NUMBER, state),
+        Ending::NotLive => None,
+        Ending::Live { record } => Some(record),
     };
     if state.records as usize >= geometry.record_capacity() {
         return refused(RECORDS_FULL, state);
@@ -127,10 +127,10 @@ pub fn delete(state: State, key: u32, data: &mut [u8], spare: &mut [u8], ram: &m
         Ok(geometry) => geometry,
         Err(refusal) => return refused(refusal, state),
     };
-    let old = match search(geometry, state, key, data, ram) {
-        SearchResult::WrongRecordNumber => return refused(WRONG_RECORD_NUMBER, state),
-        SearchResult::NotLive { .. } => return refused(NOT_LIVE, state),
-        SearchResult::Live { record, .. } => record,
+    let old = match search(geometry, state, key, data, ram).ending {
+        Ending::WrongRecordNumber => return refused(WRONG_RECORD_NUMBER, state),
+        Ending::NotLive => return refused(NOT_LIVE, state),
+        Ending::Live { record } => record,
     };
     if state.deletions as usize >= geometry.deletion_capacity() {
         return refused(DELETIONS_FULL, state);
@@ -143,26 +143,36 @@ pub fn delete(state: State, key: u32, data: &mut [u8], spare: &mut [u8], ram: &m
 
 /// "Lookup gives hit, count and the 16 record bytes as the caller's own, on the chip or in the desk,
 /// wherever that record is; or miss, count and an empty part; its refusals give count 0 and an empty part."
+/// From request 5 on it "also gives the DA pages opened, 0 on a refusal".
 pub fn lookup(state: State, key: u32, data: &[u8], spare: &[u8], ram: &[u8]) -> LookupResult {
     let nothing = LookupResult::default();
     let geometry = match judge(state, data, spare, ram) {
         Ok(geometry) => geometry,
         Err(refusal) => return LookupResult { refusal, ..nothing },
     };
-    match search(geometry, state, key, data, ram) {
-        SearchResult::WrongRecordNumber => LookupResult {
+    let SearchResult {
+        ending,
+        count,
+        deletion_count,
+    } = search(geometry, state, key, data, ram);
+    let miss = LookupResult {
+        count,
+        deletion_count,
+        ..nothing
+    };
+    match ending {
+        Ending::WrongRecordNumber => LookupResult {
             refusal: WRONG_RECORD_NUMBER,
             ..nothing
         },
-        SearchResult::NotLive { count } => LookupResult { count, ..nothing },
-        SearchResult::Live { record, count } => {
+        Ending::NotLive => miss,
+        Ending::Live { record } => {
             let (in_ram, offset) = record_place(geometry, state.records as usize, record as usize);
             LookupResult {
-                refusal: 0,
                 found: 1,
-                count,
                 in_ram: u32::from(in_ram),
                 offset: offset as u32,
+                ..miss
             }
         }
     }
@@ -179,7 +189,7 @@ pub fn judge(state: State, data: &[u8], spare: &[u8], ram: &[u8]) -> Result<Geom
     {
         return Err(NOT_ALLOWED);
     }
-    // "Cells under 64SB, marks under 64B or desk under 20S bytes"; longer slices are allowed.
+    // "Cells under 64SB, marks under 64B or desk under 20S bytes", from request 5 on 24S; longer slices are allowed.
     if data.len() < geometry.data_bytes()
         || spare.len() < geometry.spare_bytes()
         || ram.len() < geometry.ram_bytes()

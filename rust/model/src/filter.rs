@@ -1,8 +1,8 @@
 //! Filters: where each lies, how its bits are read, and how they are built.
 
-use crate::flash::{program_page, read_bit, read_number, set_bit};
+use crate::flash::{program_page, read_bit, set_bit};
 use crate::geometry::{
-    Geometry, RamPage, ENTRY_BYTES, FILTERS_PER_FLUSH, FILTERS_PER_ROUND, PAGES_PER_BLOCK, SECTORS_PER_PAGE,
+    Geometry, Index, RamPage, FILTERS_PER_FLUSH, FILTERS_PER_ROUND, PAGES_PER_BLOCK, SECTORS_PER_PAGE,
 };
 use crate::hash::positions;
 
@@ -39,50 +39,51 @@ impl Set {
 
     /// "An even i goes to side A, an odd one to side B, from the side's first page.
     /// Set S/4 + 1 is full at m pages and goes to the next sealed place instead."
-    pub fn first_block(self, geometry: Geometry) -> usize {
+    pub fn first_block(self, index: Index) -> usize {
+        let geometry = index.geometry();
         if self.number == geometry.rounds_per_cycle() + 1 {
-            geometry.full_sets_first_block() + self.full_sets * geometry.side_blocks()
+            index.full_sets_first_block() + self.full_sets * geometry.side_blocks()
         } else if self.number.is_multiple_of(2) {
-            geometry.side_a_first_block()
+            index.side_a_first_block()
         } else {
-            geometry.side_b_first_block()
+            index.side_b_first_block()
         }
     }
 
-    pub fn first_page(self, geometry: Geometry) -> usize {
-        self.first_block(geometry) * PAGES_PER_BLOCK
+    pub fn first_page(self, index: Index) -> usize {
+        self.first_block(index) * PAGES_PER_BLOCK
     }
 }
 
 /// Where a filter lies.
 #[derive(Clone, Copy)]
-pub enum Place {
+enum Place {
     SkaPage { slot: usize },
     LevelOne { flush: usize, slot: usize },
-    Set { set: Set, index: usize },
+    Set { set: Set, number: usize },
 }
 
-/// Where the filter of full page `filter` lies when there are `full_pages`. It follows from n alone.
-pub fn place_of_filter(geometry: Geometry, filter: usize, full_pages: usize) -> Place {
+/// Where a filter of an index lies when there are so many. It follows from their number alone.
+fn place_of_filter(geometry: Geometry, filter: usize, filters: usize) -> Place {
     let cycle = geometry.filters_per_cycle();
-    let rounds = full_pages / FILTERS_PER_ROUND;
-    if filter >= full_pages - full_pages % FILTERS_PER_FLUSH {
+    let rounds = filters / FILTERS_PER_ROUND;
+    if filter >= filters - filters % FILTERS_PER_FLUSH {
         // Not yet flushed.
         Place::SkaPage {
             slot: filter % FILTERS_PER_FLUSH,
         }
-    } else if filter >= full_pages - full_pages % FILTERS_PER_ROUND {
+    } else if filter >= filters - filters % FILTERS_PER_ROUND {
         // Flushed in the present round.
         level_one_place(filter)
-    } else if filter >= full_pages - full_pages % cycle {
+    } else if filter >= filters - filters % cycle {
         // In the newest set, which has all earlier filters of its cycle.
         let set = Set {
             number: rounds % geometry.rounds_per_cycle() + 1,
-            full_sets: full_pages / cycle,
+            full_sets: filters / cycle,
         };
         Place::Set {
             set,
-            index: filter % cycle,
+            number: filter % cycle,
         }
     } else {
         // In a full set.
@@ -92,7 +93,7 @@ pub fn place_of_filter(geometry: Geometry, filter: usize, full_pages: usize) -> 
         };
         Place::Set {
             set,
-            index: filter % cycle,
+            number: filter % cycle,
         }
     }
 }
@@ -104,42 +105,62 @@ fn level_one_place(filter: usize) -> Place {
     }
 }
 
+/// Has a filter of an index, when there are so many, the bits at all these positions, "read from the bytes lent"?
+pub fn has_bits(
+    index: Index,
+    filter: usize,
+    filters: usize,
+    positions: &[usize],
+    data: &[u8],
+    ram: &[u8],
+) -> bool {
+    let place = place_of_filter(index.geometry(), filter, filters);
+    positions
+        .iter()
+        .all(|&position| filter_bit(index, place, position, data, ram))
+}
+
 /// The bit of a filter at a position below m, read from the lent bytes.
-pub fn filter_bit(geometry: Geometry, place: Place, position: usize, data: &[u8], ram: &[u8]) -> bool {
+fn filter_bit(index: Index, place: Place, position: usize, data: &[u8], ram: &[u8]) -> bool {
+    let geometry = index.geometry();
     let sector_size = geometry.sector_size();
     match place {
         // "Sector i holds bits iS to iS+S−1 of each filter, oldest filter first."
         Place::SkaPage { slot } => {
-            let sector = geometry.ram_start(RamPage::Ska) + position / sector_size * sector_size;
+            let sector = geometry.ram_start(index.ska_page()) + position / sector_size * sector_size;
             read_bit(&ram[sector..], slot * sector_size + position % sector_size)
         }
         Place::LevelOne { flush, slot } => {
-            let sector = geometry.l1_sector(flush, position / sector_size) * sector_size;
+            let sector = index.l1_sector(flush, position / sector_size) * sector_size;
             read_bit(&data[sector..], slot * sector_size + position % sector_size)
         }
         // "page p holds bits pw to pw+w−1 of each filter; filter g of the set, .. has its part at bits gw to gw+w−1"
-        Place::Set { set, index } => {
+        Place::Set { set, number } => {
             let width = set.width(geometry);
-            let page = set.first_page(geometry) + position / width;
+            let page = set.first_page(index) + position / width;
             read_bit(
                 &data[geometry.page_start(page)..],
-                index * width + position % width,
+                number * width + position % width,
             )
         }
     }
 }
 
-/// "A full KA page gives one filter of m bits with the positions of all its keys set."
-/// It replaces its place in the SKA page whole; `page` holds the entries.
-pub fn write_filter(geometry: Geometry, slot: usize, page: &[u8], ska_page: &mut [u8]) {
+/// A filter "with the positions of all its keys set", or of all its record numbers, "hashed as keys are". It replaces its place
+/// in the SKA page whole.
+pub fn write_filter(index: Index, filter: usize, numbers: &[u32], ram: &mut [u8]) {
+    let geometry = index.geometry();
     let sector_size = geometry.sector_size();
+    let start = geometry.ram_start(index.ska_page());
+    let ska_page = &mut ram[start..start + geometry.page_size()];
+    let slot = filter % FILTERS_PER_FLUSH;
     let slot_bytes = sector_size / FILTERS_PER_FLUSH;
     for i in 0..SECTORS_PER_PAGE {
         let start = i * sector_size + slot * slot_bytes;
         ska_page[start..start + slot_bytes].fill(0);
     }
-    for entry in page.chunks_exact(ENTRY_BYTES) {
-        for position in positions(sector_size, geometry.hash_count(), read_number(entry, 0)) {
+    for &number in numbers {
+        for position in positions(sector_size, geometry.hash_count(), number) {
             let sector = position / sector_size * sector_size;
             set_bit(
                 &mut ska_page[sector..],
@@ -151,7 +172,8 @@ pub fn write_filter(geometry: Geometry, slot: usize, page: &[u8], ska_page: &mut
 
 /// "set number i .. is built out of L1 and set i−1", from the bits as they stand.
 /// Each page is put together in the work page and programmed.
-pub fn build_set(geometry: Geometry, set: Set, data: &mut [u8], spare: &mut [u8], ram: &mut [u8]) {
+pub fn build_set(index: Index, set: Set, data: &mut [u8], spare: &mut [u8], ram: &mut [u8]) {
+    let geometry = index.geometry();
     let earlier = Set {
         number: set.number - 1,
         full_sets: set.full_sets,
@@ -162,22 +184,22 @@ pub fn build_set(geometry: Geometry, set: Set, data: &mut [u8], spare: &mut [u8]
     for page in 0..set.page_count() {
         // "The rest is zero."
         ram[work..work + geometry.page_size()].fill(0);
-        for index in 0..set.filter_count() {
-            let place = if index < from_earlier {
-                Place::Set { set: earlier, index }
+        for number in 0..set.filter_count() {
+            let place = if number < from_earlier {
+                Place::Set { set: earlier, number }
             } else {
-                level_one_place(index)
+                level_one_place(number)
             };
             for bit in 0..width {
-                if filter_bit(geometry, place, page * width + bit, data, ram) {
-                    set_bit(&mut ram[work..], index * width + bit);
+                if filter_bit(index, place, page * width + bit, data, ram) {
+                    set_bit(&mut ram[work..], number * width + bit);
                 }
             }
         }
         program_page(
             data,
             spare,
-            set.first_page(geometry) + page,
+            set.first_page(index) + page,
             &ram[work..work + geometry.page_size()],
         );
     }

@@ -27,16 +27,18 @@ pub const FILTERS_PER_FLUSH: usize = 8;
 pub const FLUSHES_PER_ROUND: usize = 16;
 pub const FILTERS_PER_ROUND: usize = FILTERS_PER_FLUSH * FLUSHES_PER_ROUND;
 
-/// The pages of the lent RAM: "pages for RA, KA, DA, SKA and work, in that order".
-#[derive(Clone, Copy)]
+/// The pages of the lent RAM: "pages for RA, KA, DA, SKA and work, in that order". Request 5: "the desk" gains "a page of 4S
+/// bytes after the work page", for the filters over DA.
+#[derive(Clone, Copy, Debug, PartialEq, Eq)]
 pub enum RamPage {
     Ra = 0,
     Ka = 1,
     Da = 2,
     Ska = 3,
     Work = 4,
+    DeletionSka = 5,
 }
-const RAM_PAGES: usize = 5;
+const RAM_PAGES: usize = 6;
 
 /// Allowed S, R, D and k. Made by `Geometry::new` only, so that no product below overflows.
 #[derive(Clone, Copy, Debug, PartialEq, Eq)]
@@ -125,8 +127,25 @@ impl Geometry {
         self.ka_first_block() + self.ra_blocks.div_ceil(2)
     }
 
-    pub fn l1_block(self) -> usize {
-        self.da_first_block() + self.da_blocks
+    /// L1, side A, side B and sealed sets over KA.
+    pub fn key_index(self) -> Index {
+        Index {
+            geometry: self,
+            first_block: self.da_first_block() + self.da_blocks,
+            places: self.ra_blocks / (4 * self.sector_size),
+            ska_page: RamPage::Ska,
+        }
+    }
+
+    /// Request 5: "an L1, sides and sealed sets of their own: B gains 1 + S/2 + floor(D/S) × S/4 blocks after the present
+    /// ones".
+    pub fn deletion_index(self) -> Index {
+        Index {
+            geometry: self,
+            first_block: self.key_index().end_block(),
+            places: self.da_blocks / self.sector_size,
+            ska_page: RamPage::DeletionSka,
+        }
     }
 
     /// Blocks of a side, and of a full set.
@@ -134,25 +153,12 @@ impl Geometry {
         self.sector_size / 4
     }
 
-    pub fn side_a_first_block(self) -> usize {
-        self.l1_block() + 1
-    }
-
-    pub fn side_b_first_block(self) -> usize {
-        self.side_a_first_block() + self.side_blocks()
-    }
-
-    pub fn full_sets_first_block(self) -> usize {
-        self.side_b_first_block() + self.side_blocks()
-    }
-
     /// "Their sum is B."
     pub fn blocks(self) -> usize {
-        let full_sets = self.ra_blocks / (4 * self.sector_size);
-        self.full_sets_first_block() + full_sets * self.side_blocks()
+        self.deletion_index().end_block()
     }
 
-    /// Refusal 2: "cells under 64SB, marks under 64B or desk under 20S bytes".
+    /// Refusal 2: "cells under 64SB, marks under 64B or desk under 20S bytes"; request 5: it "uses the larger sums".
     pub fn data_bytes(self) -> usize {
         SECTORS_PER_BLOCK * self.sector_size * self.blocks()
     }
@@ -189,12 +195,6 @@ impl Geometry {
         self.da_first_block() * PAGES_PER_BLOCK + index
     }
 
-    /// "Flush t (0 to 15) of a round programs sector t mod 4 of page 4i + floor(t/4) of L1, for i = 0 to 3."
-    pub fn l1_sector(self, flush: usize, i: usize) -> usize {
-        let page = self.l1_block() * PAGES_PER_BLOCK + 4 * i + flush / 4;
-        page * SECTORS_PER_PAGE + flush % 4
-    }
-
     /// A cycle of sets: set 2 to set S/4 + 1, one a round.
     pub fn rounds_per_cycle(self) -> usize {
         self.sector_size / 4
@@ -202,5 +202,55 @@ impl Geometry {
 
     pub fn filters_per_cycle(self) -> usize {
         FILTERS_PER_ROUND * self.rounds_per_cycle()
+    }
+}
+
+/// An index: the places of filters on the chip, from a first block on, and the RAM page of those not yet there. It knows nothing of
+/// what its filters are of.
+#[derive(Clone, Copy, Debug, PartialEq, Eq)]
+pub struct Index {
+    geometry: Geometry,
+    first_block: usize,
+    /// Places for full sets.
+    places: usize,
+    ska_page: RamPage,
+}
+
+impl Index {
+    pub fn geometry(self) -> Geometry {
+        self.geometry
+    }
+
+    /// The RAM page whose eight filters a flush programs.
+    pub fn ska_page(self) -> RamPage {
+        self.ska_page
+    }
+
+    // "L1 one; side A S/4; side B S/4; sealed sets", S/4 blocks each.
+
+    pub fn l1_block(self) -> usize {
+        self.first_block
+    }
+
+    pub fn side_a_first_block(self) -> usize {
+        self.l1_block() + 1
+    }
+
+    pub fn side_b_first_block(self) -> usize {
+        self.side_a_first_block() + self.geometry.side_blocks()
+    }
+
+    pub fn full_sets_first_block(self) -> usize {
+        self.side_b_first_block() + self.geometry.side_blocks()
+    }
+
+    fn end_block(self) -> usize {
+        self.full_sets_first_block() + self.places * self.geometry.side_blocks()
+    }
+
+    /// "Flush t (0 to 15) of a round programs sector t mod 4 of page 4i + floor(t/4) of L1, for i = 0 to 3."
+    pub fn l1_sector(self, flush: usize, i: usize) -> usize {
+        let page = self.l1_block() * PAGES_PER_BLOCK + 4 * i + flush / 4;
+        page * SECTORS_PER_PAGE + flush % 4
     }
 }

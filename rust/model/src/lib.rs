@@ -20,7 +20,7 @@ mod tab;
 pub use calls::{delete, format, insert, lookup, update};
 pub use change::operations;
 pub use filter::{set_page_count, Set};
-pub use geometry::{Geometry, SECTOR_SIZES};
+pub use geometry::{Geometry, Index, RamPage, SECTOR_SIZES};
 pub use hash::{fnv1a, positions};
 pub use load::load;
 pub use tab::{read_tab, Reading, Row};
@@ -55,7 +55,8 @@ pub struct Change {
 }
 
 /// The answer of lookup. Found 1: the 16 record bytes start at `offset` of ram
-/// (`in_ram` 1) or of data (`in_ram` 0). Found 0: a miss or a refusal.
+/// (`in_ram` 1) or of data (`in_ram` 0). Found 0: a miss or a refusal. `count` and
+/// `deletion_count` are the pages of KA and of DA opened.
 #[repr(C)]
 #[derive(Clone, Copy, Debug, Default, PartialEq, Eq)]
 pub struct LookupResult {
@@ -64,6 +65,7 @@ pub struct LookupResult {
     pub count: u32,
     pub in_ram: u32,
     pub offset: u32,
+    pub deletion_count: u64,
 }
 
 /// The answer of load: the refusal that ended it (0: none, all rows are loaded), the rows loaded, and the

@@ -1,100 +1,152 @@
-//! The search, and where records and deletions are.
+//! The search, the test of a record number, and where records and deletions are.
 
-use crate::filter::{filter_bit, place_of_filter};
+use crate::filter::has_bits;
 use crate::flash::read_number;
 use crate::geometry::{Geometry, RamPage, DELETION_BYTES, ENTRY_BYTES, RECORD_BYTES};
 use crate::hash::positions;
 use crate::State;
 
-pub enum SearchResult {
+/// How a search ended.
+#[derive(Clone, Copy, Debug, PartialEq, Eq)]
+pub enum Ending {
     /// "An entry with the key whose record number is not in DA is live."
     Live {
         record: u32,
-        count: u32,
     },
-    NotLive {
-        count: u32,
-    },
+    NotLive,
     /// Refusal 8: "the search meets its key with a record number of n or more".
     WrongRecordNumber,
 }
 
-/// "First the desk's entries, newest first; then full pages, newest first, opening a page
-/// only if its filter, read from the bytes lent, has all three bits": all k "wherever 01 says three".
-pub fn search(geometry: Geometry, state: State, key: u32, data: &[u8], ram: &[u8]) -> SearchResult {
-    let entries_per_page = geometry.entries_per_page();
-    let in_ram = state.records as usize % entries_per_page;
-    let full_pages = state.records as usize / entries_per_page;
-
-    let ka_ram = geometry.ram_start(RamPage::Ka);
-    let ram_entries = &ram[ka_ram..ka_ram + in_ram * ENTRY_BYTES];
-    if let Some(result) = search_entries(geometry, state, key, ram_entries, 0, data, ram) {
-        return result;
-    }
-
-    let key_positions = positions(geometry.sector_size(), geometry.hash_count(), key);
-    let mut count = 0;
-    for page in (0..full_pages).rev() {
-        let place = place_of_filter(geometry, page, full_pages);
-        let opened = key_positions
-            .iter()
-            .all(|&position| filter_bit(geometry, place, position, data, ram));
-        if !opened {
-            continue;
-        }
-        // "The count is the pages opened, the last included; the desk's is not counted."
-        count += 1;
-        let start = geometry.page_start(geometry.ka_page(page));
-        let entries = &data[start..start + geometry.page_size()];
-        if let Some(result) = search_entries(geometry, state, key, entries, count, data, ram) {
-            return result;
-        }
-    }
-    SearchResult::NotLive { count }
+/// The ending of a search and the pages of KA and of DA that it opened.
+pub struct SearchResult {
+    pub ending: Ending,
+    pub count: u32,
+    /// "The DA pages opened, .. one opened twice counting twice."
+    pub deletion_count: u64,
 }
 
-/// "Entries of a page are tried last to first." Something if the search ends in this page.
-fn search_entries(
+/// A search under way: the bytes that it reads and what it has opened.
+struct Search<'a> {
     geometry: Geometry,
     state: State,
     key: u32,
-    entries: &[u8],
+    data: &'a [u8],
+    ram: &'a [u8],
     count: u32,
-    data: &[u8],
-    ram: &[u8],
-) -> Option<SearchResult> {
-    for entry in entries.chunks_exact(ENTRY_BYTES).rev() {
-        if read_number(entry, 0) != key {
-            continue;
-        }
-        let record = read_number(entry, 4);
-        if record >= state.records {
-            return Some(SearchResult::WrongRecordNumber);
-        }
-        // A deleted entry does not end the search.
-        if !is_deleted(geometry, state, record, data, ram) {
-            return Some(SearchResult::Live { record, count });
-        }
-    }
-    None
+    deletion_count: u64,
 }
 
-/// Is the record number among the d deletions? Those of full pages are on flash, the others in RAM.
-fn is_deleted(geometry: Geometry, state: State, record: u32, data: &[u8], ram: &[u8]) -> bool {
-    let deletions = state.deletions as usize;
-    let in_ram = deletions % geometry.deletions_per_page();
-    let on_flash = deletions - in_ram;
+pub fn search(geometry: Geometry, state: State, key: u32, data: &[u8], ram: &[u8]) -> SearchResult {
+    let mut search = Search {
+        geometry,
+        state,
+        key,
+        data,
+        ram,
+        count: 0,
+        deletion_count: 0,
+    };
+    let ending = search.run();
+    SearchResult {
+        ending,
+        count: search.count,
+        deletion_count: search.deletion_count,
+    }
+}
 
-    let flash_start = geometry.page_start(geometry.da_page(0));
-    let flash_part = &data[flash_start..flash_start + on_flash * DELETION_BYTES];
-    let ram_start = geometry.ram_start(RamPage::Da);
-    let ram_part = &ram[ram_start..ram_start + in_ram * DELETION_BYTES];
+impl Search<'_> {
+    /// "First the desk's entries, newest first; then full pages, newest first, opening a page
+    /// only if its filter, read from the bytes lent, has all three bits": all k "wherever 01 says three".
+    fn run(&mut self) -> Ending {
+        let Search {
+            geometry,
+            state,
+            key,
+            data,
+            ram,
+            ..
+        } = *self;
+        let entries_per_page = geometry.entries_per_page();
+        let in_ram = state.records as usize % entries_per_page;
+        let full_pages = state.records as usize / entries_per_page;
 
-    let wanted = record.to_le_bytes();
-    flash_part
-        .chunks_exact(DELETION_BYTES)
-        .chain(ram_part.chunks_exact(DELETION_BYTES))
-        .any(|number| number == wanted)
+        let ka_ram = geometry.ram_start(RamPage::Ka);
+        if let Some(ending) = self.try_entries(&ram[ka_ram..ka_ram + in_ram * ENTRY_BYTES]) {
+            return ending;
+        }
+        let key_positions = positions(geometry.sector_size(), geometry.hash_count(), key);
+        for page in (0..full_pages).rev() {
+            if !has_bits(geometry.key_index(), page, full_pages, &key_positions, data, ram) {
+                continue;
+            }
+            // "The count is the pages opened, the last included; the desk's is not counted."
+            self.count += 1;
+            let start = geometry.page_start(geometry.ka_page(page));
+            if let Some(ending) = self.try_entries(&data[start..start + geometry.page_size()]) {
+                return ending;
+            }
+        }
+        Ending::NotLive
+    }
+
+    /// "Entries of a page are tried last to first." Something if the search ends in this page.
+    fn try_entries(&mut self, entries: &[u8]) -> Option<Ending> {
+        for entry in entries.chunks_exact(ENTRY_BYTES).rev() {
+            if read_number(entry, 0) != self.key {
+                continue;
+            }
+            let record = read_number(entry, 4);
+            if record >= self.state.records {
+                return Some(Ending::WrongRecordNumber);
+            }
+            // A deleted entry does not end the search.
+            if !self.is_deleted(record) {
+                return Some(Ending::Live { record });
+            }
+        }
+        None
+    }
+
+    /// Request 5: "each test of a record number takes the desk's numbers first, then DA pages newest first, opening one if either
+    /// of its filters has the bits, and ends where the number is met".
+    fn is_deleted(&mut self, record: u32) -> bool {
+        let Search {
+            geometry,
+            state,
+            data,
+            ram,
+            ..
+        } = *self;
+        let deletions_per_page = geometry.deletions_per_page();
+        let in_ram = state.deletions as usize % deletions_per_page;
+        let full_pages = state.deletions as usize / deletions_per_page;
+
+        let da_ram = geometry.ram_start(RamPage::Da);
+        if has_number(&ram[da_ram..da_ram + in_ram * DELETION_BYTES], record) {
+            return true;
+        }
+        // "From the four bytes of each record number, hashed as keys are."
+        let number_positions = positions(geometry.sector_size(), geometry.hash_count(), record);
+        let index = geometry.deletion_index();
+        for page in (0..full_pages).rev() {
+            let has = |filter| has_bits(index, filter, 2 * full_pages, &number_positions, data, ram);
+            if !has(2 * page) && !has(2 * page + 1) {
+                continue;
+            }
+            self.deletion_count += 1;
+            let start = geometry.page_start(geometry.da_page(page));
+            if has_number(&data[start..start + geometry.page_size()], record) {
+                return true;
+            }
+        }
+        false
+    }
+}
+
+fn has_number(numbers: &[u8], wanted: u32) -> bool {
+    let mut numbers = numbers.chunks_exact(DELETION_BYTES);
+    numbers.any(|number| read_number(number, 0) == wanted)
 }
 
 /// Where record j < n is: in RAM or not, and the offset of its first byte.

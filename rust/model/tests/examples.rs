@@ -1,4 +1,4 @@
-//! The examples of document 01, the published hash vectors, and request 2's k.
+//! The examples of document 01, the published hash vectors, request 2's k, and request 5's filters over deletions.
 
 use model::{
     delete, fnv1a, format, insert, operations, positions, set_page_count, Geometry, State, HASH_COUNT_01,
@@ -28,16 +28,17 @@ fn geometry(s: u32, r: u32, d: u32) -> Geometry {
 #[test]
 fn block_counts() {
     for (s, r, d, blocks) in [
-        (16, 1, 1, 12),
-        (16, 32, 1, 58),
-        (16, 63, 1, 105),
-        (16, 64, 1, 110),
-        (512, 2048, 1, 3458),
+        (16, 1, 1, 21),
+        (16, 32, 1, 67),
+        (16, 63, 1, 114),
+        (16, 64, 1, 119),
+        (512, 2048, 1, 3715),
     ] {
         assert_eq!(geometry(s, r, d).blocks(), blocks);
     }
     assert_eq!(geometry(16, 1, 1).record_capacity(), 64);
-    assert_eq!(geometry(512, 4096, 4096).blocks(), 10753);
+    assert_eq!(geometry(512, 4096, 4096).blocks(), 12034);
+    assert_eq!(geometry(16, 1, 1).ram_bytes(), 24 * 16);
     assert_eq!(Geometry::new(24, 1, 1, HASH_COUNT_01), None);
     assert_eq!(Geometry::new(16, 0, 1, HASH_COUNT_01), None);
     assert_eq!(Geometry::new(16, 1, 4097, HASH_COUNT_01), None);
@@ -52,8 +53,9 @@ fn pages_of_sets() {
 #[test]
 fn flush_sector() {
     let geometry = geometry(16, 1, 1);
-    let first = geometry.l1_block() * 64;
-    assert_eq!(geometry.l1_sector(6, 2) - first, 9 * 4 + 2);
+    for index in [geometry.key_index(), geometry.deletion_index()] {
+        assert_eq!(index.l1_sector(6, 2) - index.l1_block() * 64, 9 * 4 + 2);
+    }
 }
 
 struct Volume {
@@ -148,6 +150,11 @@ fn deletion_capacity() {
     assert_eq!(volume.delete(0), 4);
 }
 
+/// Sectors that are programmed.
+fn programmed(range: std::ops::Range<usize>, volume: &Volume) -> usize {
+    range.filter(|&sector| volume.spare[sector] == 0).count()
+}
+
 #[test]
 fn first_set() {
     let mut volume = Volume::new(16, 16, 1);
@@ -155,17 +162,158 @@ fn first_set() {
     for key in 0..1023 {
         assert_eq!(volume.insert(key), 0);
     }
-    let l1 = geometry.l1_block() * 64;
-    let side_a = geometry.side_a_first_block() * 64;
-    let programmed = |range: std::ops::Range<usize>, volume: &Volume| {
-        range.filter(|&sector| volume.spare[sector] == 0).count()
-    };
+    let l1 = geometry.key_index().l1_block() * 64;
+    let side_a = geometry.key_index().side_a_first_block() * 64;
     assert_eq!(programmed(l1..l1 + 64, &volume), 15 * 4);
     assert_eq!(programmed(side_a..side_a + 64, &volume), 0);
     assert_eq!(volume.insert(1023), 0);
     assert_eq!(programmed(l1..l1 + 64, &volume), 0);
     assert_eq!(programmed(side_a..side_a + 64, &volume), 64);
     assert!(volume.ram.iter().all(|&byte| byte == 0));
+}
+
+/// Request 5: the call that fills the 64th DA page flushes, builds set 2 of the index over DA and erases its L1.
+#[test]
+fn first_set_over_deletions() {
+    let mut volume = Volume::new(16, 17, 4);
+    let index = geometry(16, 17, 4).deletion_index();
+    for key in 0..1025 {
+        assert_eq!(volume.insert(key), 0);
+    }
+    let (l1, side_a) = (index.l1_block() * 64, index.side_a_first_block() * 64);
+    for key in 0..1023 {
+        assert_eq!(volume.delete(key), 0);
+        // Four pages of sixteen deletions have eight filters, a flush.
+        let flushes = (key as usize + 1) / 64;
+        assert_eq!(programmed(l1..l1 + 64, &volume), 4 * flushes, "deletion {key}");
+        let waits = volume.ram[20 * 16..].iter().any(|&byte| byte != 0);
+        assert_eq!(waits, (key + 1) % 64 >= 16, "deletion {key}");
+    }
+    assert_eq!(programmed(side_a..side_a + 64, &volume), 0);
+    assert_eq!(volume.delete(1023), 0);
+    assert_eq!(programmed(l1..l1 + 64, &volume), 0);
+    assert_eq!(programmed(side_a..side_a + 64, &volume), 64);
+    assert!(volume.ram[20 * 16..].iter().all(|&byte| byte == 0));
+}
+
+/// Numbers of a DA page whose two filters stand in the definitions, as `Checks.pairPage`.
+const PAIR: [u32; 16] = [1, 2, 3, 4, 17, 18, 19, 20, 9, 10, 11, 12, 25, 26, 27, 28];
+
+/// Where the filters of `PAIR` are in RAM: two bytes for each half in each sector, first half first.
+fn pair_page() -> [u8; 64] {
+    let mut page = [0; 64];
+    let sectors = [
+        [66, 128, 128, 66],
+        [129, 64, 64, 129],
+        [24, 32, 32, 24],
+        [66, 1, 1, 66],
+    ];
+    for (i, sector) in sectors.into_iter().enumerate() {
+        page[16 * i..16 * i + 4].copy_from_slice(&sector);
+    }
+    page
+}
+
+#[test]
+fn filters_of_a_page_of_deletions() {
+    let mut volume = Volume::new(16, 1, 1);
+    for key in 0..32 {
+        assert_eq!(volume.insert(key), 0);
+    }
+    for key in PAIR {
+        assert_eq!(volume.ram[20 * 16..], [0; 64]);
+        assert_eq!(volume.delete(key), 0);
+    }
+    assert_eq!(volume.ram[20 * 16..], pair_page());
+    assert_eq!(volume.ram[8 * 16..12 * 16], [0; 64]);
+}
+
+/// The definitions' `Checks.da-pages`: the entries of key 7 have the numbers 0, 12, 5 and 3, of which 12 and 3 are deleted on the
+/// page and 5 in RAM. Two tests open the page; that of 0 finds its filters shut.
+#[test]
+fn deletion_pages_of_a_search() {
+    let mut volume = Volume::new(16, 1, 1);
+    let words = |numbers: &[u32]| -> Vec<u8> { numbers.iter().flat_map(|n| n.to_le_bytes()).collect() };
+    volume.state.records = 20;
+    volume.state.deletions = 17;
+    volume.data[2048..2048 + 64].copy_from_slice(&words(&PAIR));
+    volume.ram[64..64 + 32].copy_from_slice(&words(&[7, 0, 7, 12, 7, 5, 7, 3]));
+    volume.ram[128..128 + 4].copy_from_slice(&words(&[5]));
+    volume.ram[320..].copy_from_slice(&pair_page());
+    let hit = volume.lookup(7);
+    assert_eq!((hit.refusal, hit.found, hit.in_ram, hit.offset), (0, 1, 0, 0));
+    assert_eq!((hit.count, hit.deletion_count), (0, 2));
+    // Refused by 8 after a test that opens the page: both counts are 0.
+    volume.ram[64 + 16 + 4] = 20;
+    let refused = volume.lookup(7);
+    assert_eq!(refused.refusal, 8);
+    assert_eq!((refused.count, refused.deletion_count), (0, 0));
+}
+
+/// An update that builds set 2 of both indexes: `Checks.update-order` has the same numbers.
+#[test]
+fn operations_of_both_indexes() {
+    let state = State {
+        sector_size: 16,
+        ra_blocks: 16,
+        da_blocks: 4,
+        hash_count: 3,
+        records: 1023,
+        deletions: 1023,
+    };
+    assert_eq!(operations(geometry(16, 16, 4), state, true, true), (148, 2));
+}
+
+/// Each test of a record number counts the DA pages that it opens; one in RAM counts none.
+#[test]
+fn deletion_pages_opened() {
+    let mut volume = Volume::new(16, 4, 4);
+    // One key's records, all deleted but the last.
+    for _ in 0..40 {
+        assert_eq!(volume.insert(7), 0);
+        assert_eq!(volume.delete(7), 0);
+    }
+    // 32 deletions are on two pages. A number of the newest page is met where it is opened first, one of the older page after the newest
+    // one, if that is opened, and the eight of RAM at once.
+    let miss = volume.lookup(7);
+    assert_eq!((miss.refusal, miss.found), (0, 0));
+    assert!(
+        (32..=48).contains(&miss.deletion_count),
+        "{}",
+        miss.deletion_count
+    );
+    // The filters of the newest page shut: its numbers are no longer met, so that the newest of them counts as live.
+    let mut shut = volume;
+    for sector in shut.ram[20 * 16..].chunks_exact_mut(16) {
+        sector[4..8].fill(0);
+    }
+    let hit = shut.lookup(7);
+    assert_eq!((hit.found, hit.offset, hit.in_ram), (1, 31 * 16, 0));
+    assert!(hit.deletion_count <= 1);
+    // One of them is enough.
+    for sector in shut.ram[20 * 16..].chunks_exact_mut(16) {
+        sector[4..6].fill(0xFF);
+    }
+    assert_eq!(shut.lookup(7).found, 0);
+}
+
+/// Refusal 7 by a sector of the second index, before a byte moves.
+#[test]
+fn deletion_filters_need_fresh_sectors() {
+    for sector in 0..4 {
+        let mut volume = Volume::new(16, 2, 1);
+        let index = geometry(16, 2, 1).deletion_index();
+        for key in 0..64 {
+            assert_eq!(volume.insert(key), 0);
+        }
+        for key in 0..63 {
+            assert_eq!(volume.delete(key), 0);
+        }
+        volume.spare[index.l1_sector(0, sector)] = 0;
+        let before = (volume.data.clone(), volume.spare.clone(), volume.ram.clone());
+        assert_eq!(volume.delete(63), 7);
+        assert_eq!(before, (volume.data, volume.spare, volume.ram));
+    }
 }
 
 #[test]
@@ -346,22 +494,47 @@ fn hash_counts_that_are_allowed() {
 /// The counted operations are those that the spare bytes show.
 #[test]
 fn operations_of_inserts() {
-    const BLOCK: usize = 64;
     let mut volume = Volume::new(16, 80, 1);
-    let geometry = geometry(16, 80, 1);
     for key in 0..4 * 1024 {
-        let (sectors, blocks) = operations(geometry, volume.state, false, true);
-        let before = volume.spare.clone();
-        assert_eq!(volume.insert(key), 0);
-        let changes = before.iter().zip(&volume.spare);
-        let programmed = changes.filter(|&(&old, &new)| old == 0xFF && new == 0x00).count();
-        let erased = before
-            .chunks(BLOCK)
-            .zip(volume.spare.chunks(BLOCK))
-            .filter(|(old, new)| old.contains(&0x00) && !new.contains(&0x00))
-            .count();
-        // The last flush of a round is programmed, and erased in the same call.
-        let gone = if blocks > 0 { 4 } else { 0 };
-        assert_eq!((sectors, blocks), (programmed + gone, erased), "insert {key}");
+        operations_show(&mut volume, (false, true), |volume| volume.insert(key));
     }
+}
+
+/// Deletes through sets and a full set of the index over DA.
+#[test]
+fn operations_of_deletes() {
+    let mut volume = Volume::new(16, 80, 17);
+    for key in 0..4 * 1024 + 1 {
+        assert_eq!(volume.insert(key), 0);
+    }
+    for key in 0..4 * 1024 {
+        operations_show(&mut volume, (true, false), |volume| volume.delete(key));
+    }
+}
+
+fn operations_show(
+    volume: &mut Volume,
+    (deletes, inserts): (bool, bool),
+    call: impl FnOnce(&mut Volume) -> u32,
+) {
+    const BLOCK: usize = 64;
+    let geometry = Geometry::of_state(volume.state).expect("allowed");
+    let (sectors, blocks) = operations(geometry, volume.state, deletes, inserts);
+    let before = volume.spare.clone();
+    assert_eq!(call(volume), 0);
+    let changes = before.iter().zip(&volume.spare);
+    let programmed = changes.filter(|&(&old, &new)| old == 0xFF && new == 0x00).count();
+    let erased = before
+        .chunks(BLOCK)
+        .zip(volume.spare.chunks(BLOCK))
+        .filter(|(old, new)| old.contains(&0x00) && !new.contains(&0x00))
+        .count();
+    // The last flush of a round is programmed, and erased in the same call.
+    let gone = if blocks > 0 { 4 } else { 0 };
+    assert_eq!(
+        (sectors, blocks),
+        (programmed + gone, erased),
+        "{:?}",
+        volume.state
+    );
 }

@@ -91,6 +91,8 @@ fn run([s, r, d]: [u32; 3], k: u32, keys: u32, calls: u32, seed: u64) {
                 let got = lookup(state, key, &data, &spare, &ram);
                 assert_eq!(got.refusal, 0);
                 assert!(got.count as usize <= n / geometry.entries_per_page());
+                // Each record of the key is tested once, by all pages at most.
+                assert!(got.deletion_count as usize <= n * (deletions / geometry.deletions_per_page()));
                 assert_eq!(got.found == 1, present);
                 if let Some(&record) = map.get(&key) {
                     let from = if got.in_ram == 1 { &ram } else { &data };
@@ -126,6 +128,14 @@ fn histories_agree_with_the_map() {
     run([64, 2, 1], 3, 400, 2000, 6);
     run([128, 1, 1], 3, 400, 1500, 7);
     run([256, 1, 1], 3, 800, 2000, 8);
+}
+
+/// Few keys, so that most changes delete: sets over deletions, a full one too.
+#[test]
+fn histories_with_many_deletions_agree() {
+    run([16, 40, 30], 3, 60, 5000, 12);
+    run([16, 90, 20], 4, 60, 14_000, 13);
+    run([32, 20, 10], 3, 60, 5000, 14);
 }
 
 #[test]

@@ -1,5 +1,5 @@
 //! The vectors of a folder against a store: `trace/*.trace` with `*.out`, and `replay/*.in` with `*.out`;
-//! the same in `requests/L`, after the requests 1 to L.
+//! the same in `requests/L`, after the requests 1 to L. Those that a later request gave other answers are not there.
 
 #![forbid(unsafe_code)]
 
@@ -56,7 +56,7 @@ pub struct Summary {
     pub lines: usize,
 }
 
-/// The parts of a folder, each with `trace` and `replay`: itself, and each folder in `requests`.
+/// The parts of a folder, each with `trace`, `replay` or both: itself, and each folder in `requests`.
 pub fn parts(folder: &Path) -> Vec<PathBuf> {
     let requests = Path::new("requests");
     let mut parts = vec![PathBuf::new()];

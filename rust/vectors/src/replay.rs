@@ -5,8 +5,8 @@ use store::{State, Store, HASH_COUNT_01};
 /// "It lends 59,392 cells, 3,712 marks and a desk of 640 bytes."
 pub const LENT: [usize; 3] = [59_392, 3_712, 640];
 
-/// What the program `replay_large` lends: enough for full sets at S = 16 and for sets at S = 64.
-pub const LENT_LARGE: [usize; 3] = [335_872, 10_176, 1_280];
+/// What the program `replay_large` lends: enough for full sets of both indexes at S = 16 and for sets of both at S = 64.
+pub const LENT_LARGE: [usize; 3] = [487_424, 12_224, 1_536];
 
 /// The output for a whole input: an answer a line, each ended by a line feed. So many bytes of cells, marks
 /// and desk are lent.
@@ -144,10 +144,12 @@ mod tests {
 
     #[test]
     fn sizes_that_are_served() {
-        assert_eq!(run(b"f 16 32 1"), "ok 0 0\n");
-        assert_eq!(run(b"f 16 33 1"), "no 2\n");
-        assert_eq!(run(b"f 32 7 1"), "ok 0 0\n");
-        assert_eq!(run(b"f 32 8 1"), "no 2\n");
+        // "The replay's bytes then serve S = 16 only."
+        assert_eq!(run(b"f 16 26 1"), "ok 0 0\n");
+        assert_eq!(run(b"f 16 27 1"), "no 2\n");
+        assert_eq!(run(b"f 16 1 31"), "ok 0 0\n");
+        assert_eq!(run(b"f 16 1 32"), "no 2\n");
+        assert_eq!(run(b"f 32 1 1"), "no 2\n");
         assert_eq!(run(b"f 64 1 1"), "no 2\n");
     }
 

@@ -4,6 +4,8 @@ use store::{Change, LoadResult, LookupResult, State, Store, HASH_COUNT_01};
 
 /// From this request on a trace names k.
 const NAMES_HASH_COUNT: u32 = 2;
+/// From this request on a hit or miss gives the DA pages opened, behind the count.
+const GIVES_DELETION_COUNT: u32 = 5;
 
 /// Lent slices, state and settings of a trace under way.
 pub struct Runner<'a> {
@@ -102,7 +104,7 @@ impl<'a> Runner<'a> {
             }
             ("L", &[key]) => {
                 let result = self.store.lookup(self.state, key, data, spare, ram);
-                lookup_answer(result, data, ram)
+                lookup_answer(self.request, result, data, ram)
             }
             _ => return Err("not a command".to_string()),
         };
@@ -163,21 +165,25 @@ fn add_hash_count(name: &str, numbers: &mut Vec<u32>) -> Result<(), String> {
     Ok(())
 }
 
-fn lookup_answer(result: LookupResult, data: &[u8], ram: &[u8]) -> String {
+fn lookup_answer(request: u32, result: LookupResult, data: &[u8], ram: &[u8]) -> String {
+    let mut counts = result.count.to_string();
+    if request >= GIVES_DELETION_COUNT {
+        counts += &format!(" {}", result.deletion_count);
+    }
     match result {
         LookupResult {
             refusal: 0,
             found: 0,
-            count,
             in_ram: 0,
             offset: 0,
-        } => format!("miss {count}"),
+            ..
+        } => format!("miss {counts}"),
         LookupResult {
             refusal: 0,
             found: 1,
-            count,
             in_ram: in_ram @ (0 | 1),
             offset,
+            ..
         } => {
             let (name, slice) = if in_ram == 1 {
                 ("desk", ram)
@@ -188,7 +194,7 @@ fn lookup_answer(result: LookupResult, data: &[u8], ram: &[u8]) -> String {
             match start.checked_add(16).and_then(|end| slice.get(start..end)) {
                 Some(record) => {
                     let hex: String = record.iter().map(|byte| format!("{byte:02x}")).collect();
-                    format!("hit {count} {name} {offset} {hex}")
+                    format!("hit {counts} {name} {offset} {hex}")
                 }
                 None => format!("hit outside the slice: {result:?}"),
             }
@@ -199,6 +205,7 @@ fn lookup_answer(result: LookupResult, data: &[u8], ram: &[u8]) -> String {
             count: 0,
             in_ram: 0,
             offset: 0,
+            deletion_count: 0,
         } => format!("no {refusal}"),
         other => format!("impossible result: {other:?}"),
     }
@@ -266,7 +273,7 @@ mod tests {
     #[test]
     fn a_short_trace() {
         let mut runner = Runner::new(&ModelStore, 1);
-        assert_eq!(runner.command("LEND 12288 768 320"), Ok(None));
+        assert_eq!(runner.command("LEND 21504 1344 384"), Ok(None));
         let mut run = |line: &str| runner.command(line);
         assert_eq!(run("DIG 0"), Ok(None));
         assert_eq!(run("F 16 1 1"), Ok(Some("ok | 16 1 1 0 0".to_string())));
@@ -286,14 +293,14 @@ mod tests {
             assert!(run(bad).is_err(), "{bad}");
         }
         assert!(run("X 8").is_err());
-        assert!(run("PD 320 0").is_err());
+        assert!(run("PD 384 0").is_err());
         assert!(run("PD 0 256").is_err());
     }
 
     #[test]
     fn a_trace_with_hash_counts() {
         let mut runner = Runner::new(&ModelStore, 2);
-        assert_eq!(runner.command("LEND 12288 768 320"), Ok(None));
+        assert_eq!(runner.command("LEND 21504 1344 384"), Ok(None));
         let mut run = |line: &str| runner.command(line);
         assert_eq!(run("DIG 0"), Ok(None));
         assert_eq!(run("L 7"), Ok(Some("no 1 | 0 0 0 0 0 0".to_string())));
@@ -311,7 +318,7 @@ mod tests {
     fn document_01_names_no_hash_count() {
         for request in [0, 1] {
             let mut runner = Runner::new(&ModelStore, request);
-            assert_eq!(runner.command("LEND 12288 768 320"), Ok(None));
+            assert_eq!(runner.command("LEND 21504 1344 384"), Ok(None));
             let mut run = |line: &str| runner.command(line);
             assert_eq!(run("DIG 0"), Ok(None));
             assert_eq!(run("L 7"), Ok(Some("no 1 | 0 0 0 0 0".to_string())));
@@ -322,6 +329,31 @@ mod tests {
             }
             assert_eq!(run("F 16 1 1"), Ok(Some("ok | 16 1 1 0 0".to_string())));
             assert_eq!(runner.state.hash_count, 3);
+        }
+    }
+
+    /// Sixteen deletions fill a page, which the lookup of a deleted level opens once: it has one record.
+    #[test]
+    fn deletion_pages_from_request_5_on() {
+        for (request, miss) in [(4, "miss 1"), (5, "miss 1 1")] {
+            let mut runner = Runner::new(&ModelStore, request);
+            assert_eq!(runner.command("LEND 21504 1344 384"), Ok(None));
+            let mut run = |line: &str| runner.command(line).map(|answer| answer.unwrap_or_default());
+            assert_eq!(run("DIG 0"), Ok(String::new()));
+            assert_eq!(run("F 16 1 1 3"), Ok("ok | 16 1 1 3 0 0".to_string()));
+            for key in 0..16 {
+                assert_eq!(
+                    run(&format!("I {key} 1 2 3")),
+                    Ok(format!("ok | 16 1 1 3 {} 0", key + 1))
+                );
+            }
+            for key in 0..16 {
+                assert_eq!(
+                    run(&format!("D {key}")),
+                    Ok(format!("ok | 16 1 1 3 16 {}", key + 1))
+                );
+            }
+            assert_eq!(run("L 7"), Ok(format!("{miss} | 16 1 1 3 16 16")));
         }
     }
 

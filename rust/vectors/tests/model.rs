@@ -12,44 +12,51 @@ fn folder(name: &str) -> std::path::PathBuf {
 
 #[test]
 fn traces() {
-    for (name, files) in [
-        ("trace", 18),
-        ("requests/1/trace", 11),
-        ("requests/2/trace", 10),
-        ("requests/3/trace", 11),
-        ("requests/4/trace", 11),
-    ] {
-        let summary = run_traces(&ModelStore, &folder(name)).unwrap_or_else(|f| panic!("{f}"));
-        assert_eq!(summary.files, files);
-    }
+    let summary = run_traces(&ModelStore, &folder("requests/5/trace")).unwrap_or_else(|f| panic!("{f}"));
+    assert_eq!(summary.files, 13);
 }
 
 #[test]
 fn replays() {
-    for (name, files) in [
-        ("replay", 6),
-        ("requests/1/replay", 4),
-        ("requests/2/replay", 4),
-        ("requests/3/replay", 4),
-        ("requests/4/replay", 4),
+    for name in [
+        "replay",
+        "requests/1/replay",
+        "requests/2/replay",
+        "requests/3/replay",
+        "requests/4/replay",
+        "requests/5/replay",
     ] {
         let summary = run_replays(&ModelStore, &folder(name)).unwrap_or_else(|f| panic!("{f}"));
-        assert_eq!(summary.files, files);
+        assert_eq!(summary.files, 3);
     }
 }
 
 /// The program runs all of them.
 #[test]
 fn all_parts() {
-    assert_eq!(
-        parts(&folder("")),
-        ["", "requests/1", "requests/2", "requests/3", "requests/4"].map(Path::new)
-    );
+    let parts = parts(&folder(""));
+    let expected = [
+        "",
+        "requests/1",
+        "requests/2",
+        "requests/3",
+        "requests/4",
+        "requests/5",
+    ];
+    assert_eq!(parts, expected.map(Path::new));
+    let with = |kind: &str| {
+        parts
+            .iter()
+            .filter(|part| folder("").join(part).join(kind).is_dir())
+            .count()
+    };
+    assert_eq!((with("trace"), with("replay")), (1, 6));
 }
 
-/// Opens pages and reports none, or loads rows and reports none.
+/// Opens pages of entries or of deletions and reports none, or loads rows and reports none.
 enum NoCount {
     Pages,
+    DeletionPages,
     Rows,
 }
 
@@ -106,8 +113,10 @@ impl Store for NoCount {
 
     fn lookup(&self, state: State, key: u32, data: &[u8], spare: &[u8], ram: &[u8]) -> LookupResult {
         let mut result = ModelStore.lookup(state, key, data, spare, ram);
-        if let NoCount::Pages = self {
-            result.count = 0;
+        match self {
+            NoCount::Pages => result.count = 0,
+            NoCount::DeletionPages => result.deletion_count = 0,
+            NoCount::Rows => {}
         }
         result
     }
@@ -131,8 +140,9 @@ impl Store for NoCount {
 #[test]
 fn a_wrong_count_is_seen() {
     for result in [
-        run_traces(&NoCount::Pages, &folder("trace")),
-        run_traces(&NoCount::Rows, &folder("requests/1/trace")),
+        run_traces(&NoCount::Pages, &folder("requests/5/trace")),
+        run_traces(&NoCount::DeletionPages, &folder("requests/5/trace")),
+        run_traces(&NoCount::Rows, &folder("requests/5/trace")),
         run_replays(&NoCount::Pages, &folder("replay")),
     ] {
         match result {

@@ -12,20 +12,27 @@ fn answers_of_the_model() {
     let answers = fs::read_to_string(folder.join("stdout")).expect("the answers");
     let got = replay(&ModelStore, &script, LENT_LARGE);
     assert_eq!(String::from_utf8(got).expect("plain text"), answers);
-    // A set is completed by 16 flushes of 8 pages of S / 2 entries; at S = 16 four sets make a cycle.
-    let most = |season: &str| -> u32 {
-        let count = |line: &str| line.strip_prefix("ok ")?.split(' ').next()?.parse().ok();
-        season
-            .lines()
-            .filter_map(count)
-            .max()
-            .expect("an accepted change")
-    };
+    // At S = 16 a set is completed by 1,024 records or deletions, and four sets make a cycle; at S = 64 by 4,096.
     let second = answers[1..].find("ok 0 0").expect("two formats") + 1;
+    let (records, deletions) = most(&answers[..second]);
     assert!(
-        most(&answers[..second]) > 5 * 128 * 8,
+        records > 5 * 1024 && deletions > 5 * 1024,
         "set 2 of the second cycle at S = 16"
     );
-    assert!(most(&answers[second..]) > 128 * 32, "set 2 at S = 64");
+    let (records, deletions) = most(&answers[second..]);
+    assert!(records > 4096 && deletions > 4096, "set 2 at S = 64");
     assert!(answers.contains("hit") && answers.contains("miss") && !answers.contains("bad"));
+}
+
+/// The most records and deletions of a season.
+fn most(season: &str) -> (u32, u32) {
+    let counts = |line: &str| -> Option<(u32, u32)> {
+        let (records, deletions) = line.strip_prefix("ok ")?.split_once(' ')?;
+        Some((records.parse().ok()?, deletions.parse().ok()?))
+    };
+    season
+        .lines()
+        .filter_map(counts)
+        .max()
+        .expect("an accepted change")
 }

@@ -70,7 +70,7 @@ resolved c end e =
     let s = start-of k in
     resolved-fits (handed s) (s .args .key) (geometry k) (fits k)
     ∙ ap (λ (f : find.Found). stopped (geometry k) (f .stop))
-    (search-is (handed s) (geometry k) (A .all .result) (A .all .ensures) fnvFamily (s .args .key) (c .search .result) (c .search .ensures))
+    (search-is (handed s) (geometry k) (A .all .result) (A .all .ensures) fnvFamily (s .args .key) (c .search .result) (c .search .ensures .0))
     ∙ ap (λ (t : End). stopped (geometry k) (stopOf t)) e
 
 enum-told : tie.Need-enum-told

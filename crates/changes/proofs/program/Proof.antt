@@ -21,8 +21,8 @@ new-bytes-requires c κs = search needs
 of-requires : tie.Need-of-requires
 of-requires c κs = search needs
 
-new-bits-requires : tie.Need-new-bits-requires
-new-bits-requires c κs = search needs
+new-filters-requires : tie.Need-new-filters-requires
+new-filters-requires c κs = search needs
 
 fresh-requires : tie.Need-fresh-requires
 fresh-requires c κs =
@@ -45,9 +45,9 @@ returns c =
     let n = p .before in
     let s = n .before .before .before .before .before in
     let x = s .args in
-    nothing-fresh (shape (x .g)) (x .e) (x .old) (recordIs (x .«record»)) (flashOf (x .main .now) (x .spare .now)) (x .ram .now) (b .new-bits .result)
+    nothing-fresh (shape (x .g)) (x .e) (x .old) (recordIs (x .«record»)) (flashOf (x .main .now) (x .spare .now)) (x .ram .now) (b .new-filters .result)
     (n .new-bytes .result) (n .new-bytes .ensures ∙ ap (newBytes (x .old) (recordIs (x .«record»))) (n .before .record-number .ensures))
-    (b .new-bits .ensures) (p .of .result) (f .fresh .result) (p .of .ensures) (not-true _ (c .if1 .taken)) (f .fresh .ensures (n .new-bytes .result) (b .new-bits .result) (x .ram .now) (flashOf (x .main .now) (x .spare .now)))
+    (s .pre .0 .unit .1 .some) (s .pre .2 .read .ram-fits) (b .new-filters .ensures) (p .of .result) (f .fresh .result) (p .of .ensures) (not-true _ (c .if1 .taken)) (f .fresh .ensures (n .new-bytes .result) (b .new-filters .result) (x .ram .now) (flashOf (x .main .now) (x .spare .now)))
 
 whole-requires : tie.Need-whole-requires
 whole-requires c κs =
@@ -71,7 +71,7 @@ run-requires c κs =
     let s = n .before .before .before .before .before in
     let x = s .args in (
       rw (p .of .ensures) (edit-fits (x .g) (s .pre .0) (x .main .now) (x .spare .now) (x .ram .now) (s .pre .2) (x .e) (s .pre .1)),
-      (omega (arith, n .new-bytes .ok), omega (arith, b .new-bits .ok)),
+      (omega (arith, n .new-bytes .ok), omega (arith, b .new-filters .ok)),
     )
 
 slice-aggregate-finish : tie.Need-slice-aggregate-finish
@@ -87,7 +87,7 @@ finish-requires c κs =
     let b = c .before .before .before .before .before .before .before .before .before .before .before .before .before .before .before .before .before in
     let n = b .before .before .before in
     let s = n .before .before .before .before .before in
-    (s .pre .0, omega (arith, n .new-bytes .ok), omega (arith, b .new-bits .ok), s .pre .2 .read .ram-fits)
+    (s .pre .0, omega (arith, n .new-bytes .ok), omega (arith, b .new-filters .ok), s .pre .2 .read .ram-fits)
 
 same-length-3 : tie.Need-same-length-3
 same-length-3 c = search needs
@@ -109,10 +109,10 @@ returns-2 c =
     let n = p .before in
     let s = n .before .before .before .before .before in
     let x = s .args in
-    all-done (shape (x .g)) (x .e) (x .old) (recordIs (x .«record»)) (flashOf (x .main .now) (x .spare .now)) (x .ram .now) (b .new-bits .result)
+    all-done (shape (x .g)) (x .e) (x .old) (recordIs (x .«record»)) (flashOf (x .main .now) (x .spare .now)) (x .ram .now) (b .new-filters .result)
     (n .new-bytes .result) (n .new-bytes .ensures ∙ ap (newBytes (x .old) (recordIs (x .«record»))) (n .before .record-number .ensures))
-    (b .new-bits .ensures) (p .of .result) (w .whole .result) (t .before .fresh .result) _ _ (p .of .ensures) (w .whole .ensures) (not-false _ (t .if1 .left))
-    (t .before .fresh .ensures (n .new-bytes .result) (b .new-bits .result) (x .ram .now) (flashOf (x .main .now) (x .spare .now))) (s .pre .2 .read .ram-fits) (r .run .ensures) (f .finish .ensures)
+    (s .pre .0 .unit .1 .some) (s .pre .2 .read .ram-fits) (b .new-filters .ensures) (p .of .result) (w .whole .result) (t .before .fresh .result) _ _ (p .of .ensures) (w .whole .ensures) (not-false _ (t .if1 .left))
+    (t .before .fresh .ensures (n .new-bytes .result) (b .new-filters .result) (x .ram .now) (flashOf (x .main .now) (x .spare .now))) (r .run .ensures) (f .finish .ensures)
 
 pub program-spec : {M : Type 1} → statement M
 program-spec =
@@ -121,7 +121,7 @@ program-spec =
     record-number-requires
     new-bytes-requires
     of-requires
-    new-bits-requires
+    new-filters-requires
     fresh-requires
     same-length
     same-length-2

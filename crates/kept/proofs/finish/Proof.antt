@@ -47,7 +47,8 @@ returns c =
     let b3 = b2 .before .before .before in
     let b4 = b3 .before .before .before .before .before in
     let x = b4 .args in
-    rw (b3 .e .given .1) (b1 .clear-work .ensures ∙ ap (zeroPage (x .g .chip .unit) (workRam (x .g .chip .unit))) (b2 .keep-deletion .ensures))
+    rw (b3 .e .given .1) (b1 .clear-work .ensures ∙ ap (zeroPage (x .g .chip .unit) (workRam (x .g .chip .unit)))
+    (b2 .keep-deletion .ensures))
 
 same-length-2 : tie.Need-same-length-2
 same-length-2 c = search needs
@@ -59,7 +60,8 @@ returns-2 c =
     let b3 = b2 .before .before .before in
     let b4 = b3 .before .before .before .before .before in
     let x = b4 .args in
-    rw (b3 .e2 .given .1) (b1 .clear-work2 .ensures ∙ ap (zeroPage (x .g .chip .unit) (workRam (x .g .chip .unit))) (b2 .keep-record .ensures))
+    rw (b3 .e2 .given .1) (b1 .clear-work2 .ensures ∙ ap (zeroPage (x .g .chip .unit) (workRam (x .g .chip .unit)))
+    (b2 .keep-record .ensures))
 
 same-length-3 : tie.Need-same-length-3
 same-length-3 c = search needs
@@ -75,7 +77,7 @@ returns-3 c =
     let g = shape (x .g) in
     rw (b4 .e3 .given .1)
     (b1 .clear-work3 .ensures ∙ ap (zeroPage (x .g .chip .unit) (workRam (x .g .chip .unit)))
-    (b2 .keep-record2 .ensures ∙ ap (recordKept g _ (x .new .now) (x .bits .now)) (b3 .keep-deletion2 .ensures)))
+    (b2 .keep-record2 .ensures ∙ ap (recordKept g _ (x .new .now) (x .filters .now)) (b3 .keep-deletion2 .ensures)))
 
 pub finish-spec : {M : Type 1} → statement M
 finish-spec =

@@ -1,10 +1,10 @@
 use native.Mathlib.Omega.{arith}
 use native.Mathlib.Nat.{mul-le-mul-right}
 use mathlib.Core.Path.{refl, sym, ap, _∙_}
+use mathlib.Core.Bool.{not, Bool·not-not}
 use mathlib.Core.List.{List}
 use Prim.Native.Nat.{ℕ, _+_, _*_, _≤_}
 use Rattle.layout.specs.Items.{put, zeroPage}
-use Rattle.planning.specs.Computed.{not-taken, not-left}
 use Rattle.kept.specs.Pieces.{zero-at}
 use borrow.Author.Needs.{needs}
 use Rattle.kept.proofs.keep_item.Statement.{statement}
@@ -46,7 +46,8 @@ returns : tie.Need-returns
 unfolding put
 returns c =
     let w = c .before .before .before .before in
-    rw (sym (c .before .fills .ensures) ∙ not-taken _ (c .if1 .taken)) (rw (w .before .before .before .before .slot .ensures .0) at (w .copy-at .ensures))
+    rw (sym (c .before .fills .ensures) ∙ sym (Bool·not-not _) ∙ ap not (c .if1 .taken))
+    (rw (w .before .before .before .before .slot .ensures .0) at (w .copy-at .ensures))
 
 page-size-requires : tie.Need-page-size-requires
 page-size-requires c κs = search needs
@@ -67,9 +68,10 @@ returns-2 c =
     let b4 = f .before .before .before in
     let b5 = b4 .before .before .before .before .before .before .before in
     let x = b5 .args in
-    rw (sym (f .fills .ensures) ∙ not-left _ (b3 .if1 .left))
+    rw (sym (f .fills .ensures) ∙ sym (Bool·not-not _) ∙ ap not (b3 .if1 .left))
     (b1 .fill-at .ensures ∙ zero-at (x .chip .unit) (x .a .ram) (x .a .ram) (b2 .page-size .result) _ refl (b2 .page-size .ensures)
-    ∙ ap (λ (r : List ℕ). zeroPage (x .chip .unit) (x .a .ram) r) (rw (b4 .before .before .before .before .slot .ensures .0) at (b4 .copy-at .ensures)))
+    ∙ ap (λ (r : List ℕ). zeroPage (x .chip .unit) (x .a .ram) r)
+    (rw (b4 .before .before .before .before .slot .ensures .0) at (b4 .copy-at .ensures)))
 
 pub keep-item-spec : {M : Type 1} → statement M
 keep-item-spec =

@@ -1,10 +1,16 @@
 use native.Mathlib.Omega.{arith}
-use mathlib.Core.Path.{sym, _∙_}
+use mathlib.Core.Path.{sym, ap, _∙_}
+use mathlib.Core.Bool.{not, Bool·not-not}
+use Prim.Native.Nat.{_/_}
 use Rattle.memory.specs.Lists.{length-part}
+use Rattle.layout.specs.Items as items
 use Rattle.layout.specs.Items.{RA, KA}
+use Rattle.layout.specs.Calls.{keyIndex, keyFilters}
+use Rattle.geometry.specs.declared.sets.Index.{Index}
 use Rattle.geometry.specs.Shape.{shape}
-use Rattle.planning.specs.Computed.{not-taken, not-left}
-use Rattle.kept.specs.Fits.{item-fits, record-entered, kept-open, kept-full, filter-fits}
+use Rattle.geometry.specs.Indexes.{indexOf}
+use Rattle.plan.specs.Plans.{entryFourths}
+use Rattle.kept.specs.Fits.{item-fits, record-entered, filters-fit, kept-open, kept-full}
 use borrow.Author.Needs.{needs}
 use Rattle.kept.proofs.keep_record.Statement.{statement}
 use Rattle.kept.proofs.keep_record.Tie as tie
@@ -71,27 +77,39 @@ returns c =
     let b4 = b3 .before in
     let x = b4 .before .before .before .before .args in
     let g = shape (x .g) in
-    let y = record-entered g (x .n) (x .new .now) (x .bits .now) (x .ram .now)
-    (b3 .record-area .result) (b4 .entry-area .result) _ _ (b3 .record-area .ensures .0) (b4 .entry-area .ensures .0)
-    (b2 .keep-item .ensures) (b1 .keep-item2 .ensures) in
-    kept-open g (x .n) (x .new .now) (x .bits .now) (x .ram .now) _ y (b4 .entry-area .result) (b4 .entry-area .ensures .0)
-    (sym (f .fills .ensures) ∙ not-taken _ (c .if1 .taken))
+    let r = b4 .entry-area .result in
+    let r-is = b4 .entry-area .ensures .0 in
+    let y-is = record-entered g (x .n) (x .new .now) (x .ram .now) (b3 .record-area .result) r _ _
+    (b3 .record-area .ensures .0) r-is (b2 .keep-item .ensures) (b1 .keep-item2 .ensures) in
+    kept-open (g .u) r (KA g) r-is (x .n) (keyIndex g) (keyFilters g (x .n)) 1 (entryFourths (x .filters .now)) _ _ y-is
+    (sym (f .fills .ensures) ∙ sym (Bool·not-not _) ∙ ap not (c .if1 .taken))
 
 key-index-requires : tie.Need-key-index-requires
 key-index-requires c κs = search needs
 
-div-keep-filter : tie.Need-div-keep-filter
-div-keep-filter c = search needs
+div-keep-filters : tie.Need-div-keep-filters
+div-keep-filters c = search needs
 
-keep-filter-requires : tie.Need-keep-filter-requires
-keep-filter-requires c κs =
-    let b1 = c .before .before in
+sub-keep-filters : tie.Need-sub-keep-filters
+sub-keep-filters c = search needs
+
+part-keep-filters-start : tie.Need-part-keep-filters-start
+part-keep-filters-start c = search needs
+
+part-keep-filters-end : tie.Need-part-keep-filters-end
+part-keep-filters-end c = search needs
+
+keep-filters-requires : tie.Need-keep-filters-requires
+keep-filters-requires c κs =
+    let b1 = c .before .before .before in
     let b2 = b1 .before .before .before .before in
     let b3 = b2 .before .before .before .before .before in
     let b4 = b3 .before .before .before .before .before .before .before .before .before in
     let x = b4 .args in
     let P = b4 .pre in
-    filter-fits (x .g) (P .0) (b1 .key-index .result) (b1 .key-index .ensures) _ _ (P .2)
+    let s = ap (λ (i : Index). i .ska) (b1 .key-index .ensures) in
+    filters-fit (x .g) (P .0) _ _ _ _ _ (omega (arith, s)) (omega arith) (omega arith) (omega arith)
+    (omega (arith, length-part (x .filters .now) 512 256 (omega (arith, P .2))))
     (omega (arith, P .3, b3 .ram .given, b2 .ram2 .given))
 
 same-length-2 : tie.Need-same-length-2
@@ -100,7 +118,7 @@ same-length-2 c = search needs
 returns-2 : tie.Need-returns-2
 returns-2 c =
     let b1 = c .before .before in
-    let b2 = b1 .before .before .before in
+    let b2 = b1 .before .before .before .before in
     let b3 = b2 .before in
     let f = b3 .before in
     let b4 = f .before .before .before in
@@ -109,11 +127,13 @@ returns-2 c =
     let b7 = b6 .before in
     let x = b7 .before .before .before .before .args in
     let g = shape (x .g) in
-    let y = record-entered g (x .n) (x .new .now) (x .bits .now) (x .ram .now)
-    (b6 .record-area .result) (b7 .entry-area .result) _ _ (b6 .record-area .ensures .0) (b7 .entry-area .ensures .0)
-    (b5 .keep-item .ensures) (b4 .keep-item2 .ensures) in
-    kept-full g (x .n) (x .new .now) (x .bits .now) (x .ram .now) _ y (b7 .entry-area .result) (b7 .entry-area .ensures .0)
-    (b2 .key-index .result) _ (sym (f .fills .ensures) ∙ not-left _ (b3 .if1 .left)) (b2 .key-index .ensures) (b1 .keep-filter .ensures)
+    let r = b7 .entry-area .result in
+    let r-is = b7 .entry-area .ensures .0 in
+    let y-is = record-entered g (x .n) (x .new .now) (x .ram .now) (b6 .record-area .result) r _ _
+    (b6 .record-area .ensures .0) r-is (b5 .keep-item .ensures) (b4 .keep-item2 .ensures) in
+    kept-full (g .u) r (KA g) r-is (x .n) (keyIndex g) (keyFilters g (x .n)) 1 (entryFourths (x .filters .now)) _ _ y-is
+    (b2 .key-index .result) _ _ (sym (f .fills .ensures) ∙ sym (Bool·not-not _) ∙ ap not (b3 .if1 .left))
+    (ap indexOf (b2 .key-index .ensures)) (ap (λ (y : items.Area). x .n / y .perPage) r-is) (b1 .keep-filters .ensures)
 
 pub keep-record-spec : {M : Type 1} → statement M
 keep-record-spec =
@@ -133,7 +153,10 @@ keep-record-spec =
     same-length
     returns
     key-index-requires
-    div-keep-filter
-    keep-filter-requires
+    div-keep-filters
+    sub-keep-filters
+    part-keep-filters-start
+    part-keep-filters-end
+    keep-filters-requires
     same-length-2
     returns-2)

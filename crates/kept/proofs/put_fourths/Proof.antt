@@ -1,65 +1,54 @@
-use borrow.Author.Needs.{needs}
 use native.Mathlib.Nat.{mul-le-mul}
 use native.Mathlib.Omega.{arith}
 use Prim.Native.Nat.{_-_, _*_, _≤_}
 use mathlib.Core.Path.{_≡_, refl}
 use lib.ListN.{length}
 use Rattle.memory.specs.Lists.{length-part}
-use Rattle.layout.specs.Geometry.{sector}
-use Rattle.kept.specs.Pieces.{piecesOf, none-yet, in-bits, in-page, more-pieces, all-pieces}
+use Rattle.kept.specs.Pieces.{piecesOf, none-yet, in-fourths, in-page, more-pieces, all-pieces}
 use Rattle.kept.proofs.put_fourths.Statement.{statement}
 use Rattle.kept.proofs.put_fourths.Tie as tie
 
 abbrev Inv-loop : tie.InvT-loop
-Inv-loop chip at bits ram₀ piece i₀ ram i =
-    (i ≤ 4) × (length ram ≡ length ram₀) × (ram ≡ piecesOf (sector (chip .unit)) piece at i bits ram₀)
+Inv-loop chip at piece fourths ram₀ i₀ ram i =
+    (i ≤ 4) × (length ram ≡ length ram₀) × (ram ≡ piecesOf (chip .unit) piece at i fourths ram₀)
 
 abbrev μ-loop : tie.MeasureT-loop
-μ-loop chip at bits ram₀ piece i₀ ram i = 4 - i
-
-fourth-size-requires : tie.Need-fourth-size-requires Inv-loop μ-loop
-fourth-size-requires c κs = search needs
+μ-loop chip at piece fourths ram₀ i₀ ram i = 4 - i
 
 loop-holds : tie.Need-loop-holds Inv-loop μ-loop
-loop-holds c = (omega arith, refl, none-yet _ _ _ _ _)
+loop-holds c =
+    let x = c .before .before .args in
+    (omega arith, refl, none-yet (x .chip .unit) (x .piece) (x .at) (x .fourths .now) (x .ram .now))
 
 mul-lo : tie.Need-mul-lo Inv-loop μ-loop
 mul-lo c =
-    let b1 = c in
-    let b2 = b1 .before in
-    let z = b2 .before .fourth-size in
-    let b3 = b2 .before .before .before .before in
-    let x = b3 .args in
-    let P = b3 .pre in
-    omega (arith, in-bits (x .chip .unit) (z .result) (z .ensures) (b2 .loop .i) (b1 .loop-test .taken) (P .0 .1), P .0 .2)
+    let b1 = c .before in
+    let b2 = b1 .before .before .before in
+    let x = b2 .args in
+    omega (arith, in-fourths (x .chip .unit) (x .piece) (x .at) (b1 .loop .i) _ (c .loop-test .taken) (b2 .pre .0 .1))
 
 add-hi : tie.Need-add-hi Inv-loop μ-loop
 add-hi c =
-    let b1 = c in
-    let b2 = b1 .before in
-    let z = b2 .before .fourth-size in
-    let b3 = b2 .before .before .before .before in
-    let x = b3 .args in
-    let P = b3 .pre in
-    omega (arith, in-bits (x .chip .unit) (z .result) (z .ensures) (b2 .loop .i) (b1 .loop-test .taken) (P .0 .1), P .0 .2)
+    let b1 = c .before in
+    let b2 = b1 .before .before .before in
+    let x = b2 .args in
+    omega (arith, in-fourths (x .chip .unit) (x .piece) (x .at) (b1 .loop .i) _ (c .loop-test .taken) (b2 .pre .0 .1))
 
 sector-address-requires : tie.Need-sector-address-requires Inv-loop μ-loop
 sector-address-requires c κs =
     let b1 = c .before in
-    let P = b1 .before .before .before .before .before .pre in
-    (P .0 .1, omega (arith, mul-le-mul (b1 .loop-test .taken) (P .0 .1)))
+    let P = b1 .before .before .before .before .pre in
+    (P .0 .0, omega (arith, mul-le-mul (b1 .loop-test .taken) (P .0 .0)))
 
 add-copy-at : tie.Need-add-copy-at Inv-loop μ-loop
 add-copy-at c =
     let b1 = c .before .before in
     let b2 = b1 .before in
-    let z = b2 .before .fourth-size in
-    let b3 = b2 .before .before .before .before in
+    let b3 = b2 .before .before .before in
     let x = b3 .args in
-    let P = b3 .pre in
     omega (
       arith,
-      in-page (x .chip .unit) (z .result) (z .ensures) (x .at) (b2 .loop .i) _ (b1 .loop-test .taken) (P .1),
+      in-page (x .chip .unit) (x .piece) (x .at) (b2 .loop .i) _ (b1 .loop-test .taken) (b3 .pre .1),
       c .sector-address .ensures,
     )
 
@@ -73,24 +62,21 @@ part-copy-at-end : tie.Need-part-copy-at-end Inv-loop μ-loop
 part-copy-at-end c =
     let b1 = c .before .before in
     let b2 = b1 .before in
-    let z = b2 .before .fourth-size in
-    let b3 = b2 .before .before .before .before in
+    let b3 = b2 .before .before .before in
     let x = b3 .args in
-    let P = b3 .pre in
-    omega (arith, in-bits (x .chip .unit) (z .result) (z .ensures) (b2 .loop .i) (b1 .loop-test .taken) (P .0 .1), P .0 .2)
+    omega (arith, in-fourths (x .chip .unit) (x .piece) (x .at) (b2 .loop .i) _ (b1 .loop-test .taken) (b3 .pre .0 .1))
 
 copy-at-requires : tie.Need-copy-at-requires Inv-loop μ-loop
 copy-at-requires c κs =
     let b1 = c .before .before .before in
     let b2 = b1 .before in
-    let z = b2 .before .fourth-size in
     let l = b2 .loop in
-    let b3 = b2 .before .before .before .before in
+    let b3 = b2 .before .before .before in
     let x = b3 .args in
     let P = b3 .pre in
-    let b = in-bits (x .chip .unit) (z .result) (z .ensures) (l .i) (b1 .loop-test .taken) (P .0 .1) in
-    let k = length-part (x .bits .now) (l .i * z .result) (z .result) (omega (arith, b, P .0 .2)) in
-    let p = in-page (x .chip .unit) (z .result) (z .ensures) (x .at) (l .i) _ (b1 .loop-test .taken) (P .1) in
+    let b = in-fourths (x .chip .unit) (x .piece) (x .at) (l .i) _ (b1 .loop-test .taken) (P .0 .1) in
+    let k = length-part (x .fourths .now) (l .i * x .piece) (x .piece) b in
+    let p = in-page (x .chip .unit) (x .piece) (x .at) (l .i) _ (b1 .loop-test .taken) (P .1) in
     omega (arith, p, k, l .inv .1, c .before .sector-address .ensures)
 
 add-i : tie.Need-add-i Inv-loop μ-loop
@@ -105,19 +91,14 @@ loop-again c =
     let b2 = b1 .before .before in
     let b3 = b2 .before .before in
     let b4 = b3 .before in
-    let b5 = b4 .before in
-    let b6 = b5 .before .before in
-    let b7 = b6 .before in
-    let x = b7 .args in
-    let P = b7 .pre in
-    let z = b5 .fourth-size in
+    let b5 = b4 .before .before .before in
+    let x = b5 .args in
     let l = b4 .loop in
     let a = b2 .sector-address in (
       omega arith,
       omega arith,
-      more-pieces (x .chip .unit) (z .result) (z .ensures) (x .at) (l .i) (a .result) (a .ensures) (x .bits .now)
-          (x .ram .now) (l .ram) _ (λ k. omega (arith, b6 .shared-slice-known .given k)) (P .0 .2) (P .0 .1)
-          (b3 .loop-test .taken) (l .inv .2) (b1 .copy-at .ensures),
+      more-pieces (x .chip .unit) (x .piece) (x .at) (l .i) (a .result) (a .ensures) (x .fourths .now) (x .ram .now) (l .ram) _
+          (b3 .loop-test .taken) (b5 .pre .0 .1) (l .inv .2) (b1 .copy-at .ensures),
     )
 
 same-length : tie.Need-same-length Inv-loop μ-loop
@@ -125,11 +106,9 @@ same-length c = omega arith
 
 returns : tie.Need-returns Inv-loop μ-loop
 returns c =
-    let x = c .before .before .before .before .before .args in
-    let z = c .before .before .fourth-size in
     let l = c .before .loop in
-    all-pieces (x .chip .unit) (z .result) (z .ensures) (x .at) (l .i)
-    (x .bits .now) (x .ram .now) (l .ram) (omega arith) (l .inv .2)
+    let x = c .before .before .before .before .args in
+    all-pieces (x .chip .unit) (x .piece) (x .at) (l .i) (x .fourths .now) (x .ram .now) (l .ram) (omega arith) (l .inv .2)
 
 pub put-fourths-spec : {M : Type 1} → statement M
 put-fourths-spec =
@@ -137,7 +116,6 @@ put-fourths-spec =
     (tie.spec
     Inv-loop
     μ-loop
-    fourth-size-requires
     loop-holds
     mul-lo
     add-hi

@@ -1,4 +1,4 @@
--- The three numbers tell which outcome it is, and the part is its record.
+-- The numbers tell which outcome it is, and the part is its record.
 use native.Mathlib.Omega.{arith}
 use mathlib.Core.Path.{_≡_, ap, _∙_}
 use mathlib.Core.List.{List}
@@ -8,6 +8,7 @@ use Rattle.layout.specs.Hash.{fnvFamily}
 use Rattle.layout.specs.Calls.{call, lookup}
 use Rattle.state.specs.Contract.{volume}
 use Rattle.lookup.specs.Results.{lookupOf, answerNumbers}
+use Rattle.lookup.specs.Small.{lookup-small}
 use Rattle.script.specs.Answers.{hit}
 use Rattle.script.specs.Script.{perform}
 use Rattle.lines.proofs.Answering.{lookup-refused, lookup-missed, lookup-hit}
@@ -21,11 +22,23 @@ lookup-requires c κs = search needs
 array-read-refusal : tie.Need-array-read-refusal
 array-read-refusal c = search needs
 
+cast-refusal : tie.Need-cast-refusal
+cast-refusal c =
+    let x = c .before .before .before .before .before .args in
+    let v = volume (x .s) (x .main .now) (x .spare .now) (x .ram .now) in
+    omega (arith, ap (λ (l : List ℕ). getD l 0 0) (c .lookup .ensures .1), lookup-small fnvFamily v (x .key) .refusal)
+
 array-read-found : tie.Need-array-read-found
 array-read-found c = search needs
 
 array-read-count : tie.Need-array-read-count
 array-read-count c = search needs
+
+cast-count : tie.Need-cast-count
+cast-count c =
+    let x = c .before .before .before .before .before .args in
+    let v = volume (x .s) (x .main .now) (x .spare .now) (x .ram .now) in
+    omega (arith, ap (λ (l : List ℕ). getD l 2 0) (c .lookup .ensures .1), lookup-small fnvFamily v (x .key) .count)
 
 returns : tie.Need-returns
 unfolding perform
@@ -73,8 +86,10 @@ lookup-spec =
     (tie.spec
     lookup-requires
     array-read-refusal
+    cast-refusal
     array-read-found
     array-read-count
+    cast-count
     returns
     returns-2
     get32-requires

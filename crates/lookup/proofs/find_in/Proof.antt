@@ -6,9 +6,9 @@ use Prim.Native.Nat.{ℕ, _<_}
 use Rattle.layout.specs.Hash.{fnvFamily}
 use Rattle.layout.specs.Items.{Area, RA, itemPlace}
 use Rattle.layout.specs.Search as find
-use Rattle.layout.specs.Calls.{Volume, search as searchOf}
+use Rattle.layout.specs.Calls.{Volume, search as searchOf, searchDaPages}
 use Rattle.geometry.specs.Shape.{shape, place}
-use Rattle.search.specs.Find.{stopOf, ready-whole, search-is}
+use Rattle.search.specs.Find.{stopOf, ready-whole, search-is, search-pages}
 use Rattle.search.specs.declared.End.{End}
 use Rattle.state.specs.Contract.{volume}
 use Rattle.lookup.proofs.LookupLaws.{lookup-corrupt, lookup-nothing, lookup-ram, lookup-main, place-fits}
@@ -43,8 +43,16 @@ found-at : (c : tie.After-search) (end : End) → c .search .result .end ≡ end
 found-at c end e =
     let A = c .before in
     let b = start-of A in
-    search-is (handed b) (b .args .g) (A .all .result) (A .all .ensures) fnvFamily (b .args .key) (c .search .result) (c .search .ensures)
+    search-is (handed b) (b .args .g) (A .all .result) (A .all .ensures) fnvFamily (b .args .key) (c .search .result) (c .search .ensures .0)
     ∙ ap (λ (y : End). find.reply (stopOf y) (c .search .result .opened)) e
+
+-- and the pages of deletions that it opened
+pages-at : (c : tie.After-search) → let b = start-of (c .before) in
+    searchDaPages fnvFamily (shape (b .args .g)) (handed b) (b .args .key) ≡ c .search .result .«da_pages»
+pages-at c =
+    let A = c .before in
+    let b = start-of A in
+    search-pages (handed b) (b .args .g) (A .all .result) (A .all .ensures) fnvFamily (b .args .key) (c .search .result) (c .search .ensures .1)
 
 enum-told : tie.Need-enum-told
 enum-told c = search needs
@@ -67,7 +75,7 @@ returns-2 : tie.Need-returns-2
 returns-2 c =
     let S = c .before .before in
     let b = start-of (S .before) in
-    lookup-nothing fnvFamily (shape (b .args .g)) (handed b) (b .args .key) (S .search .result .opened) (found-at S _ (c .enum-told2 .given .1))
+    lookup-nothing fnvFamily (shape (b .args .g)) (handed b) (b .args .key) (S .search .result .opened) (S .search .result .«da_pages») (found-at S _ (c .enum-told2 .given .1)) (pages-at S)
 
 -- ---- a live record
 
@@ -104,27 +112,27 @@ place-small P =
     let b = start-of (searched P .before) in
     place-fits (b .args .g) (b .pre .sound) (b .args .s .records) (number P) (b .pre .n-cap) (place (P .item-place .result)) (place-is P)
 
-cast-t20 : tie.Need-cast-t20
-cast-t20 c = omega (arith, place-small (c .before))
+cast-t21 : tie.Need-cast-t21
+cast-t21 c = omega (arith, place-small (c .before))
 
 returns-3 : tie.Need-returns-3
 returns-3 c =
     let P = c .before in
     let S = searched P in
     let b = start-of (S .before) in
-    lookup-ram fnvFamily (shape (b .args .g)) (handed b) (b .args .key) (S .search .result .opened) (number P) (P .item-place .result .at) (P .item-place .result .«in_ram»)
-    (found-at S _ (ended P .end .given .1)) (place-is P) (c .if1 .taken)
+    lookup-ram fnvFamily (shape (b .args .g)) (handed b) (b .args .key) (S .search .result .opened) (S .search .result .«da_pages») (number P) (P .item-place .result .at) (P .item-place .result .«in_ram»)
+    (found-at S _ (ended P .end .given .1)) (pages-at S) (place-is P) (c .if1 .taken)
 
-cast-t21 : tie.Need-cast-t21
-cast-t21 c = omega (arith, place-small (c .before))
+cast-t22 : tie.Need-cast-t22
+cast-t22 c = omega (arith, place-small (c .before))
 
 returns-4 : tie.Need-returns-4
 returns-4 c =
     let P = c .before in
     let S = searched P in
     let b = start-of (S .before) in
-    lookup-main fnvFamily (shape (b .args .g)) (handed b) (b .args .key) (S .search .result .opened) (number P) (P .item-place .result .at) (P .item-place .result .«in_ram»)
-    (found-at S _ (ended P .end .given .1)) (place-is P) (c .if1 .left)
+    lookup-main fnvFamily (shape (b .args .g)) (handed b) (b .args .key) (S .search .result .opened) (S .search .result .«da_pages») (number P) (P .item-place .result .at) (P .item-place .result .«in_ram»)
+    (found-at S _ (ended P .end .given .1)) (pages-at S) (place-is P) (c .if1 .left)
 
 pub find-in-spec : {M : Type 1} → statement M
 find-in-spec =
@@ -143,7 +151,7 @@ find-in-spec =
     record-area-requires
     cast-item-place
     item-place-requires
-    cast-t20
-    returns-3
     cast-t21
+    returns-3
+    cast-t22
     returns-4)

@@ -14,6 +14,15 @@ use Rattle.lookup.proofs.lookup.Tie as tie
 find-requires : tie.Need-find-requires
 find-requires c κs = search needs
 
+cast-t12 : tie.Need-cast-t12
+cast-t12 c = search needs
+
+cast-t13 : tie.Need-cast-t13
+cast-t13 c = search needs
+
+cast-t14 : tie.Need-cast-t14
+cast-t14 c = search needs
+
 cast-at : tie.Need-cast-at
 cast-at c = search needs
 
@@ -28,10 +37,10 @@ part-result-end c = search needs
 
 returns : tie.Need-returns
 returns c =
-    let x = c .before .before .before .before .before .before .before .before .args in
-    let f = c .before .before .before .before .find in
+    let x = c .before .before .before .before .before .before .before .before .before .before .before .args in
+    let f = c .before .before .before .before .before .before .before .find in
     let v = volume (x .s) (x .main .now) (x .spare .now) (x .ram .now) in
-    let e = empty-part (x .main .ptr) (x .ram .ptr) (call fnvFamily v (lookup (x .key)) .outcome) (call fnvFamily v (lookup (x .key)) .count) (ap (λ (y : LookupResult). y .found) (sym (f .ensures)) ∙ c .before .if1 .taken) in
+    let e = empty-part (x .main .ptr) (x .ram .ptr) (call fnvFamily v (lookup (x .key)) .outcome) (call fnvFamily v (lookup (x .key)) .count) (call fnvFamily v (lookup (x .key)) .daPages) (ap (λ (y : LookupResult). y .found) (sym (f .ensures)) ∙ c .before .if1 .taken) in
     ((sym (e .0), sym (e .1)), ap answerNumbers (f .ensures))
 
 add-e : tie.Need-add-e
@@ -45,14 +54,14 @@ part-result-start-2 c = search needs
 
 part-result-end-2 : tie.Need-part-result-end-2
 part-result-end-2 c =
-    let x = c .before .before .before .before .before .before .before .before .args in
-    let f = c .before .before .before .before .find in
+    let x = c .before .before .before .before .before .before .before .before .before .before .before .args in
+    let f = c .before .before .before .before .before .before .before .find in
     part-in-ram fnvFamily (volume (x .s) (x .main .now) (x .spare .now) (x .ram .now)) (x .key) (f .result) (f .ensures) (c .before .if1 .left) (x .main .ptr) (x .ram .ptr) (c .if2 .taken) .0
 
 returns-2 : tie.Need-returns-2
 returns-2 c =
-    let x = c .before .before .before .before .before .before .before .before .before .args in
-    let f = c .before .before .before .before .before .find in
+    let x = c .before .before .before .before .before .before .before .before .before .before .before .before .args in
+    let f = c .before .before .before .before .before .before .before .before .find in
     let p = part-in-ram fnvFamily (volume (x .s) (x .main .now) (x .spare .now) (x .ram .now)) (x .key) (f .result) (f .ensures) (c .before .before .if1 .left) (x .main .ptr) (x .ram .ptr) (c .before .if2 .taken) in
     let s : f .result .offset + 16 - f .result .offset ≡ 16 = omega arith in
     ((rw s (p .1), p .2), ap answerNumbers (f .ensures))
@@ -65,14 +74,14 @@ part-result-start-3 c = search needs
 
 part-result-end-3 : tie.Need-part-result-end-3
 part-result-end-3 c =
-    let x = c .before .before .before .before .before .before .before .before .args in
-    let f = c .before .before .before .before .find in
+    let x = c .before .before .before .before .before .before .before .before .before .before .before .args in
+    let f = c .before .before .before .before .before .before .before .find in
     part-in-main fnvFamily (volume (x .s) (x .main .now) (x .spare .now) (x .ram .now)) (x .key) (f .result) (f .ensures) (c .before .if1 .left) (x .main .ptr) (x .ram .ptr) (c .if2 .left) .0
 
 returns-3 : tie.Need-returns-3
 returns-3 c =
-    let x = c .before .before .before .before .before .before .before .before .before .args in
-    let f = c .before .before .before .before .before .find in
+    let x = c .before .before .before .before .before .before .before .before .before .before .before .before .args in
+    let f = c .before .before .before .before .before .before .before .before .find in
     let p = part-in-main fnvFamily (volume (x .s) (x .main .now) (x .spare .now) (x .ram .now)) (x .key) (f .result) (f .ensures) (c .before .before .if1 .left) (x .main .ptr) (x .ram .ptr) (c .before .if2 .left) in
     let s : f .result .offset + 16 - f .result .offset ≡ 16 = omega arith in
     ((rw s (p .1), p .2), ap answerNumbers (f .ensures))
@@ -82,6 +91,9 @@ lookup-spec =
     tie.close
     (tie.spec
     find-requires
+    cast-t12
+    cast-t13
+    cast-t14
     cast-at
     sub-result
     part-result-start

@@ -19,25 +19,25 @@ among-requires c κs = search needs
 
 set-run-requires : tie.Need-set-run-requires
 set-run-requires c κs =
-    let x = c .before .before .before .before .before .before .before .before in
-    let r = c .before .before .among in
-    fewer (x .args .p .chip .unit) (x .args .p .next) (x .args .p .set .first) (x .args .p .set .count) _ _ (x .pre .set) (r .result .to)
-    (among-le _ _ _ _ (r .ensures) (le-refl (x .args .p .set .count)))
+    let r = c .before .before in
+    let s = r .before .before .before .before .before in
+    let x = s .args in
+    fewer (x .chip .unit) (x .s .next) (x .s .set .first) (x .s .set .count) _ _ (s .pre .set) (r .among .result .to)
+    (among-le _ _ _ _ (r .among .ensures) (le-refl (x .s .set .count)))
 
 among-requires-2 : tie.Need-among-requires-2
 among-requires-2 c κs = search needs
 
 wipe-run-requires : tie.Need-wipe-run-requires
 wipe-run-requires c κs =
-    let b1 = c .before .before in
-    let b2 = b1 .before .before in
-    let b3 = b2 .before .before in
-    let b4 = b3 .before .before .before .before .before .before .before .before .before .before in
-    let x = b4 .args in
-    let P = b4 .pre in (
-      at-lengths (λ m s. WipeFits (x .p .chip .unit) (x .p .l1) m s) _ _ _ _
-          (omega (arith, b3 .main .given)) (omega (arith, b2 .spare .given)) (P .l1),
-      among-le _ _ _ _ (b1 .among2 .ensures) (le-refl (x .p .l1 .count)),
+    let r = c .before .before in
+    let n = r .before .before in
+    let m = n .before .before in
+    let s = m .before .before .before .before .before .before .before .before .before in
+    let x = s .args in (
+      at-lengths (λ m s. WipeFits (x .chip .unit) (x .s .l1) m s) _ _ _ _
+          (omega (arith, m .main .given)) (omega (arith, n .spare .given)) (s .pre .l1),
+      among-le _ _ _ _ (r .among2 .ensures) (le-refl (x .s .l1 .count)),
     )
 
 among-requires-3 : tie.Need-among-requires-3
@@ -45,17 +45,16 @@ among-requires-3 c κs = search needs
 
 wipe-run-requires-2 : tie.Need-wipe-run-requires-2
 wipe-run-requires-2 c κs =
-    let b1 = c .before .before in
-    let b2 = b1 .before .before in
-    let b3 = b2 .before .before in
-    let b4 = b3 .before .before .before .before .before .before in
-    let b5 = b4 .before .before in
-    let b6 = b5 .before .before .before .before .before .before .before .before .before .before in
-    let x = b6 .args in
-    let P = b6 .pre in (
-      at-lengths (λ m s. WipeFits (x .p .chip .unit) (x .p .old) m s) _ _ _ _
-          (omega (arith, b5 .main .given, b3 .main2 .given)) (omega (arith, b4 .spare .given, b2 .spare2 .given)) (P .old),
-      among-le _ _ _ _ (b1 .among3 .ensures) (le-refl (x .p .old .count)),
+    let r = c .before .before in
+    let n2 = r .before .before in
+    let m2 = n2 .before .before in
+    let n = m2 .before .before .before .before .before .before in
+    let m = n .before .before in
+    let s = m .before .before .before .before .before .before .before .before .before in
+    let x = s .args in (
+      at-lengths (λ m s. WipeFits (x .chip .unit) (x .s .old) m s) _ _ _ _
+          (omega (arith, m .main .given, m2 .main2 .given)) (omega (arith, n .spare .given, n2 .spare2 .given)) (s .pre .old),
+      among-le _ _ _ _ (r .among3 .ensures) (le-refl (x .s .old .count)),
     )
 
 same-length : tie.Need-same-length
@@ -66,20 +65,20 @@ same-length-2 c = search needs
 
 returns : tie.Need-returns
 returns c =
-    let b1 = c .before .before .before .before in
-    let b2 = b1 .before .before .before in
-    let b3 = b2 .before .before .before .before .before in
-    let b4 = b3 .before .before .before in
-    let b5 = b4 .before .before .before .before .before in
-    let b6 = b5 .before .before .before in
-    let b7 = b6 .before in
-    let b8 = b7 .before in
-    let b9 = b8 .before .before .before .before in
-    let x = b9 .args in
-    build-run (x .p) (x .part) (b8 .behind .result) (b7 .behind2 .result) (flashOf (x .main .now) (x .spare .now))
-    (b6 .among .result) (b4 .among2 .result) (b2 .among3 .result)
-    (b8 .behind .ensures) (b7 .behind2 .ensures) (b6 .among .ensures) (b4 .among2 .ensures) (b2 .among3 .ensures)
-    (b5 .set-run .ensures) (b3 .wipe-run .ensures) (b1 .wipe-run2 .ensures)
+    let w2 = c .before .before .before .before in
+    let r3 = w2 .before .before .before in
+    let w1 = r3 .before .before .before .before .before in
+    let r2 = w1 .before .before .before in
+    let w = r2 .before .before .before .before .before in
+    let r1 = w .before .before .before in
+    let b2 = r1 .before in
+    let b1 = b2 .before in
+    let s = b1 .before .before .before in
+    let x = s .args in
+    build-run (x .chip .unit) (x .s) (x .part) (b1 .behind .result) (flashOf (x .main .now) (x .spare .now)) (b2 .behind2 .result)
+    (r1 .among .result) (r2 .among2 .result) (r3 .among3 .result)
+    (b1 .behind .ensures) (b2 .behind2 .ensures) (r1 .among .ensures) (r2 .among2 .ensures) (r3 .among3 .ensures)
+    (w .set-run .ensures) (w1 .wipe-run .ensures) (w2 .wipe-run2 .ensures)
 
 pub build-spec : {M : Type 1} → statement M
 build-spec =

@@ -10,13 +10,13 @@ use Rattle.plan.proofs.flush_run.Statement.{statement}
 use Rattle.plan.proofs.flush_run.Tie as tie
 
 abbrev Inv-loop : tie.InvT-loop
-Inv-loop chip page part bits main₀ spare₀ ram j₀ main spare j =
+Inv-loop chip f part fourths main₀ spare₀ ram j₀ main spare j =
     (part .from ≤ j) × (j - part .from ≤ part .to - part .from) × (length main ≡ length main₀) × (length spare ≡ length spare₀)
     × (flashOf main spare
-    ≡ done (chip .unit) (plannedFrom (flushed (chip .unit) page bits ram) (part .from) (j - part .from)) (flashOf main₀ spare₀))
+    ≡ done (chip .unit) (plannedFrom (flushed (chip .unit) f fourths ram) (part .from) (j - part .from)) (flashOf main₀ spare₀))
 
 abbrev μ-loop : tie.MeasureT-loop
-μ-loop chip page part bits main₀ spare₀ ram j₀ main spare j = part .to - j
+μ-loop chip f part fourths main₀ spare₀ ram j₀ main spare j = part .to - j
 
 loop-holds : tie.Need-loop-holds Inv-loop μ-loop
 loop-holds c =
@@ -29,9 +29,10 @@ flush-step-requires c κs =
     let l = c .before .before .before .before .loop in
     let x = c .before .before .before .before .before .before .before .before .before .args in
     let P = c .before .before .before .before .before .before .before .before .before .pre in
+    let k = length (x .fourths .now) in
     let n = length (x .ram .now) in (
-      at-lengths (λ m s. FlushFits (x .chip .unit) (x .page) m s n) _ _ _ _ (l .inv .2) (l .inv .3) (P .0),
-      (omega (arith, c .before .before .if1 .taken, P .1 .0), P .1 .1),
+      at-lengths (λ m s. FlushFits (x .chip .unit) (x .f) k m s n) _ _ _ _ (l .inv .2) (l .inv .3) (P .0),
+      omega (arith, c .before .before .if1 .taken, P .1),
     )
 
 add-j : tie.Need-add-j Inv-loop μ-loop
@@ -46,7 +47,7 @@ loop-again c =
     let x = c .before .before .before .before .before .before .before .before .before .before .before .before .before .before .args in
     let r = c .before .before .before .before .flush-step in
     let u = x .chip .unit in
-    let f = flushed u (x .page) (x .bits .now) (x .ram .now) in (
+    let f = flushed u (x .f) (x .fourths .now) (x .ram .now) in (
       omega arith,
       omega arith,
       omega arith,
@@ -65,7 +66,7 @@ returns c =
     let l = c .before .before .loop in
     let x = c .before .before .before .before .before .before .before .args in
     let u = x .chip .unit in
-    let f = flushed u (x .page) (x .bits .now) (x .ram .now) in
+    let f = flushed u (x .f) (x .fourths .now) (x .ram .now) in
     let k : l .j - x .part .from ≡ x .part .to - x .part .from = omega arith in
     l .inv .4
     ∙ ap (λ (n : ℕ). done u (plannedFrom f (x .part .from) n) (flashOf (x .main .now) (x .spare .now))) k

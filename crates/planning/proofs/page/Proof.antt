@@ -35,8 +35,8 @@ returns c =
     let b2 = b1 .before in
     let b3 = b2 .before .before in
     let x = b3 .before .args in
-    page-open (area (x .a)) (x .n) (b3 .first-sector .result) (b2 .page-sectors .result) (b3 .first-sector .ensures) (b2 .page-sectors .ensures)
-    (sym (b1 .fills .ensures) ∙ not-taken _ (c .if1 .taken))
+    page-open (area (x .a)) (x .n) (b3 .first-sector .result) (b2 .page-sectors .result) (b3 .first-sector .ensures)
+    (b2 .page-sectors .ensures) (sym (b1 .fills .ensures) ∙ not-taken _ (c .if1 .taken))
 
 returns-2 : tie.Need-returns-2
 returns-2 c =
@@ -44,8 +44,8 @@ returns-2 c =
     let b2 = b1 .before in
     let b3 = b2 .before .before in
     let x = b3 .before .args in
-    page-full (area (x .a)) (x .n) (b3 .first-sector .result) (b2 .page-sectors .result) (b3 .first-sector .ensures) (b2 .page-sectors .ensures)
-    (sym (b1 .fills .ensures) ∙ not-left _ (c .if1 .left))
+    page-full (area (x .a)) (x .n) (b3 .first-sector .result) (b2 .page-sectors .result) (b3 .first-sector .ensures)
+    (b2 .page-sectors .ensures) (sym (b1 .fills .ensures) ∙ not-left _ (c .if1 .left))
 
 pub page-spec : {M : Type 1} → statement M
 page-spec =

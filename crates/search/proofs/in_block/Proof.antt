@@ -9,44 +9,46 @@ use Rattle.memory.specs.Bits.{bit}
 use Rattle.memory.specs.Cases.{lt?, either}
 use Rattle.layout.specs.Geometry.{page, fullSets}
 use Rattle.layout.specs.Calls.{keyIndex, maybeIn}
-use Rattle.layout.specs.Search.{Stop, found, corrupt, reply, scan, searchPages}
+use Rattle.layout.specs.Search.{Stop, found, corrupt, reply, scan, scanCost, searchPages, pagesCost}
 use Rattle.geometry.specs.Shape.{shape}
 use Rattle.items.specs.Scans.{lastEntry}
 use Rattle.filter.specs.Filter.{index-fits}
 use Rattle.filter.specs.Blocks.{BlockAt}
 use Rattle.filter.specs.declared.groups.Block.{Block}
 use Rattle.search.specs.declared.End.the-variants.{Nothing}
-use Rattle.search.specs.Find.{viewed, Ready, tryOf, tryIn}
+use Rattle.search.specs.Find.{viewed, Ready, tryOf, costOf, tryIn, costIn, deletedOf, testCost}
 use Rattle.search.specs.Tries.{entryOf}
 use Rattle.search.proofs.Tries.{count, newest, newest-le, newest-set, newest-some, measure, fewer}
-use Rattle.search.proofs.Bits.{Gates, Words, Word, words-first, words-next, words-end, word-first, word-in, word-few, word-next, word-ended}
-use Rattle.search.proofs.Entries.{Same, Left, left-none, left-first, left-corrupt, left-found, left-next, left-less}
-use Rattle.search.proofs.Volume.{deletedOf, perPage, pages, same-flash, same-bytes, scan-bytes, vain-page, block-shows, pages-few, pages-then, page-in, sets-le, deletions-fit, deletions-are}
+use Rattle.search.proofs.Bits.{Gates, Words, Word, words-first, words-next, words-end, word-first, word-in, word-few, word-most, word-next, word-ended}
+use Rattle.search.proofs.Entries.{Same, Left, left-none, left-first, left-corrupt, left-most, left-found, left-next, left-less}
+use Rattle.search.proofs.Volume.{perPage, pages, same-flash, same-bytes, scan-bytes, cost-bytes, vain-page, block-shows, tested-met, tested-opened}
+use Rattle.search.proofs.Volume.{pages-few, pages-then, page-in, sets-le, below-most}
 use borrow.Author.Needs.{needs}
 use borrow.Author.Tests.{not-true, not-false}
 use Rattle.search.proofs.in_block.Statement.{statement}
 use Rattle.search.proofs.in_block.Tie as tie
 
 abbrev Inv-entries : tie.InvT-entries
-Inv-entries v key count below main ram b first end₀ opened w from bits start e₀ end e =
-    (0 < e₀ → Left main start key (tryIn v main ram key main start) 0 (perPage v) e) × (e ≤ e₀) × (end ≡ Nothing)
+Inv-entries v key count below main ram b first end₀ opened da₀ w from bits start e₀ end da e =
+    (0 < e₀ → Left main start key (tryIn v main ram key main start) (costIn v main ram key main start) 0 (perPage v) da₀ e da)
+    × (e ≤ e₀) × (end ≡ Nothing) × (e₀ ≡ 0 → da ≡ da₀)
 
 abbrev μ-entries : tie.MeasureT-entries
-μ-entries v key count below main ram b first end₀ opened w from bits start e₀ end e = e
+μ-entries v key count below main ram b first end₀ opened da₀ w from bits start e₀ end da e = e
 
 abbrev Inv-bits : tie.InvT-bits
-Inv-bits v key count below main ram b first end₀ opened₀ w from bits₀ end opened bits =
-    Word (tryOf v main ram key) (perPage v) (b .start) below (b .words) opened w bits × (end ≡ Nothing)
+Inv-bits v key count below main ram b first end₀ opened₀ da₀ w from bits₀ end opened da bits =
+    Word (tryOf v main ram key) (costOf v main ram key) (perPage v) (b .start) below (b .words) opened da w bits × (end ≡ Nothing)
 
 abbrev μ-bits : tie.MeasureT-bits
-μ-bits v key count below main ram b first end₀ opened₀ w from bits₀ end opened bits = measure bits
+μ-bits v key count below main ram b first end₀ opened₀ da₀ w from bits₀ end opened da bits = measure bits
 
 abbrev Inv-filters : tie.InvT-filters
-Inv-filters v key count below main ram b first end₀ opened₀ w₀ end opened w =
-    Words (tryOf v main ram key) (perPage v) (b .start) below (b .words) opened w × (end ≡ Nothing)
+Inv-filters v key count below main ram b first end₀ opened₀ da₀ w₀ end opened da w =
+    Words (tryOf v main ram key) (costOf v main ram key) (perPage v) (b .start) below (b .words) opened da w × (end ≡ Nothing)
 
 abbrev μ-filters : tie.MeasureT-filters
-μ-filters v key count below main ram b first end₀ opened₀ w₀ end opened w = w
+μ-filters v key count below main ram b first end₀ opened₀ da₀ w₀ end opened da w = w
 
 -- ---- the search at hand
 
@@ -70,8 +72,14 @@ gate-at b =
 abbrev try-at : Start → ℕ → Option Stop
 try-at b = tryOf (b .args .v) (b .args .main .now) (b .args .ram .now) (b .args .key)
 
+abbrev cost-at : Start → ℕ → ℕ
+cost-at b = costOf (b .args .v) (b .args .main .now) (b .args .ram .now) (b .args .key)
+
 abbrev deleted-at : Start → ℕ → Bool
 deleted-at b = deletedOf (b .args .v) (b .args .main .now) (b .args .ram .now)
+
+abbrev test-at : Start → ℕ → ℕ
+test-at b = testCost (b .args .v) (b .args .main .now) (b .args .ram .now)
 
 abbrev block-of : Known → Block
 block-of G = G .block-below .result
@@ -83,7 +91,7 @@ block-at G = rw (G .before .key-filters .ensures) at (G .block-below .ensures)
 
 -- it shows the gates
 shows : (G : Known) → let b = start-of G in
-    Gates (try-at b) (perPage (b .args .v)) (block-of G .start) (b .args .below) (block-of G .words) (gate-at b)
+    Gates (try-at b) (cost-at b) (perPage (b .args .v)) (block-of G .start) (b .args .below) (block-of G .words) (gate-at b)
 shows G =
     let x = start-of G .args in
     block-shows (x .v) (x .main .now) (x .ram .now) (x .key) (x .below) (take (x .count) (x .ps)) (block-of G) (block-at G)
@@ -131,7 +139,7 @@ add-w c = omega (arith, block-at c .few)
 filters-holds : tie.Need-filters-holds Inv-entries μ-entries Inv-bits μ-bits Inv-filters μ-filters
 filters-holds c =
     let b = start-of c in
-    (words-first (try-at b) (perPage (b .args .v)) (block-of c .start) (b .args .below) (block-of c .words) (block-at c .start-lt), refl)
+    (words-first (try-at b) (cost-at b) (perPage (b .args .v)) (block-of c .start) (b .args .below) (block-of c .words) (block-at c .start-lt), refl)
 
 -- ---- a word
 
@@ -167,7 +175,7 @@ bits-holds c =
     let l = i .before in
     let G = l .before in
     let b = start-of G in
-    (word-first (try-at b) (perPage (b .args .v)) (block-of G .start) (b .args .below) (block-of G .words) (l .filters .opened) (l .filters .w) (l .filters .inv .0) (omega arith) (word-lt-8 i), l .filters .inv .1)
+    (word-first (try-at b) (cost-at b) (perPage (b .args .v)) (block-of G .start) (b .args .below) (block-of G .words) (l .filters .opened) (l .filters .da-pages) (l .filters .w) (l .filters .inv .0) (omega arith) (word-lt-8 i), l .filters .inv .1)
 
 filters-less : tie.Need-filters-less Inv-entries μ-entries Inv-bits μ-bits Inv-filters μ-filters
 filters-less c = let i = c .before .before .before in omega (arith, i .filters-test .taken)
@@ -179,7 +187,7 @@ filters-again c =
     let l = i .before in
     let G = l .before in
     let b = start-of G in
-    (words-next (try-at b) (perPage (b .args .v)) (block-of G .start) (b .args .below) (block-of G .words) (B .bits .opened) (l .filters .w - 1) (B .bits .bits) (B .bits .inv .0) (c .bits-test .left) (from-lt i), B .bits .inv .1)
+    (words-next (try-at b) (cost-at b) (perPage (b .args .v)) (block-of G .start) (b .args .below) (block-of G .words) (B .bits .opened) (B .bits .da-pages) (l .filters .w - 1) (B .bits .bits) (B .bits .inv .0) (c .bits-test .left) (from-lt i), B .bits .inv .1)
 
 -- ---- the pages of a word, up to one with an entry of the key
 
@@ -207,7 +215,8 @@ page-of c = from-of c + (newest-of c - 1)
 
 -- a page without an entry of the key does not end the search
 other : (c : Visiting) → let b = start-of (known c) in let q = perPage (b .args .v) in
-    (i : ℕ) → bit (c .before .bits .bits) i ≡ true → from-of c + i < b .args .below → entry-at c i ≡ 0 → scan (try-at b) ((from-of c + i) * q) q ≡ none
+    (i : ℕ) → bit (c .before .bits .bits) i ≡ true → from-of c + i < b .args .below → entry-at c i ≡ 0
+    → (scan (try-at b) ((from-of c + i) * q) q ≡ none) × (scanCost (try-at b) (cost-at b) ((from-of c + i) * q) q ≡ 0)
 other c i s h =
     let x = start-of (known c) .args in
     vain-page (x .v) (x .main .now) (x .ram .now) (x .key) (from-of c + i) (page-lt (known c) (from-of c + i) h)
@@ -218,7 +227,7 @@ visited-in c =
     let G = known c in
     let b = start-of G in
     let B = c .before in
-    word-in (try-at b) (perPage (b .args .v)) (block-of G .start) (b .args .below) (block-of G .words) (B .bits .opened) (word-of c) (B .bits .bits) (B .bits .inv .0)
+    word-in (try-at b) (cost-at b) (perPage (b .args .v)) (block-of G .start) (b .args .below) (block-of G .words) (B .bits .opened) (B .bits .da-pages) (word-of c) (B .bits .bits) (B .bits .inv .0)
     (entry-at c) (other c) (gate-at b) (shows G)
 
 visited-few : (c : Visiting) → c .before .bits .opened + count (c .before .bits .bits) (entry-at c) 64 ≤ start-of (known c) .args .below + 1
@@ -226,7 +235,7 @@ visited-few c =
     let G = known c in
     let b = start-of G in
     let B = c .before in
-    word-few (try-at b) (perPage (b .args .v)) (block-of G .start) (b .args .below) (block-of G .words) (B .bits .opened) (word-of c) (B .bits .bits) (B .bits .inv .0)
+    word-few (try-at b) (cost-at b) (perPage (b .args .v)) (block-of G .start) (b .args .below) (block-of G .words) (B .bits .opened) (B .bits .da-pages) (word-of c) (B .bits .bits) (B .bits .inv .0)
     (entry-at c) (other c) (gate-at b) (shows G)
 
 page-below : (c : Visiting) → 0 < newest-of c → page-of c < start-of (known c) .args .below
@@ -274,23 +283,32 @@ within-at N h =
     rw (N .next-with-key .ensures .some n .0) (page-in (x .v) (x .main .now) (x .ram .now) (ready b) (page-of c) (page-lt (known c) (page-of c) (page-below c n)))
 
 -- by their bytes
+abbrev try-in : Tries → ℕ → Option Stop
+try-in N = let x = start-of (known (N .before)) .args in tryIn (x .v) (x .main .now) (x .ram .now) (x .key) (x .main .now) (N .next-with-key .result .start)
+
+abbrev cost-in : Tries → ℕ → ℕ
+cost-in N = let x = start-of (known (N .before)) .args in costIn (x .v) (x .main .now) (x .ram .now) (x .key) (x .main .now) (N .next-with-key .result .start)
+
 same-at : (N : Tries) → let b = start-of (known (N .before)) in let x = b .args in let start = N .next-with-key .result .start in
-    Same (x .main .now) start (perPage (x .v)) (x .v .n0) (x .key) (deleted-at b) (tryIn (x .v) (x .main .now) (x .ram .now) (x .key) (x .main .now) start) 0
+    Same (x .main .now) start (perPage (x .v)) (x .v .n0) (x .key) (deleted-at b) (test-at b) (try-in N) (cost-in N) 0
 same-at N =
     let x = start-of (known (N .before)) .args in
     same-bytes (x .v) (x .main .now) (x .ram .now) (x .key) (x .main .now) (N .next-with-key .result .start) (perPage (x .v))
 
 -- as the view has them
-scan-at : (N : Tries) → 0 < N .next-with-key .result .entry → let b = start-of (known (N .before)) in let x = b .args in let q = perPage (x .v) in
-    scan (tryIn (x .v) (x .main .now) (x .ram .now) (x .key) (x .main .now) (N .next-with-key .result .start)) 0 q ≡ scan (try-at b) (page-of (N .before) * q) q
+scan-at : (N : Tries) → 0 < N .next-with-key .result .entry → let b = start-of (known (N .before)) in let q = perPage (b .args .v) in
+    (scan (try-in N) 0 q ≡ scan (try-at b) (page-of (N .before) * q) q)
+    × (scanCost (try-in N) (cost-in N) 0 q ≡ scanCost (try-at b) (cost-at b) (page-of (N .before) * q) q)
 scan-at N h =
     let c = N .before in
     let x = start-of (known c) .args in
     let n = reached N h in
     let start = N .next-with-key .result .start in
-    scan-bytes (x .v) (x .main .now) (x .ram .now) (x .key) (x .main .now) start (perPage (x .v)) (page-of c * perPage (x .v))
-    (same-flash (x .v) (x .main .now) (x .ram .now) (x .key) (page-of c) start (perPage (x .v)) (page-lt (known c) (page-of c) (page-below c n)) (omega arith)
-    (N .next-with-key .ensures .some n .0))
+    let S = same-flash (x .v) (x .main .now) (x .ram .now) (x .key) (page-of c) start (perPage (x .v)) (page-lt (known c) (page-of c) (page-below c n)) (omega arith)
+    (N .next-with-key .ensures .some n .0) in (
+      scan-bytes (x .v) (x .main .now) (x .ram .now) (x .key) (x .main .now) start (perPage (x .v)) (page-of c * perPage (x .v)) S,
+      cost-bytes (x .v) (x .main .now) (x .ram .now) (x .key) (x .main .now) start (perPage (x .v)) (page-of c * perPage (x .v)) S,
+    )
 
 -- the newest with the key is the one told
 entry-is : (N : Tries) → 0 < N .next-with-key .result .entry → let x = start-of (known (N .before)) .args in
@@ -302,11 +320,11 @@ entries-holds c =
     let N = c .before in
     let b = start-of (known (N .before)) in
     let x = b .args in
-    let start = N .next-with-key .result .start in
-    let try = tryIn (x .v) (x .main .now) (x .ram .now) (x .key) (x .main .now) start in (
-      λ h. left-first (x .main .now) start (perPage (x .v)) (x .v .n0) (x .key) (deleted-at b) try 0 (same-at N) (N .next-with-key .result .entry) (entry-is N h),
+    let start = N .next-with-key .result .start in (
+      λ h. left-first (x .main .now) start (perPage (x .v)) (x .v .n0) (x .key) (deleted-at b) (test-at b) (try-in N) (cost-in N) 0 (same-at N) (N .before .before .bits .da-pages) (N .next-with-key .result .entry) (entry-is N h),
       omega arith,
       N .before .before .bits .inv .1,
+      λ z. refl,
     )
 
 -- ---- an entry
@@ -329,62 +347,110 @@ number-at-requires c κs =
 wide-requires : tie.Need-wide-requires Inv-entries μ-entries Inv-bits μ-bits Inv-filters μ-filters
 wide-requires c κs = search needs
 
-da-block-requires : tie.Need-da-block-requires Inv-entries μ-entries Inv-bits μ-bits Inv-filters μ-filters
-da-block-requires c κs = ready (start-of (known (c .before .before .before .before .before .before .before .before))) .sound
+tested-requires : tie.Need-tested-requires Inv-entries μ-entries Inv-bits μ-bits Inv-filters μ-filters
+tested-requires c κs = ready (start-of (known (c .before .before .before .before .before .before .before .before)))
 
-deleted-requires : tie.Need-deleted-requires Inv-entries μ-entries Inv-bits μ-bits Inv-filters μ-filters
-deleted-requires c κs =
-    let b = start-of (known (c .before .before .before .before .before .before .before .before .before)) in
-    let x = b .args in
-    deletions-fit (x .v) (x .main .now) (x .ram .now) (ready b) (c .da-block .result) (c .da-block .ensures)
+abbrev Tests : Type 0
+Tests = tie.After-tested Inv-entries μ-entries Inv-bits μ-bits Inv-filters μ-filters
+
+abbrev wide-of : Tests → tie.After-wide Inv-entries μ-entries Inv-bits μ-bits Inv-filters μ-filters
+wide-of D = D .before .before .before
+
+abbrev number-of : Tests → tie.After-number-at Inv-entries μ-entries Inv-bits μ-bits Inv-filters μ-filters
+number-of D = wide-of D .before
+
+abbrev entry-of : Tests → AtEntry
+entry-of D = number-of D .before .before
+
+abbrev tries-of : Tests → Tries
+tries-of D = entry-of D .before .before
+
+abbrev start-at : Tests → Start
+start-at D = start-of (known (tries-of D .before))
+
+one-left : (D : Tests) → 0 < entry-of D .entries .e
+one-left D = number-of D .before .entries-test .taken
+
+number-lt : (D : Tests) → number-of D .number-at .result < start-at D .args .v .n0
+number-lt D = omega (arith, wide-of D .wide .ensures, D .before .if1 .left)
 
 -- what the test says of the view's deletions
-told : (c : tie.After-deleted Inv-entries μ-entries Inv-bits μ-bits Inv-filters μ-filters) → let B = c .before in
-    c .deleted .result ≡ deleted-at (start-of (known (B .before .before .before .before .before .before .before .before .before))) (B .before .before .before .before .number-at .result)
-told c =
+told-met : (D : Tests) → D .tested .result .met ≡ deleted-at (start-at D) (number-of D .number-at .result)
+told-met D =
+    let x = start-at D .args in
+    tested-met (x .v) (x .main .now) (x .ram .now) (number-of D .number-at .result) (D .tested .result) (D .tested .ensures)
+
+told-opened : (D : Tests) → D .tested .result .opened ≡ test-at (start-at D) (number-of D .number-at .result)
+told-opened D =
+    let x = start-at D .args in
+    tested-opened (x .v) (x .main .now) (x .ram .now) (number-of D .number-at .result) (D .tested .result) (D .tested .ensures)
+
+cast-da-pages : tie.Need-cast-da-pages Inv-entries μ-entries Inv-bits μ-bits Inv-filters μ-filters
+cast-da-pages c = search needs
+
+-- what was paid before the page and for it is part of the cost of all
+page-most : (N : Tries) → 0 < N .next-with-key .result .entry → let c = N .before in let b = start-of (known c) in let q = perPage (b .args .v) in
+    c .before .bits .da-pages + scanCost (try-in N) (cost-in N) 0 q ≤ pagesCost (gate-at b) (try-at b) (cost-at b) q (b .args .below)
+page-most N h =
+    let c = N .before in
     let B = c .before in
-    let b = start-of (known (B .before .before .before .before .before .before .before .before .before)) in
+    let G = known c in
+    let b = start-of G in
     let x = b .args in
-    deletions-are (x .v) (x .main .now) (x .ram .now) (ready b) (B .da-block .result) _ (c .deleted .result) (B .da-block .ensures) (c .deleted .ensures)
+    rw (scan-at N h .1)
+    (word-most (try-at b) (cost-at b) (perPage (x .v)) (block-of G .start) (x .below) (block-of G .words) (B .bits .opened) (B .bits .da-pages) (word-of c) (B .bits .bits) (B .bits .inv .0)
+    (entry-at c) (other c) (gate-at b) (shows G) (reached N h))
+
+add-da-pages : tie.Need-add-da-pages Inv-entries μ-entries Inv-bits μ-bits Inv-filters μ-filters
+add-da-pages c =
+    let D = c .before in
+    let J = number-of D in
+    let E = entry-of D in
+    let N = tries-of D in
+    let b = start-at D in
+    let x = b .args in
+    let h = some-left E (one-left D) in
+    omega (
+      arith,
+      left-most (x .main .now) (N .next-with-key .result .start) (perPage (x .v)) (x .v .n0) (x .key) (deleted-at b) (test-at b) (try-in N) (cost-in N) 0 (same-at N) (N .before .before .bits .da-pages) (E .entries .e) (E .entries .da-pages) (J .number-at .result) (E .entries .inv .0 h) (one-left D) (J .number-at .ensures) (number-lt D),
+      told-opened D,
+      page-most N h,
+      below-most (x .v) (x .main .now) (x .ram .now) (ready b) (x .key) (take (x .count) (x .ps)) (x .below) (b .pre .1 .1),
+    )
 
 find-entry-requires : tie.Need-find-entry-requires Inv-entries μ-entries Inv-bits μ-bits Inv-filters μ-filters
 find-entry-requires c κs =
-    let E = c .before .before .before .before .before .before .before .before in
-    let h = some-left E (c .before .before .before .before .before .before .before .entries-test .taken) in
+    let D = c .before .before .before in
+    let E = entry-of D in
+    let h = some-left E (one-left D) in
     omega (arith, E .entries .inv .0 h .le, within-at (E .before .before) h)
 
 entries-less : tie.Need-entries-less Inv-entries μ-entries Inv-bits μ-bits Inv-filters μ-filters
 entries-less c =
-    let D = c .before .before in
-    let W = D .before .before .before .before in
-    let J = W .before in
-    let E = J .before .before in
-    let N = E .before .before in
-    let b = start-of (known (N .before)) in
+    let D = c .before .before .before .before in
+    let J = number-of D in
+    let E = entry-of D in
+    let N = tries-of D in
+    let b = start-at D in
     let x = b .args in
-    let start = N .next-with-key .result .start in
-    let try = tryIn (x .v) (x .main .now) (x .ram .now) (x .key) (x .main .now) start in
-    let p = J .before .entries-test .taken in
-    let L = E .entries .inv .0 (some-left E p) in
-    left-less (x .main .now) start (perPage (x .v)) (x .v .n0) (x .key) (deleted-at b) try 0 (same-at N) (E .entries .e) (J .number-at .result) L p (J .number-at .ensures) (omega (arith, W .wide .ensures, c .before .before .before .before .if1 .left)) (c .find-entry .result) (c .find-entry .ensures)
+    let L = E .entries .inv .0 (some-left E (one-left D)) in
+    left-less (x .main .now) (N .next-with-key .result .start) (perPage (x .v)) (x .v .n0) (x .key) (deleted-at b) (test-at b) (try-in N) (cost-in N) 0 (same-at N) (N .before .before .bits .da-pages) (E .entries .e) (E .entries .da-pages) (J .number-at .result) L (one-left D) (J .number-at .ensures) (number-lt D) (c .find-entry .result) (c .find-entry .ensures)
 
 entries-again : tie.Need-entries-again Inv-entries μ-entries Inv-bits μ-bits Inv-filters μ-filters
 entries-again c =
-    let D = c .before .before in
-    let W = D .before .before .before .before in
-    let J = W .before in
-    let E = J .before .before in
-    let N = E .before .before in
-    let b = start-of (known (N .before)) in
+    let D = c .before .before .before .before in
+    let J = number-of D in
+    let E = entry-of D in
+    let N = tries-of D in
+    let b = start-at D in
     let x = b .args in
-    let start = N .next-with-key .result .start in
-    let try = tryIn (x .v) (x .main .now) (x .ram .now) (x .key) (x .main .now) start in
-    let p = J .before .entries-test .taken in
-    let L = E .entries .inv .0 (some-left E p) in
-    let less = left-less (x .main .now) start (perPage (x .v)) (x .v .n0) (x .key) (deleted-at b) try 0 (same-at N) (E .entries .e) (J .number-at .result) L p (J .number-at .ensures) (omega (arith, W .wide .ensures, c .before .before .before .before .if1 .left)) (c .find-entry .result) (c .find-entry .ensures) in (
-      λ h. left-next (x .main .now) start (perPage (x .v)) (x .v .n0) (x .key) (deleted-at b) try 0 (same-at N) (E .entries .e) (J .number-at .result) L p (J .number-at .ensures) (omega (arith, W .wide .ensures, c .before .before .before .before .if1 .left)) (c .find-entry .result) (D .deleted .result) (told D) (not-false (D .deleted .result) (c .before .if2 .left)) (c .find-entry .ensures),
+    let h = some-left E (one-left D) in
+    let L = E .entries .inv .0 h in
+    let less = left-less (x .main .now) (N .next-with-key .result .start) (perPage (x .v)) (x .v .n0) (x .key) (deleted-at b) (test-at b) (try-in N) (cost-in N) 0 (same-at N) (N .before .before .bits .da-pages) (E .entries .e) (E .entries .da-pages) (J .number-at .result) L (one-left D) (J .number-at .ensures) (number-lt D) (c .find-entry .result) (c .find-entry .ensures) in (
+      λ t. left-next (x .main .now) (N .next-with-key .result .start) (perPage (x .v)) (x .v .n0) (x .key) (deleted-at b) (test-at b) (try-in N) (cost-in N) 0 (same-at N) (N .before .before .bits .da-pages) (E .entries .e) (E .entries .da-pages) (J .number-at .result) L (one-left D) (J .number-at .ensures) (number-lt D) (D .tested .result .met) (D .tested .result .opened) (told-met D) (told-opened D) (c .find-entry .result) (not-false (D .tested .result .met) (c .before .if2 .left)) (c .find-entry .ensures),
       omega (arith, less, E .entries .inv .1),
       E .entries .inv .2,
+      λ z. absurd (omega (arith, h)),
     )
 
 -- ---- the next page
@@ -397,15 +463,19 @@ bits-less c =
 
 -- no entry of the page ended the search
 vain-at : (E : AtEntry) → E .entries .e ≤ 0 → let N = E .before .before in let b = start-of (known (N .before)) in let q = perPage (b .args .v) in
-    0 < newest-of (N .before) → scan (try-at b) (page-of (N .before) * q) q ≡ none
+    0 < newest-of (N .before)
+    → (scan (try-at b) (page-of (N .before) * q) q ≡ none)
+    × (E .entries .da-pages ≡ N .before .before .bits .da-pages + scanCost (try-at b) (cost-at b) (page-of (N .before) * q) q)
 vain-at E z h =
     let N = E .before .before in
     let x = start-of (known (N .before)) .args in
-    let start = N .next-with-key .result .start in
     let p = told-some N h in
-    sym (scan-at N p)
-    ∙ left-none (x .main .now) start (x .key) (tryIn (x .v) (x .main .now) (x .ram .now) (x .key) (x .main .now) start) 0 (perPage (x .v)) (E .entries .e)
-    (E .entries .inv .0 p) z
+    let e = left-none (x .main .now) (N .next-with-key .result .start) (x .key) (try-in N) (cost-in N) 0 (perPage (x .v)) (N .before .before .bits .da-pages) (E .entries .e) (E .entries .da-pages) (E .entries .inv .0 p) z in
+    (sym (scan-at N p .0) ∙ e .0, omega (arith, e .1, scan-at N p .1))
+
+-- none was tried where no page has an entry
+free-at : (E : AtEntry) → let N = E .before .before in newest-of (N .before) ≡ 0 → E .entries .da-pages ≡ N .before .before .bits .da-pages
+free-at E z = let N = E .before .before in E .entries .inv .3 (N .next-with-key .ensures .none z .2)
 
 bits-again : tie.Need-bits-again Inv-entries μ-entries Inv-bits μ-bits Inv-filters μ-filters
 bits-again c =
@@ -416,8 +486,10 @@ bits-again c =
     let G = known Y in
     let b = start-of G in
     let x = b .args in
-    let z = word-next (try-at b) (perPage (x .v)) (block-of G .start) (x .below) (block-of G .words) (B .bits .opened) (word-of Y) (B .bits .bits) (B .bits .inv .0)
-    (entry-at Y) (other Y) (N .next-with-key .result .bits) (N .next-with-key .ensures .left) (λ h. vain-at E (c .entries-test .left) h) in
+    let left = c .entries-test .left in
+    let z = word-next (try-at b) (cost-at b) (perPage (x .v)) (block-of G .start) (x .below) (block-of G .words) (B .bits .opened) (B .bits .da-pages) (word-of Y) (B .bits .bits) (B .bits .inv .0)
+    (entry-at Y) (other Y) (N .next-with-key .result .bits) (N .next-with-key .ensures .left) (λ h. vain-at E left h .0)
+    (E .entries .da-pages) (λ h. vain-at E left h .1) (free-at E) in
     (rw (N .next-with-key .ensures .opened) z, E .entries .inv .2)
 
 -- ---- the three ways out
@@ -427,26 +499,25 @@ returns c =
     let l = c .before in
     let G = l .before in
     let b = start-of G in
-    let x = b .args in (
-      block-at G .start-lt,
-      rw (l .filters .inv .1)
-          (words-end (try-at b) (perPage (x .v)) (block-of G .start) (x .below) (block-of G .words) (l .filters .opened) (l .filters .w) (l .filters .inv .0) (omega arith) (block-at G .start-lt) (gate-at b) (shows G)),
-    )
+    let x = b .args in
+    let e = words-end (try-at b) (cost-at b) (perPage (x .v)) (block-of G .start) (x .below) (block-of G .words) (l .filters .opened) (l .filters .da-pages) (l .filters .w) (l .filters .inv .0) (omega arith) (block-at G .start-lt) (gate-at b) (shows G) in
+    (block-at G .start-lt, (rw (l .filters .inv .1) (e .0), rw (l .filters .inv .1) (e .1)))
 
 -- the page's scan ended
-ended : (N : Tries) (r : Stop) → let c = N .before in let b = start-of (known c) in let x = b .args in let q = perPage (x .v) in
-    0 < N .next-with-key .result .entry
-    → scan (tryIn (x .v) (x .main .now) (x .ram .now) (x .key) (x .main .now) (N .next-with-key .result .start)) 0 q ≡ some r
-    → searchPages (gate-at b) (try-at b) q (x .below) ≡ reply (some r) (c .before .bits .opened + N .next-with-key .result .opened)
-ended N r h e =
+ended : (N : Tries) (r : Stop) (sum : ℕ) → let c = N .before in let b = start-of (known c) in let x = b .args in let q = perPage (x .v) in
+    0 < N .next-with-key .result .entry → scan (try-in N) 0 q ≡ some r → sum ≡ c .before .bits .da-pages + scanCost (try-in N) (cost-in N) 0 q
+    → (searchPages (gate-at b) (try-at b) q (x .below) ≡ reply (some r) (c .before .bits .opened + N .next-with-key .result .opened))
+    × (pagesCost (gate-at b) (try-at b) (cost-at b) q (x .below) ≡ sum + 0)
+ended N r sum h e d =
     let c = N .before in
     let B = c .before in
     let G = known c in
     let b = start-of G in
     let x = b .args in
-    rw (N .next-with-key .ensures .opened)
-    (word-ended (try-at b) (perPage (x .v)) (block-of G .start) (x .below) (block-of G .words) (B .bits .opened) (word-of c) (B .bits .bits) (B .bits .inv .0)
-    (entry-at c) (other c) (gate-at b) (shows G) (reached N h) r (sym (scan-at N h) ∙ e))
+    let s = scan-at N h in
+    let w = word-ended (try-at b) (cost-at b) (perPage (x .v)) (block-of G .start) (x .below) (block-of G .words) (B .bits .opened) (B .bits .da-pages) (word-of c) (B .bits .bits) (B .bits .inv .0)
+    (entry-at c) (other c) (gate-at b) (shows G) (reached N h) r (sym (s .0) ∙ e) in
+    (rw (N .next-with-key .ensures .opened) (w .0), omega (arith, w .1, d, s .1))
 
 returns-2 : tie.Need-returns-2 Inv-entries μ-entries Inv-bits μ-bits Inv-filters μ-filters
 returns-2 c =
@@ -457,33 +528,23 @@ returns-2 c =
     let G = known (N .before) in
     let b = start-of G in
     let x = b .args in
-    let start = N .next-with-key .result .start in
-    let try = tryIn (x .v) (x .main .now) (x .ram .now) (x .key) (x .main .now) start in
     let p = J .before .entries-test .taken in
-    let h = some-left E p in (
-      block-at G .start-lt,
-      ended N corrupt h
-          (left-corrupt (x .main .now) start (perPage (x .v)) (x .v .n0) (x .key) (deleted-at b) try 0 (same-at N) (E .entries .e) (J .number-at .result) (E .entries .inv .0 h) p (J .number-at .ensures) (omega (arith, W .wide .ensures))),
-    )
+    let h = some-left E p in
+    let e = left-corrupt (x .main .now) (N .next-with-key .result .start) (perPage (x .v)) (x .v .n0) (x .key) (deleted-at b) (test-at b) (try-in N) (cost-in N) 0 (same-at N) (N .before .before .bits .da-pages) (E .entries .e) (E .entries .da-pages) (J .number-at .result) (E .entries .inv .0 h) p (J .number-at .ensures) (omega (arith, W .wide .ensures)) in
+    (block-at G .start-lt, ended N corrupt (E .entries .da-pages) h (e .0) (e .1))
 
 returns-3 : tie.Need-returns-3 Inv-entries μ-entries Inv-bits μ-bits Inv-filters μ-filters
 returns-3 c =
-    let D = c .before in
-    let W = D .before .before .before .before in
-    let J = W .before in
-    let E = J .before .before in
-    let N = E .before .before in
+    let D = c .before .before .before in
+    let J = number-of D in
+    let E = entry-of D in
+    let N = tries-of D in
     let G = known (N .before) in
     let b = start-of G in
     let x = b .args in
-    let start = N .next-with-key .result .start in
-    let try = tryIn (x .v) (x .main .now) (x .ram .now) (x .key) (x .main .now) start in
-    let p = J .before .entries-test .taken in
-    let h = some-left E p in (
-      block-at G .start-lt,
-      ended N (found (J .number-at .result)) h
-          (left-found (x .main .now) start (perPage (x .v)) (x .v .n0) (x .key) (deleted-at b) try 0 (same-at N) (E .entries .e) (J .number-at .result) (E .entries .inv .0 h) p (J .number-at .ensures) (omega (arith, W .wide .ensures)) (D .deleted .result) (told D) (not-true (D .deleted .result) (c .if2 .taken))),
-    )
+    let h = some-left E (one-left D) in
+    let e = left-found (x .main .now) (N .next-with-key .result .start) (perPage (x .v)) (x .v .n0) (x .key) (deleted-at b) (test-at b) (try-in N) (cost-in N) 0 (same-at N) (N .before .before .bits .da-pages) (E .entries .e) (E .entries .da-pages) (J .number-at .result) (E .entries .inv .0 h) (one-left D) (J .number-at .ensures) (number-lt D) (D .tested .result .met) (D .tested .result .opened) (told-met D) (told-opened D) (not-true (D .tested .result .met) (c .if2 .taken)) in
+    (block-at G .start-lt, ended N (found (J .number-at .result)) (E .entries .da-pages + D .tested .result .opened) h (e .0) (e .1))
 
 pub in-block-spec : {M : Type 1} → statement M
 in-block-spec =
@@ -516,8 +577,9 @@ in-block-spec =
     sub-k
     number-at-requires
     wide-requires
-    da-block-requires
-    deleted-requires
+    tested-requires
+    cast-da-pages
+    add-da-pages
     find-entry-requires
     entries-less
     entries-again

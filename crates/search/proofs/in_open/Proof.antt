@@ -2,10 +2,11 @@
 use borrow.Author.Needs.{needs}
 use native.Mathlib.Omega.{arith}
 use mathlib.Core.Path.{_≡_, ap}
-use Prim.Native.Nat.{ℕ, _/_, _≤_}
+use Prim.Native.Nat.{ℕ, _/_, _%_, _≤_}
 use Rattle.memory.specs.Cases.{either}
 use Rattle.search.specs.Find.{stopOf}
-use Rattle.search.proofs.Volume.{pages-few, pages-then, open-in-flash, open-on-flash, open-in-ram, open-on-ram}
+use Rattle.search.proofs.Volume.{pages-few, pages-then, open-few, open-in-flash, open-on-flash, cost-on-flash, open-in-ram}
+use Rattle.search.proofs.Volume.{open-on-ram, cost-on-ram}
 use Rattle.search.proofs.in_open.Statement.{statement}
 use Rattle.search.proofs.in_open.Tie as tie
 
@@ -27,6 +28,13 @@ div-p c = let E = c .before .before .before .before in omega (arith, E .entries-
 div-if2 : tie.Need-div-if2
 div-if2 c = let E = c .before .before .before .before .before in omega (arith, E .entries-per-page .ensures, start-of E .pre .sound .unit .1 .some)
 
+-- no more than there are
+few-of : (E : Sized) → start-of E .args .v .n0 % E .entries-per-page .result ≤ start-of E .args .v .n0
+few-of E =
+    let b = start-of E in
+    let x = b .args in
+    open-few (x .v) (x .main .now) (x .ram .now) (b .pre) (E .entries-per-page .result) (E .entries-per-page .ensures)
+
 -- ---- on flash
 
 page-start-requires : tie.Need-page-start-requires
@@ -41,16 +49,19 @@ in-page-requires c κs =
     let E = c .before .before .before .before .before .before .before in
     let b = start-of E in
     let x = b .args in
-    (b .pre, open-in-flash (x .v) (x .main .now) (x .ram .now) (b .pre) (E .entries-per-page .result) (E .entries-per-page .ensures) (c .before .if2 .taken) (c .page-start .result) (c .page-start .ensures))
+    (b .pre, open-in-flash (x .v) (x .main .now) (x .ram .now) (b .pre) (E .entries-per-page .result) (E .entries-per-page .ensures) (c .before .if2 .taken) (c .page-start .result) (c .page-start .ensures), few-of E)
 
 returns : tie.Need-returns
 returns c =
     let S = c .before in
     let E = S .before .before .before .before .before .before .before in
     let b = start-of E in
-    let x = b .args in
-    open-on-flash (x .v) (x .main .now) (x .ram .now) (b .pre) (E .entries-per-page .result) (E .entries-per-page .ensures) (S .before .if2 .taken) (S .page-start .result) (S .page-start .ensures)
-    (x .key) (stopOf (c .in-page .result)) (c .in-page .ensures)
+    let x = b .args in (
+      open-on-flash (x .v) (x .main .now) (x .ram .now) (b .pre) (E .entries-per-page .result) (E .entries-per-page .ensures) (S .before .if2 .taken) (S .page-start .result) (S .page-start .ensures)
+          (x .key) (stopOf (c .in-page .result .end)) (c .in-page .ensures .0),
+      cost-on-flash (x .v) (x .main .now) (x .ram .now) (b .pre) (E .entries-per-page .result) (E .entries-per-page .ensures) (S .before .if2 .taken) (S .page-start .result) (S .page-start .ensures)
+          (x .key) (c .in-page .result .«da_pages») (c .in-page .ensures .1),
+    )
 
 -- ---- in RAM
 
@@ -62,7 +73,7 @@ in-page-requires-2 c κs =
     let E = c .before .before .before .before in
     let b = start-of E in
     let x = b .args in
-    (b .pre, open-in-ram (x .v) (x .main .now) (x .ram .now) (b .pre) (E .entries-per-page .result) (E .entries-per-page .ensures) (c .ka-ram .result) (c .ka-ram .ensures))
+    (b .pre, open-in-ram (x .v) (x .main .now) (x .ram .now) (b .pre) (E .entries-per-page .result) (E .entries-per-page .ensures) (c .ka-ram .result) (c .ka-ram .ensures), few-of E)
 
 -- no page was filled since
 none-filled : (J : tie.Joined1) → let E = J .before .before .before in let v = start-of E .args .v in v .n / E .entries-per-page .result ≤ v .n0 / E .entries-per-page .result
@@ -81,9 +92,12 @@ returns-2 c =
     let K = c .before in
     let E = K .before .before .before .before in
     let b = start-of E in
-    let x = b .args in
-    open-on-ram (x .v) (x .main .now) (x .ram .now) (b .pre) (E .entries-per-page .result) (E .entries-per-page .ensures) (K .ka-ram .result) (K .ka-ram .ensures) (none-filled (K .before))
-    (x .key) (stopOf (c .in-page2 .result)) (c .in-page2 .ensures)
+    let x = b .args in (
+      open-on-ram (x .v) (x .main .now) (x .ram .now) (b .pre) (E .entries-per-page .result) (E .entries-per-page .ensures) (K .ka-ram .result) (K .ka-ram .ensures) (none-filled (K .before))
+          (x .key) (stopOf (c .in-page2 .result .end)) (c .in-page2 .ensures .0),
+      cost-on-ram (x .v) (x .main .now) (x .ram .now) (b .pre) (E .entries-per-page .result) (E .entries-per-page .ensures) (K .ka-ram .result) (K .ka-ram .ensures) (none-filled (K .before))
+          (x .key) (c .in-page2 .result .«da_pages») (c .in-page2 .ensures .1),
+    )
 
 pub in-open-spec : {M : Type 1} → statement M
 in-open-spec =

@@ -3,21 +3,22 @@ use native.Mathlib.Omega.{arith}
 use mathlib.Core.Path.{_≡_, sym}
 use mathlib.Core.Bool.{Bool}
 use mathlib.Core.Option.{Option}
-use Prim.Native.Nat.{ℕ}
+use Prim.Native.Nat.{ℕ, _<_}
 use Rattle.layout.specs.Search.{Stop}
-use Rattle.search.specs.Find.{tryIn}
-use Rattle.search.proofs.Entries.{Same, Left, left-none, left-first, left-corrupt, left-found, left-next, left-less}
-use Rattle.search.proofs.Volume.{deletedOf, same-bytes, deletions-fit, deletions-are}
+use Rattle.search.specs.Find.{tryIn, costIn, deletedOf, testCost}
+use Rattle.search.proofs.Entries.{Same, Left, left-none, left-first, left-corrupt, left-most, left-found, left-next, left-less}
+use Rattle.search.proofs.Volume.{same-bytes, tested-met, tested-opened, row-most}
 use borrow.Author.Needs.{needs}
 use borrow.Author.Tests.{not-true, not-false}
 use Rattle.search.proofs.in_page.Statement.{statement}
 use Rattle.search.proofs.in_page.Tie as tie
 
 abbrev Inv-loop : tie.InvT-loop
-Inv-loop v key start count page main ram e₀ e = Left page start key (tryIn v main ram key page start) 0 count e
+Inv-loop v key start count page main ram da₀ e₀ da e =
+    Left page start key (tryIn v main ram key page start) (costIn v main ram key page start) 0 count 0 e da
 
 abbrev μ-loop : tie.MeasureT-loop
-μ-loop v key start count page main ram e₀ e = e
+μ-loop v key start count page main ram da₀ e₀ da e = e
 
 -- ---- the scan at hand
 
@@ -27,10 +28,16 @@ Start = tie.Start Inv-loop μ-loop
 abbrev try-at : Start → ℕ → Option Stop
 try-at b = tryIn (b .args .v) (b .args .main .now) (b .args .ram .now) (b .args .key) (b .args .page .now) (b .args .start)
 
+abbrev cost-at : Start → ℕ → ℕ
+cost-at b = costIn (b .args .v) (b .args .main .now) (b .args .ram .now) (b .args .key) (b .args .page .now) (b .args .start)
+
 abbrev deleted-at : Start → ℕ → Bool
 deleted-at b = deletedOf (b .args .v) (b .args .main .now) (b .args .ram .now)
 
-same-at : (b : Start) → Same (b .args .page .now) (b .args .start) (b .args .count) (b .args .v .n0) (b .args .key) (deleted-at b) (try-at b) 0
+abbrev test-at : Start → ℕ → ℕ
+test-at b = testCost (b .args .v) (b .args .main .now) (b .args .ram .now)
+
+same-at : (b : Start) → Same (b .args .page .now) (b .args .start) (b .args .count) (b .args .v .n0) (b .args .key) (deleted-at b) (test-at b) (try-at b) (cost-at b) 0
 same-at b = same-bytes (b .args .v) (b .args .main .now) (b .args .ram .now) (b .args .key) (b .args .page .now) (b .args .start) (b .args .count)
 
 abbrev start-of : tie.At-loop Inv-loop μ-loop → Start
@@ -43,7 +50,7 @@ loop-holds : tie.Need-loop-holds Inv-loop μ-loop
 loop-holds c =
     let b = c .before .before .before .before in
     let x = b .args in
-    left-first (x .page .now) (x .start) (x .count) (x .v .n0) (x .key) (deleted-at b) (try-at b) 0 (same-at b) (c .find-entry .result) (c .find-entry .ensures)
+    left-first (x .page .now) (x .start) (x .count) (x .v .n0) (x .key) (deleted-at b) (test-at b) (try-at b) (cost-at b) 0 (same-at b) 0 (c .find-entry .result) (c .find-entry .ensures)
 
 sub-k : tie.Need-sub-k Inv-loop μ-loop
 sub-k c = omega arith
@@ -62,66 +69,97 @@ returns c =
     let l = N .before .before in
     let b = start-of l in
     let x = b .args in
-    sym (left-corrupt (x .page .now) (x .start) (x .count) (x .v .n0) (x .key) (deleted-at b) (try-at b) 0 (same-at b) (l .loop .e) (N .number-at .result) (l .loop .inv) (omega arith) (N .number-at .ensures) (omega (arith, c .before .before .wide .ensures)))
+    let e = left-corrupt (x .page .now) (x .start) (x .count) (x .v .n0) (x .key) (deleted-at b) (test-at b) (try-at b) (cost-at b) 0 (same-at b) 0 (l .loop .e) (l .loop .da-pages) (N .number-at .result) (l .loop .inv) (omega arith) (N .number-at .ensures) (omega (arith, c .before .before .wide .ensures)) in
+    (sym (e .0), omega (arith, e .1))
 
-da-block-requires : tie.Need-da-block-requires Inv-loop μ-loop
-da-block-requires c κs = search needs
+-- ---- the test of a number
 
-deleted-requires : tie.Need-deleted-requires Inv-loop μ-loop
-deleted-requires c κs =
-    let b = start-of (c .before .before .before .before .before .before) in
+tested-requires : tie.Need-tested-requires Inv-loop μ-loop
+tested-requires c κs = start-of (c .before .before .before .before .before) .pre .0
+
+abbrev Tests : Type 0
+Tests = tie.After-tested Inv-loop μ-loop
+
+abbrev wide-of : Tests → tie.After-wide Inv-loop μ-loop
+wide-of D = D .before .before .before
+
+abbrev number-of : Tests → tie.After-number-at Inv-loop μ-loop
+number-of D = wide-of D .before
+
+abbrev loop-of : Tests → tie.At-loop Inv-loop μ-loop
+loop-of D = number-of D .before .before
+
+number-lt : (D : Tests) → number-of D .number-at .result < start-of (loop-of D) .args .v .n0
+number-lt D = omega (arith, wide-of D .wide .ensures, D .before .if1 .left)
+
+-- what it says of the view's deletions
+told-met : (D : Tests) → D .tested .result .met ≡ deleted-at (start-of (loop-of D)) (number-of D .number-at .result)
+told-met D =
+    let x = start-of (loop-of D) .args in
+    tested-met (x .v) (x .main .now) (x .ram .now) (number-of D .number-at .result) (D .tested .result) (D .tested .ensures)
+
+told-opened : (D : Tests) → D .tested .result .opened ≡ test-at (start-of (loop-of D)) (number-of D .number-at .result)
+told-opened D =
+    let x = start-of (loop-of D) .args in
+    tested-opened (x .v) (x .main .now) (x .ram .now) (number-of D .number-at .result) (D .tested .result) (D .tested .ensures)
+
+cast-da-pages : tie.Need-cast-da-pages Inv-loop μ-loop
+cast-da-pages c = search needs
+
+add-da-pages : tie.Need-add-da-pages Inv-loop μ-loop
+add-da-pages c =
+    let D = c .before in
+    let N = number-of D in
+    let l = loop-of D in
+    let b = start-of l in
     let x = b .args in
-    deletions-fit (x .v) (x .main .now) (x .ram .now) (b .pre .0) (c .da-block .result) (c .da-block .ensures)
-
--- what the test says of the view's deletions
-told : (c : tie.After-deleted Inv-loop μ-loop) → let B = c .before in
-    c .deleted .result ≡ deleted-at (start-of (B .before .before .before .before .before .before)) (B .before .before .before .before .number-at .result)
-told c =
-    let B = c .before in
-    let b = start-of (B .before .before .before .before .before .before) in
-    let x = b .args in
-    deletions-are (x .v) (x .main .now) (x .ram .now) (b .pre .0) (B .da-block .result) _ (c .deleted .result) (B .da-block .ensures) (c .deleted .ensures)
+    omega (
+      arith,
+      left-most (x .page .now) (x .start) (x .count) (x .v .n0) (x .key) (deleted-at b) (test-at b) (try-at b) (cost-at b) 0 (same-at b) 0 (l .loop .e) (l .loop .da-pages) (N .number-at .result) (l .loop .inv) (N .before .loop-test .taken) (N .number-at .ensures) (number-lt D),
+      told-opened D,
+      row-most (x .v) (x .main .now) (x .ram .now) (b .pre .0) (x .key) (x .page .now) (x .start) (x .count) (b .pre .2),
+    )
 
 returns-2 : tie.Need-returns-2 Inv-loop μ-loop
 returns-2 c =
-    let D = c .before in
-    let W = D .before .before .before .before in
-    let N = W .before in
-    let l = N .before .before in
+    let D = c .before .before .before in
+    let N = number-of D in
+    let l = loop-of D in
     let b = start-of l in
     let x = b .args in
-    sym (left-found (x .page .now) (x .start) (x .count) (x .v .n0) (x .key) (deleted-at b) (try-at b) 0 (same-at b) (l .loop .e) (N .number-at .result) (l .loop .inv) (omega arith) (N .number-at .ensures) (omega (arith, W .wide .ensures)) (D .deleted .result) (told D) (not-true (D .deleted .result) (c .if2 .taken)))
+    let e = left-found (x .page .now) (x .start) (x .count) (x .v .n0) (x .key) (deleted-at b) (test-at b) (try-at b) (cost-at b) 0 (same-at b) 0 (l .loop .e) (l .loop .da-pages) (N .number-at .result) (l .loop .inv) (N .before .loop-test .taken) (N .number-at .ensures) (number-lt D) (D .tested .result .met) (D .tested .result .opened) (told-met D) (told-opened D) (not-true (D .tested .result .met) (c .if2 .taken)) in
+    (sym (e .0), omega (arith, e .1))
 
 find-entry-requires-2 : tie.Need-find-entry-requires-2 Inv-loop μ-loop
 find-entry-requires-2 c κs =
-    let l = c .before .before .before .before .before .before .before .before in
+    let l = loop-of (c .before .before .before) in
     omega (arith, start-of l .pre .1, l .loop .inv .le)
 
 loop-less : tie.Need-loop-less Inv-loop μ-loop
 loop-less c =
-    let W = c .before .before .before .before .before .before in
-    let N = W .before in
-    let l = N .before .before in
+    let D = c .before .before .before .before in
+    let N = number-of D in
+    let l = loop-of D in
     let b = start-of l in
     let x = b .args in
-    left-less (x .page .now) (x .start) (x .count) (x .v .n0) (x .key) (deleted-at b) (try-at b) 0 (same-at b) (l .loop .e) (N .number-at .result) (l .loop .inv) (omega arith) (N .number-at .ensures) (omega (arith, W .wide .ensures, c .before .before .before .before .if1 .left)) (c .find-entry2 .result) (c .find-entry2 .ensures)
+    left-less (x .page .now) (x .start) (x .count) (x .v .n0) (x .key) (deleted-at b) (test-at b) (try-at b) (cost-at b) 0 (same-at b) 0 (l .loop .e) (l .loop .da-pages) (N .number-at .result) (l .loop .inv) (N .before .loop-test .taken) (N .number-at .ensures) (number-lt D) (c .find-entry2 .result) (c .find-entry2 .ensures)
 
 loop-again : tie.Need-loop-again Inv-loop μ-loop
 loop-again c =
-    let D = c .before .before in
-    let W = D .before .before .before .before in
-    let N = W .before in
-    let l = N .before .before in
+    let D = c .before .before .before .before in
+    let N = number-of D in
+    let l = loop-of D in
     let b = start-of l in
     let x = b .args in
-    left-next (x .page .now) (x .start) (x .count) (x .v .n0) (x .key) (deleted-at b) (try-at b) 0 (same-at b) (l .loop .e) (N .number-at .result) (l .loop .inv) (omega arith) (N .number-at .ensures) (omega (arith, W .wide .ensures)) (c .find-entry2 .result) (D .deleted .result) (told D) (not-false (D .deleted .result) (c .before .if2 .left)) (c .find-entry2 .ensures)
+    left-next (x .page .now) (x .start) (x .count) (x .v .n0) (x .key) (deleted-at b) (test-at b) (try-at b) (cost-at b) 0 (same-at b) 0 (l .loop .e) (l .loop .da-pages) (N .number-at .result) (l .loop .inv) (N .before .loop-test .taken) (N .number-at .ensures) (number-lt D) (D .tested .result .met) (D .tested .result .opened) (told-met D) (told-opened D) (c .find-entry2 .result) (not-false (D .tested .result .met) (c .before .if2 .left)) (c .find-entry2 .ensures)
 
 returns-3 : tie.Need-returns-3 Inv-loop μ-loop
 returns-3 c =
     let l = c .before in
     let b = start-of l in
     let x = b .args in
-    sym (left-none (x .page .now) (x .start) (x .key) (try-at b) 0 (x .count) (l .loop .e) (l .loop .inv) (omega arith))
+    let e = left-none (x .page .now) (x .start) (x .key) (try-at b) (cost-at b) 0 (x .count) 0 (l .loop .e) (l .loop .da-pages) (l .loop .inv) (omega arith) in
+    (sym (e .0), omega (arith, e .1))
 
 pub in-page-spec : {M : Type 1} → statement M
 in-page-spec =
@@ -135,8 +173,9 @@ in-page-spec =
     number-at-requires
     wide-requires
     returns
-    da-block-requires
-    deleted-requires
+    tested-requires
+    cast-da-pages
+    add-da-pages
     returns-2
     find-entry-requires-2
     loop-less

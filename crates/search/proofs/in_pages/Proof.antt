@@ -9,18 +9,18 @@ use lib.ListN.{take}
 use Rattle.layout.specs.Search.{Stop, found, corrupt}
 use Rattle.layout.specs.Calls.{maybeIn}
 use Rattle.geometry.specs.Shape.{shape}
-use Rattle.search.specs.Find.{stopOf, viewed, tryOf}
-use Rattle.search.proofs.Pages.{Pages, pages-first, pages-none, blocks-some, blocks-next, blocks-few}
-use Rattle.search.proofs.Volume.{perPage, pagesThen, pages-few, pages-then}
+use Rattle.search.specs.Find.{stopOf, viewed, tryOf, costOf}
+use Rattle.search.proofs.Pages.{Pages, pages-first, pages-none, blocks-some, blocks-next, blocks-few, blocks-most}
+use Rattle.search.proofs.Volume.{perPage, pagesThen, pages-few, pages-then, below-most}
 use Rattle.search.proofs.in_pages.Statement.{statement}
 use Rattle.search.proofs.in_pages.Tie as tie
 
 abbrev Inv-loop : tie.InvT-loop
-Inv-loop v key ps count main ram opened₀ below₀ opened below =
-    Pages (maybeIn (shape (v .g)) (viewed v main ram) (take count ps)) (tryOf v main ram key) (perPage v) (pagesThen v) opened below
+Inv-loop v key ps count main ram opened₀ da₀ below₀ opened da below =
+    Pages (maybeIn (shape (v .g)) (viewed v main ram) (take count ps)) (tryOf v main ram key) (costOf v main ram key) (perPage v) (pagesThen v) opened da below
 
 abbrev μ-loop : tie.MeasureT-loop
-μ-loop v key ps count main ram opened₀ below₀ opened below = below
+μ-loop v key ps count main ram opened₀ da₀ below₀ opened da below = below
 
 -- ---- the search at hand
 
@@ -33,6 +33,9 @@ gate-at b =
 
 abbrev try-at : Start → ℕ → Option Stop
 try-at b = tryOf (b .args .v) (b .args .main .now) (b .args .ram .now) (b .args .key)
+
+abbrev cost-at : Start → ℕ → ℕ
+cost-at b = costOf (b .args .v) (b .args .main .now) (b .args .ram .now) (b .args .key)
 
 abbrev start-of : tie.At-loop Inv-loop μ-loop → Start
 start-of l = l .before .before .before .before .before
@@ -49,7 +52,7 @@ loop-holds : tie.Need-loop-holds Inv-loop μ-loop
 loop-holds c =
     let E = c .before in
     let b = E .before .before .before in
-    rw (E .entries-per-page .ensures) (pages-first (gate-at b) (try-at b) (perPage (b .args .v)) (pagesThen (b .args .v)))
+    rw (E .entries-per-page .ensures) (pages-first (gate-at b) (try-at b) (cost-at b) (perPage (b .args .v)) (pagesThen (b .args .v)))
 
 in-block-requires : tie.Need-in-block-requires Inv-loop μ-loop
 in-block-requires c κs =
@@ -66,9 +69,21 @@ add-opened c =
     let x = b .args in
     omega (
       arith,
-      blocks-few (gate-at b) (try-at b) (perPage (x .v)) (pagesThen (x .v)) (l .loop .opened) (l .loop .below) (l .loop .inv) (r .in-block .result .start) (r .in-block .result .opened) (stopOf (r .in-block .result .end)) (r .in-block .ensures .1),
+      blocks-few (gate-at b) (try-at b) (cost-at b) (perPage (x .v)) (pagesThen (x .v)) (l .loop .opened) (l .loop .da-pages) (l .loop .below) (l .loop .inv) (r .in-block .result .start) (r .in-block .result .opened) (r .in-block .result .«da_pages») (stopOf (r .in-block .result .end)) (r .in-block .ensures .1 .0),
       pages-then (x .v) (x .main .now) (x .ram .now) (b .pre .0),
       pages-few (x .v) (x .main .now) (x .ram .now) (b .pre .0),
+    )
+
+add-da-pages : tie.Need-add-da-pages Inv-loop μ-loop
+add-da-pages c =
+    let r = c .before .before in
+    let l = r .before .before in
+    let b = start-of l in
+    let x = b .args in
+    omega (
+      arith,
+      blocks-most (gate-at b) (try-at b) (cost-at b) (perPage (x .v)) (pagesThen (x .v)) (l .loop .opened) (l .loop .da-pages) (l .loop .below) (l .loop .inv) (r .in-block .result .start) (r .in-block .result .opened) (r .in-block .result .«da_pages») (stopOf (r .in-block .result .end)) (r .in-block .ensures .1 .1),
+      below-most (x .v) (x .main .now) (x .ram .now) (b .pre .0) (x .key) (take (x .count) (x .ps)) (pagesThen (x .v)) (omega arith),
     )
 
 enum-told : tie.Need-enum-told Inv-loop μ-loop
@@ -79,43 +94,49 @@ enum-known-end c = search needs
 
 returns : tie.Need-returns Inv-loop μ-loop
 returns c =
-    let r = c .before .before .before .before in
+    let r = c .before .before .before .before .before in
     let l = r .before .before in
     let b = start-of l in
     let x = b .args in
-    let e = rw (c .before .end .given .1) at (r .in-block .ensures .1) in
-    sym (blocks-some (gate-at b) (try-at b) (perPage (x .v)) (pagesThen (x .v)) (l .loop .opened) (l .loop .below) (l .loop .inv) (r .in-block .result .start) (r .in-block .result .opened) (found (c .before .end .given .0 .0)) e)
+    let e = rw (c .before .end .given .1) at (r .in-block .ensures .1 .0) in
+    let d = rw (c .before .end .given .1) at (r .in-block .ensures .1 .1) in
+    let w = blocks-some (gate-at b) (try-at b) (cost-at b) (perPage (x .v)) (pagesThen (x .v)) (l .loop .opened) (l .loop .da-pages) (l .loop .below) (l .loop .inv) (r .in-block .result .start) (r .in-block .result .opened) (r .in-block .result .«da_pages») (found (c .before .end .given .0 .0)) e d in
+    (sym (w .0), omega (arith, w .1))
 
 enum-told-2 : tie.Need-enum-told-2 Inv-loop μ-loop
 enum-told-2 c = search needs
 
 returns-2 : tie.Need-returns-2 Inv-loop μ-loop
 returns-2 c =
-    let r = c .before .before .before in
+    let r = c .before .before .before .before in
     let l = r .before .before in
     let b = start-of l in
     let x = b .args in
-    let e = rw (c .enum-told2 .given .1) at (r .in-block .ensures .1) in
-    sym (blocks-some (gate-at b) (try-at b) (perPage (x .v)) (pagesThen (x .v)) (l .loop .opened) (l .loop .below) (l .loop .inv) (r .in-block .result .start) (r .in-block .result .opened) corrupt e)
+    let e = rw (c .enum-told2 .given .1) at (r .in-block .ensures .1 .0) in
+    let d = rw (c .enum-told2 .given .1) at (r .in-block .ensures .1 .1) in
+    let w = blocks-some (gate-at b) (try-at b) (cost-at b) (perPage (x .v)) (pagesThen (x .v)) (l .loop .opened) (l .loop .da-pages) (l .loop .below) (l .loop .inv) (r .in-block .result .start) (r .in-block .result .opened) (r .in-block .result .«da_pages») corrupt e d in
+    (sym (w .0), omega (arith, w .1))
 
 loop-less : tie.Need-loop-less Inv-loop μ-loop
-loop-less c = c .before .before .before .in-block .ensures .0
+loop-less c = c .before .before .before .before .in-block .ensures .0
 
 loop-again : tie.Need-loop-again Inv-loop μ-loop
 loop-again c =
-    let r = c .before .before .before in
+    let r = c .before .before .before .before in
     let l = r .before .before in
     let b = start-of l in
     let x = b .args in
-    let e = rw (c .enum-told .given .1) at (r .in-block .ensures .1) in
-    blocks-next (gate-at b) (try-at b) (perPage (x .v)) (pagesThen (x .v)) (l .loop .opened) (l .loop .below) (l .loop .inv) (r .in-block .result .start) (r .in-block .result .opened) e (r .in-block .ensures .0)
+    let e = rw (c .enum-told .given .1) at (r .in-block .ensures .1 .0) in
+    let d = rw (c .enum-told .given .1) at (r .in-block .ensures .1 .1) in
+    blocks-next (gate-at b) (try-at b) (cost-at b) (perPage (x .v)) (pagesThen (x .v)) (l .loop .opened) (l .loop .da-pages) (l .loop .below) (l .loop .inv) (r .in-block .result .start) (r .in-block .result .opened) (r .in-block .result .«da_pages») e d (r .in-block .ensures .0)
 
 returns-3 : tie.Need-returns-3 Inv-loop μ-loop
 returns-3 c =
     let l = c .before in
     let b = start-of l in
     let x = b .args in
-    sym (pages-none (gate-at b) (try-at b) (perPage (x .v)) (pagesThen (x .v)) (l .loop .opened) (l .loop .below) (l .loop .inv) (omega arith))
+    let w = pages-none (gate-at b) (try-at b) (cost-at b) (perPage (x .v)) (pagesThen (x .v)) (l .loop .opened) (l .loop .da-pages) (l .loop .below) (l .loop .inv) (omega arith) in
+    (sym (w .0), w .1)
 
 pub in-pages-spec : {M : Type 1} → statement M
 in-pages-spec =
@@ -128,6 +149,7 @@ in-pages-spec =
     loop-holds
     in-block-requires
     add-opened
+    add-da-pages
     enum-told
     enum-known-end
     returns

@@ -54,7 +54,7 @@ returns c =
     let p = b .pre in
     let all : ℕ = x .below - x .l .start in
     word-block (x .l) (x .bytes .now) (x .below) (take (x .count) (x .ps)) (first all) (all - first all) ((all - first all + 7) / 8 * 8) (c .before .before .eights .result) (c .lowest .result)
-    (omega (arith, p .0 .2)) (p .0 .2) (omega (arith, p .0 .2)) (omega (arith, p .0 .2)) (omega arith) (c .before .before .eights .ensures) (c .lowest .ensures)
+    (omega (arith, p .0 .2)) (p .0 .2) (omega (arith, p .0 .2)) (omega (arith, p .0 .2)) (omega arith) (omega arith) (c .before .before .eights .ensures) (c .lowest .ensures)
 
 pub block-by-eights-spec : {M : Type 1} → statement M
 block-by-eights-spec =

@@ -138,7 +138,7 @@ returns c =
     let n : ℕ = x .below - x .l .start in
     let i : l .i ≡ x .count = omega arith in
     words-block (x .l) (x .bytes .now) (x .below) (take (x .count) (x .t3)) (allIn (x .bytes .now) (l .at) (l .low) (P .result) (x .count)) ((n - 1) / 512 * 512) (n - (n - 1) / 512 * 512) (c .block .result)
-    (omega arith) (b .pre .0 .3) (omega (arith, b .pre .0 .3)) (omega arith)
+    (omega arith) (b .pre .0 .3) (omega (arith, b .pre .0 .3)) (omega arith) (omega arith)
     (λ g h.
     sym (all-rows (x .bytes .now) (l .at) (l .low) (P .result) g (λ y. bitIn (x .bytes .now) (rowAt (x .l) y) (g * 2 ^ x .l .exponent + y % 2 ^ x .l .exponent)) (x .t3) (x .count) (omega (arith, eight b, b .pre .0 .1))
     (λ k t. rw (l .inv .1 .1 k (omega arith), l .inv .2 .1 k (omega arith), P .ensures .0))))

@@ -7,16 +7,17 @@ use lib.ListN.{length}
 use Rattle.memory.specs.Ranges.{any}
 use Rattle.memory.specs.Words.{word}
 use Rattle.filter.specs.Filter.{arrayBit, keyBit}
-use Rattle.filter.proofs.Setting.{none-set, any-more}
+use Rattle.filter.proofs.Setting.{none-set, any-more, word-in}
 use Rattle.filter.proofs.page.new_filter.Statement.{statement}
 use Rattle.filter.proofs.page.new_filter.Tie as tie
 
 abbrev Inv-loop : tie.InvT-loop
-Inv-loop chip count at key ram last bits₀ i₀ bits i =
-    (i ≤ last) × (length bits ≡ 256) × ((x : ℕ) → x < 2048 → arrayBit bits x ≡ any (λ j. keyBit (chip .unit) count (word ram (at + j * 8)) x) i)
+Inv-loop chip count at step key ram last bits₀ i₀ bits i =
+    (i ≤ last) × (length bits ≡ 256)
+    × ((x : ℕ) → x < 2048 → arrayBit bits x ≡ any (λ j. keyBit (chip .unit) count (word ram (at + j * step)) x) i)
 
 abbrev μ-loop : tie.MeasureT-loop
-μ-loop chip count at key ram last bits₀ i₀ bits i = last - i
+μ-loop chip count at step key ram last bits₀ i₀ bits i = last - i
 
 entries-per-page-requires : tie.Need-entries-per-page-requires Inv-loop μ-loop
 entries-per-page-requires c κs = search needs
@@ -36,19 +37,36 @@ loop-holds c = (
 )
 
 mul-get32 : tie.Need-mul-get32 Inv-loop μ-loop
-mul-get32 c = omega (arith, c .before .before .before .entries-per-page .ensures)
+mul-get32 c =
+    let b1 = c .before .before .before in
+    let b2 = b1 .before .before in
+    let P = b2 .pre in
+    let l : c .before .loop .i < 8 * b2 .args .chip .unit - 1 = omega (arith, b1 .entries-per-page .ensures, c .loop-test .taken) in
+    omega (arith, word-in (b2 .args .chip .unit) _ _ (c .before .loop .i) _ l (P .2) (P .3))
 
 add-get32 : tie.Need-add-get32 Inv-loop μ-loop
-add-get32 c = omega (arith, c .before .before .before .entries-per-page .ensures)
+add-get32 c =
+    let b1 = c .before .before .before in
+    let b2 = b1 .before .before in
+    let P = b2 .pre in
+    let l : c .before .loop .i < 8 * b2 .args .chip .unit - 1 = omega (arith, b1 .entries-per-page .ensures, c .loop-test .taken) in
+    omega (arith, word-in (b2 .args .chip .unit) _ _ (c .before .loop .i) _ l (P .2) (P .3))
 
 get32-requires : tie.Need-get32-requires Inv-loop μ-loop
-get32-requires c κs = omega (arith, c .before .before .before .entries-per-page .ensures)
+get32-requires c κs =
+    let b1 = c .before .before .before in
+    let b2 = b1 .before .before in
+    let P = b2 .pre in
+    let l : c .before .loop .i < 8 * b2 .args .chip .unit - 1 = omega (arith, b1 .entries-per-page .ensures, c .loop-test .taken) in
+    word-in (b2 .args .chip .unit) _ _ (c .before .loop .i) _ l (P .2) (P .3)
 
 slice-aggregate-set-key : tie.Need-slice-aggregate-set-key Inv-loop μ-loop
 slice-aggregate-set-key c = sym (c .before .before .before .loop .inv .1)
 
 set-key-requires : tie.Need-set-key-requires Inv-loop μ-loop
-set-key-requires c κs = let pre = c .before .before .before .before .before .before .before .pre in (pre .0, pre .1, c .before .before .before .loop .inv .1)
+set-key-requires c κs =
+    let pre = c .before .before .before .before .before .before .before .pre in
+    (pre .0, pre .1, c .before .before .before .loop .inv .1)
 
 add-i : tie.Need-add-i Inv-loop μ-loop
 add-i c = omega arith
@@ -66,14 +84,16 @@ loop-again c =
       λ y h.
           s .ensures y h
           ∙ rw (l .inv .2 y h, c .before .before .before .get32 .ensures)
-          (any-more (λ j. keyBit (x .chip .unit) (x .count) (word (x .ram .now) (x .at + j * 8)) y) (l .i)),
+          (any-more (λ j. keyBit (x .chip .unit) (x .count) (word (x .ram .now) (x .at + j * x .step)) y) (l .i)),
     )
 
 slice-aggregate-set-key-2 : tie.Need-slice-aggregate-set-key-2 Inv-loop μ-loop
 slice-aggregate-set-key-2 c = sym (c .before .before .loop .inv .1)
 
 set-key-requires-2 : tie.Need-set-key-requires-2 Inv-loop μ-loop
-set-key-requires-2 c κs = let pre = c .before .before .before .before .before .before .pre in (pre .0, pre .1, c .before .before .loop .inv .1)
+set-key-requires-2 c κs =
+    let pre = c .before .before .before .before .before .before .pre in
+    (pre .0, pre .1, c .before .before .loop .inv .1)
 
 returns : tie.Need-returns Inv-loop μ-loop
 returns c =

@@ -11,8 +11,8 @@ blocks-requires c κs = search needs
 block-address-requires : tie.Need-block-address-requires
 block-address-requires c κs =
     let x = c .before in
-    let b : c .blocks2 .result ≤ 10753 = rw (c .blocks2 .ensures) (blocks-le (x .args .self) (x .pre)) in
-    (omega arith, omega (arith, product-le (c .blocks2 .result) (x .args .self .chip .unit) 10753 32 b (omega arith)))
+    let b : c .blocks2 .result ≤ 12034 = rw (c .blocks2 .ensures) (blocks-le (x .args .self) (x .pre)) in
+    (omega arith, omega (arith, product-le (c .blocks2 .result) (x .args .self .chip .unit) 12034 32 b (omega arith)))
 
 returns : tie.Need-returns
 returns c = rw (c .block-address .ensures, c .before .blocks2 .ensures)
