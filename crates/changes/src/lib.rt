@@ -151,7 +151,7 @@ fn new_bytes(old: u32, record: Record, n: u32) -> [u8; plan::NEW_SIZE]
     b
 }
 
-// The filters of the page that deletion d, of record `old`, fills, by their fourths; no bits where it fills none.
+// The filters of the page that deletion d, of record `old`, fills, by their fourths.
 fn deletion_filters(g: Geometry, d: usize, old: u32, ram: &[u8]) -> [u8; 512]
     requires { ⌜ Sound g × (ramSize (shape g) ≤ length (now ram)) ⌝ }
     ensures { λ r. ⌜ DeletionFilters (shape g) d old (before ram) r ⌝ }
@@ -162,7 +162,7 @@ fn deletion_filters(g: Geometry, d: usize, old: u32, ram: &[u8]) -> [u8; 512]
     filter::number_filters(g.chip, g.hashes, g.da_ram(), old, ram)
 }
 
-// The filter of the page that entry n, with the key, fills; no bits where it fills none.
+// The filter of the page that entry n, with the key, fills.
 fn entry_filter(g: Geometry, n: usize, key: u32, ram: &[u8]) -> [u8; 256]
     requires { ⌜ Sound g × (ramSize (shape g) ≤ length (now ram)) ⌝ }
     ensures { λ r. ⌜ EntryFilter (shape g) n key (before ram) r ⌝ }

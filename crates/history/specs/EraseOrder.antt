@@ -1,5 +1,5 @@
--- No block that a call erases is programmed after that in the same call, whatever its state and lent bytes. So refusal 7 goes by the marks
--- handed in, though the erases of the index over DA stand before an update's other sectors. Document 02, §5.
+-- No block that a call erases is programmed after that in the same call, whatever its state and lent bytes: no erase makes a sector
+-- fresh that the call programs, though those of the index over DA stand before an update's other sectors. Document 02, §5.
 use mathlib.Core.Path.{_≡_, refl}
 use mathlib.Core.Logic.{_≢_}
 use mathlib.Core.Bool.{Bool, true, false, cond}

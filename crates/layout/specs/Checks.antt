@@ -14,7 +14,7 @@ use Rattle.memory.specs.Words.{bytes4, wordsBytes}
 use Rattle.memory.specs.Ranges.{any, memb, allOf}
 use Rattle.layout.specs.Keys.{sameKey}
 use Rattle.layout.specs.Geometry.{State, Geometry, sizesOf, stateOf, geometry, allowed, indexBlock, sector, page, block}
-use Rattle.layout.specs.Flash.{flashOf, program, fresh, allFresh, apply, Planned, known, made, wipe, planOps}
+use Rattle.layout.specs.Flash.{flashOf, Op, program, erase, fresh, allFresh, apply, Planned, known, made, wipe, planOps}
 use Rattle.layout.specs.Hash.{fnvFrom, fnvFamily, positions}
 use Rattle.layout.specs.Index.{BitPlace, bitAt, filterBit, rowBit, rowByte, withFilter, filterPlace, filterPlan, flushAndBuild}
 use Rattle.layout.specs.Items.{recordOf, recordBytes, entryBytes, deletionBytes, itemWord, put}
@@ -74,6 +74,24 @@ pub update-order : beforeErase both ∷ length (sectorsOf both) ∷ getD (sector
     ≡ 72 ∷ 148 ∷ (24 * 64 + 252) ∷ (37 * 64 + 15) ∷ (38 * 64) ∷ 1020 ∷ (16 * 64 + 508) ∷ (28 * 64 + 15) ∷ (29 * 64) ∷ 37 ∷ 28 ∷ []
 unfolding log2up flushAndBuild deletionPlan insertionPlan
 update-order = refl
+
+-- the operations of that change: their numbers, a block's above all sectors
+abbrev places-of : List Op → List ℕ
+places-of [] = []
+places-of (program s bytes ∷ ops) = s ∷ places-of ops
+places-of (erase b ∷ ops) = (100000 + b) ∷ places-of ops
+
+abbrev changed : List ℕ
+changed =
+    let g : Geometry = geometry (sizesOf 16 16 4 3) in
+    let v : Volume = record { state = stateOf (sizesOf 16 16 4 3) 1023 1023; flash = flashOf [] (replicate 2944 255); ram = [] } in
+    places-of (change fnvFamily g v (record { deletes = some 5; inserts = some (recordOf 7 0 0 0) }) .ops)
+
+pub change-order : length changed ∷ getD changed 0 0 ∷ getD changed 4 0 ∷ getD changed 8 0 ∷ getD changed 72 0 ∷ getD changed 73 0
+    ∷ getD changed 77 0 ∷ getD changed 81 0 ∷ getD changed 85 0 ∷ getD changed 149 0 ∷ []
+    ≡ 150 ∷ (24 * 64 + 252) ∷ (37 * 64 + 15) ∷ (38 * 64) ∷ 100037 ∷ 1020 ∷ (16 * 64 + 508) ∷ (28 * 64 + 15) ∷ (29 * 64) ∷ 100028 ∷ []
+unfolding log2up flushAndBuild deletionPlan insertionPlan change commit allFresh fresh onesIn
+change-order = refl
 
 -- a DA page that is not the fourth leaves its filters in RAM: page 62 programs nothing but itself
 pub filters-wait : length (sectorsOf (deletionPlan fnvFamily (geometry (sizesOf 16 16 4 3)) 1007 5 [])) ≡ 4
@@ -166,7 +184,7 @@ nine =
       state = stateOf (sizesOf 16 1 1 3) 9 1;
       flash = flashOf (write (replicate 2048 255) 1024
           (wordsBytes (7 ∷ 0 ∷ 7 ∷ 1 ∷ 7 ∷ 2 ∷ 9 ∷ 5 ∷ 1 ∷ 4 ∷ 2 ∷ 5 ∷ 7 ∷ 6 ∷ 3 ∷ 7 ∷ []))) [];
-      ram = write (replicate 320 0) 128 (wordsBytes (2 ∷ []));
+      ram = write (replicate 384 0) 128 (wordsBytes (2 ∷ []));
     }
 
 abbrev among : ℕ → ℕ → ℕ → Option Stop
@@ -345,7 +363,7 @@ positions-bytes = refl
 -- ---- a filter: some bits of that of a page with the keys 1 to 8, and its bytes in slot 2 of the SKA page
 
 abbrev keyPage : List ℕ
-keyPage = write (replicate 320 0) 64 (wordsBytes (1 ∷ 0 ∷ 2 ∷ 1 ∷ 3 ∷ 2 ∷ 4 ∷ 3 ∷ 5 ∷ 4 ∷ 6 ∷ 5 ∷ 7 ∷ 6 ∷ 8 ∷ 7 ∷ []))
+keyPage = write (replicate 384 0) 64 (wordsBytes (1 ∷ 0 ∷ 2 ∷ 1 ∷ 3 ∷ 2 ∷ 4 ∷ 3 ∷ 5 ∷ 4 ∷ 6 ∷ 5 ∷ 7 ∷ 6 ∷ 8 ∷ 7 ∷ []))
 
 abbrev pageBit : ℕ → ℕ
 pageBit x = num (pageFilter fnvFamily (geometry (sizesOf 16 1 1 3)) keyPage x)

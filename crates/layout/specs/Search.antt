@@ -6,7 +6,8 @@ use Prim.Native.Nat.{ℕ, zero, suc, _+_, _*_, _/_, _%_}
 use lib.Dec.{leb}
 use Rattle.layout.specs.Keys.{Key, sameKey}
 
--- where a search ends: at a live entry, with its record number, or at a number of n or more (refusal 8)
+-- where a search ends: at a live entry, with its record number, or at a number of n or more (refusal 8); in DA at the number that is
+-- tested
 pub data Stop : Type 0 where
   found : ℕ → Stop
   corrupt : Stop

@@ -330,7 +330,7 @@ fn wipe_run(chip: Chip, blocks: Segment, part: Span, main: &mut [u8], spare: &mu
     );
 }
 
-// ---- the index of a plan
+// ---- an index of a plan
 
 // Operations of the next set and of the erases.
 fn build(chip: Chip, s: Summary, part: Span, main: &mut [u8], spare: &mut [u8])

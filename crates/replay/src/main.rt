@@ -16,7 +16,7 @@ fn answers() -> [u8; 524288]
     [0; 524288]
 }
 
-// It lends 59,392 cells, 3,712 marks and a desk of 640 bytes, which serve S = 16 since there are filters over deletions.
+// It lends 59,392 cells, 3,712 marks and a desk of 640 bytes, which serve S = 16 alone.
 fn main() {
     let mut input = chunk();
     let mut output = answers();

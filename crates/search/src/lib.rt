@@ -1,5 +1,5 @@
 // The search for a key: the entries past the last full page, newest first, then full pages, newest first, a page
-// being opened only if its filter has all bits of the key's positions. Document 01, "Calls".
+// being opened only if its filter has all bits of the key's positions. Document 01, "Calls"; document 02, §5.
 ghost use mathlib.Core.Path.{_≡_};
 ghost use Prim.Native.Nat.{_+_, _*_, _/_, _%_, _≤_, _<_};
 ghost use lib.ListN.{length, take};
