@@ -3,6 +3,7 @@
 use crate::load::Load;
 use crate::measure::{changes, lookups, measure, Call, Effort, FAST, STORES, SUBJECT};
 use crate::volume::{geometry, Deletions, Keys, Kind, Volume, ROOM};
+use model::Operation;
 use store::{Geometry, State, HASH_COUNT_01};
 
 const SECTOR_SIZES: [u32; 3] = [16, 64, 512];
@@ -195,7 +196,10 @@ fn round_operations(sector_size: u32, number: usize) -> (usize, usize) {
             records,
             deletions: 0,
         };
-        model::operations(geometry, state, false, true)
+        let list = model::operations(geometry, state, false, true);
+        let programs = |operation: &&Operation| matches!(operation, Operation::Program { .. });
+        let sectors = list.iter().filter(programs).count();
+        (sectors, list.len() - sectors)
     };
     (end - round..end)
         .map(of_insert)

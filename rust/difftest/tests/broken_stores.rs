@@ -2,6 +2,7 @@
 
 use difftest::pair::{Counts, Difference};
 use difftest::{loads, scenarios};
+use model::{positions, Set};
 use store::{Change, Geometry, LoadResult, LookupResult, ModelStore, State, Store, HASH_COUNT_01};
 
 #[derive(Clone, Copy, Debug)]
@@ -95,6 +96,14 @@ enum Fault {
     DeletionsNoErase,
     /// All pages of deletions are read, whatever their filters say; the count is the right one.
     DeletionFiltersUnread,
+    /// A page of deletions is opened only if both its filters have the bits: its answers, its counts of pages of deletions, or
+    /// both are given out.
+    BothHalvesNeeded {
+        answers: bool,
+        counts: bool,
+    },
+    /// Half a page of deletions has a filter already, so that there are d / (S/2) of them.
+    HalfPageFiltered,
     /// A RAM of five pages is enough.
     FivePages,
 }
@@ -240,6 +249,7 @@ impl Broken {
         let second = geometry.deletion_index();
         let deletions = change.state.deletions as usize;
         let page_deleted = accepted && deletions > before.deletions as usize && deletions.is_multiple_of(s);
+        let half_deleted = accepted && deletions > before.deletions as usize && deletions % s == s / 2;
         let deletion_flush = page_deleted && deletions.is_multiple_of(4 * s);
         let deletion_set = page_deleted && deletions.is_multiple_of(64 * s);
         // Where the two filters of the page are in each sector, unless they were flushed.
@@ -277,6 +287,23 @@ impl Broken {
             Fault::SecondHalfMissing if page_deleted => {
                 for sector in ram[5 * page..6 * page].chunks_exact_mut(s) {
                     sector[pair_start + s / 8..pair_start + s / 4].fill(0);
+                }
+            }
+            Fault::HalfPageFiltered if half_deleted => {
+                let numbers = ram[2 * page..2 * page + 2 * s].chunks_exact(4);
+                let numbers: Vec<[u8; 4]> = numbers
+                    .map(|bytes| [bytes[0], bytes[1], bytes[2], bytes[3]])
+                    .collect();
+                let slot = deletions / (s / 2) - 1;
+                for sector in ram[5 * page..6 * page].chunks_exact_mut(s) {
+                    sector[slot % 8 * (s / 8)..][..s / 8].fill(0);
+                }
+                for number in numbers {
+                    let k = before.hash_count as usize;
+                    for position in positions(s, k, u32::from_le_bytes(number)) {
+                        let bit = slot % 8 * s + position % s;
+                        ram[5 * page + position / s * s + bit / 8] |= 1 << (bit % 8);
+                    }
                 }
             }
             Fault::DeletionFiltersKept if deletion_flush => ram[5 * page] = 1,
@@ -490,6 +517,15 @@ impl Store for Broken {
                     ..ModelStore.lookup(state, key, &open, spare, &open_ram)
                 }
             }
+            Fault::BothHalvesNeeded { answers, counts } if result.refusal == 0 => {
+                let (joined, joined_ram) = halves_joined(state, data, ram);
+                let wrong = ModelStore.lookup(state, key, &joined, spare, &joined_ram);
+                let deletion_count = [result.deletion_count, wrong.deletion_count][usize::from(counts)];
+                LookupResult {
+                    deletion_count,
+                    ..if answers { wrong } else { result }
+                }
+            }
             Fault::FivePages if result.refusal == 2 && ram.len() >= 20 * state.sector_size as usize => {
                 let mut longer = ram.to_vec();
                 longer.resize(24 * state.sector_size as usize, 0);
@@ -551,6 +587,45 @@ impl Store for Broken {
             }
             _ => result,
         }
+    }
+}
+
+/// The bytes with both filters of each page of deletions having the bits that the two have in common.
+fn halves_joined(state: State, data: &[u8], ram: &[u8]) -> (Vec<u8>, Vec<u8>) {
+    let geometry = Geometry::of_state(state).expect("allowed");
+    let index = geometry.deletion_index();
+    let (s, block) = (geometry.sector_size(), 64 * geometry.sector_size());
+    let (mut data, mut ram) = (data.to_vec(), ram.to_vec());
+    join_pairs(&mut ram[20 * s..24 * s], s);
+    join_pairs(&mut data[index.l1_block() * block..][..block], s);
+    // The newest set of a cycle is on a side, the full ones have single bits of each filter.
+    let rounds = state.deletions as usize / (64 * s) % geometry.rounds_per_cycle();
+    if rounds > 0 {
+        let set = Set {
+            number: rounds + 1,
+            full_sets: 0,
+        };
+        let start = set.first_block(index) * block;
+        join_pairs(
+            &mut data[start..start + set.block_count() * block],
+            set.width(geometry),
+        );
+    }
+    join_pairs(
+        &mut data[index.full_sets_first_block() * block..geometry.data_bytes()],
+        1,
+    );
+    (data, ram)
+}
+
+/// Rows of parts of so many bits, a power of two: each bit and the one at its place in the other part of the pair.
+fn join_pairs(bytes: &mut [u8], width: usize) {
+    let before = bytes.to_vec();
+    let bit = |i: usize| before[i / 8] >> (i % 8) & 1;
+    for (i, byte) in bytes.iter_mut().enumerate() {
+        *byte = (0..8).fold(0, |joined, j| {
+            joined | (bit(8 * i + j) & bit((8 * i + j) ^ width)) << j
+        });
     }
 }
 
@@ -653,6 +728,19 @@ fn wrong_filters_over_deletions_are_reported() {
         Fault::FullDeletionSetWrong,
         Fault::DeletionsNoErase,
         Fault::DeletionFiltersUnread,
+        Fault::BothHalvesNeeded {
+            answers: true,
+            counts: true,
+        },
+        Fault::BothHalvesNeeded {
+            answers: true,
+            counts: false,
+        },
+        Fault::BothHalvesNeeded {
+            answers: false,
+            counts: true,
+        },
+        Fault::HalfPageFiltered,
         Fault::FivePages,
     ] {
         assert_reported(&format!("{fault:?}"), fault, &DELETIONS);

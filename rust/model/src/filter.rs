@@ -1,6 +1,6 @@
 //! Filters: where each lies, how its bits are read, and how they are built.
 
-use crate::flash::{program_page, read_bit, set_bit};
+use crate::flash::{read_bit, set_bit};
 use crate::geometry::{
     Geometry, Index, RamPage, FILTERS_PER_FLUSH, FILTERS_PER_ROUND, PAGES_PER_BLOCK, SECTORS_PER_PAGE,
 };
@@ -170,9 +170,8 @@ pub fn write_filter(index: Index, filter: usize, numbers: &[u32], ram: &mut [u8]
     }
 }
 
-/// "set number i .. is built out of L1 and set i−1", from the bits as they stand.
-/// Each page is put together in the work page and programmed.
-pub fn build_set(index: Index, set: Set, data: &mut [u8], spare: &mut [u8], ram: &mut [u8]) {
+/// "set number i .. is built out of L1 and set i−1", from the bits as they stand. One of its pages is put together in the work page.
+pub fn build_set_page(index: Index, set: Set, page: usize, data: &[u8], ram: &mut [u8]) {
     let geometry = index.geometry();
     let earlier = Set {
         number: set.number - 1,
@@ -181,26 +180,18 @@ pub fn build_set(index: Index, set: Set, data: &mut [u8], spare: &mut [u8], ram:
     let from_earlier = set.filter_count() - FILTERS_PER_ROUND;
     let width = set.width(geometry);
     let work = geometry.ram_start(RamPage::Work);
-    for page in 0..set.page_count() {
-        // "The rest is zero."
-        ram[work..work + geometry.page_size()].fill(0);
-        for number in 0..set.filter_count() {
-            let place = if number < from_earlier {
-                Place::Set { set: earlier, number }
-            } else {
-                level_one_place(number)
-            };
-            for bit in 0..width {
-                if filter_bit(index, place, page * width + bit, data, ram) {
-                    set_bit(&mut ram[work..], number * width + bit);
-                }
+    // "The rest is zero."
+    ram[work..work + geometry.page_size()].fill(0);
+    for number in 0..set.filter_count() {
+        let place = if number < from_earlier {
+            Place::Set { set: earlier, number }
+        } else {
+            level_one_place(number)
+        };
+        for bit in 0..width {
+            if filter_bit(index, place, page * width + bit, data, ram) {
+                set_bit(&mut ram[work..], number * width + bit);
             }
         }
-        program_page(
-            data,
-            spare,
-            set.first_page(index) + page,
-            &ram[work..work + geometry.page_size()],
-        );
     }
 }

@@ -1,6 +1,6 @@
 //! The chip: program a sector, erase a block, freshness; and numbers in bytes.
 
-use crate::geometry::{SECTORS_PER_BLOCK, SECTORS_PER_PAGE};
+use crate::geometry::SECTORS_PER_BLOCK;
 
 const PROGRAMMED: u8 = 0x00;
 const ERASED: u8 = 0xFF;
@@ -15,14 +15,6 @@ pub fn program_sector(data: &mut [u8], spare: &mut [u8], sector: usize, bytes: &
     let start = sector * bytes.len();
     data[start..start + bytes.len()].copy_from_slice(bytes);
     spare[sector] = PROGRAMMED;
-}
-
-/// The four sectors of a page, rising. The length of `bytes` is 4S.
-pub fn program_page(data: &mut [u8], spare: &mut [u8], page: usize, bytes: &[u8]) {
-    let sector_size = bytes.len() / SECTORS_PER_PAGE;
-    for (i, sector_bytes) in bytes.chunks_exact(sector_size).enumerate() {
-        program_sector(data, spare, page * SECTORS_PER_PAGE + i, sector_bytes);
-    }
 }
 
 /// "Erasing a block sets its cells and marks to FF."

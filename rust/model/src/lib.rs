@@ -18,7 +18,7 @@ mod search;
 mod tab;
 
 pub use calls::{delete, format, insert, lookup, update};
-pub use change::operations;
+pub use change::{operations, Operation};
 pub use filter::{set_page_count, Set};
 pub use geometry::{Geometry, Index, RamPage, SECTOR_SIZES};
 pub use hash::{fnv1a, positions};

@@ -1,7 +1,8 @@
 //! The examples of document 01, the published hash vectors, request 2's k, and request 5's filters over deletions.
 
 use model::{
-    delete, fnv1a, format, insert, operations, positions, set_page_count, Geometry, State, HASH_COUNT_01,
+    delete, fnv1a, format, insert, operations, positions, set_page_count, update, Geometry, Operation, State,
+    HASH_COUNT_01,
 };
 
 #[test]
@@ -91,6 +92,21 @@ impl Volume {
 
     fn insert(&mut self, key: u32) -> u32 {
         let change = insert(
+            self.state,
+            key,
+            key,
+            0,
+            0,
+            &mut self.data,
+            &mut self.spare,
+            &mut self.ram,
+        );
+        self.state = change.state;
+        change.refusal
+    }
+
+    fn update(&mut self, key: u32) -> u32 {
+        let change = update(
             self.state,
             key,
             key,
@@ -261,7 +277,39 @@ fn operations_of_both_indexes() {
         records: 1023,
         deletions: 1023,
     };
-    assert_eq!(operations(geometry(16, 16, 4), state, true, true), (148, 2));
+    let list = operations(geometry(16, 16, 4), state, true, true);
+    let before_erase = list.iter().take_while(|operation| sector_of(operation).is_some());
+    assert_eq!(before_erase.count(), 72);
+    let sectors: Vec<usize> = list.iter().filter_map(sector_of).collect();
+    let blocks: Vec<usize> = list.iter().filter_map(block_of).collect();
+    assert_eq!(sectors.len(), 148);
+    assert_eq!(
+        [0, 4, 8, 72, 76, 80, 84].map(|i| sectors[i]),
+        [
+            24 * 64 + 252,
+            37 * 64 + 15,
+            38 * 64,
+            1020,
+            16 * 64 + 508,
+            28 * 64 + 15,
+            29 * 64
+        ]
+    );
+    assert_eq!(blocks, [37, 28]);
+}
+
+fn sector_of(operation: &Operation) -> Option<usize> {
+    match *operation {
+        Operation::Program { sector } => Some(sector),
+        Operation::Erase { .. } => None,
+    }
+}
+
+fn block_of(operation: &Operation) -> Option<usize> {
+    match *operation {
+        Operation::Program { .. } => None,
+        Operation::Erase { block } => Some(block),
+    }
 }
 
 /// Each test of a record number counts the DA pages that it opens; one in RAM counts none.
@@ -491,13 +539,15 @@ fn hash_counts_that_are_allowed() {
     }
 }
 
-/// The counted operations are those that the spare bytes show.
+/// Inserts through sets and a full set of the index over KA.
 #[test]
 fn operations_of_inserts() {
     let mut volume = Volume::new(16, 80, 1);
+    let mut seen = Seen::default();
     for key in 0..4 * 1024 {
-        operations_show(&mut volume, (false, true), |volume| volume.insert(key));
+        seen.call(&mut volume, |volume| volume.insert(key));
     }
+    assert_eq!((seen.flushes, seen.sets), ([0, 64], [0, 4]));
 }
 
 /// Deletes through sets and a full set of the index over DA.
@@ -507,34 +557,225 @@ fn operations_of_deletes() {
     for key in 0..4 * 1024 + 1 {
         assert_eq!(volume.insert(key), 0);
     }
+    let mut seen = Seen::default();
     for key in 0..4 * 1024 {
-        operations_show(&mut volume, (true, false), |volume| volume.delete(key));
+        seen.call(&mut volume, |volume| volume.delete(key));
+    }
+    assert_eq!((seen.flushes, seen.sets), ([64, 0], [4, 0]));
+}
+
+/// Updates of 1024 levels, so that a call that builds a set builds one of both indexes, through a full set of each.
+#[test]
+fn operations_of_updates() {
+    let mut random = Random(5);
+    let mut volume = Volume::new(16, 96, 20);
+    for key in 0..1024 {
+        assert_eq!(volume.insert(key), 0);
+    }
+    let mut seen = Seen::default();
+    for _ in 0..5 * 1024 {
+        seen.call(&mut volume, |volume| volume.update(random.below(1024)));
+    }
+    assert_eq!((seen.sets, seen.both_sets), ([5, 5], 5));
+    assert_eq!((seen.flushes, seen.both_flushes), ([80, 80], 80));
+}
+
+/// Inserts, updates and deletes; about seven of eight levels are live. Flushes of the indexes fall together where these are 64 or 128.
+#[test]
+fn operations_of_histories() {
+    let mut seen = Seen::default();
+    for (levels, seed) in [(73, 1), (146, 2), (700, 3)] {
+        let mut random = Random(seed);
+        let mut volume = Volume::new(16, 48, 12);
+        for _ in 0..4200 {
+            let (key, choice) = (random.below(levels), random.below(8));
+            seen.call(&mut volume, |volume| match choice {
+                0 => volume.delete(key),
+                1 => volume.insert(key),
+                _ => volume.update(key),
+            });
+        }
+    }
+    let Seen {
+        refused,
+        flushes,
+        sets,
+        both_flushes,
+        both_sets,
+    } = seen;
+    assert!(
+        refused > 0
+            && flushes.into_iter().all(|count| count > 100)
+            && sets.into_iter().all(|count| count > 5)
+    );
+    assert!(both_flushes > 0 && both_flushes < flushes[0] && both_sets < sets[0]);
+}
+
+struct Random(u64);
+
+impl Random {
+    fn below(&mut self, bound: u32) -> u32 {
+        self.0 ^= self.0 << 13;
+        self.0 ^= self.0 >> 7;
+        self.0 ^= self.0 << 17;
+        ((self.0 >> 32) % u64::from(bound)) as u32
     }
 }
 
-fn operations_show(
-    volume: &mut Volume,
-    (deletes, inserts): (bool, bool),
-    call: impl FnOnce(&mut Volume) -> u32,
-) {
-    const BLOCK: usize = 64;
-    let geometry = Geometry::of_state(volume.state).expect("allowed");
-    let (sectors, blocks) = operations(geometry, volume.state, deletes, inserts);
-    let before = volume.spare.clone();
-    assert_eq!(call(volume), 0);
-    let changes = before.iter().zip(&volume.spare);
-    let programmed = changes.filter(|&(&old, &new)| old == 0xFF && new == 0x00).count();
-    let erased = before
-        .chunks(BLOCK)
-        .zip(volume.spare.chunks(BLOCK))
-        .filter(|(old, new)| old.contains(&0x00) && !new.contains(&0x00))
-        .count();
-    // The last flush of a round is programmed, and erased in the same call.
-    let gone = if blocks > 0 { 4 } else { 0 };
-    assert_eq!(
-        (sectors, blocks),
-        (programmed + gone, erased),
-        "{:?}",
-        volume.state
+/// What the calls had among their operations; of two, those of the index over DA are the first.
+#[derive(Debug, Default)]
+struct Seen {
+    refused: usize,
+    flushes: [usize; 2],
+    sets: [usize; 2],
+    both_flushes: usize,
+    both_sets: usize,
+}
+
+/// Parts of a call's operations, in the order that document 01 and request 5 give them.
+#[derive(Clone, Copy, Debug, PartialEq, Eq, PartialOrd, Ord)]
+enum Part {
+    Da,
+    DeletionFlush,
+    DeletionSet,
+    DeletionErases,
+    Ra,
+    Ka,
+    KeyFlush,
+    KeySet,
+    KeyErases,
+}
+
+/// The part of an operation, by its kind and its block.
+fn part_of(geometry: Geometry, operation: &Operation) -> Part {
+    let (block, erases) = match *operation {
+        Operation::Program { sector } => (sector / 64, false),
+        Operation::Erase { block } => (block, true),
+    };
+    let (keys, deletions) = (
+        geometry.key_index().l1_block(),
+        geometry.deletion_index().l1_block(),
     );
+    assert!(block < geometry.blocks() && !(erases && block < keys));
+    match block {
+        _ if erases && block < deletions => Part::KeyErases,
+        _ if erases => Part::DeletionErases,
+        _ if block < geometry.ka_first_block() => Part::Ra,
+        _ if block < geometry.da_first_block() => Part::Ka,
+        _ if block < keys => Part::Da,
+        _ if block == keys => Part::KeyFlush,
+        _ if block < deletions => Part::KeySet,
+        _ if block == deletions => Part::DeletionFlush,
+        _ => Part::DeletionSet,
+    }
+}
+
+impl Seen {
+    /// A call at S = 16: the order of its operations, how many there are of each part, and the marks that they leave.
+    fn call(&mut self, volume: &mut Volume, call: impl FnOnce(&mut Volume) -> u32) {
+        let (state, mut spare) = (volume.state, volume.spare.clone());
+        if call(volume) != 0 {
+            assert!(volume.spare == spare);
+            self.refused += 1;
+            return;
+        }
+        let geometry = Geometry::of_state(state).expect("allowed");
+        let deletes = volume.state.deletions > state.deletions;
+        let inserts = volume.state.records > state.records;
+        let list = operations(geometry, state, deletes, inserts);
+
+        assert!(
+            list.is_sorted_by_key(|operation| part_of(geometry, operation)),
+            "{list:?}"
+        );
+        let sectors = |part: Part| -> Vec<usize> {
+            let of_part = list
+                .iter()
+                .filter(|&operation| part_of(geometry, operation) == part);
+            of_part.filter_map(sector_of).collect()
+        };
+        let blocks = |part: Part| -> Vec<usize> {
+            let of_part = list
+                .iter()
+                .filter(|&operation| part_of(geometry, operation) == part);
+            of_part.filter_map(block_of).collect()
+        };
+        let (n, d) = (volume.state.records as usize, volume.state.deletions as usize);
+        let page = |first_block: usize, page: usize| -> Vec<usize> {
+            (0..4).map(|i| 64 * first_block + 4 * page + i).collect()
+        };
+        let due = |fills: bool, sectors: Vec<usize>| if fills { sectors } else { Vec::new() };
+        let da = deletes && d.is_multiple_of(16);
+        let ra = inserts && n.is_multiple_of(4);
+        let ka = inserts && n.is_multiple_of(8);
+        let page_before = |items: usize, per_page: usize| (items / per_page).saturating_sub(1);
+        assert_eq!(
+            sectors(Part::Da),
+            due(da, page(geometry.da_first_block(), page_before(d, 16)))
+        );
+        assert_eq!(sectors(Part::Ra), due(ra, page(0, page_before(n, 4))));
+        assert_eq!(
+            sectors(Part::Ka),
+            due(ka, page(geometry.ka_first_block(), page_before(n, 8)))
+        );
+
+        // Eight filters are a flush: those of 4 DA pages of 16, and of 8 KA pages of 8.
+        let indexes = [
+            (
+                geometry.deletion_index(),
+                deletes,
+                d,
+                [Part::DeletionFlush, Part::DeletionSet, Part::DeletionErases],
+            ),
+            (
+                geometry.key_index(),
+                inserts,
+                n,
+                [Part::KeyFlush, Part::KeySet, Part::KeyErases],
+            ),
+        ];
+        let (mut flushed, mut built) = ([false; 2], [false; 2]);
+        for (i, (index, appends, items, [flush, set, erases])) in indexes.into_iter().enumerate() {
+            let l1 = index.l1_block();
+            flushed[i] = appends && items.is_multiple_of(64);
+            built[i] = appends && items.is_multiple_of(1024);
+            let t = (items / 64 + 15) % 16;
+            let slices = (0..4).map(|i| 64 * l1 + 4 * (4 * i + t / 4) + t % 4).collect();
+            assert_eq!(sectors(flush), due(flushed[i], slices));
+
+            // Sets 2 to 5 of a cycle, "an even i goes to side A, an odd one to side B"; 5 is full.
+            let (number, cycle) = ((items / 1024 + 3) % 4 + 2, (items / 1024).saturating_sub(1) / 4);
+            let side = |number: usize| l1 + 1 + [0, 4][number % 2];
+            let first = if number == 5 {
+                l1 + 9 + 4 * cycle
+            } else {
+                side(number)
+            };
+            let pages = (64 * first..64 * first + 4 * set_page_count(number)).collect();
+            assert_eq!(sectors(set), due(built[i], pages));
+            // L1, and what is on the sides before the call.
+            let on_sides = (l1 + 1..l1 + 9).filter(|&block| spare[64 * block..64 * block + 64].contains(&0));
+            let freed = [l1].into_iter().chain(on_sides).collect();
+            assert_eq!(blocks(erases), due(built[i], freed));
+            self.flushes[i] += usize::from(flushed[i]);
+            self.sets[i] += usize::from(built[i]);
+        }
+        self.both_flushes += usize::from(flushed == [true; 2]);
+        self.both_sets += usize::from(built == [true; 2]);
+
+        let mut erased = Vec::new();
+        for operation in list {
+            match operation {
+                Operation::Program { sector } => {
+                    assert!(spare[sector] == 0xFF && !erased.contains(&(sector / 64)));
+                    spare[sector] = 0;
+                }
+                Operation::Erase { block } => {
+                    spare[64 * block..64 * block + 64].fill(0xFF);
+                    erased.push(block);
+                }
+            }
+        }
+        assert!(volume.spare == spare, "{state:?}");
+    }
 }
