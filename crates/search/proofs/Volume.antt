@@ -27,10 +27,11 @@ use Rattle.items.specs.Reading.{page-word, ram-word}
 use Rattle.kernels.specs.Blocks.{OpenBlock}
 use Rattle.filter.specs.Blocks.{BlockAt}
 use Rattle.filter.specs.declared.groups.Block.{Block}
+use Rattle.deletions.specs.Test as tests
 use Rattle.deletions.specs.Test.{testedOf}
 use Rattle.deletions.specs.declared.Tested.{Tested}
 use Rattle.search.specs.declared.View.{View}
-use Rattle.search.specs.Find.{viewed, Ready, tryOf, costOf, tryIn, costIn, deletedOf, testCost, pagesBelow, costBelow}
+use Rattle.search.specs.Find.{viewed, Ready, tryOf, costOf, tryIn, costIn, deletedOf, testCost, pagesBelow, costBelow, deletionsOf}
 use Rattle.search.specs.Tries.{pageStart, entryIn}
 use Rattle.search.proofs.Entries.{Same, scan-same, cost-same, cost-most, left-first, left-none}
 use Rattle.search.proofs.Pages.{pages-cost}
@@ -165,6 +166,17 @@ module _ (v : View) (main ram : List ℕ) (j : ℕ) (r : Tested)
 
   pub tested-opened : r .opened ≡ testCost v main ram j
   tested-opened = ap (λ (f : Found). f .opened) is
+
+module _ (v : View) (main ram : List ℕ) where
+  -- its deletions can be tested
+  pub test-ready : Ready v main ram → tests.Ready (deletionsOf v) main ram
+  test-ready R = record { sound = R .sound; read = R .read; cap = R .d-cap; bound = R .d0-le }
+
+  -- a test reads nothing of the records
+  pub test-viewed : (j : ℕ) → testDeletion fnvFamily (shape (v .g)) (tests.held (deletionsOf v) main ram) (v .d0) j
+      ≡ testDeletion fnvFamily (shape (v .g)) (viewed v main ram) (v .d0) j
+  unfolding testDeletion tryDeletion maybeDeleted
+  test-viewed j = refl
 
 -- ---- a ready volume
 

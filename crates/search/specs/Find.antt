@@ -19,6 +19,7 @@ use Rattle.laws.specs.Lengths.{Readable}
 use Rattle.geometry.specs.declared.Geometry.{Geometry}
 use Rattle.geometry.specs.Shape.{shape, Sound}
 use Rattle.geometry.specs.Indexes.{indexFor}
+use Rattle.deletions.specs.declared.Deletions.{Deletions}
 use Rattle.filter.specs.declared.groups.Filters.{Filters}
 use Rattle.search.specs.declared.View.{View}
 use Rattle.search.specs.declared.End.{End}
@@ -133,6 +134,10 @@ pub record Low (g : Geometry) (count : ℕ) (ps : List ℕ) : Type 0 where
   pub some : 1 ≤ count
   pub few : count ≤ 8
   pub within : (i : ℕ) → i < count → getD ps i 0 < layout.filterBits (g .chip .unit)
+
+-- its deletions, as a test takes them
+abbrev pub deletionsOf : View → Deletions
+deletionsOf v = record { g = v .g; d = v .d; d0 = v .d0 }
 
 -- the filters of its entries, all of them
 abbrev pub filtersOf : View → Filters

@@ -9,15 +9,13 @@ ghost use Rattle.layout.specs.Keys.{wordSize, numberIn};
 ghost use Rattle.layout.specs.Geometry.{entriesPerPage};
 ghost use Rattle.layout.specs.Items.{entrySize};
 ghost use Rattle.layout.specs.Hash.{fnvFamily};
-ghost use Rattle.layout.specs.Calls.{testDeletion, searchAt, daPagesAt};
+ghost use Rattle.layout.specs.Calls.{searchAt, daPagesAt};
 ghost use Rattle.layout.specs.Search.{scan, scanCost, unlessEnded};
 ghost use Rattle.geometry.specs.Shape.{shape, Sound};
-ghost use Rattle.deletions.specs.Test.{testedOf};
 ghost use Rattle.search.specs.Find.{stopOf, foundOf, whole, viewed, Ready, tryOf, costOf, tryIn, costIn};
-ghost use Rattle.search.specs.Find.{pagesBelow, costBelow, onward, Low, filtersOf};
+ghost use Rattle.search.specs.Find.{pagesBelow, costBelow, onward, Low, filtersOf, deletionsOf};
 ghost use Rattle.search.specs.Tries.{pageStart, PagesIn, TriedAt};
 use deletions::Deletions;
-use deletions::Tested;
 use filter::Filters;
 use geometry::Geometry;
 use geometry::areas;
@@ -76,18 +74,16 @@ fn number_at(at: usize, k: usize, s: &[u8]) -> u32
     words::get32(s, at + k * areas::ENTRY_SIZE + areas::NUMBER_AT)
 }
 
-// Is record j among the first d0 of d deletions, and the pages of deletions opened.
-fn tested(v: View, j: u32, main: &[u8], ram: &[u8]) -> Tested
-    requires { ⌜ Ready v (now main) (now ram) ⌝ }
-    ensures { λ r. ⌜ testedOf j r ≡ testDeletion fnvFamily (shape (v .g)) (viewed v (before main) (before ram)) (v .d0) j ⌝ }
+// The deletions that a record number is tested against. They are made for each test: a view handed on would be copied for each block.
+fn deletions_of(v: View) -> Deletions
+    ensures { λ r. ⌜ r ≡ deletionsOf v ⌝ }
 {
     let g = v.g;
-    let t = Deletions {
+    Deletions {
         g,
         d: v.d,
         d0: v.d0,
-    };
-    deletions::test(t, j, main, ram)
+    }
 }
 
 // ---- entries past the last full page
@@ -124,7 +120,7 @@ fn in_page(
                 da_pages,
             };
         }
-        let seen = tested(v, j, main, ram);
+        let seen = deletions::test(deletions_of(v), j, main, ram);
         da_pages += seen.opened as u64;
         if !seen.met {
             return Ended {
@@ -274,7 +270,7 @@ fn in_block(
                     end = End::Corrupt;
                     break 'filters;
                 }
-                let seen = tested(v, j, main, ram);
+                let seen = deletions::test(deletions_of(v), j, main, ram);
                 da_pages += seen.opened as u64;
                 if !seen.met {
                     end = End::Live(j);

@@ -8,10 +8,12 @@ use lib.ListN.{length, take}
 use Rattle.memory.specs.Bits.{bit}
 use Rattle.memory.specs.Cases.{lt?, either}
 use Rattle.layout.specs.Geometry.{page, fullSets}
-use Rattle.layout.specs.Calls.{keyIndex, maybeIn}
+use Rattle.layout.specs.Hash.{fnvFamily}
+use Rattle.layout.specs.Calls.{keyIndex, maybeIn, testDeletion}
 use Rattle.layout.specs.Search.{Stop, found, corrupt, reply, scan, scanCost, searchPages, pagesCost}
 use Rattle.geometry.specs.Shape.{shape}
 use Rattle.items.specs.Scans.{lastEntry}
+use Rattle.deletions.specs.Test.{testedOf}
 use Rattle.filter.specs.Filter.{index-fits}
 use Rattle.filter.specs.Blocks.{BlockAt}
 use Rattle.filter.specs.declared.groups.Block.{Block}
@@ -21,7 +23,7 @@ use Rattle.search.specs.Tries.{entryOf}
 use Rattle.search.proofs.Tries.{count, newest, newest-le, newest-set, newest-some, measure, fewer}
 use Rattle.search.proofs.Bits.{Gates, Words, Word, words-first, words-next, words-end, word-first, word-in, word-few, word-most, word-next, word-ended}
 use Rattle.search.proofs.Entries.{Same, Left, left-none, left-first, left-corrupt, left-most, left-found, left-next, left-less}
-use Rattle.search.proofs.Volume.{perPage, pages, same-flash, same-bytes, scan-bytes, cost-bytes, vain-page, block-shows, tested-met, tested-opened}
+use Rattle.search.proofs.Volume.{perPage, pages, same-flash, same-bytes, scan-bytes, cost-bytes, vain-page, block-shows, tested-met, tested-opened, test-ready, test-viewed}
 use Rattle.search.proofs.Volume.{pages-few, pages-then, page-in, sets-le, below-most}
 use borrow.Author.Needs.{needs}
 use borrow.Author.Tests.{not-true, not-false}
@@ -347,14 +349,19 @@ number-at-requires c κs =
 wide-requires : tie.Need-wide-requires Inv-entries μ-entries Inv-bits μ-bits Inv-filters μ-filters
 wide-requires c κs = search needs
 
-tested-requires : tie.Need-tested-requires Inv-entries μ-entries Inv-bits μ-bits Inv-filters μ-filters
-tested-requires c κs = ready (start-of (known (c .before .before .before .before .before .before .before .before)))
+deletions-of-requires : tie.Need-deletions-of-requires Inv-entries μ-entries Inv-bits μ-bits Inv-filters μ-filters
+deletions-of-requires c κs = search needs
+
+test-requires : tie.Need-test-requires Inv-entries μ-entries Inv-bits μ-bits Inv-filters μ-filters
+test-requires c κs =
+    let b = start-of (known (c .before .before .before .before .before .before .before .before .before)) in
+    rw (c .deletions-of .ensures) (test-ready (b .args .v) (b .args .main .now) (b .args .ram .now) (ready b))
 
 abbrev Tests : Type 0
-Tests = tie.After-tested Inv-entries μ-entries Inv-bits μ-bits Inv-filters μ-filters
+Tests = tie.After-test Inv-entries μ-entries Inv-bits μ-bits Inv-filters μ-filters
 
 abbrev wide-of : Tests → tie.After-wide Inv-entries μ-entries Inv-bits μ-bits Inv-filters μ-filters
-wide-of D = D .before .before .before
+wide-of D = D .before .before .before .before
 
 abbrev number-of : Tests → tie.After-number-at Inv-entries μ-entries Inv-bits μ-bits Inv-filters μ-filters
 number-of D = wide-of D .before
@@ -372,18 +379,25 @@ one-left : (D : Tests) → 0 < entry-of D .entries .e
 one-left D = number-of D .before .entries-test .taken
 
 number-lt : (D : Tests) → number-of D .number-at .result < start-at D .args .v .n0
-number-lt D = omega (arith, wide-of D .wide .ensures, D .before .if1 .left)
+number-lt D = omega (arith, wide-of D .wide .ensures, D .before .before .if1 .left)
+
+-- the test is of the view's deletions
+told : (D : Tests) → let x = start-at D .args in let j = number-of D .number-at .result in
+    testedOf j (D .test .result) ≡ testDeletion fnvFamily (shape (x .v .g)) (viewed (x .v) (x .main .now) (x .ram .now)) (x .v .d0) j
+told D =
+    let x = start-at D .args in
+    rw (D .before .deletions-of .ensures) at (D .test .ensures) ∙ test-viewed (x .v) (x .main .now) (x .ram .now) (number-of D .number-at .result)
 
 -- what the test says of the view's deletions
-told-met : (D : Tests) → D .tested .result .met ≡ deleted-at (start-at D) (number-of D .number-at .result)
+told-met : (D : Tests) → D .test .result .met ≡ deleted-at (start-at D) (number-of D .number-at .result)
 told-met D =
     let x = start-at D .args in
-    tested-met (x .v) (x .main .now) (x .ram .now) (number-of D .number-at .result) (D .tested .result) (D .tested .ensures)
+    tested-met (x .v) (x .main .now) (x .ram .now) (number-of D .number-at .result) (D .test .result) (told D)
 
-told-opened : (D : Tests) → D .tested .result .opened ≡ test-at (start-at D) (number-of D .number-at .result)
+told-opened : (D : Tests) → D .test .result .opened ≡ test-at (start-at D) (number-of D .number-at .result)
 told-opened D =
     let x = start-at D .args in
-    tested-opened (x .v) (x .main .now) (x .ram .now) (number-of D .number-at .result) (D .tested .result) (D .tested .ensures)
+    tested-opened (x .v) (x .main .now) (x .ram .now) (number-of D .number-at .result) (D .test .result) (told D)
 
 cast-da-pages : tie.Need-cast-da-pages Inv-entries μ-entries Inv-bits μ-bits Inv-filters μ-filters
 cast-da-pages c = search needs
@@ -447,7 +461,7 @@ entries-again c =
     let h = some-left E (one-left D) in
     let L = E .entries .inv .0 h in
     let less = left-less (x .main .now) (N .next-with-key .result .start) (perPage (x .v)) (x .v .n0) (x .key) (deleted-at b) (test-at b) (try-in N) (cost-in N) 0 (same-at N) (N .before .before .bits .da-pages) (E .entries .e) (E .entries .da-pages) (J .number-at .result) L (one-left D) (J .number-at .ensures) (number-lt D) (c .find-entry .result) (c .find-entry .ensures) in (
-      λ t. left-next (x .main .now) (N .next-with-key .result .start) (perPage (x .v)) (x .v .n0) (x .key) (deleted-at b) (test-at b) (try-in N) (cost-in N) 0 (same-at N) (N .before .before .bits .da-pages) (E .entries .e) (E .entries .da-pages) (J .number-at .result) L (one-left D) (J .number-at .ensures) (number-lt D) (D .tested .result .met) (D .tested .result .opened) (told-met D) (told-opened D) (c .find-entry .result) (not-false (D .tested .result .met) (c .before .if2 .left)) (c .find-entry .ensures),
+      λ t. left-next (x .main .now) (N .next-with-key .result .start) (perPage (x .v)) (x .v .n0) (x .key) (deleted-at b) (test-at b) (try-in N) (cost-in N) 0 (same-at N) (N .before .before .bits .da-pages) (E .entries .e) (E .entries .da-pages) (J .number-at .result) L (one-left D) (J .number-at .ensures) (number-lt D) (D .test .result .met) (D .test .result .opened) (told-met D) (told-opened D) (c .find-entry .result) (not-false (D .test .result .met) (c .before .if2 .left)) (c .find-entry .ensures),
       omega (arith, less, E .entries .inv .1),
       E .entries .inv .2,
       λ z. absurd (omega (arith, h)),
@@ -543,8 +557,8 @@ returns-3 c =
     let b = start-of G in
     let x = b .args in
     let h = some-left E (one-left D) in
-    let e = left-found (x .main .now) (N .next-with-key .result .start) (perPage (x .v)) (x .v .n0) (x .key) (deleted-at b) (test-at b) (try-in N) (cost-in N) 0 (same-at N) (N .before .before .bits .da-pages) (E .entries .e) (E .entries .da-pages) (J .number-at .result) (E .entries .inv .0 h) (one-left D) (J .number-at .ensures) (number-lt D) (D .tested .result .met) (D .tested .result .opened) (told-met D) (told-opened D) (not-true (D .tested .result .met) (c .if2 .taken)) in
-    (block-at G .start-lt, ended N (found (J .number-at .result)) (E .entries .da-pages + D .tested .result .opened) h (e .0) (e .1))
+    let e = left-found (x .main .now) (N .next-with-key .result .start) (perPage (x .v)) (x .v .n0) (x .key) (deleted-at b) (test-at b) (try-in N) (cost-in N) 0 (same-at N) (N .before .before .bits .da-pages) (E .entries .e) (E .entries .da-pages) (J .number-at .result) (E .entries .inv .0 h) (one-left D) (J .number-at .ensures) (number-lt D) (D .test .result .met) (D .test .result .opened) (told-met D) (told-opened D) (not-true (D .test .result .met) (c .if2 .taken)) in
+    (block-at G .start-lt, ended N (found (J .number-at .result)) (E .entries .da-pages + D .test .result .opened) h (e .0) (e .1))
 
 pub in-block-spec : {M : Type 1} → statement M
 in-block-spec =
@@ -577,7 +591,8 @@ in-block-spec =
     sub-k
     number-at-requires
     wide-requires
-    tested-requires
+    deletions-of-requires
+    test-requires
     cast-da-pages
     add-da-pages
     find-entry-requires

@@ -1,13 +1,17 @@
 -- What is left of the scan of a page's entries, at each with the key.
 use native.Mathlib.Omega.{arith}
-use mathlib.Core.Path.{_≡_, sym}
+use mathlib.Core.Path.{_≡_, sym, _∙_}
 use mathlib.Core.Bool.{Bool}
 use mathlib.Core.Option.{Option}
 use Prim.Native.Nat.{ℕ, _<_}
 use Rattle.layout.specs.Search.{Stop}
-use Rattle.search.specs.Find.{tryIn, costIn, deletedOf, testCost}
+use Rattle.layout.specs.Hash.{fnvFamily}
+use Rattle.layout.specs.Calls.{testDeletion}
+use Rattle.geometry.specs.Shape.{shape}
+use Rattle.deletions.specs.Test.{testedOf}
+use Rattle.search.specs.Find.{viewed, tryIn, costIn, deletedOf, testCost}
 use Rattle.search.proofs.Entries.{Same, Left, left-none, left-first, left-corrupt, left-most, left-found, left-next, left-less}
-use Rattle.search.proofs.Volume.{same-bytes, tested-met, tested-opened, row-most}
+use Rattle.search.proofs.Volume.{same-bytes, tested-met, tested-opened, test-ready, test-viewed, row-most}
 use borrow.Author.Needs.{needs}
 use borrow.Author.Tests.{not-true, not-false}
 use Rattle.search.proofs.in_page.Statement.{statement}
@@ -74,14 +78,19 @@ returns c =
 
 -- ---- the test of a number
 
-tested-requires : tie.Need-tested-requires Inv-loop μ-loop
-tested-requires c κs = start-of (c .before .before .before .before .before) .pre .0
+deletions-of-requires : tie.Need-deletions-of-requires Inv-loop μ-loop
+deletions-of-requires c κs = search needs
+
+test-requires : tie.Need-test-requires Inv-loop μ-loop
+test-requires c κs =
+    let b = start-of (c .before .before .before .before .before .before) in
+    rw (c .deletions-of .ensures) (test-ready (b .args .v) (b .args .main .now) (b .args .ram .now) (b .pre .0))
 
 abbrev Tests : Type 0
-Tests = tie.After-tested Inv-loop μ-loop
+Tests = tie.After-test Inv-loop μ-loop
 
 abbrev wide-of : Tests → tie.After-wide Inv-loop μ-loop
-wide-of D = D .before .before .before
+wide-of D = D .before .before .before .before
 
 abbrev number-of : Tests → tie.After-number-at Inv-loop μ-loop
 number-of D = wide-of D .before
@@ -90,18 +99,25 @@ abbrev loop-of : Tests → tie.At-loop Inv-loop μ-loop
 loop-of D = number-of D .before .before
 
 number-lt : (D : Tests) → number-of D .number-at .result < start-of (loop-of D) .args .v .n0
-number-lt D = omega (arith, wide-of D .wide .ensures, D .before .if1 .left)
+number-lt D = omega (arith, wide-of D .wide .ensures, D .before .before .if1 .left)
+
+-- the test is of the view's deletions
+told : (D : Tests) → let x = start-of (loop-of D) .args in let j = number-of D .number-at .result in
+    testedOf j (D .test .result) ≡ testDeletion fnvFamily (shape (x .v .g)) (viewed (x .v) (x .main .now) (x .ram .now)) (x .v .d0) j
+told D =
+    let x = start-of (loop-of D) .args in
+    rw (D .before .deletions-of .ensures) at (D .test .ensures) ∙ test-viewed (x .v) (x .main .now) (x .ram .now) (number-of D .number-at .result)
 
 -- what it says of the view's deletions
-told-met : (D : Tests) → D .tested .result .met ≡ deleted-at (start-of (loop-of D)) (number-of D .number-at .result)
+told-met : (D : Tests) → D .test .result .met ≡ deleted-at (start-of (loop-of D)) (number-of D .number-at .result)
 told-met D =
     let x = start-of (loop-of D) .args in
-    tested-met (x .v) (x .main .now) (x .ram .now) (number-of D .number-at .result) (D .tested .result) (D .tested .ensures)
+    tested-met (x .v) (x .main .now) (x .ram .now) (number-of D .number-at .result) (D .test .result) (told D)
 
-told-opened : (D : Tests) → D .tested .result .opened ≡ test-at (start-of (loop-of D)) (number-of D .number-at .result)
+told-opened : (D : Tests) → D .test .result .opened ≡ test-at (start-of (loop-of D)) (number-of D .number-at .result)
 told-opened D =
     let x = start-of (loop-of D) .args in
-    tested-opened (x .v) (x .main .now) (x .ram .now) (number-of D .number-at .result) (D .tested .result) (D .tested .ensures)
+    tested-opened (x .v) (x .main .now) (x .ram .now) (number-of D .number-at .result) (D .test .result) (told D)
 
 cast-da-pages : tie.Need-cast-da-pages Inv-loop μ-loop
 cast-da-pages c = search needs
@@ -127,7 +143,7 @@ returns-2 c =
     let l = loop-of D in
     let b = start-of l in
     let x = b .args in
-    let e = left-found (x .page .now) (x .start) (x .count) (x .v .n0) (x .key) (deleted-at b) (test-at b) (try-at b) (cost-at b) 0 (same-at b) 0 (l .loop .e) (l .loop .da-pages) (N .number-at .result) (l .loop .inv) (N .before .loop-test .taken) (N .number-at .ensures) (number-lt D) (D .tested .result .met) (D .tested .result .opened) (told-met D) (told-opened D) (not-true (D .tested .result .met) (c .if2 .taken)) in
+    let e = left-found (x .page .now) (x .start) (x .count) (x .v .n0) (x .key) (deleted-at b) (test-at b) (try-at b) (cost-at b) 0 (same-at b) 0 (l .loop .e) (l .loop .da-pages) (N .number-at .result) (l .loop .inv) (N .before .loop-test .taken) (N .number-at .ensures) (number-lt D) (D .test .result .met) (D .test .result .opened) (told-met D) (told-opened D) (not-true (D .test .result .met) (c .if2 .taken)) in
     (sym (e .0), omega (arith, e .1))
 
 find-entry-requires-2 : tie.Need-find-entry-requires-2 Inv-loop μ-loop
@@ -151,7 +167,7 @@ loop-again c =
     let l = loop-of D in
     let b = start-of l in
     let x = b .args in
-    left-next (x .page .now) (x .start) (x .count) (x .v .n0) (x .key) (deleted-at b) (test-at b) (try-at b) (cost-at b) 0 (same-at b) 0 (l .loop .e) (l .loop .da-pages) (N .number-at .result) (l .loop .inv) (N .before .loop-test .taken) (N .number-at .ensures) (number-lt D) (D .tested .result .met) (D .tested .result .opened) (told-met D) (told-opened D) (c .find-entry2 .result) (not-false (D .tested .result .met) (c .before .if2 .left)) (c .find-entry2 .ensures)
+    left-next (x .page .now) (x .start) (x .count) (x .v .n0) (x .key) (deleted-at b) (test-at b) (try-at b) (cost-at b) 0 (same-at b) 0 (l .loop .e) (l .loop .da-pages) (N .number-at .result) (l .loop .inv) (N .before .loop-test .taken) (N .number-at .ensures) (number-lt D) (D .test .result .met) (D .test .result .opened) (told-met D) (told-opened D) (c .find-entry2 .result) (not-false (D .test .result .met) (c .before .if2 .left)) (c .find-entry2 .ensures)
 
 returns-3 : tie.Need-returns-3 Inv-loop μ-loop
 returns-3 c =
@@ -173,7 +189,8 @@ in-page-spec =
     number-at-requires
     wide-requires
     returns
-    tested-requires
+    deletions-of-requires
+    test-requires
     cast-da-pages
     add-da-pages
     returns-2
