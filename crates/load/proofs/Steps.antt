@@ -21,7 +21,7 @@ use Rattle.state.specs.Judge.{judgementOf, VolumeFits}
 use Rattle.state.specs.declared.Judgement.the-variants.{Good, Refused}
 use Rattle.state.proofs.Refusals.{number, refuses, fits-enough}
 use Rattle.tab.specs.Grammar.{Row}
-use Rattle.tab.specs.Reader.{GotLine, gotLine, readMore, row, header, rowsIn, rowsOf}
+use Rattle.tab.specs.Reader.{GotLine, gotLine, readMore, row, header, body, rowsIn, rowsOf}
 use Rattle.tab.specs.Agree.{row-shorter}
 use Rattle.load.specs.Load.{rowRecord, endOf, loadRows, loadRead, loadLines, load}
 use Rattle.load.specs.LoadLaws.{row-update}
@@ -128,7 +128,7 @@ module _ (h : Family) (v : Volume) (tab : List ℕ) where
   pub load-judged : (i : ℕ) → judgementOf v ≡ Refused i → load h v tab ≡ ended (outcomeOf i) v
   unfolding load
   load-judged i e =
-      by (badState (v .state)) (tooShort (layout.geometry (v .state .sizes)) (v .flash) (v .ram)) (geometryFor (v .state .sizes)) (loadLines h v (header tab)) e
+      by (badState (v .state)) (tooShort (layout.geometry (v .state .sizes)) (v .flash) (v .ram)) (geometryFor (v .state .sizes)) (loadLines h v (body tab)) e
     where
       by : (a b : Bool) (g : Geometry) (x : Several) → cond a (Refused refusal.badState) (cond b (Refused refusal.tooShort) (Good g)) ≡ Refused i
           → cond a (ended (refused refusal.badState) v) (cond b (ended (refused refusal.tooShort) v) x) ≡ ended (outcomeOf i) v
@@ -136,6 +136,20 @@ module _ (h : Family) (v : Volume) (tab : List ℕ) where
       by false true g x q = ap (λ (k : ℕ). ended (outcomeOf k) v) (ap number q)
       by false false g x q = absurd (false≢true (ap refuses q))
 
-  pub load-good : (g : Geometry) → VolumeFits v g → load h v tab ≡ loadLines h v (header tab)
+  pub load-good : (g : Geometry) → VolumeFits v g → load h v tab ≡ loadLines h v (body tab)
   unfolding load
   load-good g f = rw (f .good, fits-enough v g f)
+
+-- ---- the text of the rows, by whether the tab has bytes
+
+pub body-none : (tab : List ℕ) → length tab ≡ 0 → body tab ≡ some []
+body-none [] e = refl
+body-none (c ∷ cs) e = absurd (omega arith)
+
+pub body-some : (tab : List ℕ) → length tab ≢ 0 → body tab ≡ header tab
+body-some [] n = absurd (n refl)
+body-some (c ∷ cs) n = refl
+
+pub none-loaded : (h : Family) (v : Volume) → loadLines h v (some []) ≡ ended accepted v
+unfolding loadRows rowsIn
+none-loaded h v = refl

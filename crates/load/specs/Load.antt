@@ -1,4 +1,4 @@
--- Loading a tab. Document 02, request 1.
+-- Loading a tab. Document 02, requests 1 and 6.
 use mathlib.Core.Bool.{cond}
 use mathlib.Core.Option.{Option, none, some}
 use mathlib.Core.List.{List, [], _∷_}
@@ -10,7 +10,7 @@ use Rattle.layout.specs.Refusals as refusal
 use Rattle.layout.specs.Calls.{Volume, Call, Outcome, accepted, refused, Result, badState, tooShort, call}
 use Rattle.layout.specs.Several.{Several, ended, goOn, putCall}
 use Rattle.tab.specs.Grammar.{Row}
-use Rattle.tab.specs.Reader.{Read, header, rowsOf}
+use Rattle.tab.specs.Reader.{Read, body, rowsOf}
 
 -- "the free word is 0"
 abbrev pub rowRecord : Row → Record
@@ -38,7 +38,7 @@ module _ (h : Family) where
   abbrev pub loadRead : Volume → Read → Several
   loadRead v r = loadRows v (r .rows) (endOf (r .rest))
 
-  -- "header missing"
+  -- "header missing"; request 6: a tab of no bytes "loads with zero rows"
   abbrev pub loadLines : Volume → Option (List ℕ) → Several
   loadLines v none = ended (refused refusal.malformed) v
   loadLines v (some lines) = loadRead v (rowsOf lines)
@@ -47,4 +47,4 @@ module _ (h : Family) where
   unfoldable pub load : Volume → List ℕ → Several
   load v tab =
       cond (badState (v .state)) (ended (refused refusal.badState) v)
-      (cond (tooShort (geometry (v .state .sizes)) (v .flash) (v .ram)) (ended (refused refusal.tooShort) v) (loadLines v (header tab)))
+      (cond (tooShort (geometry (v .state .sizes)) (v .flash) (v .ram)) (ended (refused refusal.tooShort) v) (loadLines v (body tab)))

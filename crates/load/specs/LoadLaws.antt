@@ -11,9 +11,9 @@ use Rattle.layout.specs.Search.{Stop, found, corrupt}
 use Rattle.layout.specs.Calls.{Volume, update, Outcome, accepted, hit, miss, refused, badState, tooShort, search, call}
 use Rattle.layout.specs.Refusals as refusal
 use Rattle.layout.specs.Several.{Several, ended, goOn, putCall}
-use Rattle.tab.specs.Grammar.{Row, Reading}
-use Rattle.tab.specs.Reader.{header}
-use Rattle.tab.specs.Agree.{reading-is, reading-only}
+use Rattle.tab.specs.Grammar.{lf, cr, Row, Reading}
+use Rattle.tab.specs.Reader.{body}
+use Rattle.tab.specs.Agree.{reading-is, reading-only, reading-empty, line-end-unread, return-line-end-unread}
 use Rattle.load.specs.Load.{rowRecord, endOf, rowCall, loadRows, loadLines, load}
 
 -- neither 1 nor 2 applies
@@ -38,17 +38,29 @@ module _ (h : Family) where
   unfolding load
   load-reading v text rows rest J R =
       let O = reading-only text rows rest R in
-      rw (J .0, J .1, O .header-is, O .rows-are)
+      rw (J .0, J .1, O .body-is, O .rows-are)
 
   -- and without one the header is missing
   pub load-unread : (v : Volume) (text : List ℕ) → Judged v → ((rows : List Row) (rest : List ℕ) → Reading text rows rest → ⊥)
       → load h v text ≡ ended (refused refusal.malformed) v
   unfolding load
-  load-unread v text J unread = rw (J .0, J .1) (go (header text) refl)
+  load-unread v text J unread = rw (J .0, J .1) (go (body text) refl)
     where
-      go : (o : Option (List ℕ)) → header text ≡ o → loadLines h v o ≡ ended (refused refusal.malformed) v
+      go : (o : Option (List ℕ)) → body text ≡ o → loadLines h v o ≡ ended (refused refusal.malformed) v
       go none e = refl
       go (some lines) e = absurd (unread _ _ (reading-is text lines e))
+
+  -- request 6: "a file of no bytes .. now loads with zero rows and leaves the volume alone"
+  pub load-empty : (v : Volume) → Judged v → load h v [] ≡ ended accepted v
+  unfolding loadRows
+  load-empty v J = load-reading v [] [] [] J reading-empty
+
+  -- "A file with only a line end still draws 9"
+  pub load-line-end : (v : Volume) → Judged v → load h v (lf ∷ []) ≡ ended (refused refusal.malformed) v
+  load-line-end v J = load-unread v (lf ∷ []) J line-end-unread
+
+  pub load-return-line-end : (v : Volume) → Judged v → load h v (cr ∷ lf ∷ []) ≡ ended (refused refusal.malformed) v
+  load-return-line-end v J = load-unread v (cr ∷ lf ∷ []) J return-line-end-unread
 
   -- ---- an accepted load has read the whole tab, and loaded each row
 

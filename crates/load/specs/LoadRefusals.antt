@@ -15,7 +15,7 @@ use Rattle.layout.specs.Calls.{Volume, Outcome, accepted, hit, miss, refused, R
 use Rattle.layout.specs.Calls.{Edit, one, noRoom, noDeletion, commit, change, updateAfter}
 use Rattle.layout.specs.Several.{Several, ended, goOn}
 use Rattle.tab.specs.Grammar.{Row}
-use Rattle.tab.specs.Reader.{header, rowsOf}
+use Rattle.tab.specs.Reader.{body, rowsOf}
 use Rattle.load.specs.LoadLaws.{row-update}
 use Rattle.load.specs.Load.{rowRecord, endOf, rowCall, loadRows, loadLines, load}
 
@@ -90,4 +90,4 @@ module _ (h : Family) where
   load-outcome v text =
       several-way (badState (v .state)) _ _ refl
       (several-way (tooShort (geometry (v .state .sizes)) (v .flash) (v .ram)) _ _ refl
-      (lines-outcome v (header text)))
+      (lines-outcome v (body text)))

@@ -1,4 +1,5 @@
-// Loading a tab: its rows, one after the other, up to the first that is malformed or refused. Document 02, request 1.
+// Loading a tab: its rows, one after the other, up to the first that is malformed or refused. Document 02, requests 1 and
+// 6.
 ghost use mathlib.Core.Path.{_≡_};
 ghost use lib.ListN.{drop};
 ghost use Rattle.memory.specs.Lent.{before};
@@ -73,7 +74,7 @@ fn load_rows(
     }
 }
 
-// Loads a tab: refusals 1 and 2, then its header, then its rows.
+// Loads a tab: refusals 1 and 2, then its header, then its rows; a tab of no bytes has neither.
 pub fn load(s: State, tab: &[u8], main: &mut [u8], spare: &mut [u8], ram: &mut [u8]) -> Loaded
     ensures { λ r. ⌜ loadedBy r main spare ram ≡ load fnvFamily (given s main spare ram) (before tab) ⌝ }
 {
@@ -86,6 +87,13 @@ pub fn load(s: State, tab: &[u8], main: &mut [u8], spare: &mut [u8], ram: &mut [
             };
         }
         Judgement::Good(_) => {
+            if tab.len() == 0 {
+                return Loaded {
+                    refusal: state::ACCEPTED,
+                    rows: 0,
+                    state: s,
+                };
+            }
             match reader::header_at(tab) {
                 Header::Missing => {
                     return Loaded {

@@ -13,7 +13,7 @@ use Rattle.layout.specs.Calls.{Volume, Call, Outcome, accepted, hit, miss, refu
 use Rattle.history.specs.Runs.{KeyWord, KeyWords, after}
 use Rattle.layout.specs.Several.{Several, goOn, isLive, putCall}
 use Rattle.tab.specs.Grammar.{Row}
-use Rattle.tab.specs.Reader.{GotLine, header, row, rowsIn, rowsOf, continue}
+use Rattle.tab.specs.Reader.{GotLine, body, row, rowsIn, rowsOf, continue}
 use Rattle.tab.specs.Agree.{row-sound}
 use Rattle.load.specs.Load.{endOf, rowCall, loadRows, loadLines, load}
 use Rattle.load.specs.LoadLaws.{Judged}
@@ -44,7 +44,7 @@ module _ (h : Family) where
 
   -- the calls of a tab's rows
   abbrev pub tabCalls : Volume → List ℕ → List Call
-  tabCalls v text = linesCalls v (header text)
+  tabCalls v text = linesCalls v (body text)
 
   -- how many of the calls are accepted
   abbrev pub acceptedCalls : Volume → List Call → ℕ
@@ -78,11 +78,11 @@ module _ (h : Family) where
 
   pub load-volume : (v : Volume) (text : List ℕ) → Judged v → load h v text .volume ≡ after h v (tabCalls v text)
   unfolding load
-  load-volume v text J = rw (J .0, J .1) (lines-same v (header text) .0)
+  load-volume v text J = rw (J .0, J .1) (lines-same v (body text) .0)
 
   pub load-done : (v : Volume) (text : List ℕ) → Judged v → load h v text .done ≡ acceptedCalls v (tabCalls v text)
   unfolding load
-  load-done v text J = rw (J .0, J .1) (lines-same v (header text) .1)
+  load-done v text J = rw (J .0, J .1) (lines-same v (body text) .1)
 
   -- ---- their keys are 32-bit numbers
 
@@ -122,4 +122,4 @@ module _ (h : Family) where
   lines-words v (some lines) = calls-words v (rowsOf lines .rows) (read-words (length lines) lines)
 
   pub tab-words : (v : Volume) (text : List ℕ) → KeyWords (tabCalls v text)
-  tab-words v text = lines-words v (header text)
+  tab-words v text = lines-words v (body text)

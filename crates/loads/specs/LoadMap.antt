@@ -24,7 +24,7 @@ use Rattle.history.specs.Runs.{replyOf}
 use Rattle.history.specs.Volumes as volumes
 use Rattle.history.specs.Reached.{Reached, reach-call, reach-says, reach-format}
 use Rattle.tab.specs.Grammar.{Row, Reading}
-use Rattle.tab.specs.Reader.{header, rowsOf}
+use Rattle.tab.specs.Reader.{body, rowsOf}
 use Rattle.tab.specs.Agree.{reading-only}
 use Rattle.load.specs.Load.{rowRecord, endOf, rowCall, loadRows, loadLines, load}
 use Rattle.load.specs.LoadLaws.{Judged}
@@ -77,11 +77,11 @@ mapLines g m none = mapEnded (refuses refusal.malformed) m
 mapLines g m (some lines) = mapLoad g m (rowsOf lines .rows) (endSays (rowsOf lines .rest))
 
 abbrev pub mapTab : Geometry → Map → List ℕ → MapLoaded
-mapTab g m text = mapLines g m (header text)
+mapTab g m text = mapLines g m (body text)
 
 pub map-reading : (g : Geometry) (m : Map) (text : List ℕ) (rows : List Row) (rest : List ℕ) → Reading text rows rest
     → mapTab g m text ≡ mapLoad g m rows (endSays rest)
-map-reading g m text rows rest R = let O = reading-only text rows rest R in rw (O .header-is, O .rows-are)
+map-reading g m text rows rest R = let O = reading-only text rows rest R in rw (O .body-is, O .rows-are)
 
 -- ---- what it may answer
 
@@ -130,7 +130,7 @@ lines-reply g m none = inr (inr refl)
 lines-reply g m (some lines) = rows-reply g m (rowsOf lines .rows) (endSays (rowsOf lines .rest)) (end-reply (rowsOf lines .rest))
 
 pub map-replies : (g : Geometry) (m : Map) (text : List ℕ) → LoadReply (mapTab g m text .says)
-map-replies g m text = lines-reply g m (header text)
+map-replies g m text = lines-reply g m (body text)
 
 end-says : (rest : List ℕ) → replyOf (endOf rest) ≡ endSays rest
 end-says [] = refl
@@ -218,7 +218,7 @@ module _ (h : Family) (sizes : Sizes) where
   -- "earlier rows remain, and the answer gives their number and the refusal": those of the map
   pub load-agrees : (v : Volume) (m : Map) (text : List ℕ) → Reached h sizes v m → LoadAgrees (load h v text) (mapTab g m text)
   unfolding load
-  load-agrees v m text X = let J = reached-judged v m X in rw (J .0, J .1) (lines-agree v m (header text) X)
+  load-agrees v m text X = let J = reached-judged v m X in rw (J .0, J .1) (lines-agree v m (body text) X)
 
   -- "The rows loaded are to be exactly those a reading by the RFC's grammar, so widened, gives up to that end"
   pub load-agrees-reading : (v : Volume) (m : Map) (text : List ℕ) (rows : List Row) (rest : List ℕ) → Reached h sizes v m

@@ -18,7 +18,7 @@ use Rattle.history.specs.Worn.{Worn, withSpare, SpareKept, WornResult, SameRun}
 use Rattle.history.specs.WornCalls.{search-same, short-same}
 use Rattle.history.specs.WornRuns.{call-same, run-same}
 use Rattle.tab.specs.Grammar.{Row}
-use Rattle.tab.specs.Reader.{header, rowsOf}
+use Rattle.tab.specs.Reader.{body, rowsOf}
 use Rattle.load.specs.Load.{rowRecord, endOf, rowCall, loadRows, loadLines, load}
 use Rattle.load.specs.LoadLaws.{Judged}
 use Rattle.loads.specs.LoadCalls.{accepts, rowCalls, linesCalls, tabCalls, load-volume, RowWords, row-word, read-words, tab-words}
@@ -133,7 +133,7 @@ module _ (h : Family) (sizes : Sizes) where
       → SameRows (load h v text) (load h (withSpare spare v) text) (tabCalls h v text) (tabCalls h (withSpare spare v) text)
   unfolding load
   ends-same v m text spare X W J =
-      rw (short-same (geometry (v .state .sizes)) v spare (W .long), J .0, J .1) (lines-same v m spare (header text) X W)
+      rw (short-same (geometry (v .state .sizes)) v spare (W .long), J .0, J .1) (lines-same v m spare (body text) X W)
 
   -- a load of a volume that calls reach
   pub load-same : (v : Volume) (m : Map) (text spare : List ℕ) → Reached h sizes v m → Worn (spareSize g) (v .flash .spare) spare

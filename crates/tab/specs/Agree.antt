@@ -3,16 +3,16 @@ use mathlib.Core.Path.{_≡_, refl, sym, ap, _∙_}
 use mathlib.Core.Logic.{inl, inr}
 use mathlib.Core.Bool.{Bool, true, false}
 use mathlib.Core.Option.{Option, none, some, Option·map, Option·none-ne-some}
-use mathlib.Core.List.{List, [], _∷_, _++_, append-assoc}
+use mathlib.Core.List.{List, [], _∷_, _++_, append-assoc, cons-ne-nil}
 use Prim.Native.Nat.{ℕ, zero, suc, _+_, _≤_, _<_}
 use native.Mathlib.Nat.{not-suc-le-zero}
 use native.Mathlib.Omega.{arith}
 use lib.ListN.{length, length-append}
 use Rattle.memory.specs.Cases.{either, eq?}
-use Rattle.tab.specs.Grammar.{comma, lf, cr, Line, HeaderLine, Row, RowLine, Follows, LineThen, Rows, Reading}
-use Rattle.tab.specs.Reader.{Got, got, decimal, quoted, bare, after, lineEnd, ends, field, GotLine, gotLine}
+use Rattle.tab.specs.Grammar.{comma, lf, cr, Line, HeaderLine, Row, RowLine, Follows, LineThen, Rows, Headed, Reading}
+use Rattle.tab.specs.Reader.{Got, got, decimal, word, quoted, bare, after, lineEnd, ends, field, GotLine, gotLine}
 use Rattle.tab.specs.Reader.{fromGoal, fromMoves, fromLevel, line}
-use Rattle.tab.specs.Reader.{row, header, Read, readMore, continue, rowsIn, rowsOf}
+use Rattle.tab.specs.Reader.{row, header, body, Read, readMore, continue, rowsIn, rowsOf}
 use Rattle.tab.specs.Fields.{Stops, after-sound, ended-sound, Means, content-complete, Content, content-sound}
 use Rattle.tab.specs.declared.Column.{Column}
 use Rattle.tab.specs.declared.Column.the-variants.{Level, Moves, Goal}
@@ -260,11 +260,25 @@ row-none text h = go (row text) refl
 
 -- ---- the tab
 
--- what the reader makes of a tab whose header it reads is a reading by the grammar
-pub reading-is : (text lines : List ℕ) → header text ≡ some lines → Reading text (rowsOf lines .rows) (rowsOf lines .rest)
+header-empty : header [] ≡ none
+unfolding line field quoted bare word
+header-empty = refl
+
+body-sound : (text lines : List ℕ) → body text ≡ some lines → Headed text lines
+body-sound [] lines e = let q : [] ≡ lines = cc in inl (refl, sym q)
+body-sound (c ∷ cs) lines e = inr (header-sound (c ∷ cs) lines e)
+
+body-complete : (text lines : List ℕ) → Headed text lines → body text ≡ some lines
+body-complete [] lines H =
+    either H (λ e. ap some (sym (e .1)))
+    (λ T. absurd (Option·none-ne-some lines (sym header-empty ∙ header-complete [] lines T)))
+body-complete (c ∷ cs) lines H = either H (λ e. absurd (cons-ne-nil _ _ (e .0))) (header-complete (c ∷ cs) lines)
+
+-- what the reader makes of a tab whose header it reads, or of no bytes, is a reading by the grammar
+pub reading-is : (text lines : List ℕ) → body text ≡ some lines → Reading text (rowsOf lines .rows) (rowsOf lines .rest)
 reading-is text lines e = record {
   lines = lines;
-  header = header-sound text lines e;
+  headed = body-sound text lines e;
   reads = rows-sound (length lines) lines;
   ends = no-row (rowsOf lines .rest) (rows-end (length lines) lines (omega arith));
 }
@@ -272,13 +286,13 @@ reading-is text lines e = record {
 -- a reading by the grammar is what the reader makes of the tab
 pub record Only (text : List ℕ) (rows : List Row) (rest : List ℕ) : Type 0 where
   pub lines : List ℕ
-  pub header-is : header text ≡ some lines
+  pub body-is : body text ≡ some lines
   pub rows-are : rowsOf lines ≡ record { rows = rows; rest = rest }
 
 pub reading-only : (text : List ℕ) (rows : List Row) (rest : List ℕ) → Reading text rows rest → Only text rows rest
 reading-only text rows rest R = record {
   lines = R .lines;
-  header-is = header-complete text (R .lines) (R .header);
+  body-is = body-complete text (R .lines) (R .headed);
   rows-are = rows-complete rows rest (R .lines) (length (R .lines)) (omega arith) (R .reads) (row-none rest (R .ends));
 }
 
@@ -288,8 +302,21 @@ pub reading-unique : (text : List ℕ) (rows rows′ : List Row) (rest rest′ :
 reading-unique text rows rows′ rest rest′ R R′ =
     let A = reading-only text rows rest R in
     let B = reading-only text rows′ rest′ R′ in
-    let same : some (A .lines) ≡ some (B .lines) = sym (A .header-is) ∙ B .header-is in
+    let same : some (A .lines) ≡ some (B .lines) = sym (A .body-is) ∙ B .body-is in
     let lines : A .lines ≡ B .lines = cc in
     let q : _≡_ {A = Read} (record { rows = rows; rest = rest }) (record { rows = rows′; rest = rest′ })
     = sym (A .rows-are) ∙ ap rowsOf lines ∙ B .rows-are in
     (ap (λ (s : Read). s .rows) q, ap (λ (s : Read). s .rest) q)
+
+-- request 6: a tab of no bytes has a reading, with no row, and so this one alone; one with only a line end has none
+pub reading-empty : Reading [] [] []
+unfolding rowsIn
+reading-empty = reading-is [] [] refl
+
+pub line-end-unread : (rows : List Row) (rest : List ℕ) → Reading (lf ∷ []) rows rest → ⊥
+unfolding line field quoted bare word
+line-end-unread rows rest R = Option·none-ne-some _ (reading-only (lf ∷ []) rows rest R .body-is)
+
+pub return-line-end-unread : (rows : List Row) (rest : List ℕ) → Reading (cr ∷ lf ∷ []) rows rest → ⊥
+unfolding line field quoted bare word
+return-line-end-unread rows rest R = Option·none-ne-some _ (reading-only (cr ∷ lf ∷ []) rows rest R .body-is)

@@ -7,13 +7,13 @@ use Prim.Native.Nat.{ℕ}
 use Prim.Native.String.{String}
 use Rattle.text.specs.Text.{ascii}
 use Rattle.tab.specs.Grammar.{each, doubled, Field, Row}
-use Rattle.tab.specs.Reader.{digits, decimal, word, bare, quoted, lineEnd, field, line, header, Read, rowsIn, rowsOf}
+use Rattle.tab.specs.Reader.{digits, decimal, word, bare, quoted, lineEnd, field, line, header, body, Read, rowsIn, rowsOf}
 
 abbrev rowOf : ℕ → ℕ → ℕ → Row
 rowOf a b c = record { level = a; moves = b; goal = c }
 
 abbrev readOf : List ℕ → Option Read
-readOf text = Option·map rowsOf (header text)
+readOf text = Option·map rowsOf (body text)
 
 -- a tab, its rows, and what is left
 abbrev Reads : String → List Row → String → Type 0
@@ -119,6 +119,11 @@ pub escaped-quote : Field (ascii "\"1\"\"2\"") (ascii "1\"2")
 unfolding each doubled
 escaped-quote = inl (record { may = refl; is = refl })
 
+-- request 6: "a file of no bytes"
+pub nothing : Reads "" [] ""
+unfolding rowsIn
+nothing = refl
+
 -- ---- texts without a header
 
 -- a row in its place
@@ -156,7 +161,7 @@ pub only-ending : NoHeader "\n"
 unfolding digits decimal word bare quoted lineEnd field line
 only-ending = refl
 
--- nothing
-pub nothing : NoHeader ""
+-- also with a return
+pub only-return : NoHeader "\r\n"
 unfolding digits decimal word bare quoted lineEnd field line
-nothing = refl
+only-return = refl

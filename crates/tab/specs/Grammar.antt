@@ -125,9 +125,13 @@ abbrev pub Rows : List Row → List ℕ → List ℕ → Type 0
 Rows [] rest text = text ≡ rest
 Rows (r ∷ rs) rest text = RowThen r (Rows rs rest) text
 
+-- a header, and the text of the lines after it; request 6: "a file of no bytes" has neither
+abbrev pub Headed : List ℕ → List ℕ → Type 0
+Headed text lines = ((text ≡ []) × (lines ≡ [])) ⊎ LineThen HeaderLine text lines
+
 -- a reading of a tab: its header, and its rows up to its end or up to a line that is no row
 pub record Reading (text : List ℕ) (rows : List Row) (rest : List ℕ) : Type 0 where
   pub lines : List ℕ
-  pub header : LineThen HeaderLine text lines
+  pub headed : Headed text lines
   pub reads : Rows rows rest lines
   pub ends : (r : Row) (next : List ℕ) → LineThen (RowLine r) rest next → ⊥

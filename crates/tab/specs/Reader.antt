@@ -114,6 +114,11 @@ row text = line false text
 abbrev pub header : List ℕ → Option (List ℕ)
 header text = Option·map (λ g. g .next) (line true text)
 
+-- the text of a tab's rows, behind its header; request 6: a tab of no bytes needs none
+abbrev pub body : List ℕ → Option (List ℕ)
+body [] = some []
+body (c ∷ cs) = header (c ∷ cs)
+
 -- ---- rows, until none can be read
 
 pub record Read : Type 0 where

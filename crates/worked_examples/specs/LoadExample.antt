@@ -48,6 +48,16 @@ pub malformed-row : answer (loaded "level,moves,goal\n7,40,1\n8,41,2\n7,42\n9,0,
 unfolding calls digits decimal word bare quoted lineEnd field line rowsIn putCall loadRows load
 malformed-row = refl
 
+-- request 6: no bytes, no row
+pub no-bytes : answer (loaded "") ≡ record { outcome = accepted; rows = 0; state = stateOf (sizesOf 16 1 1 3) 0 0 }
+unfolding calls rowsIn loadRows load
+no-bytes = refl
+
+-- only a line end
+pub line-end : answer (loaded "\n") ≡ record { outcome = refused 9; rows = 0; state = stateOf (sizesOf 16 1 1 3) 0 0 }
+unfolding calls digits decimal word bare quoted lineEnd field line rowsIn putCall loadRows load
+line-end = refl
+
 -- no header, no row
 pub no-header : answer (loaded "7,40,1\n") ≡ record { outcome = refused 9; rows = 0; state = stateOf (sizesOf 16 1 1 3) 0 0 }
 unfolding calls digits decimal word bare quoted lineEnd field line rowsIn putCall loadRows load

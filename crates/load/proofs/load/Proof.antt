@@ -1,4 +1,4 @@
--- 1 and 2, the header, then the rows.
+-- 1 and 2, a tab of no bytes, the header, then the rows.
 use borrow.Author.Needs.{needs}
 use mathlib.Core.Path.{_≡_, sym, ap, subst, _∙_}
 use Rattle.layout.specs.Hash.{fnvFamily}
@@ -6,10 +6,11 @@ use Rattle.layout.specs.Calls.{Volume}
 use Rattle.state.specs.Contract.{volume}
 use Rattle.state.specs.Judge.{VolumeFits, GoodFits}
 use Rattle.state.specs.declared.Judgement.{Judgement}
+use Rattle.tab.specs.Reader.{body}
 use Rattle.reader.specs.Contract.{headerIn}
 use Rattle.reader.specs.declared.Header.{Header}
 use Rattle.load.specs.Load.{loadLines, load}
-use Rattle.load.proofs.Steps.{load-judged, load-good}
+use Rattle.load.proofs.Steps.{load-judged, load-good, body-none, body-some, none-loaded}
 use Rattle.load.proofs.load.Statement.{statement}
 use Rattle.load.proofs.load.Tie as tie
 
@@ -22,7 +23,7 @@ start-of j = j .before .before .before .before .before .before .before .before
 
 -- neither 1 nor 2 applies
 abbrev good-at : tie.After-header-at → tie.After-enum-told
-good-at h = h .before
+good-at h = h .before .before
 
 abbrev judge-at : tie.After-enum-told → tie.After-judge
 judge-at g = g .before .before
@@ -32,13 +33,18 @@ fits g =
     let j = judge-at g in
     subst (λ (r : Judgement). GoodFits (handed (start-of j)) r) (g .enum-told .given .1) (j .judge .ensures .1)
 
+after-judge : (g : tie.After-enum-told) → let s = start-of (judge-at g) in
+    load fnvFamily (handed s) (s .args .tab .now) ≡ loadLines fnvFamily (handed s) (body (s .args .tab .now))
+after-judge g =
+    let s = start-of (judge-at g) in
+    load-good fnvFamily (handed s) (s .args .tab .now) (g .enum-told .given .0 .0) (fits g)
+
 good : (h : tie.After-header-at) → let s = start-of (judge-at (good-at h)) in
     load fnvFamily (handed s) (s .args .tab .now) ≡ loadLines fnvFamily (handed s) (headerIn (s .args .tab .now) (h .header-at .result))
 good h =
-    let g = good-at h in
-    let j = judge-at g in
-    let s = start-of j in
-    load-good fnvFamily (handed s) (s .args .tab .now) (g .enum-told .given .0 .0) (fits g) ∙ ap (loadLines fnvFamily (handed s)) (sym (h .header-at .ensures))
+    let s = start-of (judge-at (good-at h)) in
+    after-judge (good-at h)
+    ∙ ap (loadLines fnvFamily (handed s)) (body-some (s .args .tab .now) (h .before .if1 .left) ∙ sym (h .header-at .ensures))
 
 judge-requires : tie.Need-judge-requires
 judge-requires c κs = search needs
@@ -65,12 +71,6 @@ returns c =
 enum-told : tie.Need-enum-told
 enum-told c = search needs
 
-header-at-requires : tie.Need-header-at-requires
-header-at-requires c κs = search needs
-
-enum-told-2 : tie.Need-enum-told-2
-enum-told-2 c = search needs
-
 same-length-4 : tie.Need-same-length-4
 same-length-4 c = search needs
 
@@ -82,15 +82,16 @@ same-length-6 c = search needs
 
 returns-2 : tie.Need-returns-2
 returns-2 c =
-    let h = c .before .before in
-    let s = start-of (judge-at (good-at h)) in
-    sym (good h ∙ ap (λ (r : Header). loadLines fnvFamily (handed s) (headerIn (s .args .tab .now) r)) (c .enum-told2 .given .1))
+    let g = c .before in
+    let s = start-of (judge-at g) in
+    sym (after-judge g ∙ ap (loadLines fnvFamily (handed s)) (body-none (s .args .tab .now) (c .if1 .taken))
+    ∙ none-loaded fnvFamily (handed s))
 
-enum-known-next : tie.Need-enum-known-next
-enum-known-next c = search needs
+header-at-requires : tie.Need-header-at-requires
+header-at-requires c κs = search needs
 
-load-rows-requires : tie.Need-load-rows-requires
-load-rows-requires c κs = search needs
+enum-told-2 : tie.Need-enum-told-2
+enum-told-2 c = search needs
 
 same-length-7 : tie.Need-same-length-7
 same-length-7 c = search needs
@@ -103,6 +104,27 @@ same-length-9 c = search needs
 
 returns-3 : tie.Need-returns-3
 returns-3 c =
+    let h = c .before .before in
+    let s = start-of (judge-at (good-at h)) in
+    sym (good h ∙ ap (λ (r : Header). loadLines fnvFamily (handed s) (headerIn (s .args .tab .now) r)) (c .enum-told2 .given .1))
+
+enum-known-next : tie.Need-enum-known-next
+enum-known-next c = search needs
+
+load-rows-requires : tie.Need-load-rows-requires
+load-rows-requires c κs = search needs
+
+same-length-10 : tie.Need-same-length-10
+same-length-10 c = search needs
+
+same-length-11 : tie.Need-same-length-11
+same-length-11 c = search needs
+
+same-length-12 : tie.Need-same-length-12
+same-length-12 c = search needs
+
+returns-4 : tie.Need-returns-4
+returns-4 c =
     let l = c .before .before .before .before .before .before in
     let n = l .before .before .before .before .before in
     let h = n .before .before in
@@ -120,15 +142,19 @@ load-spec =
     same-length-3
     returns
     enum-told
-    header-at-requires
-    enum-told-2
     same-length-4
     same-length-5
     same-length-6
     returns-2
-    enum-known-next
-    load-rows-requires
+    header-at-requires
+    enum-told-2
     same-length-7
     same-length-8
     same-length-9
-    returns-3)
+    returns-3
+    enum-known-next
+    load-rows-requires
+    same-length-10
+    same-length-11
+    same-length-12
+    returns-4)
