@@ -191,8 +191,8 @@ level_store_lookup_result level_store_lookup(level_store_state state, uint32_t k
  * level,moves,goal, then rows, if any, of three decimal numbers below 2^32. Leading zeros are allowed; each field, the header's
  * too, is quoted or not; lines end in LF or CRLF, the last ending may be missing. A row is an insert, or an update if its level
  * is there, with word 0. The load ends at the first row that is malformed or refused; that row changes nothing, the rows before
- * it remain. Refused by 1, 2 and, without the header, 9, all with rows 0; at a row by 9, 8, 5, 6, 7. An empty tab has no header;
- * with a length of 0 nothing is read at tab. */
+ * it remain. Refused by 1, 2 and, without the header, 9, all with rows 0; at a row by 9, 8, 5, 6, 7. A tab of no bytes needs no
+ * header: it has no rows, is accepted, and nothing is read at tab. One with only a line end is malformed. */
 level_store_load_result level_store_load(level_store_state state, const uint8_t *tab, size_t tab_len,
     uint8_t *data, size_t data_len, uint8_t *spare, size_t spare_len, uint8_t *ram, size_t ram_len);
 

@@ -252,7 +252,9 @@ static void check_load(void)
     ram_len--;
     CHECK(load("level") == LEVEL_STORE_TOO_SHORT && rows == 0);
     ram_len++;
-    CHECK(load("") == LEVEL_STORE_MALFORMED && rows == 0);
+    CHECK(load("") == LEVEL_STORE_OK && rows == 0 && state.records == 0);
+    CHECK(load("\n") == LEVEL_STORE_MALFORMED && rows == 0);
+    CHECK(load("\r\n") == LEVEL_STORE_MALFORMED && rows == 0);
     CHECK(load("level,moves\n1,2\n") == LEVEL_STORE_MALFORMED && rows == 0);
     CHECK(load("level,moves,goal") == LEVEL_STORE_OK && rows == 0 && state.records == 0);
     CHECK(load("level,\"moves\",goal\r\n1,2,3\n\"4294967295\",0031,\"0\"\r\n1,40,300") == LEVEL_STORE_OK && rows == 3);

@@ -10,10 +10,11 @@ const HEADER: &str = "level,moves,goal\n";
 /// All of them. Each but the last takes less than a second, the last a few seconds.
 pub fn all() -> Vec<Scenario> {
     type Run = fn(&mut Test) -> Result<(), Difference>;
-    let runs: [(&str, Run); 11] = [
+    let runs: [(&str, Run); 12] = [
         ("tab-prefixes", prefixes),
         ("tab-prefixes-known", known_prefixes),
         ("tab-malformed", malformed),
+        ("tab-no-bytes", no_bytes),
         ("tab-zeros", leading_zeros),
         ("tab-twice", level_twice),
         ("tab-full", records_full),
@@ -170,7 +171,10 @@ fn malformed(test: &mut Test) -> Result<(), Difference> {
         load(test, format!("{HEADER}{line}\n").as_bytes(), 0, MALFORMED)?;
     }
     for header in [
-        "",
+        "\n",
+        "\r\n",
+        "\r",
+        " ",
         "1,2,3",
         "Level,moves,goal",
         "\u{feff}level,moves,goal",
@@ -193,6 +197,18 @@ fn malformed(test: &mut Test) -> Result<(), Difference> {
         load(test, format!("{header}\n7,40,1\n").as_bytes(), 0, MALFORMED)?;
     }
     Ok(())
+}
+
+/// A tab of no bytes has no row, on a new volume, on one with rows and on a full one; it is read after 1 and 2.
+fn no_bytes(test: &mut Test) -> Result<(), Difference> {
+    format(test, 16, 1, 1)?;
+    load(test, b"", 0, 0)?;
+    load(test, format!("{HEADER}7,40,1\n").as_bytes(), 1, 0)?;
+    load(test, b"", 0, 0)?;
+    let rows: String = (0..63).map(|level| format!("1{level},1,1\n")).collect();
+    load(test, format!("{HEADER}{rows}").as_bytes(), 63, 0)?;
+    load(test, b"", 0, 0)?;
+    load(test, b"\n", 0, MALFORMED)
 }
 
 /// Ten thousand zeros before each number, in quotes and without; and before one that is too large.

@@ -172,6 +172,9 @@ fn take_out<const S: usize>(state: State, key: u32, lent: Lent) -> Result<State,
 /// The rows of a tab; `loaded` counts those accepted.
 fn load_rows<const S: usize>(loaded: &mut LoadResult, tab: &[u8], lent: Lent) -> Result<(), u32> {
     let layout = judge::<S>(loaded.state, lent.data, lent.spare, lent.ram)?;
+    if tab.is_empty() {
+        return Ok(());
+    }
     let mut tab = Tab::behind_header(tab).ok_or(MALFORMED)?;
     while !tab.at_end() {
         let [level, moves, goal] = tab.row().ok_or(MALFORMED)?;

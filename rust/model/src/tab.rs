@@ -10,15 +10,16 @@ pub type Row = [u32; 3];
 #[derive(Clone, Debug, PartialEq, Eq)]
 pub struct Reading {
     pub rows: Vec<Row>,
-    /// The header is there, and no row is malformed.
+    /// The header is there, and no row is malformed; or there are no bytes at all.
     pub whole: bool,
 }
 
-/// "A header `level,moves,goal`, then rows, if any, of three decimal numbers below 2^32."
+/// "A header `level,moves,goal`, then rows, if any, of three decimal numbers below 2^32"; by request 6 also "a file of no
+/// bytes", which has no row.
 pub fn read_tab(tab: &[u8]) -> Reading {
     let mut reading = Reading {
         rows: Vec::new(),
-        whole: false,
+        whole: tab.is_empty(),
     };
     let Some((header, mut rest)) = read_line(tab) else {
         return reading;

@@ -39,6 +39,7 @@ fn tabs_that_are_read_whole() {
     ] {
         assert_eq!(read_tab(tab.as_bytes()), whole(&[]), "{tab:?}");
     }
+    assert_eq!(read_tab(b""), whole(&[]));
     let largest = format!("{HEADER}4294967295,0004294967295,\"4294967295\"");
     assert_eq!(read_tab(largest.as_bytes()), whole(&[[u32::MAX; 3]]));
     let zeros = format!("{HEADER}{}7,0,00\n", "0".repeat(10_000));
@@ -49,8 +50,10 @@ fn tabs_that_are_read_whole() {
 #[test]
 fn tabs_that_are_malformed() {
     for tab in [
-        "",
         "\n",
+        "\r\n",
+        "\r",
+        " ",
         "1,2,3\n",
         "Level,moves,goal\n",
         "level,moves\n",
@@ -206,7 +209,8 @@ fn rows_before_the_end_remain() {
     assert!(loaded == called);
     // No row, no byte.
     assert_eq!(loaded.load(HEADER), (0, 0));
-    assert_eq!(loaded.load(""), (0, 9));
+    assert_eq!(loaded.load(""), (0, 0));
+    assert_eq!(loaded.load("\n"), (0, 9));
     assert!(loaded == called);
 }
 
@@ -241,8 +245,10 @@ fn state_and_lengths_come_first() {
     let mut volume = Volume::formatted(1);
     volume.ram.pop();
     assert_eq!(volume.load("no header"), (0, 2));
+    assert_eq!(volume.load(""), (0, 2));
     volume.state.sector_size = 24;
     assert_eq!(volume.load("no header"), (0, 1));
+    assert_eq!(volume.load(""), (0, 1));
 }
 
 /// The demonstration's tab: 40 levels, one of them twice.
