@@ -288,7 +288,7 @@ mod tests {
             run(&format!("LOAD {tab}")),
             Ok(Some("rows 1 no 9 | 16 1 1 2 1".to_string()))
         );
-        assert_eq!(run("LOAD -"), Ok(Some("rows 0 no 9 | 16 1 1 2 1".to_string())));
+        assert_eq!(run("LOAD -"), Ok(Some("rows 0 ok | 16 1 1 2 1".to_string())));
         for bad in ["LOAD", "LOAD 6", "LOAD +6", "LOAD 6g"] {
             assert!(run(bad).is_err(), "{bad}");
         }

@@ -12,8 +12,10 @@ fn folder(name: &str) -> PathBuf {
 
 #[test]
 fn traces() {
-    let summary = run_traces(&FastStore, &folder("requests/5/trace")).unwrap_or_else(|f| panic!("{f}"));
-    assert_eq!(summary.files, 13);
+    for name in ["requests/5/trace", "requests/6/trace"] {
+        let summary = run_traces(&FastStore, &folder(name)).unwrap_or_else(|f| panic!("{f}"));
+        assert_eq!(summary.files, 13);
+    }
 }
 
 #[test]
@@ -25,6 +27,7 @@ fn replays() {
         "requests/3/replay",
         "requests/4/replay",
         "requests/5/replay",
+        "requests/6/replay",
     ] {
         let summary = run_replays(&FastStore, &folder(name)).unwrap_or_else(|f| panic!("{f}"));
         assert_eq!(summary.files, 3);

@@ -12,8 +12,10 @@ fn folder(name: &str) -> std::path::PathBuf {
 
 #[test]
 fn traces() {
-    let summary = run_traces(&ModelStore, &folder("requests/5/trace")).unwrap_or_else(|f| panic!("{f}"));
-    assert_eq!(summary.files, 13);
+    for name in ["requests/5/trace", "requests/6/trace"] {
+        let summary = run_traces(&ModelStore, &folder(name)).unwrap_or_else(|f| panic!("{f}"));
+        assert_eq!(summary.files, 13);
+    }
 }
 
 #[test]
@@ -25,6 +27,7 @@ fn replays() {
         "requests/3/replay",
         "requests/4/replay",
         "requests/5/replay",
+        "requests/6/replay",
     ] {
         let summary = run_replays(&ModelStore, &folder(name)).unwrap_or_else(|f| panic!("{f}"));
         assert_eq!(summary.files, 3);
@@ -42,6 +45,7 @@ fn all_parts() {
         "requests/3",
         "requests/4",
         "requests/5",
+        "requests/6",
     ];
     assert_eq!(parts, expected.map(Path::new));
     let with = |kind: &str| {
@@ -50,7 +54,7 @@ fn all_parts() {
             .filter(|part| folder("").join(part).join(kind).is_dir())
             .count()
     };
-    assert_eq!((with("trace"), with("replay")), (1, 6));
+    assert_eq!((with("trace"), with("replay")), (2, 7));
 }
 
 /// Opens pages of entries or of deletions and reports none, or loads rows and reports none.
