@@ -57,7 +57,7 @@ extern "C" {
  * bytes of one formatted with hash_count 3: it fits version 2 once its state has a 3 between D and n. Version 3 has filters over
  * deletions, and with them more blocks and a page of ram more: no earlier volume fits it. */
 #define LEVEL_STORE_VERSION_MAJOR 3
-#define LEVEL_STORE_VERSION_MINOR 0
+#define LEVEL_STORE_VERSION_MINOR 1
 #define LEVEL_STORE_VERSION (LEVEL_STORE_VERSION_MAJOR * 1000 + LEVEL_STORE_VERSION_MINOR)
 
 /* Sizes, as constant expressions where the arguments are constants. An argument may be evaluated more than once. */

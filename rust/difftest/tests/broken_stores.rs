@@ -148,8 +148,20 @@ const READERS: [(&str, Reader); 11] = [
     ("quotes anywhere", |tab| without(tab, b"\"")),
     ("zeros left out", |tab| replaced(tab, "00", "0")),
     ("empty lines", |tab| replaced(tab, "\n\n", "\n")),
-    ("9 for no bytes", |tab| if tab.is_empty() { b"\n".to_vec() } else { tab.to_vec() }),
-    ("only a line end taken for no bytes", |tab| if tab == b"\n" { Vec::new() } else { tab.to_vec() }),
+    ("9 for no bytes", |tab| {
+        if tab.is_empty() {
+            b"\n".to_vec()
+        } else {
+            tab.to_vec()
+        }
+    }),
+    ("only a line end taken for no bytes", |tab| {
+        if tab == b"\n" {
+            Vec::new()
+        } else {
+            tab.to_vec()
+        }
+    }),
     ("a comma behind the row", |tab| replaced(tab, ",\n", "\n")),
     ("numbers of 2^32", |tab| replaced(tab, "4294967296", "0")),
     ("no row without an ending", |tab| {
