@@ -92,7 +92,7 @@ enum level_store_refusal {
     LEVEL_STORE_DELETIONS_FULL = 6, /* update or delete of a level that is there, without room for a deletion */
     LEVEL_STORE_NOT_FRESH = 7,      /* a sector to be programmed is not fresh */
     LEVEL_STORE_CORRUPT_ENTRY = 8,  /* the search met an entry of the level with a record number of n or more */
-    LEVEL_STORE_MALFORMED = 9       /* load: no header, or a row that is not three numbers */
+    LEVEL_STORE_MALFORMED = 9       /* load: bytes without the header, or a row that is not three numbers */
 };
 
 /* A refusal in words. */
@@ -192,7 +192,7 @@ level_store_lookup_result level_store_lookup(level_store_state state, uint32_t k
  * too, is quoted or not; lines end in LF or CRLF, the last ending may be missing. A row is an insert, or an update if its level
  * is there, with word 0. The load ends at the first row that is malformed or refused; that row changes nothing, the rows before
  * it remain. Refused by 1, 2 and, without the header, 9, all with rows 0; at a row by 9, 8, 5, 6, 7. A tab of no bytes needs no
- * header: it has no rows, is accepted, and nothing is read at tab. One with only a line end is malformed. */
+ * header: it has no rows, is refused by 1 and 2 alone, and nothing is read at tab. One with only a line end is malformed. */
 level_store_load_result level_store_load(level_store_state state, const uint8_t *tab, size_t tab_len,
     uint8_t *data, size_t data_len, uint8_t *spare, size_t spare_len, uint8_t *ram, size_t ram_len);
 

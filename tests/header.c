@@ -248,9 +248,11 @@ static void check_load(void)
     lend(16, 5, 1);
     memset(&state, 0, sizeof state);
     CHECK(load("level") == LEVEL_STORE_BAD_STATE && rows == 0);
+    CHECK(load("") == LEVEL_STORE_BAD_STATE && rows == 0);
     CHECK(format(16, 5, 1) == LEVEL_STORE_OK);
     ram_len--;
     CHECK(load("level") == LEVEL_STORE_TOO_SHORT && rows == 0);
+    CHECK(load("") == LEVEL_STORE_TOO_SHORT && rows == 0);
     ram_len++;
     CHECK(load("") == LEVEL_STORE_OK && rows == 0 && state.records == 0);
     CHECK(load("\n") == LEVEL_STORE_MALFORMED && rows == 0);

@@ -38,12 +38,12 @@ module _ (h : Family) where
   abbrev pub loadRead : Volume → Read → Several
   loadRead v r = loadRows v (r .rows) (endOf (r .rest))
 
-  -- "header missing"; request 6: a tab of no bytes "loads with zero rows"
+  -- "header missing"
   abbrev pub loadLines : Volume → Option (List ℕ) → Several
   loadLines v none = ended (refused refusal.malformed) v
   loadLines v (some lines) = loadRead v (rowsOf lines)
 
-  -- "found after 1 and 2 and before the store sees that row"
+  -- "found after 1 and 2 and before the store sees that row"; request 6: a tab of no bytes "loads with zero rows", by `body`
   unfoldable pub load : Volume → List ℕ → Several
   load v tab =
       cond (badState (v .state)) (ended (refused refusal.badState) v)

@@ -1,5 +1,4 @@
-// Loading a tab: its rows, one after the other, up to the first that is malformed or refused. Document 02, requests 1 and
-// 6.
+// Loading a tab: its rows in turn, up to the first that is malformed or refused. Document 02, requests 1 and 6.
 ghost use mathlib.Core.Path.{_≡_};
 ghost use lib.ListN.{drop};
 ghost use Rattle.memory.specs.Lent.{before};

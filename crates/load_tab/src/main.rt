@@ -1,5 +1,5 @@
 // Loads a tab from standard input into a freshly formatted volume, and tells the rows that were loaded and the refusal. Document 02,
-// request 1.
+// requests 1 and 6.
 ghost use mathlib.Core.Path.{_≡_};
 ghost use lib.ListN.{length};
 use geometry::Sizes;

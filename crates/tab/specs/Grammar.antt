@@ -1,4 +1,4 @@
--- A tab of levels: the grammar of RFC 4180, section 2, widened as document 02, request 1, says. Each production stands as a relation
+-- A tab of levels: the grammar of RFC 4180, section 2, widened as document 02 says, requests 1 and 6. Each production stands as a relation
 -- between a text and what it says: `++` is concatenation, a sum a choice, a list a repetition. No reader is named here.
 use mathlib.Core.Path.{_≡_}
 use mathlib.Core.Logic.{_≢_, _⊎_}
@@ -129,7 +129,7 @@ Rows (r ∷ rs) rest text = RowThen r (Rows rs rest) text
 abbrev pub Headed : List ℕ → List ℕ → Type 0
 Headed text lines = ((text ≡ []) × (lines ≡ [])) ⊎ LineThen HeaderLine text lines
 
--- a reading of a tab: its header, and its rows up to its end or up to a line that is no row
+-- a reading of a tab: its header, if it has bytes, and its rows up to its end or up to a line that is no row
 pub record Reading (text : List ℕ) (rows : List Row) (rest : List ℕ) : Type 0 where
   pub lines : List ℕ
   pub headed : Headed text lines

@@ -1,4 +1,4 @@
--- Loads computed by the definitions, from a tab's text to its answer and to what lookups show. Document 02, request 1.
+-- Loads computed by the definitions, from a tab's text to its answer and to what lookups show. Document 02, requests 1 and 6.
 use mathlib.Core.Path.{_≡_, refl}
 use mathlib.Core.List.{List, [], _∷_}
 use Prim.Native.Nat.{ℕ}

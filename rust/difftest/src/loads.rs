@@ -199,7 +199,7 @@ fn malformed(test: &mut Test) -> Result<(), Difference> {
     Ok(())
 }
 
-/// A tab of no bytes has no row, on a new volume, on one with rows and on a full one; it is read after 1 and 2.
+/// A tab of no bytes has no row, on a new volume, on one with a row and on a full one.
 fn no_bytes(test: &mut Test) -> Result<(), Difference> {
     format(test, 16, 1, 1)?;
     load(test, b"", 0, 0)?;

@@ -166,7 +166,7 @@ const READERS: [(&str, Reader); 11] = [
     ("numbers of 2^32", |tab| replaced(tab, "4294967296", "0")),
     ("no row without an ending", |tab| {
         let end = tab.iter().rposition(|&byte| byte == b'\n');
-        tab[..end.map_or(0, |end| end + 1)].to_vec()
+        tab[..end.map_or(tab.len(), |end| end + 1)].to_vec()
     }),
 ];
 

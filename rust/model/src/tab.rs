@@ -1,4 +1,4 @@
-//! A tab by the grammar of RFC 4180, widened as request 1 says: a line ends in LF or CRLF.
+//! A tab by the grammar of RFC 4180, widened as requests 1 and 6 say: a line ends in LF or CRLF, no bytes are a tab.
 //!
 //! A line is read by the grammar alone, whatever its fields are. Only then it is asked whether they are the
 //! header's or three numbers.
