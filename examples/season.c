@@ -1,4 +1,5 @@
-/* Formats a small volume, inserts, updates, deletes, loads and looks up a few levels, and prints what comes back:
+/* Formats a small volume, inserts, updates, deletes, loads and looks up a few levels, loses power in the middle of an update, restarts,
+ * and prints what comes back:
  *   rt staticlib capi && mkdir -p target/examples
  *   gcc -std=c11 -Wall -Wextra -Werror -O2 -Iinclude examples/season.c target/staticlib/libcapi.a -o target/examples/season
  */
@@ -43,6 +44,21 @@ static void look(level_store_state s, uint32_t key)
     }
 }
 
+/* An update that loses power when its intent is stored. */
+static void cut_update(level_store_state s, uint32_t key)
+{
+    level_store_cut_result r = level_store_update_cut(1, s, key, 36, 800, 0, data, sizeof data, spare, sizeof spare, ram, sizeof ram);
+    printf("update   %s after %u steps\n", r.finished ? "finished" : "cut", (unsigned)r.steps);
+}
+
+/* The first call after power-up: of all that is in this program's memory only data, spare and ram are there. */
+static level_store_state power_up(void)
+{
+    level_store_state any;
+    memset(&any, 0, sizeof any);
+    return report("restart", level_store_restart(any, data, sizeof data, spare, sizeof spare, ram, sizeof ram));
+}
+
 int main(void)
 {
     level_store_state s;
@@ -63,5 +79,9 @@ int main(void)
     look(s, 7);
     look(s, 9);
     look(s, 12);
+    cut_update(s, 9);
+    look(s, 9);
+    s = power_up();
+    look(s, 9);
     return 0;
 }

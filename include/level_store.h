@@ -7,10 +7,15 @@
  * Lent bytes. Three arrays hold a volume; they need no alignment and must not overlap.
  *   data   the chip's data bytes        at least LEVEL_STORE_DATA_SIZE(S, R, D) bytes
  *   spare  one byte for each sector     at least LEVEL_STORE_SPARE_SIZE(S, R, D) bytes
- *   ram    working memory               at least LEVEL_STORE_RAM_SIZE(S) bytes; between calls it belongs to the store
+ *   ram    working memory               at least LEVEL_STORE_RAM_SIZE(S) bytes; between calls it belongs to the store, and it has to
+ *                                       survive a loss of power, as the chip does
  * S is the sector size in bytes: 16, 32, 64, 128, 256 or 512. A page is four sectors, a block sixteen pages. R blocks hold the
  * records, D blocks the deletions; both are 1 to 4096. Longer arrays are allowed; bytes past these sizes never change. All
  * lengths are in bytes. Multi-byte numbers in the arrays are little-endian.
+ *
+ * Header. The last 64 bytes of ram, wherever it ends, are the header, sixteen numbers of 4 bytes: S, R, D, k, n and d, as the state
+ * has them; the kind of a pending call (1 insert, 2 update, 3 delete, 4 format, 0 none); its arguments (key, moves, goal, word; key;
+ * or the new S, R, D, k); zeros. Lend ram with the same length each time, or the header is not where it was.
  *
  * Filters. A level sets k bits in the filter of its page of keys, and a search opens the pages whose filter has all k of its
  * level's. Deleted record numbers have filters too, two for each of their pages, by which a search finds out whether a record is
@@ -20,9 +25,17 @@
  * Spare bytes. A sector is fresh if five or more of the eight bits of its spare byte are one, else it is programmed. Erasing writes FF,
  * programming writes 00; otherwise a spare byte is left as it is. So up to three wrong bits in each change no answer and no other byte.
  *
- * Power. The chip alone does not give a volume back: the pages that are not full yet (records, entries, deletions, filters) are in
- * ram only, and the counts in the state only. Save both, of the same moment, across power cycles. Where one of them is lost, so is
- * what it held; calls stay safe, but what they answer is no longer what was stored. A call cut short is not recovered.
+ * Power. At power-up call level_store_restart before anything else, with any state, zeros too, and go on with the state that it gives
+ * back: the header has the state of the last finished call, so it need not be kept elsewhere. An accepted changing call is a list of
+ * steps: it stores its intent in the header, does its operations on the chip, each a sector programmed or a block erased, and stores the
+ * finished ram with the new state and without the intent. The hardware has to see to it that each step happens wholly or not at all,
+ * and that they happen in this order. Power may then be lost between any two steps, during a restart too: restart finishes the call,
+ * and all bytes and the state are those of the call never cut. Before the intent is stored nothing has changed, and the call is not
+ * made. Which of the two it was is seen by the state: every accepted insert, update and delete raises n or d, or both. Each row of a
+ * load is such a call, and the rows behind the one that was cut are not loaded. While a call is pending, all calls but restart and
+ * format are refused by 10. A format may be cut like the others, and makes a volume whatever was there. If ram is lost, only a format
+ * helps: the pages that are not full yet and the counts are nowhere else. Calls stay safe then, but what they answer is no longer what
+ * was stored.
  *
  * Several callers. There is no static data, so calls on different volumes may run at the same time. Two calls on the same volume
  * must not, unless both are lookups.
@@ -31,8 +44,9 @@
  * its level, from the newest on, against the deletions, by their filters, until one is live. A level that was updated often and
  * then deleted takes longest. A load takes the time of reading its tab and of its rows' calls.
  *
- * Needs. The library is x86-64 code, 54 KB with its constants, and has no other data. Of C it calls memcpy and memset alone. It
- * takes at most 6.7 KB of stack, arguments included (measured: format 0.4, lookup 2.1, insert and delete 5.1, load 5.3, update 6.7).
+ * Needs. The library is x86-64 code, 62 KB with its constants, and has no other data. Of C it calls memcpy and memset alone. It
+ * takes at most 7.7 KB of stack, arguments included (measured: format 0.6, lookup 2.0, restart 7.5, load 7.6, insert, update and
+ * delete 7.7).
  */
 #ifndef LEVEL_STORE_H
 #define LEVEL_STORE_H
@@ -55,9 +69,10 @@ extern "C" {
 /* The major number stands for the bytes of a volume and the words of its state. Where it differs from that of the code which
  * formatted a volume, they do not fit. The minor number rises with any other change. A volume of version 1, document 01's, has the
  * bytes of one formatted with hash_count 3: it fits version 2 once its state has a 3 between D and n. Version 3 has filters over
- * deletions, and with them more blocks and a page of ram more: no earlier volume fits it. */
-#define LEVEL_STORE_VERSION_MAJOR 3
-#define LEVEL_STORE_VERSION_MINOR 1
+ * deletions, and with them more blocks and a page of ram more: no earlier volume fits it. Version 4 has the header: a volume of version 3
+ * fits it once 64 bytes stand behind its ram, the six numbers of its state and then zeros. */
+#define LEVEL_STORE_VERSION_MAJOR 4
+#define LEVEL_STORE_VERSION_MINOR 0
 #define LEVEL_STORE_VERSION (LEVEL_STORE_VERSION_MAJOR * 1000 + LEVEL_STORE_VERSION_MINOR)
 
 /* Sizes, as constant expressions where the arguments are constants. An argument may be evaluated more than once. */
@@ -68,10 +83,13 @@ extern "C" {
     ((size_t)(R) + ((size_t)(R) + 1) / 2 + (size_t)(D) + 1 + (size_t)(S) / 2 + (size_t)(R) / (4 * (size_t)(S)) * ((size_t)(S) / 4) \
         + 1 + (size_t)(S) / 2 + (size_t)(D) / (size_t)(S) * ((size_t)(S) / 4))
 
-/* Bytes to lend. */
+/* Bytes to lend. The ram is six pages and the header. */
 #define LEVEL_STORE_DATA_SIZE(S, R, D) (64 * (size_t)(S) * LEVEL_STORE_BLOCKS(S, R, D))
 #define LEVEL_STORE_SPARE_SIZE(S, R, D) (64 * LEVEL_STORE_BLOCKS(S, R, D))
-#define LEVEL_STORE_RAM_SIZE(S) (24 * (size_t)(S))
+#define LEVEL_STORE_RAM_SIZE(S) (24 * (size_t)(S) + LEVEL_STORE_HEADER_SIZE)
+
+/* Bytes of the header, the last ones of ram. */
+#define LEVEL_STORE_HEADER_SIZE 64
 
 /* Records and deletions that fit between two formats. */
 #define LEVEL_STORE_RECORD_CAPACITY(S, R) (4 * (size_t)(R) * (size_t)(S))
@@ -80,8 +98,8 @@ extern "C" {
 /* Bytes of a record: key, moves, goal, free word, 4 bytes each. */
 #define LEVEL_STORE_RECORD_SIZE 16
 
-/* What a call was refused by, tested in the order 1, 2, 9, 8, 3, 4, 5, 6, 7; the first that applies is given. On a volume that was
- * formatted, its bytes and state handed on unaltered, 1, 2, 7 and 8 never occur. */
+/* What a call was refused by, tested in the order 1, 2, 10, 9, 8, 3, 4, 5, 6, 7; the first that applies is given. On a volume that was
+ * formatted, its bytes and state handed on unaltered, 1, 2, 7 and 8 never occur, and 10 only after a cut without a restart. */
 enum level_store_refusal {
     LEVEL_STORE_OK = 0,             /* accepted */
     LEVEL_STORE_BAD_STATE = 1,      /* S, R, D or k not allowed, or n or d above its capacity, or d above n */
@@ -92,7 +110,8 @@ enum level_store_refusal {
     LEVEL_STORE_DELETIONS_FULL = 6, /* update or delete of a level that is there, without room for a deletion */
     LEVEL_STORE_NOT_FRESH = 7,      /* a sector to be programmed is not fresh */
     LEVEL_STORE_CORRUPT_ENTRY = 8,  /* the search met an entry of the level with a record number of n or more */
-    LEVEL_STORE_MALFORMED = 9       /* load: bytes without the header, or a row that is not three numbers */
+    LEVEL_STORE_MALFORMED = 9,      /* load: a tab without its first line, or a row that is not three numbers */
+    LEVEL_STORE_PENDING = 10        /* a call was cut and has to be finished: restart first. Never of restart and format */
 };
 
 /* A refusal in words. */
@@ -109,11 +128,12 @@ LEVEL_STORE_INLINE const char *level_store_refusal_text(uint32_t refusal)
     case LEVEL_STORE_NOT_FRESH: return "sector not fresh";
     case LEVEL_STORE_CORRUPT_ENTRY: return "entry with a wrong record number";
     case LEVEL_STORE_MALFORMED: return "header missing or row malformed";
+    case LEVEL_STORE_PENDING: return "a call is pending";
     default: return "unknown refusal";
     }
 }
 
-/* S, R, D, k, n, d. The caller keeps it and hands in what the last call gave back; before any format it may be all zero. */
+/* S, R, D, k, n, d. The caller hands in what the last call gave back; before any format, and for a restart, it may be all zero. */
 typedef struct {
     uint32_t sector_size; /* S, bytes */
     uint32_t ra_blocks;   /* R, blocks of records */
@@ -149,6 +169,16 @@ typedef struct {
     level_store_state state;
 } level_store_load_result;
 
+/* What a call with a budget of steps gives. finished 1: all its steps were done, so many, and the state is the new one. finished 0 with
+ * LEVEL_STORE_OK: the call stopped after `steps` of them, and the state is the one handed in. A refusal has finished 0, steps 0 and the
+ * state handed in. */
+typedef struct {
+    uint32_t refusal;
+    uint32_t finished;
+    uint64_t steps;
+    level_store_state state;
+} level_store_cut_result;
+
 /* A little-endian number, at any address. */
 LEVEL_STORE_INLINE uint32_t level_store_read32(const uint8_t *bytes)
 {
@@ -164,26 +194,26 @@ LEVEL_STORE_INLINE uint32_t level_store_record_moves(const uint8_t *record) { re
 LEVEL_STORE_INLINE uint32_t level_store_record_goal(const uint8_t *record) { return level_store_read32(record + 8); }
 LEVEL_STORE_INLINE uint32_t level_store_record_word(const uint8_t *record) { return level_store_read32(record + 12); }
 
-/* Starts an empty volume of S, R, D and k: erases its blocks and zeroes ram. `old` is not judged; it comes back on a refusal.
- * Refused by 1, 2. */
+/* Starts an empty volume of S, R, D and k: erases its blocks, zeroes ram's pages and stores the header. `old` is not judged; it comes
+ * back on a refusal. A pending call is forgotten. Refused by 1, 2. */
 level_store_change level_store_format(level_store_state old,
     uint32_t sector_size, uint32_t ra_blocks, uint32_t da_blocks, uint32_t hash_count,
     uint8_t *data, size_t data_len, uint8_t *spare, size_t spare_len, uint8_t *ram, size_t ram_len);
 
-/* A new level. Refused by 1, 2, 8, 3, 5, 7. */
+/* A new level. Refused by 1, 2, 10, 8, 3, 5, 7. */
 level_store_change level_store_insert(level_store_state state, uint32_t key, uint32_t moves, uint32_t goal, uint32_t word,
     uint8_t *data, size_t data_len, uint8_t *spare, size_t spare_len, uint8_t *ram, size_t ram_len);
 
 /* Values for a level, there or not: its record, if there is one, is deleted, and another inserted. n rises by one, and d if the level was
- * there. Refused by 1, 2, 8, 5, 6, 7; of a level that is not there never by 6. */
+ * there. Refused by 1, 2, 10, 8, 5, 6, 7; of a level that is not there never by 6. */
 level_store_change level_store_update(level_store_state state, uint32_t key, uint32_t moves, uint32_t goal, uint32_t word,
     uint8_t *data, size_t data_len, uint8_t *spare, size_t spare_len, uint8_t *ram, size_t ram_len);
 
-/* Takes a level out. Refused by 1, 2, 8, 4, 6, 7. */
+/* Takes a level out. Refused by 1, 2, 10, 8, 4, 6, 7. */
 level_store_change level_store_delete(level_store_state state, uint32_t key,
     uint8_t *data, size_t data_len, uint8_t *spare, size_t spare_len, uint8_t *ram, size_t ram_len);
 
-/* Finds a level's newest record. Changes nothing. Refused by 1, 2, 8. */
+/* Finds a level's newest record. Changes nothing. Refused by 1, 2, 10, 8. */
 level_store_lookup_result level_store_lookup(level_store_state state, uint32_t key,
     const uint8_t *data, size_t data_len, const uint8_t *spare, size_t spare_len, const uint8_t *ram, size_t ram_len);
 
@@ -191,9 +221,35 @@ level_store_lookup_result level_store_lookup(level_store_state state, uint32_t k
  * level,moves,goal, then rows, if any, of three decimal numbers below 2^32. Leading zeros are allowed; each field, the header's
  * too, is quoted or not; lines end in LF or CRLF, the last ending may be missing. A row is an insert, or an update if its level
  * is there, with word 0. The load ends at the first row that is malformed or refused; that row changes nothing, the rows before
- * it remain. Refused by 1, 2 and, without the header, 9, all with rows 0; at a row by 9, 8, 5, 6, 7. A tab of no bytes needs no
- * header: it has no rows, is refused by 1 and 2 alone, and nothing is read at tab. One with only a line end is malformed. */
+ * it remain. Refused by 1, 2, 10 and, without the tab's header, 9, all with rows 0; at a row by 9, 8, 5, 6, 7. A tab of no bytes needs
+ * no header: it has no rows, is refused by 1, 2 and 10 alone, and nothing is read at tab. One with only a line end is malformed. */
 level_store_load_result level_store_load(level_store_state state, const uint8_t *tab, size_t tab_len,
+    uint8_t *data, size_t data_len, uint8_t *spare, size_t spare_len, uint8_t *ram, size_t ram_len);
+
+/* To be called first at power-up. Finishes the pending call, or finds none and changes nothing; gives the state to go on with. It goes by
+ * the header; `state` is not judged, and comes back on a refusal. What counts as done is all up to the last sector of the call's list
+ * that is programmed; no sector is programmed again, an erase behind that sector perhaps made again. Refused by 2 first if ram is
+ * under 64 bytes, and by 1 if the kind is unknown; then as the pending call would be, by the header's state, but never by 7 and 10;
+ * with none pending by 1, 2. On a volume that was formatted and not altered it is never refused. */
+level_store_change level_store_restart(level_store_state state,
+    uint8_t *data, size_t data_len, uint8_t *spare, size_t spare_len, uint8_t *ram, size_t ram_len);
+
+/* The same calls with a budget: they do the first `budget` of their steps, as if power was lost then, and leave the bytes of that moment.
+ * For tests and benches; harmless in firmware, since a restart finishes a call that was stopped. A budget of 0 changes nothing; one that
+ * is not used up is the call without a budget. A restart that finds nothing pending has finished 1, steps 0 and the header's state. What
+ * budgets b and b + 1 leave differs by one step: so a driver that works on a copy of the chip can learn the steps and their order. */
+level_store_cut_result level_store_format_cut(uint64_t budget, level_store_state old,
+    uint32_t sector_size, uint32_t ra_blocks, uint32_t da_blocks, uint32_t hash_count,
+    uint8_t *data, size_t data_len, uint8_t *spare, size_t spare_len, uint8_t *ram, size_t ram_len);
+level_store_cut_result level_store_insert_cut(uint64_t budget, level_store_state state,
+    uint32_t key, uint32_t moves, uint32_t goal, uint32_t word,
+    uint8_t *data, size_t data_len, uint8_t *spare, size_t spare_len, uint8_t *ram, size_t ram_len);
+level_store_cut_result level_store_update_cut(uint64_t budget, level_store_state state,
+    uint32_t key, uint32_t moves, uint32_t goal, uint32_t word,
+    uint8_t *data, size_t data_len, uint8_t *spare, size_t spare_len, uint8_t *ram, size_t ram_len);
+level_store_cut_result level_store_delete_cut(uint64_t budget, level_store_state state, uint32_t key,
+    uint8_t *data, size_t data_len, uint8_t *spare, size_t spare_len, uint8_t *ram, size_t ram_len);
+level_store_cut_result level_store_restart_cut(uint64_t budget, level_store_state state,
     uint8_t *data, size_t data_len, uint8_t *spare, size_t spare_len, uint8_t *ram, size_t ram_len);
 
 #ifdef __cplusplus

@@ -17,16 +17,19 @@ HOLDS(blocks_512, LEVEL_STORE_BLOCKS(512, 2048, 1) == 3715);
 HOLDS(blocks_of_terms, LEVEL_STORE_BLOCKS(8 + 8, 60 + 4, 0 + 16) == 138);
 HOLDS(capacity_1, LEVEL_STORE_RECORD_CAPACITY(16, 1) == 64);
 HOLDS(capacity_of_terms, LEVEL_STORE_RECORD_CAPACITY(8 + 8, 0 + 1) == 64 && LEVEL_STORE_DELETION_CAPACITY(8 + 8, 0 + 1) == 256);
-HOLDS(ram_of_terms, LEVEL_STORE_RAM_SIZE(8 + 8) == 384);
+HOLDS(ram_of_terms, LEVEL_STORE_RAM_SIZE(8 + 8) == 448 && LEVEL_STORE_RAM_SIZE(512) == 12352 && LEVEL_STORE_HEADER_SIZE == 64);
 HOLDS(largest, LEVEL_STORE_DATA_SIZE(512, 4096, 4096) == 394330112 && LEVEL_STORE_SPARE_SIZE(512, 4096, 4096) == 770176);
 HOLDS(largest_counts, LEVEL_STORE_RECORD_CAPACITY(512, 4096) == 8388608 && LEVEL_STORE_DELETION_CAPACITY(512, 4096) == 33554432);
 HOLDS(sizes_are_size_t, sizeof LEVEL_STORE_BLOCKS(16, 1, 1) == sizeof(size_t) && sizeof LEVEL_STORE_RAM_SIZE(16) == sizeof(size_t));
 HOLDS(layouts, sizeof(level_store_state) == 24 && sizeof(level_store_change) == 28 && sizeof(level_store_lookup_result) == 32
-    && sizeof(level_store_load_result) == 32);
+    && sizeof(level_store_load_result) == 32 && sizeof(level_store_cut_result) == 40);
 HOLDS(lookup_words, offsetof(level_store_lookup_result, offset) == 16 && offsetof(level_store_lookup_result, deletion_count) == 24);
+HOLDS(cut_words, offsetof(level_store_cut_result, finished) == 4 && offsetof(level_store_cut_result, steps) == 8
+    && offsetof(level_store_cut_result, state) == 16);
+HOLDS(pending, LEVEL_STORE_PENDING == 10);
 HOLDS(state_words, offsetof(level_store_state, da_blocks) == 8 && offsetof(level_store_state, hash_count) == 12
     && offsetof(level_store_state, records) == 16 && offsetof(level_store_state, deletions) == 20);
-#if LEVEL_STORE_VERSION != LEVEL_STORE_VERSION_MAJOR * 1000 + LEVEL_STORE_VERSION_MINOR || LEVEL_STORE_VERSION < 1000
+#if LEVEL_STORE_VERSION != LEVEL_STORE_VERSION_MAJOR * 1000 + LEVEL_STORE_VERSION_MINOR || LEVEL_STORE_VERSION < 4000
 #error "version"
 #endif
 
@@ -48,6 +51,9 @@ static size_t data_len, spare_len, ram_len;
 static level_store_state state;
 
 #define LENT data, data_len, spare, spare_len, ram, ram_len
+
+/* A number of the header at the end of ram. */
+static uint32_t header_word(size_t i) { return level_store_read32(ram + ram_len - LEVEL_STORE_HEADER_SIZE + 4 * i); }
 
 static uint8_t *array(size_t len)
 {
@@ -122,6 +128,7 @@ static void check_sizes(uint32_t S, uint32_t R, uint32_t D)
     CHECK(state.sector_size == S && state.ra_blocks == R && state.da_blocks == D && state.hash_count == 3);
     CHECK(state.records == 0 && state.deletions == 0);
     CHECK(spare[spare_len - 1] == 0xFF && data[data_len - 1] == 0xFF && ram[ram_len - 1] == 0);
+    CHECK(header_word(0) == S && header_word(1) == R && header_word(2) == D && header_word(3) == 3 && header_word(6) == 0);
     give_back();
 }
 
@@ -290,12 +297,120 @@ static void check_load(void)
 static void check_texts(void)
 {
     uint32_t i, j;
-    for (i = 0; i <= 10; i++) {
+    for (i = 0; i <= 11; i++) {
         CHECK(level_store_refusal_text(i) != NULL && level_store_refusal_text(i)[0] != '\0');
         for (j = 0; j < i; j++)
             CHECK(strcmp(level_store_refusal_text(i), level_store_refusal_text(j)) != 0);
     }
-    CHECK(strcmp(level_store_refusal_text(0xFFFFFFFF), level_store_refusal_text(10)) == 0);
+    CHECK(strcmp(level_store_refusal_text(0xFFFFFFFF), level_store_refusal_text(11)) == 0);
+}
+
+/* The refusal of a call with a budget; its state is handed on, and so many steps were done. */
+static uint32_t finished, steps;
+static uint32_t after_cut(level_store_cut_result r)
+{
+    state = r.state;
+    finished = r.finished;
+    steps = (uint32_t)r.steps;
+    return r.refusal;
+}
+
+static uint32_t insert_cut(uint64_t budget, uint32_t key) { return after_cut(level_store_insert_cut(budget, state, key, 40, 0, 0, LENT)); }
+static uint32_t restart_cut(uint64_t budget) { return after_cut(level_store_restart_cut(budget, state, LENT)); }
+
+/* A restart goes by the header: it is handed zeros. */
+static uint32_t restart(void)
+{
+    memset(&state, 0, sizeof state);
+    return after(level_store_restart(state, LENT));
+}
+
+/* Seven inserts; the eighth fills a page of records and one of entries: its intent, eight sectors, and the ram. */
+#define EIGHTH_STEPS 10
+static void seven(void)
+{
+    uint32_t i;
+    CHECK(format(16, 4, 1) == LEVEL_STORE_OK);
+    for (i = 0; i < 7; i++)
+        CHECK(insert(i) == LEVEL_STORE_OK);
+}
+
+/* Each cut of a call, and one of its restart: all bytes and the state are those of the call never cut. */
+static void check_every_cut(void)
+{
+    uint8_t *whole_data, *whole_spare, *whole_ram;
+    uint32_t b;
+    seven();
+    CHECK(insert(7) == LEVEL_STORE_OK);
+    memcpy(whole_data = array(data_len), data, data_len);
+    memcpy(whole_spare = array(spare_len), spare, spare_len);
+    memcpy(whole_ram = array(ram_len), ram, ram_len);
+    for (b = 0; b <= EIGHTH_STEPS + 1; b++) {
+        seven();
+        CHECK(insert_cut(b, 7) == LEVEL_STORE_OK && finished == (b >= EIGHTH_STEPS));
+        CHECK(steps == (b < EIGHTH_STEPS ? b : EIGHTH_STEPS) && state.records == (b < EIGHTH_STEPS ? 7 : 8));
+        CHECK(spare[4] == (b < 2 ? 0xFF : 0) && header_word(6) == (b > 0 && b < EIGHTH_STEPS));
+        if (b > 0 && b < EIGHTH_STEPS)
+            CHECK(restart_cut(2) == LEVEL_STORE_OK && finished == (b >= EIGHTH_STEPS - 2) && steps == (b < EIGHTH_STEPS - 1 ? 2 : 1));
+        CHECK(restart() == LEVEL_STORE_OK && state.records == (b == 0 ? 7 : 8) && state.deletions == 0 && state.sector_size == 16);
+        if (b == 0)
+            CHECK(insert(7) == LEVEL_STORE_OK);
+        CHECK(memcmp(data, whole_data, data_len) == 0 && memcmp(spare, whole_spare, spare_len) == 0);
+        CHECK(memcmp(ram, whole_ram, ram_len) == 0);
+    }
+    free(whole_data);
+    free(whole_spare);
+    free(whole_ram);
+}
+
+/* The header of a pending call; what is refused meanwhile, by 10 straight after 2; and the calls that are not. */
+static void check_pending(void)
+{
+    uint32_t i;
+    seven();
+    CHECK(after_cut(level_store_update_cut(1, state, 6, 11, 12, 13, LENT)) == LEVEL_STORE_OK && finished == 0 && steps == 1);
+    CHECK(header_word(0) == 16 && header_word(1) == 4 && header_word(2) == 1 && header_word(3) == 3);
+    CHECK(header_word(4) == 7 && header_word(5) == 0);
+    CHECK(header_word(6) == 2 && header_word(7) == 6 && header_word(8) == 11 && header_word(9) == 12 && header_word(10) == 13);
+    for (i = 11; i < 16; i++)
+        CHECK(header_word(i) == 0);
+    CHECK(insert(6) == LEVEL_STORE_PENDING && update(6) == LEVEL_STORE_PENDING && take_out(100) == LEVEL_STORE_PENDING);
+    CHECK(load("") == LEVEL_STORE_PENDING && load("level") == LEVEL_STORE_PENDING && rows == 0);
+    CHECK(level_store_lookup(state, 6, LENT).refusal == LEVEL_STORE_PENDING);
+    CHECK(insert_cut(0, 6) == LEVEL_STORE_PENDING && finished == 0 && steps == 0 && state.records == 7);
+    data_len--;
+    CHECK(insert(6) == LEVEL_STORE_TOO_SHORT && level_store_restart(state, LENT).refusal == LEVEL_STORE_TOO_SHORT);
+    data_len++;
+    CHECK(restart() == LEVEL_STORE_OK && state.records == 8 && state.deletions == 1);
+    CHECK(restart_cut(0) == LEVEL_STORE_OK && finished == 1 && steps == 0 && state.records == 8);
+    CHECK(after_cut(level_store_delete_cut(1, state, 6, LENT)) == LEVEL_STORE_OK && header_word(6) == 3 && header_word(7) == 6);
+    CHECK(after_cut(level_store_format_cut(1, state, 16, 2, 1, 5, LENT)) == LEVEL_STORE_OK && finished == 0 && state.records == 8);
+    CHECK(header_word(1) == 4 && header_word(4) == 8 && header_word(6) == 4 && header_word(8) == 2 && header_word(10) == 5);
+    CHECK(restart() == LEVEL_STORE_OK && state.ra_blocks == 2 && state.hash_count == 5 && state.records == 0);
+    CHECK(after_cut(level_store_format_cut(1000, state, 16, 4, 1, 3, LENT)) == LEVEL_STORE_OK && finished == 1);
+    CHECK(steps == LEVEL_STORE_BLOCKS(16, 4, 1) + 2);
+}
+
+/* Restarts that are refused hand back the state that they were handed. */
+static void check_refused_restarts(void)
+{
+    level_store_state handed;
+    seven();
+    handed = state;
+    ram[ram_len - LEVEL_STORE_HEADER_SIZE + 4 * 6] = 5; /* the kind */
+    CHECK(after(level_store_restart(state, LENT)) == LEVEL_STORE_BAD_STATE && memcmp(&state, &handed, sizeof state) == 0);
+    CHECK(level_store_restart(state, data, data_len, spare, spare_len, ram, 63).refusal == LEVEL_STORE_TOO_SHORT);
+    memset(ram, 0, ram_len);
+    CHECK(after(level_store_restart(state, LENT)) == LEVEL_STORE_BAD_STATE && memcmp(&state, &handed, sizeof state) == 0);
+}
+
+static void check_power_loss(void)
+{
+    lend(16, 4, 1);
+    check_every_cut();
+    check_pending();
+    check_refused_restarts();
+    give_back();
 }
 
 /* The accessors read what an insert wrote: in ram, on the chip, and at an odd address. */
@@ -343,6 +458,7 @@ int main(void)
     check_deletion_counts();
     check_load();
     check_texts();
+    check_power_loss();
     check_accessors();
     printf("header: %u checks, %u failed\n", checks, failures);
     return failures != 0;

@@ -1,2 +1,5 @@
 pub mod CallsLaws
 mod RequestLaws
+mod FinishLaws
+mod AgainLaws
+mod WholeLaws

@@ -1,23 +1,16 @@
 -- The changing calls: which key, and what is decided by how that key is resolved.
 use Prim.Native.Nat.{ℕ}
 use Rattle.layout.specs.Refusals as refusal
-use Rattle.layout.specs.Calls as layout
 use Rattle.geometry.specs.declared.Geometry.{Geometry}
-use Rattle.state.specs.Contract.{recordIs}
+use Rattle.state.specs.declared.Request.{Request}
+use Rattle.state.specs.declared.Request.the-variants.{Insert, Update, Delete}
 use Rattle.changes.specs.declared.Edit.the-variants as edits
 use Rattle.calls.specs.declared.Resolved.{Resolved}
 use Rattle.calls.specs.declared.Resolved.the-variants as resolved
-use Rattle.calls.specs.declared.Request.{Request}
-use Rattle.calls.specs.declared.Request.the-variants.{Insert, Update, Delete}
 use Rattle.calls.specs.declared.Decision.{Decision}
 use Rattle.calls.specs.declared.Decision.the-variants.{Refused, Change}
 
--- the layout's call
-abbrev pub callOf : Request → layout.Call
-callOf (Insert r) = layout.insert (recordIs r)
-callOf (Update r) = layout.update (recordIs r)
-callOf (Delete key) = layout.delete key
-
+-- the key that it names
 abbrev pub keyOf : Request → ℕ
 keyOf (Insert r) = r .key
 keyOf (Update r) = r .key

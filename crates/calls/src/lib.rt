@@ -1,18 +1,31 @@
-// The changing calls insert, update and delete, by one way: 1, 2, 8, then 3 or 4 by whether the key is live, then the change. Document
-// 01, "Calls".
+// The changing calls insert, update and delete, by one way: 1, 2, 10, 8, then 3 or 4 by whether the key is live, then 5, 6, 7 or the change
+// in steps; and the same of a pending call by a restart. Document 01, "Calls"; document 02, request 8.
 ghost use mathlib.Core.Path.{_≡_};
+ghost use Prim.Native.Nat.{_≤_};
+ghost use lib.ListN.{length};
+ghost use Rattle.memory.specs.Lent.{before};
 ghost use Rattle.layout.specs.Hash.{fnvFamily};
 ghost use Rattle.layout.specs.Calls as layout;
-ghost use Rattle.layout.specs.Calls.{call};
-ghost use Rattle.state.specs.Contract.{recordIs, given, effectOf, effectBy};
-ghost use Rattle.calls.specs.Resolve.{resolvedOf, ResolvedFits};
-ghost use Rattle.calls.specs.Request.{callOf, keyOf, ofAbsent, ofLive, decisionOf};
+ghost use Rattle.layout.specs.Header.{headerSize, pages, onPages, changing, pendingIn};
+ghost use Rattle.layout.specs.Budgets.{lastSteps, callCut, callWhole, restartCut};
+ghost use Rattle.geometry.specs.Shape.{shape};
+ghost use Rattle.state.specs.Contract.{recordIs, callOf, volume, given, effectOf, effectBy, cutOf, cutBy, memoryBefore, memoryAfter, Ran};
+ghost use Rattle.state.specs.Judge.{VolumeFits, GoodFits};
+ghost use Rattle.state.specs.declared.Judgement.{Judgement};
+ghost use Rattle.planning.specs.Edits.{Room};
+ghost use Rattle.changes.specs.Tasks.{taskOn, taskSlots, taskPlan, taskResult};
+ghost use Rattle.calls.specs.Resolve.{resolvedBy, resolvedOf, ResolvedFits};
+ghost use Rattle.calls.specs.Request.{keyOf, ofAbsent, ofLive, decisionOf};
 use changes::Edit;
+use changes::Task;
 use geometry::Geometry;
 use search::End;
 use state::Change;
+use state::Cut;
 use state::Judgement;
+use state::Progress;
 use state::Record;
+use state::Request;
 use state::State;
 
 // ---- a key
@@ -24,18 +37,27 @@ pub enum Resolved {
     Live(Geometry, u32),
 }
 
-// Refusals 1, 2 and 8, then whether the key is live.
-pub fn resolve(s: State, key: u32, main: &[u8], spare: &[u8], ram: &[u8]) -> Resolved
-    ensures equal { λ r. ⌜ r ≡ resolvedOf (given s main spare ram) key ⌝ }
-    ensures fits { λ r. ⌜ ResolvedFits (given s main spare ram) r ⌝ }
+// The judge's refusal, or 8, or whether the key is live.
+fn resolve_judged(
+    j: Judgement,
+    s: State,
+    key: u32,
+    main: &[u8],
+    spare: &[u8],
+    ram: &[u8],
+) -> Resolved
+    requires { ⌜ GoodFits (onPages (volume s (now main) (now spare) (now ram))) j ⌝ }
+    ensures equal { λ r. ⌜ r ≡ resolvedBy j (onPages (given s main spare ram)) key ⌝ }
+    ensures fits { λ r. ⌜ ResolvedFits (onPages (given s main spare ram)) r ⌝ }
 {
-    match state::judge(s, main, spare, ram) {
+    match j {
         Judgement::Refused(i) => {
             return Resolved::Refused(i);
         }
         Judgement::Good(g) => {
+            let n = ram.len() - state::HEADER_SIZE;
             let v = search::all(g, s.records as usize, s.deletions as usize);
-            let f = search::search(v, key, main, ram);
+            let f = search::search(v, key, main, &ram[0..n]);
             let end = f.end;
             match end {
                 End::Corrupt => {
@@ -52,14 +74,16 @@ pub fn resolve(s: State, key: u32, main: &[u8], spare: &[u8], ram: &[u8]) -> Res
     }
 }
 
-// ---- a changing call
-
-// A call and its arguments other than state and lent bytes.
-pub enum Request {
-    Insert(Record),
-    Update(Record),
-    Delete(u32),
+// Refusals 1, 2, 10 and 8, then whether the key is live.
+pub fn resolve(s: State, key: u32, main: &[u8], spare: &[u8], ram: &[u8]) -> Resolved
+    ensures equal { λ r. ⌜ r ≡ resolvedOf (given s main spare ram) key ⌝ }
+    ensures fits { λ r. ⌜ ResolvedFits (onPages (given s main spare ram)) r ⌝ }
+{
+    let j = header::judge(s, main, spare, ram);
+    resolve_judged(j, s, key, main, spare, ram)
 }
+
+// ---- what a call does
 
 // A refusal, or what is to be changed.
 pub enum Decision {
@@ -111,42 +135,151 @@ fn decide(q: Request, r: Resolved) -> Decision
     }
 }
 
-// A changing call.
-pub fn perform(s: State, q: Request, main: &mut [u8], spare: &mut [u8], ram: &mut [u8]) -> Change
-    ensures { λ r. ⌜ effectBy r main spare ram
-        ≡ effectOf (call fnvFamily (given s main spare ram) (callOf q)) ⌝ }
+// ---- in steps
+
+// The steps of a change behind its intent, from operation `from` of its plan on: the operations, then the RAM and its header.
+fn finish(
+    t: Task,
+    from: usize,
+    budget: usize,
+    main: &mut [u8],
+    spare: &mut [u8],
+    ram: &mut [u8],
+) -> Progress
+    requires { ⌜ (headerSize ≤ length (now ram)) × VolumeFits (taskOn t (now main) (now spare) (pages (now ram))) (t .g) ⌝ }
+    requires { ⌜ Room (shape (t .g)) (taskSlots t) × (from ≤ length (taskPlan t (now main) (now spare) (pages (now ram)))) ⌝ }
+    ensures { λ p. ⌜ Ran (t .g .chip .unit) (lastSteps (taskResult t (before main) (before spare) (pages (before ram)) from)) budget
+        (memoryBefore main spare ram) (memoryAfter main spare ram) p ⌝ }
 {
-    match decide(q, resolve(s, key_of(q), main, spare, ram)) {
+    let n = ram.len() - state::HEADER_SIZE;
+    let p = changes::carry_on(t, from, budget, main, spare, &mut ram[0..n]);
+    if !p.finished {
+        return p;
+    }
+    let edit = t.edit;
+    header::clear(changes::counted_state(t.state, edit), ram);
+    Progress {
+        steps: p.steps + 1,
+        finished: true,
+    }
+}
+
+// A changing call whose key is resolved, with a budget of steps: 3 to 7, else its intent and the steps behind it.
+pub fn perform_resolved(
+    budget: usize,
+    s: State,
+    q: Request,
+    r: Resolved,
+    main: &mut [u8],
+    spare: &mut [u8],
+    ram: &mut [u8],
+) -> Cut
+    requires { ⌜ (r ≡ resolvedOf (volume s (now main) (now spare) (now ram)) (keyOf q))
+        × ResolvedFits (onPages (volume s (now main) (now spare) (now ram))) r ⌝ }
+    ensures { λ c. ⌜ cutBy c main spare ram ≡ cutOf (callCut fnvFamily budget (given s main spare ram) (callOf q)) ⌝ }
+{
+    match decide(q, r) {
         Decision::Refused(i) => {
-            return state::refuse(s, i);
+            return state::refuse_cut(s, i);
         }
-        Decision::Change(g, e) => {
-            return changes::apply(g, s, e, main, spare, ram);
+        Decision::Change(g, edit) => {
+            let t = Task { g, state: s, edit };
+            let i = changes::refusal(t, spare);
+            if i != state::ACCEPTED {
+                return state::refuse_cut(s, i);
+            }
+            if budget == 0 {
+                let none = Progress {
+                    steps: 0,
+                    finished: false,
+                };
+                return state::cut_after(none, s, s);
+            }
+            header::intend(s, q, ram);
+            let p = finish(t, 0, budget - 1, main, spare, ram);
+            let after = Progress {
+                steps: p.steps + 1,
+                finished: p.finished,
+            };
+            return state::cut_after(after, s, changes::counted_state(s, edit));
         }
     }
 }
 
-// ---- the calls
+// A changing call with a budget of steps.
+pub fn perform_for(
+    budget: usize,
+    s: State,
+    q: Request,
+    main: &mut [u8],
+    spare: &mut [u8],
+    ram: &mut [u8],
+) -> Cut
+    ensures { λ c. ⌜ cutBy c main spare ram ≡ cutOf (callCut fnvFamily budget (given s main spare ram) (callOf q)) ⌝ }
+{
+    let r = resolve(s, key_of(q), main, spare, ram);
+    perform_resolved(budget, s, q, r, main, spare, ram)
+}
+
+// A pending change by a restart, with a budget of steps: by the header's state, refused as the call would be but for 7 and 10, else what is
+// left of its steps.
+pub fn restart_change(
+    budget: usize,
+    s: State,
+    q: Request,
+    main: &mut [u8],
+    spare: &mut [u8],
+    ram: &mut [u8],
+) -> Cut
+    requires { ⌜ (headerSize ≤ length (now ram)) × (pendingIn (now ram) ≡ changing (callOf q)) ⌝ }
+    ensures { λ c. ⌜ cutBy c main spare ram ≡ cutOf (restartCut fnvFamily budget (given s main spare ram)) ⌝ }
+{
+    let old = header::state_in(ram);
+    let j = state::judge(old, main, spare, ram);
+    let r = resolve_judged(j, old, key_of(q), main, spare, ram);
+    match decide(q, r) {
+        Decision::Refused(i) => {
+            return state::refuse_cut(s, i);
+        }
+        Decision::Change(g, edit) => {
+            let i = changes::room_refusal(g, old, edit);
+            if i != state::ACCEPTED {
+                return state::refuse_cut(s, i);
+            }
+            let t = Task {
+                g,
+                state: old,
+                edit,
+            };
+            let from = changes::done(t, spare);
+            let p = finish(t, from, budget, main, spare, ram);
+            return state::cut_after(p, s, changes::counted_state(old, edit));
+        }
+    }
+}
+
+// ---- the calls, which have enough
 
 // A new level.
 pub fn insert(s: State, record: Record, main: &mut [u8], spare: &mut [u8], ram: &mut [u8]) -> Change
     ensures { λ r. ⌜ effectBy r main spare ram
-        ≡ effectOf (call fnvFamily (given s main spare ram) (layout.insert (recordIs «record»))) ⌝ }
+        ≡ effectOf (callWhole fnvFamily (given s main spare ram) (layout.insert (recordIs «record»))) ⌝ }
 {
-    perform(s, Request::Insert(record), main, spare, ram)
+    state::uncut(perform_for(state::ENOUGH, s, Request::Insert(record), main, spare, ram))
 }
 
 // A level's values, whether it is there or not: its record, if there is one, is deleted, and another inserted.
 pub fn update(s: State, record: Record, main: &mut [u8], spare: &mut [u8], ram: &mut [u8]) -> Change
     ensures { λ r. ⌜ effectBy r main spare ram
-        ≡ effectOf (call fnvFamily (given s main spare ram) (layout.update (recordIs «record»))) ⌝ }
+        ≡ effectOf (callWhole fnvFamily (given s main spare ram) (layout.update (recordIs «record»))) ⌝ }
 {
-    perform(s, Request::Update(record), main, spare, ram)
+    state::uncut(perform_for(state::ENOUGH, s, Request::Update(record), main, spare, ram))
 }
 
 // Takes a level out.
 pub fn delete(s: State, key: u32, main: &mut [u8], spare: &mut [u8], ram: &mut [u8]) -> Change
-    ensures { λ r. ⌜ effectBy r main spare ram ≡ effectOf (call fnvFamily (given s main spare ram) (layout.delete key)) ⌝ }
+    ensures { λ r. ⌜ effectBy r main spare ram
+        ≡ effectOf (callWhole fnvFamily (given s main spare ram) (layout.delete key)) ⌝ }
 {
-    perform(s, Request::Delete(key), main, spare, ram)
+    state::uncut(perform_for(state::ENOUGH, s, Request::Delete(key), main, spare, ram))
 }

@@ -1,3 +1,3 @@
 pub mod NewLaws
-pub mod CommitLaws
 pub mod ChangeLaws
+pub mod CarryLaws

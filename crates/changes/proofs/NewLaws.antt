@@ -11,7 +11,7 @@ use Rattle.layout.specs.Items.{Record, recordBytes, entryBytes, deletionBytes}
 use Rattle.layout.specs.Geometry.{Geometry}
 use Rattle.planning.specs.New.{newBytes}
 use Rattle.plan.specs.Plans.{deletionFourths, entryFourths}
-use Rattle.changes.specs.Commit.{DeletionFilters, EntryFilter}
+use Rattle.changes.specs.Filters.{DeletionFilters, EntryFilter}
 
 pub all-written : (j : ℕ) (r : Record) (n : ℕ) {a b c d e f g : List ℕ} → a ≡ write (replicate 28 0) 0 (bytes4 j) → b ≡ write a 4 (bytes4 (r .key))
     → c ≡ write b 8 (bytes4 (r .moves)) → d ≡ write c 12 (bytes4 (r .goal)) → e ≡ write d 16 (bytes4 (r .free))

@@ -1,2 +1,5 @@
 pub mod Edits
-pub mod Commit
+pub mod Filters
+pub mod Tasks
+pub mod Places
+pub mod Few

@@ -1,24 +1,26 @@
-// A change of a volume: 5, 6, 7, else its operations and then its RAM. Document 01, "Calls".
+// A change of a volume: 5, 6, 7, else its operations and then its RAM, by a budget of steps. Document 01, "Calls"; document 02, request 8.
 ghost use mathlib.Core.Path.{_≡_};
-ghost use Prim.Native.Nat.{_+_, _<_, _≤_};
+ghost use mathlib.Core.List.{List};
+ghost use Prim.Native.Nat.{ℕ, _+_, _<_, _≤_};
 ghost use lib.ListN.{length};
 ghost use Rattle.memory.specs.Lent.{before, after};
-ghost use Rattle.layout.specs.Geometry.{recordCapacity, deletionCapacity, ramSize};
-ghost use Rattle.layout.specs.Hash.{fnvFamily};
-ghost use Rattle.layout.specs.Calls.{more, change};
-ghost use Rattle.laws.specs.Lengths.{Long};
+ghost use Rattle.layout.specs.Geometry.{recordCapacity, deletionCapacity, spareSize, ramSize};
+ghost use Rattle.layout.specs.Calls.{more};
+ghost use Rattle.laws.specs.Done.{doneCount};
 ghost use Rattle.laws.specs.LentFlash.{flashBefore, flashAfter};
 ghost use Rattle.geometry.specs.Shape.{shape, Sound};
-ghost use Rattle.state.specs.Contract.{recordIs, volume, given, effectOf, effectBy};
+ghost use Rattle.state.specs.Contract.{recordIs};
 ghost use Rattle.state.specs.Judge.{VolumeFits};
 ghost use Rattle.planning.specs.New.{newBytes};
 ghost use Rattle.planning.specs.Edits.{Room};
 ghost use Rattle.changes.specs.Edits.{editIs, slotsOf, oldNumber, newRecord, recordNumber, fullAt, deletionsFullAt, roomRefusal};
-ghost use Rattle.changes.specs.Commit.{DeletionFilters, EntryFilter, FiltersOf, Committed};
+ghost use Rattle.changes.specs.Filters.{DeletionFilters, EntryFilter, FiltersOf};
+ghost use Rattle.changes.specs.Tasks.{changeRefusal, Carried, taskOn, taskSlots, taskPlan, taskResult};
 use geometry::Geometry;
 use geometry::areas;
+use plan::Span;
 use planning::Slots;
-use state::Change;
+use state::Progress;
 use state::Record;
 use state::State;
 
@@ -27,6 +29,13 @@ pub enum Edit {
     Insert(Record),
     Delete(u32),
     Replace(u32, Record),
+}
+
+// A change of a volume: the volume's geometry and state, and what is changed.
+pub struct Task {
+    pub g: Geometry,
+    pub state: State,
+    pub edit: Edit,
 }
 
 // ---- an edit in parts
@@ -96,7 +105,7 @@ fn deletion_refusal(g: Geometry, d: u32) -> u32
 }
 
 // 5, then 6, of what the edit adds; accepted where there is room for it.
-fn room_refusal(g: Geometry, s: State, e: Edit) -> u32
+pub fn room_refusal(g: Geometry, s: State, e: Edit) -> u32
     requires { ⌜ Sound g ⌝ }
     ensures { λ r. ⌜ r ≡ roomRefusal (shape g) (s .records) (s .deletions) (editIs e) ⌝ }
 {
@@ -200,55 +209,127 @@ fn new_filters(g: Geometry, e: Slots, old: u32, key: u32, ram: &[u8]) -> [u8; pl
 
 // ---- the change
 
-// Of a change that fills a page: where the sectors that it programs are fresh, its operations and then its RAM; else nothing.
-fn program(
-    g: Geometry,
-    e: Slots,
-    old: u32,
-    record: Record,
+// The operations of a change that fills a page from `from` on, as many as the budget has, and, if it has one more, the RAM after them.
+fn run_plan(
+    t: Task,
+    from: usize,
+    budget: usize,
     main: &mut [u8],
     spare: &mut [u8],
     ram: &mut [u8],
-) -> bool
-    requires { ⌜ Sound g × Room (shape g) e × Long (shape g) (now main) (now spare) (now ram) ⌝ }
-    ensures { λ r. ⌜ Committed (shape g) e old (recordIs «record») (flashBefore main spare) (before ram)
-        r (flashAfter main spare) (after ram) ⌝ }
+) -> Progress
+    requires { ⌜ VolumeFits (taskOn t (now main) (now spare) (now ram)) (t .g) × Room (shape (t .g)) (taskSlots t) ⌝ }
+    requires { ⌜ from ≤ length (taskPlan t (now main) (now spare) (now ram)) ⌝ }
+    ensures { λ p. ⌜ Carried (t .g .chip .unit) (taskResult t (before main) (before spare) (before ram) from) budget
+        (flashBefore main spare) (before ram) p (flashAfter main spare) (after ram) ⌝ }
 {
-    let new = new_bytes(old, record, record_number(g, e));
+    let g = t.g;
+    let edit = t.edit;
+    let e = slots(t.state, edit);
+    let old = old_number(edit);
+    let record = new_record(edit);
     let p = planning::of(g, e);
+    let new = new_bytes(old, record, record_number(g, e));
     let filters = new_filters(g, e, old, record.key, ram);
-    if !plan::fresh(p, spare) {
-        return false;
+    let total = plan::whole(p).to;
+    if total - from < budget {
+        plan::run(
+            p,
+            Span { from, to: total },
+            &new,
+            &filters,
+            main,
+            spare,
+            ram,
+        );
+        kept::finish(g, e, &new, &filters, ram);
+        return Progress {
+            steps: total - from,
+            finished: true,
+        };
     }
-    plan::run(p, plan::whole(p), &new, &filters, main, spare, ram);
-    kept::finish(g, e, &new, &filters, ram);
-    true
+    let to = from + budget;
+    plan::run(p, Span { from, to }, &new, &filters, main, spare, ram);
+    Progress {
+        steps: budget,
+        finished: false,
+    }
 }
 
 // The same of any change; one that fills no page makes no plan.
-fn commit(
-    g: Geometry,
-    e: Slots,
-    old: u32,
-    record: Record,
+pub fn carry_on(
+    t: Task,
+    from: usize,
+    budget: usize,
     main: &mut [u8],
     spare: &mut [u8],
     ram: &mut [u8],
-) -> bool
-    requires { ⌜ Sound g × Room (shape g) e × Long (shape g) (now main) (now spare) (now ram) ⌝ }
-    ensures { λ r. ⌜ Committed (shape g) e old (recordIs «record») (flashBefore main spare) (before ram)
-        r (flashAfter main spare) (after ram) ⌝ }
+) -> Progress
+    requires { ⌜ VolumeFits (taskOn t (now main) (now spare) (now ram)) (t .g) × Room (shape (t .g)) (taskSlots t) ⌝ }
+    requires { ⌜ from ≤ length (taskPlan t (now main) (now spare) (now ram)) ⌝ }
+    ensures { λ p. ⌜ Carried (t .g .chip .unit) (taskResult t (before main) (before spare) (before ram) from) budget
+        (flashBefore main spare) (before ram) p (flashAfter main spare) (after ram) ⌝ }
 {
-    if planning::programs(g, e) {
-        return program(g, e, old, record, main, spare, ram);
+    if budget == 0 {
+        return Progress {
+            steps: 0,
+            finished: false,
+        };
     }
-    let new = new_bytes(old, record, record_number(g, e));
+    let g = t.g;
+    let edit = t.edit;
+    let e = slots(t.state, edit);
+    if planning::programs(g, e) {
+        return run_plan(t, from, budget, main, spare, ram);
+    }
+    let new = new_bytes(old_number(edit), new_record(edit), record_number(g, e));
     kept::append(g, e, &new, ram);
-    true
+    Progress {
+        steps: 0,
+        finished: true,
+    }
+}
+
+// 5, 6, then 7 of a change, whatever the other bytes; accepted where none applies.
+pub fn refusal(t: Task, spare: &[u8]) -> u32
+    requires { ⌜ Sound (t .g) × (spareSize (shape (t .g)) ≤ length (now spare)) ⌝ }
+    ensures { λ r. ⌜ ((main ram : List ℕ) → ramSize (shape (t .g)) ≤ length ram
+        → r ≡ changeRefusal (shape (t .g)) (taskOn t main (before spare) ram) (editIs (t .edit))) ⌝ }
+{
+    let g = t.g;
+    let s = t.state;
+    let edit = t.edit;
+    let i = room_refusal(g, s, edit);
+    if i != state::ACCEPTED {
+        return i;
+    }
+    let e = slots(s, edit);
+    if !planning::programs(g, e) {
+        return state::ACCEPTED;
+    }
+    if !plan::fresh(planning::of(g, e), spare) {
+        return state::NOT_FRESH;
+    }
+    state::ACCEPTED
+}
+
+// How many operations of a change count as done, by the spare area alone.
+pub fn done(t: Task, spare: &[u8]) -> usize
+    requires { ⌜ Sound (t .g) × Room (shape (t .g)) (taskSlots t) × (spareSize (shape (t .g)) ≤ length (now spare)) ⌝ }
+    ensures { λ r. ⌜ ((main ram : List ℕ) → ramSize (shape (t .g)) ≤ length ram
+        → r ≡ doneCount (before spare) (taskPlan t main (before spare) ram)) ⌝ }
+{
+    let g = t.g;
+    let edit = t.edit;
+    let e = slots(t.state, edit);
+    if !planning::programs(g, e) {
+        return 0;
+    }
+    plan::done(planning::of(g, e), spare)
 }
 
 // The counts after a change.
-fn counted_state(s: State, e: Edit) -> State
+pub fn counted_state(s: State, e: Edit) -> State
     requires { ⌜ (s .records < 4294967295) × (s .deletions < 4294967295) ⌝ }
     ensures { λ r. ⌜ r ≡ record {
       sizes = s .sizes;
@@ -270,37 +351,4 @@ fn counted_state(s: State, e: Edit) -> State
         }
     }
     t
-}
-
-// A change of a volume that is not refused before: 5, 6, 7, else its operations.
-pub fn apply(
-    g: Geometry,
-    s: State,
-    e: Edit,
-    main: &mut [u8],
-    spare: &mut [u8],
-    ram: &mut [u8],
-) -> Change
-    requires { ⌜ VolumeFits (volume s (now main) (now spare) (now ram)) g ⌝ }
-    ensures { λ r. ⌜ effectBy r main spare ram ≡ effectOf (change fnvFamily (shape g) (given s main spare ram) (editIs e)) ⌝ }
-{
-    let i = room_refusal(g, s, e);
-    if i != state::ACCEPTED {
-        return state::refuse(s, i);
-    }
-    if !commit(
-        g,
-        slots(s, e),
-        old_number(e),
-        new_record(e),
-        main,
-        spare,
-        ram,
-    ) {
-        return state::refuse(s, state::NOT_FRESH);
-    }
-    Change {
-        refusal: state::ACCEPTED,
-        state: counted_state(s, e),
-    }
 }

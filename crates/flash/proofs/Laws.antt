@@ -1,6 +1,6 @@
 -- What is left of a run of blocks or marks at each turn of a loop, and the step from each to the next. Assumes nothing.
 use mathlib.Core.Path.{_≡_, sym, ap, _∙_}
-use mathlib.Core.Bool.{Bool, true, _&&_, and-true, and-assoc}
+use mathlib.Core.Bool.{Bool, true, false, not, _&&_, and-true, and-assoc}
 use mathlib.Core.List.{List}
 use Prim.Native.Nat.{ℕ, zero, suc, _+_, _-_, _*_, _/_, _%_, _^_, _≤_, _<_}
 use native.Mathlib.Nat.{mul-le-mul-right}
@@ -8,7 +8,7 @@ use native.Mathlib.Omega.{arith}
 use lib.Count.{ones, onesIn, ones-step}
 use lib.ListN.{getD}
 use Rattle.layout.specs.Flash.{erase, Flash, apply, applyAll, erases, fresh}
-use Rattle.flash.specs.Fresh.{freshRun}
+use Rattle.flash.specs.Fresh.{freshRun, lastProgrammed}
 
 -- ---- erasing
 
@@ -68,3 +68,22 @@ module _ (spare : List ℕ) (s d : ℕ) where
   fresh-end k i all h =
       let e : k - i ≡ 0 = omega arith in
       rw e (and-true all)
+
+  -- ---- the last programmed sector, from sector k down
+
+  pub last-none : (k : ℕ) → k ≤ 0 → 0 ≡ lastProgrammed spare d s k
+  unfolding lastProgrammed
+  last-none k h = let e : k ≡ 0 = omega arith in rw e
+
+  pub last-here : (k : ℕ) (is : Bool) → 0 < k → is ≡ fresh (getD spare (s + (k - 1) * d) 0) → not is ≡ true → k ≡ lastProgrammed spare d s k
+  unfolding lastProgrammed
+  last-here zero is h tested t = absurd (omega arith)
+  last-here (suc k) true h tested t = cc
+  last-here (suc k) false h tested t = let e : suc k - 1 ≡ k = omega arith in rw (← (rw e at tested))
+
+  pub last-below : (k : ℕ) (is : Bool) → 0 < k → is ≡ fresh (getD spare (s + (k - 1) * d) 0) → not is ≡ false
+      → lastProgrammed spare d s k ≡ lastProgrammed spare d s (k - 1)
+  unfolding lastProgrammed
+  last-below zero is h tested t = absurd (omega arith)
+  last-below (suc k) true h tested t = let e : suc k - 1 ≡ k = omega arith in rw (e, ← (rw e at tested))
+  last-below (suc k) false h tested t = cc

@@ -8,7 +8,7 @@ ghost use Rattle.memory.specs.Lent.{before};
 ghost use Rattle.layout.specs.Geometry.{sectorsPerBlock, sector, block};
 ghost use Rattle.layout.specs.Flash.{program, erase, fresh, apply, applyAll, erases};
 ghost use Rattle.laws.specs.LentFlash.{flashBefore, flashAfter};
-ghost use Rattle.flash.specs.Fresh.{freshRun};
+ghost use Rattle.flash.specs.Fresh.{freshRun, lastProgrammed};
 ghost use Rattle.flash.specs.Sectors.{programmedRow};
 use geometry::Chip;
 
@@ -105,4 +105,20 @@ pub fn all_fresh(s: usize, stride: usize, k: usize, spare: &[u8]) -> bool
         i += 1;
     }
     all
+}
+
+// One more than the place, among `count` sectors from sector `first` on in steps of `step`, of the last that is not fresh; 0 if all are
+// fresh.
+pub fn last_programmed(first: usize, step: usize, count: usize, spare: &[u8]) -> usize
+    requires { ⌜ first + count * step < length (now spare) + step ⌝ }
+    ensures { λ r. ⌜ r ≡ lastProgrammed (before spare) step first count ⌝ }
+{
+    let mut k = count;
+    while 0 < k {
+        if !is_fresh(spare[first + (k - 1) * step]) {
+            return k;
+        }
+        k -= 1;
+    }
+    0
 }

@@ -1,1 +1,1 @@
-pub mod FormatLaws
+mod FormatLaws

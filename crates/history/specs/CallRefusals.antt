@@ -12,7 +12,7 @@ use Rattle.layout.specs.Items.{Record}
 use Rattle.layout.specs.Refusals as refusal
 use Rattle.layout.specs.Search.{Stop, found, corrupt}
 use Rattle.layout.specs.Calls.{Volume, Call, insert, update, delete, lookup, Outcome, accepted, hit, miss, refused, Result}
-use Rattle.layout.specs.Calls.{badState, tooShort, judgeFirst, search, commit, noRoom, noDeletion, change, insertAfter, updateAfter}
+use Rattle.layout.specs.Calls.{badState, tooShort, judgeFirst, search, commit, noRoom, noDeletion, changeBy, insertAfter, updateAfter}
 use Rattle.layout.specs.Calls.{deleteAfter, lookupAfter, answer, call}
 
 -- document 02, request 4: "An update of a key that is not live now inserts it"
@@ -57,20 +57,20 @@ module _ (h : Family) (g : Geometry) (v : Volume) where
   commit-among is n d plan ram e = either-among is (allFresh (v .flash .spare) (planOps (g .u) plan (v .flash))) _ _ tt e
 
   insert-among : (r : Record) (s : Option Stop) → Among (refusalsOf (insert r)) (insertAfter h g v r s .outcome)
-  unfolding change memb
+  unfolding changeBy memb
   insert-among r (some corrupt) = refl
   insert-among r (some (found j)) = refl
   insert-among r none = either-among _ (noRoom g v) _ _ refl (commit-among _ _ _ _ _ refl)
 
   update-among : (r : Record) (s : Option Stop) → Among (refusalsOf (update r)) (updateAfter h g v r s .outcome)
-  unfolding change memb
+  unfolding changeBy memb
   update-among r (some corrupt) = refl
   update-among r none = either-among _ (noRoom g v) _ _ refl (commit-among _ _ _ _ _ refl)
   update-among r (some (found j)) =
       either-among _ (noRoom g v) _ _ refl (either-among _ (noDeletion g v) _ _ refl (commit-among _ _ _ _ _ refl))
 
   delete-among : (key : ℕ) (s : Option Stop) → Among (refusalsOf (delete key)) (deleteAfter h g v s .outcome)
-  unfolding change memb
+  unfolding changeBy memb
   delete-among key (some corrupt) = refl
   delete-among key none = refl
   delete-among key (some (found j)) = either-among _ (noDeletion g v) _ _ refl (commit-among _ _ _ _ _ refl)
@@ -97,7 +97,7 @@ call-refusals h v c =
 -- "for such an update 5 and 7 apply, and 6 does not"
 pub absent-refusals : (h : Family) (v : Volume) (r : Record) → search h (geometry (v .state .sizes)) v (r .key) .stop ≡ none
     → Among (refusal.badState ∷ refusal.tooShort ∷ refusal.full ∷ refusal.notFresh ∷ []) (call h v (update r) .outcome)
-unfolding call judgeFirst change memb
+unfolding call judgeFirst changeBy memb
 absent-refusals h v r e =
     let g : Geometry = geometry (v .state .sizes) in
     rw e

@@ -18,7 +18,7 @@ pub record Run (h : Family) (v : Volume) (sizes : Sizes) (calls : List Call) : T
   -- "That a format to which neither 1 nor 2 applies is accepted is part of the claim"
   pub formatted-ok : format v sizes .outcome ≡ accepted
   pub started : format v sizes .volume .state ≡ stateOf sizes 0 0
-  -- each call answers as the map does, with the same state, n - d live levels, never by 1, 2, 7 or 8
+  -- each call answers as the map does, with the same state, n - d live levels, never by 1, 2, 7, 8 or 10
   pub agrees : EachAgrees h sizes (format v sizes .volume) emptyMap calls
   -- "Done in that order on the chip handed to the format, they give the cells and marks that the last call leaves"
   pub flash-is : applyAll (unitOf sizes) (format v sizes .ops ++ opsOf h (format v sizes .volume) calls) (v .flash)

@@ -20,7 +20,7 @@ use Rattle.layout.specs.Keys.{Key}
 use Rattle.layout.specs.Refusals as refusal
 use Rattle.layout.specs.Search.{Stop, found, corrupt}
 use Rattle.layout.specs.Calls.{Volume, Call, insert, update, delete, lookup, Result, badState, tooShort, judgeFirst, search}
-use Rattle.layout.specs.Calls.{deletionPlan, insertionPlan, commit, noRoom, noDeletion, change, insertAfter, updateAfter}
+use Rattle.layout.specs.Calls.{deletionPlan, insertionPlan, commit, noRoom, noDeletion, changeBy, insertAfter, updateAfter}
 use Rattle.layout.specs.Calls.{deleteAfter, lookupAfter, answer, call, keyIndex, keyFilters, deletionIndex, deletionFilters}
 use Rattle.history.specs.Operations.{programs, itemOps, buildOps, flushAndBuildOps, filterOps, numberOps, bothHalves}
 use Rattle.history.specs.Operations.{recordRam, entered, filteredRam}
@@ -75,7 +75,7 @@ order-append B (program s bytes ∷ xs) ys o f p l = order-append B xs ys o f p 
 order-append B (erase b ∷ xs) ys o f p l =
     (none-append b xs ys (o .0) (none-below B b ys l (f .0)), order-append B xs ys (o .1) (f .1) p l)
 
-inside-below : (u B : ℕ) (os : List Op) → Inside u B os → Below (B * 64) os
+pub inside-below : (u B : ℕ) (os : List Op) → Inside u B os → Below (B * 64) os
 unfolding Inside
 inside-below u B [] i = tt
 inside-below u B (program s bytes ∷ os) i = (i .0, inside-below u B os (i .2))
@@ -235,7 +235,7 @@ module _ (h : Family) (sizes : Sizes) (ok : SizesSound sizes) where
     commit-order n d plan ram o = order-either (allFresh (v .flash .spare) (planOps u plan (v .flash))) _ _ (λ a. o) (λ a. tt)
 
     insert-order : (r : Record) (s : Option Stop) → EraseOrder (insertAfter h g v r s .ops)
-    unfolding change EraseOrder
+    unfolding changeBy EraseOrder
     insert-order r (some corrupt) = tt
     insert-order r (some (found j)) = tt
     insert-order r none =
@@ -243,7 +243,7 @@ module _ (h : Family) (sizes : Sizes) (ok : SizesSound sizes) where
         (λ a. commit-order _ _ _ _ (insertion-order _ (r .key) (recordBytes r) (v .ram) (v .flash) (length-record r)))
 
     update-ordered : (r : Record) (s : Option Stop) → EraseOrder (updateAfter h g v r s .ops)
-    unfolding change EraseOrder
+    unfolding changeBy EraseOrder
     update-ordered r (some corrupt) = tt
     update-ordered r none = insert-order r none
     update-ordered r (some (found j)) =
@@ -253,7 +253,7 @@ module _ (h : Family) (sizes : Sizes) (ok : SizesSound sizes) where
         (leb-false (recordCapacity g) (v .state .records) a) (length-record r))))
 
     delete-order : (s : Option Stop) → EraseOrder (deleteAfter h g v s .ops)
-    unfolding change EraseOrder
+    unfolding changeBy EraseOrder
     delete-order (some corrupt) = tt
     delete-order none = tt
     delete-order (some (found j)) =

@@ -23,7 +23,7 @@ use Rattle.layout.specs.Refusals as refusal
 use Rattle.layout.specs.Calls.{Volume, Call, insert, update, delete, lookup, Outcome, accepted, hit, miss, refused, Result, refuse}
 use Rattle.layout.specs.Calls.{badState, tooShort, judgeFirst, format, formatted, keyIndex, keyFilters, keyPositions, tryAt, maybeIn}
 use Rattle.layout.specs.Calls.{searchAt, search, deletionPlan, deletionRam, newFilter, insertionPlan, insertionRam, commit, noRoom}
-use Rattle.layout.specs.Calls.{noDeletion, insertAfter, updateAfter, deleteAfter, lookupAfter, answer, call, Edit, one, change}
+use Rattle.layout.specs.Calls.{noDeletion, insertAfter, updateAfter, deleteAfter, lookupAfter, answer, call, Edit, one, changeBy, change}
 use Rattle.layout.specs.Calls.{deletionIndex, deletionFilters, newHalf}
 use Rattle.history.specs.Operations.{recordRam, entryOps, entryRam, entered, numberOps, numberRam, oneHalf}
 use Rattle.history.specs.FlashLaws.{apply-main-length, apply-spare-length}
@@ -58,7 +58,7 @@ module _ (h : Family) (g : Geometry) (v : Volume) where
       (λ i e. absurd (let z : true ≡ false = cc in true≢false z)) (refuse-keeps v refusal.notFresh)
 
   change-keeps : (e : Edit) → Keeps v (change h g v e)
-  unfolding change
+  unfolding changeBy
   change-keeps e =
       keeps-either v (one (e .inserts) && noRoom g v) _ _ (refuse-keeps v refusal.full)
       (keeps-either v (one (e .deletes) && noDeletion g v) _ _ (refuse-keeps v refusal.deletionsFull) (commit-keeps _ _ _ _))
@@ -174,7 +174,7 @@ module _ (h : Family) (g : Geometry) (v : Volume) (m : ℕ) where
       most-either m (allFresh (v .flash .spare) (planOps (g .u) plan (v .flash))) _ _ zero-le (refuse-most m v refusal.notFresh)
 
   change-most : (e : Edit) → Most m (change h g v e)
-  unfolding change
+  unfolding changeBy
   change-most e =
       most-either m (one (e .inserts) && noRoom g v) _ _ (refuse-most m v refusal.full)
       (most-either m (one (e .deletes) && noDeletion g v) _ _ (refuse-most m v refusal.deletionsFull) (commit-most _ _ _ _))
@@ -332,16 +332,16 @@ module _ (h : Family) (sizes : Sizes) (ok : SizesSound sizes) where
         past = past-then (ramSize g) ram _ _ (D₁ .past) (I₁ .past);
       }
 
-  -- what is kept of a volume
+  -- what is kept of a volume, and where the operations lie
   abbrev Kept : Volume → Result → Type 0
-  Kept v r = Beyond g (v .flash) (r .volume .flash) (v .ram) (r .volume .ram)
+  Kept v r = Beyond g (v .flash) (r .volume .flash) (v .ram) (r .volume .ram) × Inside u (blocks g) (r .ops)
 
   kept-either : (v : Volume) (b : Bool) (r s : Result) → (b ≡ true → Kept v r) → (b ≡ false → Kept v s) → Kept v (cond b r s)
   kept-either v true r s a b = a refl
   kept-either v false r s a b = b refl
 
   refuse-kept : (v : Volume) (i : ℕ) → Kept v (refuse v i)
-  refuse-kept v i = beyond-same g (v .flash) (v .ram)
+  refuse-kept v i = (beyond-same g (v .flash) (v .ram), inside-none u (blocks g))
 
   commit-kept : (v : Volume) (n d : ℕ) (plan : List Planned) (ram : List ℕ) → Bounded g (v .ram) (planOps u plan (v .flash)) ram
       → Kept v (commit g v n d plan ram)
@@ -349,20 +349,22 @@ module _ (h : Family) (sizes : Sizes) (ok : SizesSound sizes) where
   commit-kept v n d plan ram b =
       kept-either v (allFresh (v .flash .spare) (planOps u plan (v .flash))) _ _
       (λ fresh.
-      let p = past-then (ramSize g) (v .ram) ram _ (b .past) (past-zero u (workRam u) (ramSize g) ram (omega arith)) in
-      record {
-        main = λ x l. main-past u (blocks g) (planOps u plan (v .flash)) (v .flash) x (b .inside) l;
-        spare = λ x l. spare-past u (blocks g) (planOps u plan (v .flash)) (v .flash) x (b .inside) l;
-        ram = p .same;
-        main-length = apply-main-length u (planOps u plan (v .flash)) (v .flash);
-        spare-length = apply-spare-length u (planOps u plan (v .flash)) (v .flash);
-        ram-length = p .long;
-      })
+      let p = past-then (ramSize g) (v .ram) ram _ (b .past) (past-zero u (workRam u) (ramSize g) ram (omega arith)) in (
+        record {
+          main = λ x l. main-past u (blocks g) (planOps u plan (v .flash)) (v .flash) x (b .inside) l;
+          spare = λ x l. spare-past u (blocks g) (planOps u plan (v .flash)) (v .flash) x (b .inside) l;
+          ram = p .same;
+          main-length = apply-main-length u (planOps u plan (v .flash)) (v .flash);
+          spare-length = apply-spare-length u (planOps u plan (v .flash)) (v .flash);
+          ram-length = p .long;
+        },
+        b .inside,
+      ))
       (λ fresh. refuse-kept v refusal.notFresh)
 
   module _ (v : Volume) where
     insert-kept : (r : Record) (s : Option Stop) → Kept v (insertAfter h g v r s)
-    unfolding change
+    unfolding changeBy
     insert-kept r (some corrupt) = refuse-kept v refusal.corruptEntry
     insert-kept r (some (found j)) = refuse-kept v refusal.present
     insert-kept r none =
@@ -371,7 +373,7 @@ module _ (h : Family) (sizes : Sizes) (ok : SizesSound sizes) where
         (leb-false (recordCapacity g) (v .state .records) a) (length-record r)))
 
     update-kept : (r : Record) (s : Option Stop) → Kept v (updateAfter h g v r s)
-    unfolding change
+    unfolding changeBy
     update-kept r (some corrupt) = refuse-kept v refusal.corruptEntry
     update-kept r none = insert-kept r none
     update-kept r (some (found j)) =
@@ -382,7 +384,7 @@ module _ (h : Family) (sizes : Sizes) (ok : SizesSound sizes) where
         (leb-false (recordCapacity g) (v .state .records) a) (leb-false (deletionCapacity g) (v .state .deletions) b) (length-record r))))
 
     delete-kept : (s : Option Stop) → Kept v (deleteAfter h g v s)
-    unfolding change
+    unfolding changeBy
     delete-kept (some corrupt) = refuse-kept v refusal.corruptEntry
     delete-kept none = refuse-kept v refusal.absent
     delete-kept (some (found j)) =
@@ -406,15 +408,17 @@ module _ (h : Family) (sizes : Sizes) (ok : SizesSound sizes) where
     unfolding formatted
     format-kept =
         let l : length (replicate {A = ℕ} (6 * (64 * u)) 0) ≡ 6 * (64 * u) = length-replicate {A = ℕ} (6 * (64 * u)) 0 in
-        let i = inside-erases u (blocks g) 0 (blocks g) (omega arith) in
-        record {
-          main = λ x q. main-past u (blocks g) (erases 0 (blocks g)) (v .flash) x i q;
-          spare = λ x q. spare-past u (blocks g) (erases 0 (blocks g)) (v .flash) x i q;
-          ram = λ x q. getD-write-after (v .ram) 0 (replicate (6 * (64 * u)) 0) x 0 (omega (arith, l));
-          main-length = apply-main-length u (erases 0 (blocks g)) (v .flash);
-          spare-length = apply-spare-length u (erases 0 (blocks g)) (v .flash);
-          ram-length = length-write (v .ram) 0 (replicate (6 * (64 * u)) 0);
-        }
+        let i = inside-erases u (blocks g) 0 (blocks g) (omega arith) in (
+          record {
+            main = λ x q. main-past u (blocks g) (erases 0 (blocks g)) (v .flash) x i q;
+            spare = λ x q. spare-past u (blocks g) (erases 0 (blocks g)) (v .flash) x i q;
+            ram = λ x q. getD-write-after (v .ram) 0 (replicate (6 * (64 * u)) 0) x 0 (omega (arith, l));
+            main-length = apply-main-length u (erases 0 (blocks g)) (v .flash);
+            spare-length = apply-spare-length u (erases 0 (blocks g)) (v .flash);
+            ram-length = length-write (v .ram) 0 (replicate (6 * (64 * u)) 0);
+          },
+          i,
+        )
 
 -- a state that is not bad has allowed sizes
 pub state-allowed : (v : Volume) → badState (v .state) ≡ false → allowed (v .state .sizes) ≡ true
@@ -422,22 +426,43 @@ unfolding badState
 state-allowed v good =
     either (bool? (allowed (v .state .sizes))) (λ a. a) (λ a. let z : true ≡ false = rw a at good in absurd (true≢false z))
 
+abbrev Bounds : Sizes → Volume → Result → Type 0
+Bounds sizes v r =
+    Beyond (geometry sizes) (v .flash) (r .volume .flash) (v .ram) (r .volume .ram) × Inside (unitOf sizes) (blocks (geometry sizes)) (r .ops)
+
+same-bounds : (sizes : Sizes) (v : Volume) (i : ℕ) → Bounds sizes v (refuse v i)
+same-bounds sizes v i = (beyond-same (geometry sizes) (v .flash) (v .ram), inside-none (unitOf sizes) (blocks (geometry sizes)))
+
+call-bounds : (h : Family) (v : Volume) (c : Call) → Bounds (v .state .sizes) v (call h v c)
+unfolding call judgeFirst
+call-bounds h v c =
+    either (bool? (badState (v .state)))
+    (λ a. rw a (same-bounds (v .state .sizes) v refusal.badState))
+    (λ a. either (bool? (tooShort (geometry (v .state .sizes)) (v .flash) (v .ram)))
+    (λ b. rw (a, b) (same-bounds (v .state .sizes) v refusal.tooShort))
+    (λ b. rw (a, b) (answer-kept h (v .state .sizes) (sound _ (state-allowed v a)) v c)))
+
+format-bounds : (v : Volume) (sizes : Sizes) → Bounds sizes v (format v sizes)
+unfolding format
+format-bounds v sizes =
+    either (bool? (allowed sizes))
+    (λ a. either (bool? (tooShort (geometry sizes) (v .flash) (v .ram)))
+    (λ b. rw (a, b) (same-bounds sizes v refusal.tooShort))
+    (λ b. rw (a, b) (format-kept fnvFamily sizes (sound sizes a) v)))
+    (λ a. rw a (same-bounds sizes v refusal.badState))
+
 pub beyond-kept : (h : Family) (v : Volume) (c : Call)
     → Beyond (geometry (v .state .sizes)) (v .flash) (call h v c .volume .flash) (v .ram) (call h v c .volume .ram)
-unfolding call judgeFirst
-beyond-kept h v c =
-    either (bool? (badState (v .state)))
-    (λ a. rw a (beyond-same (geometry (v .state .sizes)) (v .flash) (v .ram)))
-    (λ a. either (bool? (tooShort (geometry (v .state .sizes)) (v .flash) (v .ram)))
-    (λ b. rw (a, b) (beyond-same (geometry (v .state .sizes)) (v .flash) (v .ram)))
-    (λ b. rw (a, b) (answer-kept h (v .state .sizes) (sound _ (state-allowed v a)) v c)))
+beyond-kept h v c = call-bounds h v c .0
 
 pub format-beyond-kept : (v : Volume) (sizes : Sizes)
     → Beyond (geometry sizes) (v .flash) (format v sizes .volume .flash) (v .ram) (format v sizes .volume .ram)
-unfolding format
-format-beyond-kept v sizes =
-    either (bool? (allowed sizes))
-    (λ a. either (bool? (tooShort (geometry sizes) (v .flash) (v .ram)))
-    (λ b. rw (a, b) (beyond-same (geometry sizes) (v .flash) (v .ram)))
-    (λ b. rw (a, b) (format-kept fnvFamily sizes (sound sizes a) v)))
-    (λ a. rw a (beyond-same (geometry sizes) (v .flash) (v .ram)))
+format-beyond-kept v sizes = format-bounds v sizes .0
+
+-- no operation lies past the volume
+pub ops-inside : (h : Family) (v : Volume) (c : Call)
+    → Inside (unitOf (v .state .sizes)) (blocks (geometry (v .state .sizes))) (call h v c .ops)
+ops-inside h v c = call-bounds h v c .1
+
+pub format-ops-inside : (v : Volume) (sizes : Sizes) → Inside (unitOf sizes) (blocks (geometry sizes)) (format v sizes .ops)
+format-ops-inside v sizes = format-bounds v sizes .1

@@ -37,7 +37,7 @@ fresh-below N spare (program s bytes ∷ os) q =
 fresh-below N spare (erase b ∷ os) q = fresh-below N spare os q
 
 -- the marks of the first N sectors say what the operations say
-abbrev Says : ℕ → Flash → (ℕ → Bool) → Type 0
+abbrev pub Says : ℕ → Flash → (ℕ → Bool) → Type 0
 Says N c P = (x : ℕ) → x < N → getD (c .spare) x 0 ≡ cond (P x) 0 255
 
 says-true : (b : Bool) (x : ℕ) → x ≡ cond b 0 255 → x ≡ 0 → b ≡ true
@@ -49,14 +49,14 @@ says-false true x p q = absurd (omega (arith, p, q))
 says-false false x p q = refl
 
 module _ (u N : ℕ) where
-  says-program : (s : ℕ) (bytes : List ℕ) (c : Flash) (P : ℕ → Bool) → N ≤ length (c .spare) → Says N c P
+  pub says-program : (s : ℕ) (bytes : List ℕ) (c : Flash) (P : ℕ → Bool) → N ≤ length (c .spare) → Says N c P
       → Says N (apply u (program s bytes) c) (programmed (program s bytes) P)
   says-program s bytes c P long m x l =
       either (eq? x s)
       (λ a. rw (a .0) (rw (a .1) (getD-set-same (c .spare) s 0 0 (omega arith))))
       (λ a. rw (a .0) (getD-set-other (c .spare) s x 0 0 (a .1) ∙ m x l))
 
-  says-erase : (b : ℕ) (c : Flash) (P : ℕ → Bool) → N ≤ length (c .spare) → Says N c P
+  pub says-erase : (b : ℕ) (c : Flash) (P : ℕ → Bool) → N ≤ length (c .spare) → Says N c P
       → Says N (apply u (erase b) c) (programmed (erase b) P)
   says-erase b c P long m x l =
       let z : length (replicate {A = ℕ} 64 255) ≡ 64 = length-replicate {A = ℕ} 64 255 in

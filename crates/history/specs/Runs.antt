@@ -68,12 +68,13 @@ replyOf (hit place bytes) = hits bytes
 replyOf miss = misses
 replyOf (refused i) = refuses i
 
--- none of refusals 1, 2, 7 and 8
+-- none of refusals 1, 2, 7, 8 and 10
 abbrev pub Possible : Outcome → Type 0
 Possible accepted = Unit {0}
 Possible (hit place bytes) = Unit {0}
 Possible miss = Unit {0}
-Possible (refused i) = (i ≢ refusal.badState) × (i ≢ refusal.tooShort) × (i ≢ refusal.notFresh) × (i ≢ refusal.corruptEntry)
+Possible (refused i) =
+    (i ≢ refusal.badState) × (i ≢ refusal.tooShort) × (i ≢ refusal.notFresh) × (i ≢ refusal.corruptEntry) × (i ≢ refusal.pending)
 
 -- "A lookup or a refusal hands on state, desk, cells and marks as it got them"
 abbrev pub HandedOn : Outcome → Volume → Volume → Type 0

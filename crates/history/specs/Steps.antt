@@ -21,7 +21,7 @@ use Rattle.layout.specs.Search.{found}
 use Rattle.layout.specs.Keys.{Key, KeyOk}
 use Rattle.layout.specs.Calls.{Volume, Call, insert, update, delete, lookup, Result, refuse, judgeFirst, keyIndex, keyFilters, deletionPlan}
 use Rattle.layout.specs.Calls.{deletionRam, insertionPlan, insertionRam, commit, insertAfter, updateAfter, deleteAfter, lookupAfter, answer}
-use Rattle.layout.specs.Calls.{call, change, deletionIndex, deletionFilters}
+use Rattle.layout.specs.Calls.{call, changeBy, deletionIndex, deletionFilters}
 use Rattle.layout.specs.FiniteMap.{accepts, hits, refuses}
 use Rattle.history.specs.FlashLaws.{fresh-append, AllAllowed, apply-append, allowed-append}
 use Rattle.history.specs.PlanLaws.{ops-append}
@@ -115,7 +115,8 @@ module _ (h : Family) (sizes : Sizes) (ok : SizesSound sizes) (can : allowed siz
 
     -- ---- refusals, and answers that change nothing
 
-    refuse-done : (i : ℕ) → (i ≢ 1) × (i ≢ 2) × (i ≢ 7) × (i ≢ 8) → CallDone h sizes H C ram (refuse v i) (historyStep (refuses i) H)
+    refuse-done : (i : ℕ) → (i ≢ 1) × (i ≢ 2) × (i ≢ 7) × (i ≢ 8) × (i ≢ 10)
+        → CallDone h sizes H C ram (refuse v i) (historyStep (refuses i) H)
     refuse-done i p = record {
       says = refl;
       possible = p;
@@ -212,11 +213,11 @@ module _ (h : Family) (sizes : Sizes) (ok : SizesSound sizes) (can : allowed siz
 
       insert-done : (o : Option ℕ) → findLive H (r .key) ≡ o
           → CallDone h sizes H C ram (insertAfter h g v r (Option·map found o)) (insertHistory (recordCapacity g) H r o)
-      unfolding change
-      insert-done (some j) q = refuse-done 3 (omega arith, omega arith, omega arith, omega arith)
+      unfolding changeBy
+      insert-done (some j) q = refuse-done 3 (omega arith, omega arith, omega arith, omega arith, omega arith)
       insert-done none q =
           either (bool? (leb (recordCapacity g) (length (H .records))))
-          (λ c. rw c (refuse-done 5 (omega arith, omega arith, omega arith, omega arith)))
+          (λ c. rw c (refuse-done 5 (omega arith, omega arith, omega arith, omega arith, omega arith)))
           (λ c. rw c (insert-accepted c))
 
     -- ---- update and delete, of the live record j
@@ -286,23 +287,23 @@ module _ (h : Family) (sizes : Sizes) (ok : SizesSound sizes) (can : allowed siz
 
     update-done : (r : Record) → KeyOk (r .key) → (o : Option ℕ) → findLive H (r .key) ≡ o
         → CallDone h sizes H C ram (updateAfter h g v r (Option·map found o)) (updateHistory (recordCapacity g) (deletionCapacity g) H r o)
-    unfolding change
+    unfolding changeBy
     update-done r word none q = insert-done r word none q
     update-done r word (some j) q =
         either (bool? (leb (recordCapacity g) (length (H .records))))
-        (λ c. rw c (refuse-done 5 (omega arith, omega arith, omega arith, omega arith)))
+        (λ c. rw c (refuse-done 5 (omega arith, omega arith, omega arith, omega arith, omega arith)))
         (λ c. either (bool? (leb (deletionCapacity g) (length (H .deleted))))
-        (λ c6. rw (c, c6) (refuse-done 6 (omega arith, omega arith, omega arith, omega arith)))
+        (λ c6. rw (c, c6) (refuse-done 6 (omega arith, omega arith, omega arith, omega arith, omega arith)))
         (λ c6. rw (c, c6) (update-accepted j (found-below H (r .key) j q .0) c6 r word c)))
 
     delete-done : (k : Key) → ((j : ℕ) → findLive H k ≡ some j → length (H .deleted) < length (H .records)) → (o : Option ℕ)
         → findLive H k ≡ o
         → CallDone h sizes H C ram (deleteAfter h g v (Option·map found o)) (deleteHistory (deletionCapacity g) H o)
-    unfolding change
-    delete-done k less none q = refuse-done 4 (omega arith, omega arith, omega arith, omega arith)
+    unfolding changeBy
+    delete-done k less none q = refuse-done 4 (omega arith, omega arith, omega arith, omega arith, omega arith)
     delete-done k less (some j) q =
         either (bool? (leb (deletionCapacity g) (length (H .deleted))))
-        (λ c6. rw c6 (refuse-done 6 (omega arith, omega arith, omega arith, omega arith)))
+        (λ c6. rw c6 (refuse-done 6 (omega arith, omega arith, omega arith, omega arith, omega arith)))
         (λ c6. rw c6 (delete-accepted j (found-below H k j q .0) c6 (less j q)))
 
     -- ---- lookup

@@ -201,7 +201,7 @@ module _ (h : Family) (sizes : Sizes) (ok : SizesSound sizes) where
       tried-then j i l = rw (deletion-at i (omega (arith, deleted-le H₀ H B)), deletion-kept H₀ H B i l)
 
       -- a page that was full then has its filters now
-      shut-then : (j p i : ℕ) → p < length (H₀ .deleted) / (16 * unitOf sizes) → i < 16 * unitOf sizes
+      pub shut-then : (j p i : ℕ) → p < length (H₀ .deleted) / (16 * unitOf sizes) → i < 16 * unitOf sizes
           → maybeDeleted g v (numberPositions h g j) p ≡ false → tryDeletion g v j (p * (16 * unitOf sizes) + i) ≡ none
       shut-then j p i l m c =
           let q : 0 < 16 * unitOf sizes = omega (arith, pu) in
@@ -236,7 +236,7 @@ module _ (h : Family) (sizes : Sizes) (ok : SizesSound sizes) where
           (λ a. rw a))
 
       -- a page that was full then has its filter now, wherever it lies
-      skipped : (k : Key) (f i : ℕ) → f < length (H₀ .records) / (8 * unitOf sizes) → i < 8 * unitOf sizes
+      pub skipped : (k : Key) (f i : ℕ) → f < length (H₀ .records) / (8 * unitOf sizes) → i < 8 * unitOf sizes
           → maybeIn g v (keyPositions h g k) f ≡ false
           → tryAt h g v n₀ d₀ k (f * (8 * unitOf sizes) + i) ≡ none
       skipped k f i l m c =

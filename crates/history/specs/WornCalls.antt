@@ -15,7 +15,7 @@ use Rattle.layout.specs.Keys.{Key}
 use Rattle.layout.specs.Refusals as refusal
 use Rattle.layout.specs.Search.{Stop, found, corrupt}
 use Rattle.layout.specs.Calls.{Volume, Call, insert, update, delete, lookup, refused, Result, refuse, badState, tooShort, judgeFirst}
-use Rattle.layout.specs.Calls.{tryAt, maybeIn, searchAt, search, commit, noRoom, noDeletion, lookupAfter, Edit, one, change}
+use Rattle.layout.specs.Calls.{tryAt, maybeIn, searchAt, search, commit, noRoom, noDeletion, lookupAfter, Edit, one, changeBy, change}
 use Rattle.layout.specs.Calls.{tryDeletion, maybeDeleted, testDeletion, tryCost, daPagesAt, searchDaPages}
 use Rattle.layout.specs.Calls.{deletes, ramDeleted, inserts, ramInserted}
 use Rattle.layout.specs.Calls.{formatted, format, insertAfter, updateAfter, deleteAfter, answer, call}
@@ -122,7 +122,7 @@ module _ (h : Family) (v : Volume) (spare : List ℕ) where
     }
 
     change-alike : (e : Edit) → Alike v spare (change h g v e) (change h g w e)
-    unfolding change
+    unfolding changeBy
     change-alike e =
         let D = deleted-same (e .deletes) in
         let I = inserted-same (e .inserts) (ramDeleted h g v (e .deletes)) in

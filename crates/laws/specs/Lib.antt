@@ -8,3 +8,6 @@ pub mod Lengths
 pub mod LentFlash
 pub mod Positions
 pub mod FreshLaws
+pub mod Done
+pub mod HeaderLaws
+pub mod StepLaws

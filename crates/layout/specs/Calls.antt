@@ -256,12 +256,15 @@ module _ (h : Family) where
       let entered : List ℕ = itemRam (g .u) (KA g) n (entryBytes key n) (itemRam (g .u) (RA g) n bytes ram) in
       cond (fills (KA g) n) (filterRam (g .u) (keyIndex g) (keyFilters g n) (summarized g n key ram entered)) entered
 
--- 7 if a sector to be programmed is not fresh; else the plan's operations are done, the work page is zeroed and the counts rise
-unfoldable pub commit : Geometry → Volume → ℕ → ℕ → List Planned → List ℕ → Result
-commit g v n d plan ram =
+-- how a change ends: its counts, its plan and its RAM on a volume. A call's is `commit`, that of a restart is `commitLater` (`Later`)
+abbrev pub Commit : Type 0
+Commit = Geometry → Volume → ℕ → ℕ → List Planned → List ℕ → Result
+
+-- a plan's operations are done, the work page is zeroed and the counts rise
+abbrev pub performed : Commit
+performed g v n d plan ram =
     let ops : List Op = planOps (g .u) plan (v .flash) in
-    cond (allFresh (v .flash .spare) ops)
-    (record {
+    record {
       outcome = accepted;
       count = 0;
       daPages = 0;
@@ -271,8 +274,12 @@ commit g v n d plan ram =
         ram = zeroPage (g .u) (workRam (g .u)) ram;
       };
       ops = ops;
-    })
-    (refuse v refusal.notFresh)
+    }
+
+-- 7 if a sector to be programmed is not fresh
+unfoldable pub commit : Commit
+commit g v n d plan ram =
+    cond (allFresh (v .flash .spare) (planOps (g .u) plan (v .flash))) (performed g v n d plan ram) (refuse v refusal.notFresh)
 
 -- ---- the calls after 1 and 2, by what the search met: "Checked in the order 1, 2, 8, 3, 4, 5, 6, 7"
 
@@ -332,36 +339,61 @@ module _ (h : Family) where
   ramInserted g v none ram = ram
   ramInserted g v (some r) ram = insertionRam h g (v .state .records) (r .key) (recordBytes r) ram
 
-  -- 5, 6, then 7 or the change: "a deletion followed by an insertion, in one call"
-  unfoldable pub change : Geometry → Volume → Edit → Result
-  change g v e =
+  -- both: "a deletion followed by an insertion, in one call"
+  abbrev pub changePlan : Geometry → Volume → Edit → List Planned
+  changePlan g v e = deletes g v (e .deletes) ++ inserts g v (e .inserts)
+
+  abbrev pub changeRam : Geometry → Volume → Edit → List ℕ
+  changeRam g v e = ramInserted g v (e .inserts) (ramDeleted g v (e .deletes))
+
+-- the calls that change, over either end
+module _ (end : Commit) (h : Family) where
+  -- 5, 6, then the end
+  unfoldable pub changeBy : Geometry → Volume → Edit → Result
+  changeBy g v e =
       cond (one (e .inserts) && noRoom g v) (refuse v refusal.full)
       (cond (one (e .deletes) && noDeletion g v) (refuse v refusal.deletionsFull)
-      (commit g v (more (v .state .records) (e .inserts)) (more (v .state .deletions) (e .deletes))
-      (deletes g v (e .deletes) ++ inserts g v (e .inserts))
-      (ramInserted g v (e .inserts) (ramDeleted g v (e .deletes)))))
+      (end g v (more (v .state .records) (e .inserts)) (more (v .state .deletions) (e .deletes))
+      (changePlan h g v e) (changeRam h g v e)))
 
-  abbrev pub insertAfter : Geometry → Volume → Record → Option Stop → Result
-  insertAfter g v r (some corrupt) = refuse v refusal.corruptEntry
-  insertAfter g v r (some (found j)) = refuse v refusal.present
-  insertAfter g v r none = change g v (record { deletes = none; inserts = some r })
+  abbrev pub insertBy : Geometry → Volume → Record → Option Stop → Result
+  insertBy g v r (some corrupt) = refuse v refusal.corruptEntry
+  insertBy g v r (some (found j)) = refuse v refusal.present
+  insertBy g v r none = changeBy g v (record { deletes = none; inserts = some r })
 
   -- document 02, request 4: "An update of a key that is not live now inserts it: n rises by one, d stays"
+  abbrev pub updateBy : Geometry → Volume → Record → Option Stop → Result
+  updateBy g v r (some corrupt) = refuse v refusal.corruptEntry
+  updateBy g v r none = changeBy g v (record { deletes = none; inserts = some r })
+  updateBy g v r (some (found j)) = changeBy g v (record { deletes = some j; inserts = some r })
+
+  abbrev pub deleteBy : Geometry → Volume → Option Stop → Result
+  deleteBy g v (some corrupt) = refuse v refusal.corruptEntry
+  deleteBy g v none = refuse v refusal.absent
+  deleteBy g v (some (found j)) = changeBy g v (record { deletes = some j; inserts = none })
+
+  abbrev pub answerBy : Geometry → Volume → Call → Result
+  answerBy g v (insert r) = insertBy g v r (search h g v (r .key) .stop)
+  answerBy g v (update r) = updateBy g v r (search h g v (r .key) .stop)
+  answerBy g v (delete key) = deleteBy g v (search h g v key .stop)
+  answerBy g v (lookup key) = let f : Found = search h g v key in lookupAfter g v (f .opened) (searchDaPages h g v key) (f .stop)
+
+module _ (h : Family) where
+  -- a call's change ends with 7 or its operations
+  abbrev pub change : Geometry → Volume → Edit → Result
+  change g v e = changeBy commit h g v e
+
+  abbrev pub insertAfter : Geometry → Volume → Record → Option Stop → Result
+  insertAfter g v r s = insertBy commit h g v r s
+
   abbrev pub updateAfter : Geometry → Volume → Record → Option Stop → Result
-  updateAfter g v r (some corrupt) = refuse v refusal.corruptEntry
-  updateAfter g v r none = change g v (record { deletes = none; inserts = some r })
-  updateAfter g v r (some (found j)) = change g v (record { deletes = some j; inserts = some r })
+  updateAfter g v r s = updateBy commit h g v r s
 
   abbrev pub deleteAfter : Geometry → Volume → Option Stop → Result
-  deleteAfter g v (some corrupt) = refuse v refusal.corruptEntry
-  deleteAfter g v none = refuse v refusal.absent
-  deleteAfter g v (some (found j)) = change g v (record { deletes = some j; inserts = none })
+  deleteAfter g v s = deleteBy commit h g v s
 
   abbrev pub answer : Geometry → Volume → Call → Result
-  answer g v (insert r) = insertAfter g v r (search h g v (r .key) .stop)
-  answer g v (update r) = updateAfter g v r (search h g v (r .key) .stop)
-  answer g v (delete key) = deleteAfter g v (search h g v key .stop)
-  answer g v (lookup key) = let f : Found = search h g v key in lookupAfter g v (f .opened) (searchDaPages h g v key) (f .stop)
+  answer g v c = answerBy commit h g v c
 
   -- a call on a volume
   unfoldable pub call : Volume → Call → Result

@@ -22,7 +22,7 @@ use Rattle.layout.specs.Search.{Stop, found, corrupt, Found, reply, tryE
 use Rattle.layout.specs.Search.{costFrom}
 use Rattle.layout.specs.Calls.{Volume, Call, insert, update, delete, lookup, keyIndex, badState, tooShort, tryAt, searchAt}
 use Rattle.layout.specs.Calls.{halfFilter, tryDeletion, maybeDeleted, testDeletion, tryCost, daPagesAt, deletionRam, deletionFilters}
-use Rattle.layout.specs.Calls.{pageFilter, Outcome, accepted, hit, miss, refused, Result, deletionPlan, insertionPlan, commit, change}
+use Rattle.layout.specs.Calls.{pageFilter, Outcome, accepted, hit, miss, refused, Result, deletionPlan, insertionPlan, commit, changeBy, change}
 use Rattle.layout.specs.Calls.{updateAfter}
 use Rattle.layout.specs.FiniteMap.{Map, emptyMap, Reply, accepts, hits, misses, refuses, stepMap, find, without}
 use Rattle.layout.specs.Examples.{sectorsOf, blocksOf}
@@ -90,7 +90,7 @@ changed =
 pub change-order : length changed ∷ getD changed 0 0 ∷ getD changed 4 0 ∷ getD changed 8 0 ∷ getD changed 72 0 ∷ getD changed 73 0
     ∷ getD changed 77 0 ∷ getD changed 81 0 ∷ getD changed 85 0 ∷ getD changed 149 0 ∷ []
     ≡ 150 ∷ (24 * 64 + 252) ∷ (37 * 64 + 15) ∷ (38 * 64) ∷ 100037 ∷ 1020 ∷ (16 * 64 + 508) ∷ (28 * 64 + 15) ∷ (29 * 64) ∷ 100028 ∷ []
-unfolding log2up flushAndBuild deletionPlan insertionPlan change commit allFresh fresh onesIn
+unfolding log2up flushAndBuild deletionPlan insertionPlan changeBy commit allFresh fresh onesIn
 change-order = refl
 
 -- a DA page that is not the fourth leaves its filters in RAM: page 62 programs nothing but itself
@@ -298,14 +298,14 @@ updated n d s =
 pub updates-absent : updated 318 254 none ∷ updated 318 256 none ∷ updated 315 256 none ∷ updated 320 256 none
     ∷ updated 320 256 (some corrupt) ∷ []
     ≡ (0 ∷ 319 ∷ 254 ∷ []) ∷ (0 ∷ 319 ∷ 256 ∷ []) ∷ (7 ∷ 315 ∷ 256 ∷ []) ∷ (5 ∷ 320 ∷ 256 ∷ []) ∷ (8 ∷ 320 ∷ 256 ∷ []) ∷ []
-unfolding fresh onesIn allFresh deletionPlan insertionPlan commit change
+unfolding fresh onesIn allFresh deletionPlan insertionPlan commit changeBy
 updates-absent = refl
 
 -- "a deletion followed by an insertion, in one call"
 pub updates-live : updated 318 254 (some (found 3)) ∷ updated 318 255 (some (found 3)) ∷ updated 315 256 (some (found 3))
     ∷ updated 320 256 (some (found 3)) ∷ []
     ≡ (0 ∷ 319 ∷ 255 ∷ []) ∷ (7 ∷ 318 ∷ 255 ∷ []) ∷ (6 ∷ 315 ∷ 256 ∷ []) ∷ (5 ∷ 320 ∷ 256 ∷ []) ∷ []
-unfolding fresh onesIn allFresh deletionPlan insertionPlan commit change
+unfolding fresh onesIn allFresh deletionPlan insertionPlan commit changeBy
 updates-live = refl
 
 -- ---- the map, with room for four records and one deletion

@@ -7,7 +7,11 @@ pub mod Index
 pub mod Search
 pub mod Refusals
 pub mod Calls
+pub mod Header
+pub mod Later
+pub mod Budgets
 pub mod Several
 pub mod FiniteMap
 pub mod Examples
 pub mod Checks
+pub mod CutChecks

@@ -5,7 +5,7 @@ use Prim.Native.Nat.{ℕ}
 abbrev pub badState : ℕ
 badState = 1
 
--- "cells under 64SB, marks under 64B or desk under 20S bytes"; §5: "the larger sums", 24S bytes of RAM
+-- "cells under 64SB, marks under 64B or desk under 20S bytes"; §5: "the larger sums", 24S bytes of RAM; §8: 64 more
 abbrev pub tooShort : ℕ
 tooShort = 2
 
@@ -36,3 +36,7 @@ corruptEntry = 8
 -- document 02, request 1: "9, header missing or row malformed"
 abbrev pub malformed : ℕ
 malformed = 9
+
+-- request 8: "10, a call other than format and restart while the kind is not 0"
+abbrev pub pending : ℕ
+pending = 10

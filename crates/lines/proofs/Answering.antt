@@ -1,24 +1,23 @@
 -- What a call answers and leaves is what its request answers and leaves.
 use mathlib.Core.Path.{_≡_, refl, sym, ap, _∙_}
 use mathlib.Core.Logic.{_≢_}
-use mathlib.Core.Option.{Option, none, some}
 use mathlib.Core.List.{List}
 use Prim.Native.Nat.{ℕ}
 use Prim.{Unit}
 use native.Mathlib.Omega.{arith}
 use lib.Dec.{eqb}
 use lib.ListN.{length}
+use borrow.Author.Tests.{eqb-false}
 use Rattle.memory.specs.Cases.{either, bool?}
 use Rattle.memory.specs.Lists.{write, length-tab}
 use Rattle.memory.specs.Words.{word}
-use Rattle.layout.specs.Geometry.{Geometry, geometry}
 use Rattle.layout.specs.Hash.{Family}
-use Rattle.layout.specs.Search.{Stop, found, corrupt}
-use Rattle.layout.specs.Calls.{Volume, Outcome, accepted, hit, miss, refused, Result}
-use Rattle.layout.specs.Calls.{badState, tooShort, judgeFirst, lookup, lookupAfter, search, searchDaPages, call}
+use Rattle.layout.specs.Calls.{Volume, Outcome, accepted, hit, miss, refused, Result, lookup}
+use Rattle.layout.specs.Budgets.{callWhole}
 use Rattle.state.specs.Contract.{Effect, effectOf, changeEffect}
 use Rattle.state.specs.declared.Change.{Change}
 use Rattle.lookup.specs.Results.{lookupBy, lookupOf, partOf}
+use Rattle.lookup.specs.Whole.{whole-cases}
 use Rattle.script.specs.Lines.{Request, request}
 use Rattle.script.specs.Answers.{text}
 use Rattle.script.specs.Answers as answers
@@ -68,45 +67,13 @@ LookupOutcome miss = Unit
 LookupOutcome (refused i) = i ≢ 0
 LookupOutcome accepted = ⊥
 
-module _ (h : Family) where
-  after-outcome : (g : Geometry) (v : Volume) (opened daPages : ℕ) (o : Option Stop)
-      → LookupOutcome (lookupAfter g v opened daPages o .outcome)
-  unfolding lookupAfter
-  after-outcome g v opened daPages none = tt
-  after-outcome g v opened daPages (some corrupt) = λ e. omega arith
-  after-outcome g v opened daPages (some (found j)) = length-tab 16 _
+module _ (h : Family) (v : Volume) (key : ℕ) where
+  whole-outcome : LookupOutcome (callWhole h v (lookup key) .outcome)
+  whole-outcome =
+      whole-cases h v key (λ r. LookupOutcome (r .outcome)) (λ i some small. eqb-false i 0 some) (λ good. tt) (λ j good. length-tab 16 _)
 
-  after-keeps : (g : Geometry) (v : Volume) (opened daPages : ℕ) (o : Option Stop) → lookupAfter g v opened daPages o .volume ≡ v
-  unfolding lookupAfter
-  after-keeps g v opened daPages none = refl
-  after-keeps g v opened daPages (some corrupt) = refl
-  after-keeps g v opened daPages (some (found j)) = refl
-
-  call-outcome : (v : Volume) (key : ℕ) → LookupOutcome (call h v (lookup key) .outcome)
-  unfolding call judgeFirst
-  call-outcome v key =
-      either (bool? (badState (v .state)))
-      (λ a. rw a (λ e. omega arith))
-      (λ a.
-      either (bool? (tooShort (geometry (v .state .sizes)) (v .flash) (v .ram)))
-      (λ b. rw (a, b) (λ e. omega arith))
-      (λ b. rw (a, b)
-      (after-outcome (geometry (v .state .sizes)) v (search h (geometry (v .state .sizes)) v key .opened)
-      (searchDaPages h (geometry (v .state .sizes)) v key)
-      (search h (geometry (v .state .sizes)) v key .stop))))
-
-  call-keeps : (v : Volume) (key : ℕ) → call h v (lookup key) .volume ≡ v
-  unfolding call judgeFirst
-  call-keeps v key =
-      either (bool? (badState (v .state)))
-      (λ a. rw a)
-      (λ a.
-      either (bool? (tooShort (geometry (v .state .sizes)) (v .flash) (v .ram)))
-      (λ b. rw (a, b))
-      (λ b. rw (a, b)
-      (after-keeps (geometry (v .state .sizes)) v (search h (geometry (v .state .sizes)) v key .opened)
-      (searchDaPages h (geometry (v .state .sizes)) v key)
-      (search h (geometry (v .state .sizes)) v key .stop))))
+  whole-keeps : callWhole h v (lookup key) .volume ≡ v
+  whole-keeps = whole-cases h v key (λ r. r .volume ≡ v) (λ i some small. refl) (λ good. refl) (λ j good. refl)
 
 -- the answer by the three numbers and the part that a lookup gives
 refused-answer : (r : Result) (o : Outcome) (i : ℕ) → i ≡ lookupBy o (r .count) (r .daPages) .refusal → i ≢ 0 → answers.no i ≡ resultAnswer r o
@@ -133,22 +100,22 @@ hit-answer r (refused j) f n bytes l ef en eb nf = absurd (nf ef)
 
 module _ (h : Family) (v : Volume) (key : ℕ) where
   abbrev r : Result
-  r = call h v (lookup key)
+  r = callWhole h v (lookup key)
 
   pub lookup-refused : (i : ℕ) → i ≡ lookupOf r .refusal → i ≢ 0 → answers.no i ≡ resultReply r .answer
   lookup-refused i = refused-answer r (r .outcome) i
 
   pub lookup-missed : (i f n : ℕ) → i ≡ lookupOf r .refusal → f ≡ lookupOf r .found → n ≡ lookupOf r .count → i ≡ 0 → f ≡ 0
       → answers.miss n ≡ resultReply r .answer
-  lookup-missed i f n = missed-answer r (r .outcome) i f n (call-outcome h v key)
+  lookup-missed i f n = missed-answer r (r .outcome) i f n (whole-outcome h v key)
 
   pub lookup-hit : (f n : ℕ) (bytes : List ℕ) → f ≡ lookupOf r .found → n ≡ lookupOf r .count → bytes ≡ partOf (r .outcome)
       → f ≢ 0 → (length bytes ≡ 16) × (answers.hit (word bytes 4) n ≡ resultReply r .answer)
-  lookup-hit f n bytes = hit-answer r (r .outcome) f n bytes (call-outcome h v key)
+  lookup-hit f n bytes = hit-answer r (r .outcome) f n bytes (whole-outcome h v key)
 
   -- an answer with the volume as it was
   pub lookup-reply : (a : answers.Answer) → a ≡ resultReply r .answer → record { answer = a; volume = v } ≡ resultReply r
-  lookup-reply a e = rw e (ap (λ (w : Volume). record { answer = resultReply r .answer; volume = w }) (sym (call-keeps h v key)))
+  lookup-reply a e = rw e (ap (λ (w : Volume). record { answer = resultReply r .answer; volume = w }) (sym (whole-keeps h v key)))
 
 -- ---- a line
 

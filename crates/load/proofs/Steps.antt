@@ -1,6 +1,6 @@
 -- A load row by row: what is left of it at a place of the tab.
 use mathlib.Core.Path.{_≡_, refl, sym, ap, _∙_}
-use mathlib.Core.Bool.{Bool, true, false, cond, false≢true}
+use mathlib.Core.Bool.{Bool, true, false, cond, false≢true, true≢false}
 use mathlib.Core.Logic.{_≢_}
 use mathlib.Core.Option.{Option, none, some}
 use mathlib.Core.List.{List, [], _∷_}
@@ -12,19 +12,20 @@ use borrow.Author.Tests.{eq-eqb, ne-eqb}
 use Rattle.layout.specs.Hash.{Family}
 use Rattle.layout.specs.Refusals as refusal
 use Rattle.layout.specs.Geometry as layout
-use Rattle.layout.specs.Calls.{Volume, update, Outcome, accepted, refused, Result, badState, tooShort, call}
+use Rattle.layout.specs.Calls.{Volume, Outcome, accepted, refused, Result, badState, tooShort}
+use Rattle.layout.specs.Header.{pages, kindIn}
 use Rattle.layout.specs.Several.{Several, ended, oneMore, goOn}
 use Rattle.geometry.specs.Shape.{geometryFor}
 use Rattle.geometry.specs.declared.Geometry.{Geometry}
 use Rattle.state.specs.Contract.{outcomeOf}
-use Rattle.state.specs.Judge.{judgementOf, VolumeFits}
+use Rattle.state.specs.declared.Judgement.{Judgement}
 use Rattle.state.specs.declared.Judgement.the-variants.{Good, Refused}
-use Rattle.state.proofs.Refusals.{number, refuses, fits-enough}
+use Rattle.state.proofs.Refusals.{number, refuses}
+use Rattle.header.specs.Header.{idleJudgement}
 use Rattle.tab.specs.Grammar.{Row}
 use Rattle.tab.specs.Reader.{GotLine, gotLine, readMore, row, header, body, rowsIn, rowsOf}
 use Rattle.tab.specs.Agree.{row-shorter}
-use Rattle.load.specs.Load.{rowRecord, endOf, loadRows, loadRead, loadLines, load}
-use Rattle.load.specs.LoadLaws.{row-update}
+use Rattle.load.specs.Load.{endOf, loadRowsBy, loadReadBy, loadLinesBy, rowWhole, loadWhole}
 
 -- ---- the rows of a text, one at a time
 
@@ -79,36 +80,31 @@ done-ended k o v = let e : k + 0 ≡ k = omega arith in rw e
 pub done-more : (k : ℕ) (s : Several) → moreDone k (oneMore s) ≡ moreDone (k + 1) s
 done-more k s = let e : k + suc (s .done) ≡ k + 1 + s .done = omega arith in rw e
 
-module _ (h : Family) (v : Volume) (tab : List ℕ) (at : ℕ) where
+module _ (does : Volume → Row → Result) (v : Volume) (tab : List ℕ) (at : ℕ) where
   abbrev left : Several
-  left = loadRead h v (rowsOf (drop at tab))
+  left = loadReadBy does v (rowsOf (drop at tab))
 
   -- nothing is left of the tab
   pub load-end : length tab ≤ at → left ≡ ended accepted v
-  unfolding rowsIn loadRows
+  unfolding rowsIn loadRowsBy
   load-end e = rw (drop-of-length-le tab {i = at} e)
 
   -- something, and it is no row
   pub load-malformed : at < length tab → row (drop at tab) ≡ none → left ≡ ended (refused refusal.malformed) v
-  unfolding loadRows
-  load-malformed l e = ap (loadRead h v) (rows-none (drop at tab) e) ∙ by (drop at tab) (omega (arith, length-drop at tab))
+  unfolding loadRowsBy
+  load-malformed l e = ap (loadReadBy does v) (rows-none (drop at tab) e) ∙ by (drop at tab) (omega (arith, length-drop at tab))
     where
-      by : (t : List ℕ) → 0 < length t → loadRows h v [] (endOf t) ≡ ended (refused refusal.malformed) v
+      by : (t : List ℕ) → 0 < length t → loadRowsBy does v [] (endOf t) ≡ ended (refused refusal.malformed) v
       by [] z = absurd (omega arith)
       by (c ∷ cs) z = refl
 
   module _ (a b c next : ℕ) (e : row (drop at tab) ≡ some (gotLine a b c (drop next tab))) where
-    abbrev this : Row
-    this = record { level = a; moves = b; goal = c }
-
     abbrev done : Result
-    done = call h v (update (rowRecord this))
+    done = does v (record { level = a; moves = b; goal = c })
 
-    load-row : left ≡ goOn (done .outcome) (done .volume) (loadRead h (done .volume) (rowsOf (drop next tab)))
-    unfolding loadRows
-    load-row =
-        ap (loadRead h v) (rows-more (drop at tab) (gotLine a b c (drop next tab)) e)
-        ∙ ap (λ (r : Result). goOn (r .outcome) (r .volume) (loadRead h (r .volume) (rowsOf (drop next tab)))) (row-update h v this)
+    load-row : left ≡ goOn (done .outcome) (done .volume) (loadReadBy does (done .volume) (rowsOf (drop next tab)))
+    unfolding loadRowsBy
+    load-row = ap (loadReadBy does v) (rows-more (drop at tab) (gotLine a b c (drop next tab)) e)
 
     -- what the code's answer says of the outcome; i is its refusal's number
     module _ (i : ℕ) (w : Volume) (is : outcomeOf i ≡ done .outcome) (to : w ≡ done .volume) where
@@ -117,7 +113,7 @@ module _ (h : Family) (v : Volume) (tab : List ℕ) (at : ℕ) where
           let o : outcomeOf i ≡ refused i = rw (ne-eqb i 0 n) in
           load-row ∙ rw (sym is ∙ o, o, to)
 
-      pub load-accepted : i ≡ 0 → left ≡ oneMore (loadRead h w (rowsOf (drop next tab)))
+      pub load-accepted : i ≡ 0 → left ≡ oneMore (loadReadBy does w (rowsOf (drop next tab)))
       load-accepted z =
           let o : done .outcome ≡ accepted = sym is ∙ rw (eq-eqb i 0 z) in
           load-row ∙ rw (o, to)
@@ -125,20 +121,40 @@ module _ (h : Family) (v : Volume) (tab : List ℕ) (at : ℕ) where
 -- ---- before the rows
 
 module _ (h : Family) (v : Volume) (tab : List ℕ) where
-  pub load-judged : (i : ℕ) → judgementOf v ≡ Refused i → load h v tab ≡ ended (outcomeOf i) v
-  unfolding load
-  load-judged i e =
-      by (badState (v .state)) (tooShort (layout.geometry (v .state .sizes)) (v .flash) (v .ram)) (geometryFor (v .state .sizes)) (loadLines h v (body tab)) e
-    where
-      by : (a b : Bool) (g : Geometry) (x : Several) → cond a (Refused refusal.badState) (cond b (Refused refusal.tooShort) (Good g)) ≡ Refused i
-          → cond a (ended (refused refusal.badState) v) (cond b (ended (refused refusal.tooShort) v) x) ≡ ended (outcomeOf i) v
-      by true b g x q = ap (λ (k : ℕ). ended (outcomeOf k) v) (ap number q)
-      by false true g x q = ap (λ (k : ℕ). ended (outcomeOf k) v) (ap number q)
-      by false false g x q = absurd (false≢true (ap refuses q))
+  abbrev lines : Several
+  lines = loadLinesBy (rowWhole h) v (body tab)
 
-  pub load-good : (g : Geometry) → VolumeFits v g → load h v tab ≡ loadLines h v (body tab)
-  unfolding load
-  load-good g f = rw (f .good, fits-enough v g f)
+  abbrev judged : Bool → Bool → Bool → Geometry → Judgement
+  judged a b k g = cond a (Refused refusal.badState) (cond b (Refused refusal.tooShort) (cond k (Good g) (Refused refusal.pending)))
+
+  abbrev loaded : Bool → Bool → Bool → Several
+  loaded a b k =
+      cond a (ended (refused refusal.badState) v)
+      (cond b (ended (refused refusal.tooShort) v) (cond k lines (ended (refused refusal.pending) v)))
+
+  pub load-judged : (i : ℕ) → idleJudgement v ≡ Refused i → loadWhole h v tab ≡ ended (outcomeOf i) v
+  unfolding loadWhole
+  load-judged i e =
+      by (badState (v .state)) (tooShort (layout.geometry (v .state .sizes)) (v .flash) (pages (v .ram))) (eqb (kindIn (v .ram)) 0)
+      (geometryFor (v .state .sizes)) e
+    where
+      by : (a b k : Bool) (g : Geometry) → judged a b k g ≡ Refused i → loaded a b k ≡ ended (outcomeOf i) v
+      by true b k g q = ap (λ (j : ℕ). ended (outcomeOf j) v) (ap number q)
+      by false true k g q = ap (λ (j : ℕ). ended (outcomeOf j) v) (ap number q)
+      by false false false g q = ap (λ (j : ℕ). ended (outcomeOf j) v) (ap number q)
+      by false false true g q = absurd (false≢true (ap refuses q))
+
+  pub load-good : (g : Geometry) → idleJudgement v ≡ Good g → loadWhole h v tab ≡ lines
+  unfolding loadWhole
+  load-good g e =
+      by (badState (v .state)) (tooShort (layout.geometry (v .state .sizes)) (v .flash) (pages (v .ram))) (eqb (kindIn (v .ram)) 0)
+      (geometryFor (v .state .sizes)) e
+    where
+      by : (a b k : Bool) (o : Geometry) → judged a b k o ≡ Good g → loaded a b k ≡ lines
+      by true b k o q = absurd (true≢false (ap refuses q))
+      by false true k o q = absurd (true≢false (ap refuses q))
+      by false false false o q = absurd (true≢false (ap refuses q))
+      by false false true o q = refl
 
 -- ---- the text of the rows, by whether the tab has bytes
 
@@ -150,6 +166,6 @@ pub body-some : (tab : List ℕ) → length tab ≢ 0 → body tab ≡ header ta
 body-some [] n = absurd (n refl)
 body-some (c ∷ cs) n = refl
 
-pub none-loaded : (h : Family) (v : Volume) → loadLines h v (some []) ≡ ended accepted v
-unfolding loadRows rowsIn
-none-loaded h v = refl
+pub none-loaded : (does : Volume → Row → Result) (v : Volume) → loadLinesBy does v (some []) ≡ ended accepted v
+unfolding loadRowsBy rowsIn
+none-loaded does v = refl

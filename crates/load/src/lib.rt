@@ -1,16 +1,22 @@
-// Loading a tab: its rows in turn, up to the first that is malformed or refused. Document 02, requests 1 and 6.
+// Loading a tab: its rows in turn, up to the first that is malformed or refused. Document 02, requests 1, 6 and 8.
 ghost use mathlib.Core.Path.{_≡_};
 ghost use lib.ListN.{drop};
 ghost use Rattle.memory.specs.Lent.{before};
 ghost use Rattle.layout.specs.Hash.{fnvFamily};
-ghost use Rattle.state.specs.Contract.{given};
+ghost use Rattle.layout.specs.Header.{onPages};
+ghost use Rattle.layout.specs.Several.{putCall};
+ghost use Rattle.layout.specs.Budgets.{callCut};
+ghost use Rattle.state.specs.Contract.{recordIs, given, cutOf, cutBy};
 ghost use Rattle.tab.specs.Reader.{rowsOf};
-ghost use Rattle.load.specs.Load.{loadRead, load};
-ghost use Rattle.load.specs.Contract.{loadedBy};
+ghost use Rattle.load.specs.Load.{loadReadBy, rowWhole, loadWhole};
+ghost use Rattle.load.specs.Contract.{rowRequest, loadedBy};
+use calls::Resolved;
 use reader::Header;
 use reader::Parsed;
+use state::Cut;
 use state::Judgement;
 use state::Record;
+use state::Request;
 use state::State;
 
 // The answer of a load: a refusal's number or `ACCEPTED`, the rows that were loaded, and the state after them.
@@ -21,8 +27,35 @@ pub struct Loaded {
     pub state: State,
 }
 
-// The rows from a place of the tab on, each an update: it inserts a level that is not there, so one search serves a row. A row that is
-// loaded is one more record, so they can be counted.
+// What a row asks for, by what its level resolved to: an update if it is live, else an insert.
+fn row_request(record: Record, r: Resolved) -> Request
+    ensures { λ q. ⌜ q ≡ rowRequest «record» r ⌝ }
+{
+    match r {
+        Resolved::Refused(_) => Request::Insert(record),
+        Resolved::Absent(_) => Request::Insert(record),
+        Resolved::Live(_, _) => Request::Update(record),
+    }
+}
+
+// A row's call, with a budget of steps; its level is searched once.
+fn load_row(
+    budget: usize,
+    s: State,
+    record: Record,
+    main: &mut [u8],
+    spare: &mut [u8],
+    ram: &mut [u8],
+) -> Cut
+    ensures { λ c. ⌜ cutBy c main spare ram ≡ cutOf (callCut fnvFamily budget (given s main spare ram)
+        (putCall fnvFamily (onPages (given s main spare ram)) (recordIs «record»))) ⌝ }
+{
+    let r = calls::resolve(s, record.key, main, spare, ram);
+    let q = row_request(record, r);
+    calls::perform_resolved(budget, s, q, r, main, spare, ram)
+}
+
+// The rows from a place of the tab on. A row that is loaded is one more record, so they can be counted.
 fn load_rows(
     s: State,
     tab: &[u8],
@@ -31,7 +64,8 @@ fn load_rows(
     spare: &mut [u8],
     ram: &mut [u8],
 ) -> Loaded
-    ensures { λ r. ⌜ loadedBy r main spare ram ≡ loadRead fnvFamily (given s main spare ram) (rowsOf (drop at (before tab))) ⌝ }
+    ensures { λ r. ⌜ loadedBy r main spare ram
+        ≡ loadReadBy (rowWhole fnvFamily) (given s main spare ram) (rowsOf (drop at (before tab))) ⌝ }
 {
     let mut state = s;
     let mut place = at;
@@ -52,7 +86,7 @@ fn load_rows(
                     goal,
                     free: 0,
                 };
-                let c = calls::update(state, record, main, spare, ram);
+                let c = load_row(state::ENOUGH, state, record, main, spare, ram);
                 state = c.state;
                 if c.refusal != state::ACCEPTED {
                     return Loaded {
@@ -73,11 +107,11 @@ fn load_rows(
     }
 }
 
-// Loads a tab: refusals 1 and 2, then its header, then its rows; a tab of no bytes has neither.
+// Loads a tab: refusals 1, 2 and 10, then its header, then its rows; a tab of no bytes has neither.
 pub fn load(s: State, tab: &[u8], main: &mut [u8], spare: &mut [u8], ram: &mut [u8]) -> Loaded
-    ensures { λ r. ⌜ loadedBy r main spare ram ≡ load fnvFamily (given s main spare ram) (before tab) ⌝ }
+    ensures { λ r. ⌜ loadedBy r main spare ram ≡ loadWhole fnvFamily (given s main spare ram) (before tab) ⌝ }
 {
-    match state::judge(s, main, spare, ram) {
+    match header::judge(s, main, spare, ram) {
         Judgement::Refused(i) => {
             return Loaded {
                 refusal: i,

@@ -61,7 +61,7 @@ fn print_answer(rows: u32, refusal: u32) {
 fn load_new(tab: &[u8]) {
     let mut main_area = main_buffer();
     let mut spare = spare_buffer();
-    let mut ram = [0u8; 1536];
+    let mut ram = [0u8; 1600];
     let sizes = Sizes {
         sector_size: 64,
         ra_blocks: 32,

@@ -2,3 +2,4 @@ pub mod LoadCalls
 pub mod LoadMap
 pub mod Moves
 pub mod WornLoads
+pub mod WholeLoads

@@ -15,7 +15,7 @@ use Rattle.layout.specs.Several.{Several, goOn, isLive, putCall}
 use Rattle.tab.specs.Grammar.{Row}
 use Rattle.tab.specs.Reader.{GotLine, body, row, rowsIn, rowsOf, continue}
 use Rattle.tab.specs.Agree.{row-sound}
-use Rattle.load.specs.Load.{endOf, rowCall, loadRows, loadLines, load}
+use Rattle.load.specs.Load.{endOf, rowCall, loadRowsBy, loadRows, loadLines, load}
 use Rattle.load.specs.LoadLaws.{Judged}
 
 -- a call that is refused is the last
@@ -65,7 +65,7 @@ module _ (h : Family) where
   row-same v c (refused i) rest cs e S = (refl, rw e)
 
   rows-same : (v : Volume) (rs : List Row) (end : Outcome) → Same v (loadRows h v rs end) (rowCalls v rs)
-  unfolding loadRows rowCalls
+  unfolding loadRowsBy rowCalls
   rows-same v [] end = (refl, refl)
   rows-same v (r ∷ rs) end =
       let c : Call = rowCall h v r in

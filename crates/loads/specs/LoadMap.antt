@@ -26,7 +26,7 @@ use Rattle.history.specs.Reached.{Reached, reach-call, reach-says, reach-format
 use Rattle.tab.specs.Grammar.{Row, Reading}
 use Rattle.tab.specs.Reader.{body, rowsOf}
 use Rattle.tab.specs.Agree.{reading-only}
-use Rattle.load.specs.Load.{rowRecord, endOf, rowCall, loadRows, loadLines, load}
+use Rattle.load.specs.Load.{rowRecord, endOf, rowCall, loadRowsBy, loadRows, loadLines, load}
 use Rattle.load.specs.LoadLaws.{Judged}
 use Rattle.loads.specs.LoadCalls.{RowWords, row-word, read-words}
 
@@ -192,7 +192,7 @@ module _ (h : Family) (sizes : Sizes) where
 
   pub rows-agree : (v : Volume) (m : Map) (rs : List Row) (end : Outcome) → Reached h sizes v m → RowWords h rs
       → LoadAgrees (loadRows h v rs end) (mapLoad g m rs (replyOf end))
-  unfolding loadRows mapLoad
+  unfolding loadRowsBy mapLoad
   rows-agree v m [] end X w = record { says = refl; done = refl; reached = X }
   rows-agree v m (r ∷ rs) end X w =
       goes-agree (call h v (rowCall h v r) .outcome) (mapRow g m r .says) (call h v (rowCall h v r) .volume) (mapRow g m r .next)

@@ -54,7 +54,7 @@ module _ (h : Family) where
     g = geometry sizes
 
     -- a load leaves what its calls leave, and is reached too
-    load-is : (v : Volume) (m : Map) (text : List ℕ) → Reached h sizes v m → load h v text .volume ≡ after h v (tabCalls h v text)
+    pub load-is : (v : Volume) (m : Map) (text : List ℕ) → Reached h sizes v m → load h v text .volume ≡ after h v (tabCalls h v text)
     load-is v m text X = load-volume h v text (reached-judged h sizes v m X)
 
     reach-load : (v : Volume) (m : Map) (text : List ℕ) → Reached h sizes v m

@@ -19,7 +19,7 @@ use Rattle.history.specs.WornCalls.{search-same, short-same}
 use Rattle.history.specs.WornRuns.{call-same, run-same}
 use Rattle.tab.specs.Grammar.{Row}
 use Rattle.tab.specs.Reader.{body, rowsOf}
-use Rattle.load.specs.Load.{rowRecord, endOf, rowCall, loadRows, loadLines, load}
+use Rattle.load.specs.Load.{rowRecord, endOf, rowCall, loadRowsBy, loadRows, loadLines, load}
 use Rattle.load.specs.LoadLaws.{Judged}
 use Rattle.loads.specs.LoadCalls.{accepts, rowCalls, linesCalls, tabCalls, load-volume, RowWords, row-word, read-words, tab-words}
 use Rattle.loads.specs.LoadMap.{mapTab, load-agrees, reached-judged}
@@ -87,7 +87,7 @@ module _ (h : Family) (sizes : Sizes) where
 
   rows-same : (v : Volume) (m : Map) (spare : List ℕ) (rs : List Row) (end : Outcome) → Reached h sizes v m → RowWords h rs
       → Worn (spareSize g) (v .flash .spare) spare → RowsSame v (withSpare spare v) rs end
-  unfolding loadRows rowCalls
+  unfolding loadRowsBy rowCalls
   rows-same v m spare [] end X k W = record { outcome = refl; done = refl; calls = refl }
   rows-same v m spare (r ∷ rs) end X k W =
       let c : Call = rowCall h v r in

@@ -8,16 +8,17 @@ use native.Mathlib.Omega.{arith}
 use lib.Dec.{ltb}
 use borrow.Author.Tests.{ltb-false, not-false}
 use Rattle.memory.specs.Booleans.{or-eq-false-iff}
-use Rattle.memory.specs.Cases.{either, bool?}
 use Rattle.layout.specs.Geometry as layout
 use Rattle.layout.specs.Hash.{Family}
-use Rattle.layout.specs.Search.{Stop, found, corrupt, Found, ramFirst, scan, searchPages}
-use Rattle.layout.specs.Calls.{Volume, lookup, badState, tooShort, judgeFirst, keyPositions, tryAt, maybeIn, searchAt, search}
-use Rattle.layout.specs.Calls.{searchDaPages, lookupAfter, call}
+use Rattle.layout.specs.Search.{Stop, Found, ramFirst, scan, searchPages}
+use Rattle.layout.specs.Calls.{Volume, lookup, badState, keyPositions, tryAt, maybeIn, searchAt, search}
+use Rattle.layout.specs.Header.{onPages}
+use Rattle.layout.specs.Budgets.{callWhole}
 use Rattle.laws.specs.SearchLaws.{opened-le}
 use Rattle.laws.specs.Sound.{sound, pu, u-le}
 use Rattle.lookup.specs.declared.LookupResult.{LookupResult}
 use Rattle.lookup.specs.Results.{lookupOf}
+use Rattle.lookup.specs.Whole.{whole-cases}
 
 -- its first three numbers
 pub record Small (r : LookupResult) : Type 0 where
@@ -58,17 +59,11 @@ module _ (h : Family) (v : Volume) (key : ℕ) where
         mul-le-mul (ok .R-le) (u-le (v .state .sizes) ok),
       )
 
-  after-small : (opened daPages : ℕ) (s : Option Stop) → opened ≤ 8388608 → Small (lookupOf (lookupAfter g v opened daPages s))
-  unfolding lookupAfter
-  after-small opened daPages none l = record { refusal = omega arith; found = omega arith; count = omega arith }
-  after-small opened daPages (some corrupt) l = record { refusal = omega arith; found = omega arith; count = omega arith }
-  after-small opened daPages (some (found j)) l = record { refusal = omega arith; found = omega arith; count = omega arith }
-
-  pub lookup-small : Small (lookupOf (call h v (lookup key)))
-  unfolding call judgeFirst
+-- in the pages of a volume
+module _ (h : Family) (v : Volume) (key : ℕ) where
+  pub lookup-small : Small (lookupOf (callWhole h v (lookup key)))
   lookup-small =
-      either (bool? (badState (v .state)))
-      (λ a. rw a record { refusal = omega arith; found = omega arith; count = omega arith })
-      (λ a. either (bool? (tooShort g (v .flash) (v .ram)))
-      (λ b. rw (a, b) record { refusal = omega arith; found = omega arith; count = omega arith })
-      (λ b. rw (a, b) (after-small (search h g v key .opened) (searchDaPages h g v key) (search h g v key .stop) (opened-most a))))
+      whole-cases h v key (λ r. Small (lookupOf r))
+      (λ i some small. record { refusal = omega (arith, small); found = omega arith; count = omega arith })
+      (λ good. record { refusal = omega arith; found = omega arith; count = omega (arith, opened-most h (onPages v) key (good .state)) })
+      (λ j good. record { refusal = omega arith; found = omega arith; count = omega (arith, opened-most h (onPages v) key (good .state)) })

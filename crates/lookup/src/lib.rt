@@ -1,8 +1,9 @@
-// Lookup: where a level's record lies. Document 01, "Calls".
+// Lookup: where a level's record lies. Document 01, "Calls"; document 02, request 8: 10.
 ghost use mathlib.Core.Path.{_≡_};
 ghost use Rattle.memory.specs.Lent.{after};
 ghost use Rattle.layout.specs.Hash.{fnvFamily};
-ghost use Rattle.layout.specs.Calls.{lookup, call, answer};
+ghost use Rattle.layout.specs.Calls.{lookup, answer};
+ghost use Rattle.layout.specs.Budgets.{callWhole};
 ghost use Rattle.geometry.specs.Shape.{shape};
 ghost use Rattle.state.specs.Contract.{volume, given};
 ghost use Rattle.state.specs.Judge.{VolumeFits};
@@ -89,14 +90,15 @@ fn find_in(g: Geometry, s: State, key: u32, main: &[u8], spare: &[u8], ram: &[u8
 
 // Where a level's record lies, in numbers.
 pub fn find(s: State, key: u32, main: &[u8], spare: &[u8], ram: &[u8]) -> LookupResult
-    ensures { λ r. ⌜ r ≡ lookupOf (call fnvFamily (given s main spare ram) (lookup key)) ⌝ }
+    ensures { λ r. ⌜ r ≡ lookupOf (callWhole fnvFamily (given s main spare ram) (lookup key)) ⌝ }
 {
-    match state::judge(s, main, spare, ram) {
+    match header::judge(s, main, spare, ram) {
         Judgement::Refused(i) => {
             return refuse_lookup(i);
         }
         Judgement::Good(g) => {
-            return find_in(g, s, key, main, spare, ram);
+            let n = ram.len() - state::HEADER_SIZE;
+            return find_in(g, s, key, main, spare, &ram[0..n]);
         }
     }
 }
@@ -111,10 +113,10 @@ pub fn lookup<'a>(
     ram: &'a [u8],
     numbers: &mut [u64; 4],
 ) -> &'a [u8]
-    ensures part { λ r. ⌜ (now r ≡ partOf (call fnvFamily (given s main spare ram) (lookup key) .outcome))
+    ensures part { λ r. ⌜ (now r ≡ partOf (callWhole fnvFamily (given s main spare ram) (lookup key) .outcome))
         × (r .ptr ≡ whereOf ((main .entry) .ptr) ((ram .entry) .ptr)
-        (call fnvFamily (given s main spare ram) (lookup key) .outcome)) ⌝ }
-    ensures numbers { λ r. ⌜ after numbers ≡ answerNumbers (lookupOf (call fnvFamily (given s main spare ram) (lookup key))) ⌝ }
+        (callWhole fnvFamily (given s main spare ram) (lookup key) .outcome)) ⌝ }
+    ensures numbers { λ r. ⌜ after numbers ≡ answerNumbers (lookupOf (callWhole fnvFamily (given s main spare ram) (lookup key))) ⌝ }
 {
     let f = find(s, key, main, spare, ram);
     *numbers = [

@@ -5,3 +5,4 @@ pub mod Fits
 pub mod Groups
 pub mod Plans
 pub mod Fresh
+pub mod Done

@@ -1,4 +1,5 @@
-// The chip operations of a change as numbers, a run of them, and whether their sectors are fresh. The RAM is only read.
+// The chip operations of a change as numbers, a run of them, whether their sectors are fresh, and how many count as done. The RAM is only
+// read.
 ghost use mathlib.Core.Path.{_≡_};
 ghost use mathlib.Core.List.{List};
 ghost use Prim.Native.Nat.{ℕ, _+_, _-_, _*_, _/_, _^_, _<_, _≤_};
@@ -19,7 +20,9 @@ ghost use Rattle.plan.specs.Groups.{bufferSize, atOnce, Steps, upTo, OfP
 ghost use Rattle.plan.specs.Fits.{PageFits, FlushFits, NextFits, WipeFits};
 ghost use Rattle.plan.specs.Plans.{newLength, filtersLength, buildOf, summaryOf, summaryCount, deletionOf, deletionCount, recordOf};
 ghost use Rattle.plan.specs.Plans.{planned, plannedCount, wholeOf, BuildFits, SummaryFits, PlanFits, IndexSpareFits, SpareFits};
+ghost use Rattle.laws.specs.Done.{doneCount};
 ghost use Rattle.plan.specs.Fresh.{indexFresh};
+ghost use Rattle.plan.specs.Done.{indexDone, deletionDone, recordDone};
 use geometry::Chip;
 use geometry::Geometry;
 use geometry::areas;
@@ -571,4 +574,56 @@ pub fn fresh(p: Plan, spare: &[u8]) -> bool
         return false;
     }
     index_fresh(p.ka_index, spare)
+}
+
+// How many operations of an index count as done: the erases behind the last programmed sector do not.
+fn index_done(s: Summary, spare: &[u8]) -> usize
+    requires { ⌜ IndexSpareFits s (length (now spare)) × (summaryCount s < 2 ^ 64) ⌝ }
+    ensures { λ r. ⌜ r ≡ indexDone s (before spare) ⌝ }
+{
+    let in_set = flash::last_programmed(s.set.first, 1, s.set.count, spare);
+    if 0 < in_set {
+        return s.flush.count + in_set;
+    }
+    flash::last_programmed(s.flush.first, sets::FLUSHES_PER_ROUND, s.flush.count, spare)
+}
+
+// Those of the deletion.
+fn deletion_done(p: Plan, spare: &[u8]) -> usize
+    requires { ⌜ SpareFits p (length (now spare)) × (plannedCount p < 2 ^ 64) ⌝ }
+    ensures { λ r. ⌜ r ≡ deletionDone (before spare) p ⌝ }
+{
+    let in_index = index_done(p.da_index, spare);
+    if 0 < in_index {
+        return p.da.count + in_index;
+    }
+    flash::last_programmed(p.da.first, 1, p.da.count, spare)
+}
+
+// Those of the record and its entry.
+fn record_done(p: Plan, spare: &[u8]) -> usize
+    requires { ⌜ SpareFits p (length (now spare)) × (plannedCount p < 2 ^ 64) ⌝ }
+    ensures { λ r. ⌜ r ≡ recordDone (before spare) p ⌝ }
+{
+    let in_index = index_done(p.ka_index, spare);
+    if 0 < in_index {
+        return p.ra.count + (p.ka.count + in_index);
+    }
+    let in_ka = flash::last_programmed(p.ka.first, 1, p.ka.count, spare);
+    if 0 < in_ka {
+        return p.ra.count + in_ka;
+    }
+    flash::last_programmed(p.ra.first, 1, p.ra.count, spare)
+}
+
+// How many operations of a plan count as done: all up to the last programmed sector.
+pub fn done(p: Plan, spare: &[u8]) -> usize
+    requires { ⌜ SpareFits p (length (now spare)) × (plannedCount p < 2 ^ 64) ⌝ }
+    ensures { λ r. ⌜ ((new filters ram : List ℕ) → r ≡ doneCount (before spare) (planned p new filters ram)) ⌝ }
+{
+    let of_record = record_done(p, spare);
+    if 0 < of_record {
+        return deletion_count(p) + of_record;
+    }
+    deletion_done(p, spare)
 }

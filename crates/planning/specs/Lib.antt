@@ -4,3 +4,4 @@ pub mod Operations
 pub mod New
 pub mod Fits
 pub mod Edits
+pub mod AnyRam

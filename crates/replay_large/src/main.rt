@@ -22,7 +22,7 @@ fn main() {
     let mut line = [0u8; 64];
     let mut main_area = [0u8; 487424];
     let mut spare = [0u8; 12224];
-    let mut ram = [0u8; 1536];
+    let mut ram = [0u8; 1600];
     console::run(
         &mut input,
         &mut line,

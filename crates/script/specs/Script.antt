@@ -8,6 +8,7 @@ use Rattle.memory.specs.Words.{word}
 use Rattle.layout.specs.Geometry.{sizesOf, defaultHashCount}
 use Rattle.layout.specs.Hash.{fnvFamily}
 use Rattle.layout.specs.Calls as calls
+use Rattle.layout.specs.Budgets.{callWhole, formatWhole}
 use Rattle.script.specs.Lines.{Request, format, call, bad, request}
 use Rattle.script.specs.Answers.{Answer, text}
 use Rattle.script.specs.Answers as answers
@@ -27,10 +28,10 @@ pub record Reply : Type 0 where
 abbrev pub resultReply : calls.Result → Reply
 resultReply r = record { answer = resultAnswer r (r .outcome); volume = r .volume }
 
--- a request on a volume; a bad line changes nothing
+-- a request on a volume, its call having enough; a bad line changes nothing
 unfoldable pub perform : calls.Volume → Request → Reply
-perform v (format S R D) = resultReply (calls.format v (sizesOf S R D defaultHashCount))
-perform v (call c) = resultReply (calls.call fnvFamily v c)
+perform v (format S R D) = resultReply (formatWhole v (sizesOf S R D defaultHashCount))
+perform v (call c) = resultReply (callWhole fnvFamily v c)
 perform v bad = record { answer = answers.bad; volume = v }
 
 -- ---- the input, byte by byte

@@ -40,7 +40,7 @@ refused-effect v i r p = rw (p .is, p .some)
 
 module _ (v : Volume) (x : Result) (i : ℕ) where
   -- in their order
-  of-volume : (a b : Bool) (g : Geometry) → cond a (Refused refusal.badState) (cond b (Refused refusal.tooShort) (Good g)) ≡ Refused i
+  pub of-volume : (a b : Bool) (g : Geometry) → cond a (Refused refusal.badState) (cond b (Refused refusal.tooShort) (Good g)) ≡ Refused i
       → Refusal v i (cond a (refuse v refusal.badState) (cond b (refuse v refusal.tooShort) x))
   of-volume true b g e = refusal-of v refusal.badState i (ap number e) refl
   of-volume false true g e = refusal-of v refusal.tooShort i (ap number e) refl

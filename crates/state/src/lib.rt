@@ -1,11 +1,13 @@
-// The values that calls take and give: the state of a volume, a record, the answer of a changing call, the refusals by name; and
-// refusals 1 and 2. Document 01, "The chip and the desk" and "Calls".
+// The values that calls take and give: the state of a volume, a record, a changing call, its answer, the refusals by name; and refusals 1
+// and 2. Document 01, "The chip and the desk" and "Calls"; document 02, request 8: answers of calls with a budget of steps.
 ghost use mathlib.Core.Path.{_≡_};
-ghost use mathlib.Core.Bool.{_||_};
+ghost use mathlib.Core.Bool.{_||_, cond};
 ghost use lib.Dec.{ltb};
+ghost use Rattle.memory.specs.Bits.{num};
 ghost use Rattle.memory.specs.Lent.{before};
 ghost use Rattle.layout.specs.Geometry.{recordCapacity, deletionCapacity};
 ghost use Rattle.layout.specs.Calls.{tooShort};
+ghost use Rattle.layout.specs.Header.{pages, onPages};
 ghost use Rattle.laws.specs.LentFlash.{flashBefore};
 ghost use Rattle.geometry.specs.Shape.{sizesIs, shape, Sound};
 ghost use Rattle.state.specs.Contract.{given};
@@ -32,12 +34,41 @@ pub struct Record {
     pub free: u32,
 }
 
+// A changing call and its arguments other than state and lent bytes.
+pub enum Request {
+    Insert(Record),
+    Update(Record),
+    Delete(u32),
+}
+
 // The answer of a changing call: a refusal's number or `ACCEPTED`, and the state after it.
 #[repr(C)]
 pub struct Change {
     pub refusal: u32,
     pub state: State,
 }
+
+// The answer of a call that is cut: a refusal's number or `ACCEPTED`, whether it did all of its steps, how many it did, and the state:
+// the new one if it did all, else the one handed in.
+#[repr(C)]
+pub struct Cut {
+    pub refusal: u32,
+    pub finished: u32,
+    pub steps: u64,
+    pub state: State,
+}
+
+// How far a run of steps got: how many it did, and whether these were all.
+pub struct Progress {
+    pub steps: usize,
+    pub finished: bool,
+}
+
+// A budget of steps that is enough for every call.
+pub const ENOUGH: usize = 18446744073709551615;
+
+// Bytes of the header, which are the last of the RAM.
+pub const HEADER_SIZE: usize = 64;
 
 // ---- the answers by name
 
@@ -61,6 +92,8 @@ pub const CORRUPT_ENTRY: u32 = 8;
 
 pub const MALFORMED: u32 = 9;
 
+pub const PENDING: u32 = 10;
+
 // A refusal hands the state back.
 pub fn refuse(s: State, i: u32) -> Change
     ensures { λ r. ⌜ r ≡ record { refusal = i; state = s } ⌝ }
@@ -68,6 +101,50 @@ pub fn refuse(s: State, i: u32) -> Change
     Change {
         refusal: i,
         state: s,
+    }
+}
+
+pub fn refuse_cut(s: State, i: u32) -> Cut
+    ensures { λ r. ⌜ r ≡ record { refusal = i; finished = 0; steps = 0; state = s } ⌝ }
+{
+    Cut {
+        refusal: i,
+        finished: 0,
+        steps: 0,
+        state: s,
+    }
+}
+
+// The answer of a call that is not refused, handed `old`.
+pub fn cut_after(p: Progress, old: State, new: State) -> Cut
+    ensures { λ r. ⌜ r
+        ≡ record { refusal = 0; finished = num (p .finished); steps = p .steps; state = cond (p .finished) new old } ⌝ }
+{
+    let steps = p.steps as u64;
+    if p.finished {
+        return Cut {
+            refusal: ACCEPTED,
+            finished: 1,
+            steps,
+            state: new,
+        };
+    }
+    Cut {
+        refusal: ACCEPTED,
+        finished: 0,
+        steps,
+        state: old,
+    }
+}
+
+// What the caller of a call that is not cut is told.
+pub fn uncut(c: Cut) -> Change
+    ensures { λ r. ⌜ r ≡ record { refusal = c .refusal; state = c .state } ⌝ }
+{
+    let state = c.state;
+    Change {
+        refusal: c.refusal,
+        state,
     }
 }
 
@@ -93,10 +170,10 @@ fn counts_bad(g: Geometry, n: u32, d: u32) -> bool
     n < d
 }
 
-// Are the lent bytes too few for the volume?
+// Are the lent bytes too few for the volume and the header?
 fn too_short(g: Geometry, main: &[u8], spare: &[u8], ram: &[u8]) -> bool
     requires { ⌜ Sound g ⌝ }
-    ensures { λ r. ⌜ r ≡ tooShort (shape g) (flashBefore main spare) (before ram) ⌝ }
+    ensures { λ r. ⌜ r ≡ tooShort (shape g) (flashBefore main spare) (pages (before ram)) ⌝ }
 {
     if main.len() < g.main_size() {
         return true;
@@ -104,13 +181,13 @@ fn too_short(g: Geometry, main: &[u8], spare: &[u8], ram: &[u8]) -> bool
     if spare.len() < g.spare_size() {
         return true;
     }
-    ram.len() < g.ram_size()
+    ram.len() < g.ram_size() + HEADER_SIZE
 }
 
 // Judges a state that is handed in.
 pub fn judge(s: State, main: &[u8], spare: &[u8], ram: &[u8]) -> Judgement
-    ensures equal { λ r. ⌜ r ≡ judgementOf (given s main spare ram) ⌝ }
-    ensures fits { λ r. ⌜ GoodFits (given s main spare ram) r ⌝ }
+    ensures equal { λ r. ⌜ r ≡ judgementOf (onPages (given s main spare ram)) ⌝ }
+    ensures fits { λ r. ⌜ GoodFits (onPages (given s main spare ram)) r ⌝ }
 {
     match geometry::geometry_for(s.sizes) {
         Shaped::Bad => {
@@ -130,8 +207,8 @@ pub fn judge(s: State, main: &[u8], spare: &[u8], ram: &[u8]) -> Judgement
 
 // Judges the sizes of a format.
 pub fn judge_new(sizes: Sizes, main: &[u8], spare: &[u8], ram: &[u8]) -> Judgement
-    ensures equal { λ r. ⌜ r ≡ judgementOfNew (sizesIs sizes) (flashBefore main spare) (before ram) ⌝ }
-    ensures fits { λ r. ⌜ NewFits (sizesIs sizes) (flashBefore main spare) (before ram) r ⌝ }
+    ensures equal { λ r. ⌜ r ≡ judgementOfNew (sizesIs sizes) (flashBefore main spare) (pages (before ram)) ⌝ }
+    ensures fits { λ r. ⌜ NewFits (sizesIs sizes) (flashBefore main spare) (pages (before ram)) r ⌝ }
 {
     match geometry::geometry_for(sizes) {
         Shaped::Bad => {

@@ -3,3 +3,4 @@ pub mod Example
 pub mod Trace
 pub mod FirstFilter
 pub mod LoadExample
+pub mod CutExample

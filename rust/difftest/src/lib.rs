@@ -3,6 +3,7 @@
 
 #![forbid(unsafe_code)]
 
+pub mod cuts;
 pub mod loads;
 pub mod pair;
 pub mod random;

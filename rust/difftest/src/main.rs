@@ -81,9 +81,10 @@ fn main() -> ExitCode {
                 Ok(counts) => {
                     if round == first_round {
                         println!(
-                            "{:20} {:7} calls, {:7} rows, {:3} sets, {:3} over deletions, {:6.2} s",
+                            "{:20} {:7} calls, {:6} cut, {:7} rows, {:3} sets, {:3} over deletions, {:6.2} s",
                             scenario.name,
                             counts.calls,
+                            counts.cuts,
                             counts.rows,
                             counts.sets,
                             counts.deletion_sets,

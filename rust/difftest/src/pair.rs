@@ -1,7 +1,7 @@
 //! Two stores side by side: each call is made on both, and everything is compared.
 
 use std::fmt;
-use store::{Change, Geometry, LoadResult, LookupResult, State, Store};
+use store::{Change, CutResult, Geometry, LoadResult, LookupResult, State, Store, HEADER_BYTES};
 
 #[derive(Clone, Copy, Debug, PartialEq, Eq)]
 pub enum Call<'t> {
@@ -32,6 +32,14 @@ pub enum Call<'t> {
     Load {
         tab: &'t [u8],
     },
+    Restart,
+}
+
+impl Call<'_> {
+    /// Those that change a volume by themselves, and a restart, are made of steps.
+    pub fn has_steps(self) -> bool {
+        !matches!(self, Call::Lookup { .. } | Call::Load { .. })
+    }
 }
 
 impl fmt::Display for Call<'_> {
@@ -48,11 +56,24 @@ pub enum Answer {
     Change(Change),
     Lookup(LookupResult),
     Load(LoadResult),
+    Cut(CutResult),
 }
 
 impl Answer {
+    /// And, with a budget, finished.
     pub fn accepted(self) -> bool {
-        self.refusal() == 0
+        self.refusal() == 0 && !self.is_cut()
+    }
+
+    pub fn is_cut(self) -> bool {
+        matches!(
+            self,
+            Answer::Cut(CutResult {
+                refusal: 0,
+                finished: 0,
+                ..
+            })
+        )
     }
 
     pub fn refusal(self) -> u32 {
@@ -60,6 +81,7 @@ impl Answer {
             Answer::Change(change) => change.refusal,
             Answer::Lookup(result) => result.refusal,
             Answer::Load(result) => result.refusal,
+            Answer::Cut(result) => result.refusal,
         }
     }
 
@@ -69,6 +91,7 @@ impl Answer {
             Answer::Change(change) => Some(change.state),
             Answer::Lookup(_) => None,
             Answer::Load(result) => Some(result.state),
+            Answer::Cut(result) => Some(result.state),
         }
     }
 }
@@ -105,7 +128,10 @@ pub struct Counts {
     /// Rows loaded, also by loads that were refused at a later row.
     pub rows: u64,
     /// By refusal number, from 1 at index 1.
-    pub refusals: [u64; 10],
+    pub refusals: [u64; 11],
+    /// Calls and restarts cut, and restarts that finished a call or found none.
+    pub cuts: u64,
+    pub restarts: u64,
     /// Changes accepted and lookups answered on a volume of k hash functions, at index k.
     pub hash_counts: [u64; 9],
     /// Sets built over entries, and over deletions.
@@ -130,6 +156,8 @@ impl Counts {
         for (sum, count) in self.hash_counts.iter_mut().zip(other.hash_counts) {
             *sum += count;
         }
+        self.cuts += other.cuts;
+        self.restarts += other.restarts;
         self.sets += other.sets;
         self.full_sets += other.full_sets;
         self.deletion_sets += other.deletion_sets;
@@ -137,13 +165,15 @@ impl Counts {
         self.deletion_pages += other.deletion_pages;
     }
 
-    fn count(&mut self, before: State, answer: Answer) {
+    fn count(&mut self, call: Call, before: State, answer: Answer) {
         self.calls += 1;
+        self.restarts += u64::from(call == Call::Restart && answer.accepted());
         match answer {
             Answer::Lookup(result) if result.refusal == 0 && result.found == 1 => self.hits += 1,
             Answer::Lookup(result) if result.refusal == 0 => self.misses += 1,
-            Answer::Change(_) | Answer::Load(_) if answer.accepted() => self.accepted += 1,
-            _ => self.refusals[answer.refusal().min(9) as usize] += 1,
+            _ if answer.is_cut() => self.cuts += 1,
+            _ if answer.accepted() => self.accepted += 1,
+            _ => self.refusals[answer.refusal().min(10) as usize] += 1,
         }
         if answer.accepted() {
             let state = answer.state().unwrap_or(before);
@@ -156,15 +186,17 @@ impl Counts {
             self.deletion_pages += result.deletion_count;
         }
         // A set is built when 128 filters more are there, the last one of S/4 is full: pages of S/2 entries have one, of S deletions two.
-        let built = |from: u32, to: u32| {
-            if to <= from {
+        let built = |sector_size: u32, from: u32, to: u32| {
+            // A restart may be handed any state.
+            if to <= from || sector_size != before.sector_size {
                 return [0, 0];
             }
             // Something was accepted, so that the products are small.
-            let round = 64 * before.sector_size;
-            [round, round * (before.sector_size / 4)].map(|step| u64::from(to / step - from / step))
+            let round = 64 * sector_size;
+            [round, round * (sector_size / 4)].map(|step| u64::from(to / step - from / step))
         };
         if let Some(state) = answer.state() {
+            let built = |from, to| built(state.sector_size, from, to);
             let [sets, full_sets] = built(before.records, state.records);
             self.sets += sets;
             self.full_sets += full_sets;
@@ -182,7 +214,8 @@ impl fmt::Display for Counts {
             "{} calls: {} accepted, {} hits, {} misses, {} rows loaded",
             self.calls, self.accepted, self.hits, self.misses, self.rows
         )?;
-        for number in 1..=9 {
+        write!(f, ", {} cut, {} restarts", self.cuts, self.restarts)?;
+        for number in 1..=10 {
             write!(f, ", {} refused by {number}", self.refusals[number])?;
         }
         for k in 1..=8 {
@@ -283,6 +316,58 @@ impl Volume {
             Call::Delete { key } => Answer::Change(store.delete(state, key, data, spare, ram)),
             Call::Lookup { key } => Answer::Lookup(store.lookup(state, key, data, spare, ram)),
             Call::Load { tab } => Answer::Load(store.load(state, tab, data, spare, ram)),
+            Call::Restart => Answer::Change(store.restart(state, data, spare, ram)),
+        }
+    }
+
+    /// The first steps of a call.
+    fn call_cut(&mut self, store: &dyn Store, state: State, budget: u64, call: Call) -> Answer {
+        let data = self.data.slice_mut();
+        let spare = self.spare.slice_mut();
+        let ram = self.ram.slice_mut();
+        Answer::Cut(match call {
+            Call::Format {
+                sector_size,
+                ra_blocks,
+                da_blocks,
+                hash_count,
+            } => store.format_cut(
+                budget,
+                state,
+                sector_size,
+                ra_blocks,
+                da_blocks,
+                hash_count,
+                data,
+                spare,
+                ram,
+            ),
+            Call::Insert {
+                key,
+                moves,
+                goal,
+                word,
+            } => store.insert_cut(budget, state, key, moves, goal, word, data, spare, ram),
+            Call::Update {
+                key,
+                moves,
+                goal,
+                word,
+            } => store.update_cut(budget, state, key, moves, goal, word, data, spare, ram),
+            Call::Delete { key } => store.delete_cut(budget, state, key, data, spare, ram),
+            Call::Restart => store.restart_cut(budget, state, data, spare, ram),
+            Call::Lookup { .. } | Call::Load { .. } => unreachable!("{call} has no budget"),
+        })
+    }
+
+    /// The bytes of another volume of the same lengths.
+    fn copy_from(&mut self, other: &Volume) {
+        for (to, from) in [
+            (&mut self.data, &other.data),
+            (&mut self.spare, &other.spare),
+            (&mut self.ram, &other.ram),
+        ] {
+            to.bytes.copy_from_slice(&from.bytes);
         }
     }
 }
@@ -307,6 +392,13 @@ fn byte_difference(expected: &Volume, got: &Volume) -> Option<String> {
         }
     }
     None
+}
+
+/// The bytes of both sides and the state at some time.
+pub struct Moment {
+    expected: Volume,
+    got: Volume,
+    pub state: State,
 }
 
 /// A reference store and the store under test, each with its own copy of the bytes.
@@ -398,24 +490,80 @@ impl<'a> Pair<'a> {
         number_at(self.expected.ram.slice(), offset)
     }
 
+    /// A number, 0 to 15, of the header in the last 64 bytes of the RAM; nothing if it has none.
+    pub fn write_header(&mut self, i: usize, number: u32) {
+        if let Some(start) = self.expected.ram.len.checked_sub(HEADER_BYTES) {
+            self.write_ram(start + 4 * i, &number.to_le_bytes());
+        }
+    }
+
     /// The call on both sides; then answer (result and state), all bytes and the guards are compared.
     pub fn call(&mut self, call: Call) -> Result<Answer, Difference> {
         let state = self.state;
         let expected = self.expected.call(self.reference, state, call);
         let got = self.got.call(self.subject, state, call);
-        self.counts.count(state, expected);
+        self.compare(call, None, expected, got)
+    }
+
+    /// The same with a budget of steps.
+    pub fn call_cut(&mut self, budget: u64, call: Call) -> Result<Answer, Difference> {
+        let state = self.state;
+        let expected = self.expected.call_cut(self.reference, state, budget, call);
+        let got = self.got.call_cut(self.subject, state, budget, call);
+        self.compare(call, Some(budget), expected, got)
+    }
+
+    fn compare(
+        &mut self,
+        call: Call,
+        budget: Option<u64>,
+        expected: Answer,
+        got: Answer,
+    ) -> Result<Answer, Difference> {
+        let state = self.state;
+        self.counts.count(call, state, expected);
         let what = if expected == got {
             byte_difference(&self.expected, &self.got)
         } else {
             Some(format!("expected {expected:?}\n  got      {got:?}"))
         };
         if let Some(what) = what {
-            return Err(self.difference(call, state, what));
+            let mut difference = self.difference(call, state, what);
+            if let Some(budget) = budget {
+                difference.call += &format!(" with a budget of {budget}");
+            }
+            return Err(difference);
         }
         if let Some(next) = got.state() {
             self.state = next;
         }
         Ok(got)
+    }
+
+    pub fn moment(&self) -> Moment {
+        Moment {
+            expected: self.expected.clone(),
+            got: self.got.clone(),
+            state: self.state,
+        }
+    }
+
+    /// Back to a moment since which nothing was lent.
+    pub fn back_to(&mut self, moment: &Moment) {
+        self.expected.copy_from(&moment.expected);
+        self.got.copy_from(&moment.got);
+        self.state = moment.state;
+    }
+
+    /// What is not as it was then, on either side.
+    pub fn changed_since(&self, moment: &Moment) -> Option<String> {
+        if self.state != moment.state {
+            return Some(format!(
+                "expected {:?}\n  got      {:?}",
+                moment.state, self.state
+            ));
+        }
+        byte_difference(&moment.expected, &self.expected).or_else(|| byte_difference(&moment.got, &self.got))
     }
 
     /// Of the last call, which was made on this state.

@@ -1,11 +1,12 @@
 //! Scenarios: lists of calls made from a seed.
 
+use crate::cuts;
 use crate::loads;
 use crate::pair::{Answer, Call, Counts, Difference, Pair};
 use crate::random::Random;
 use crate::tabs::{self, Row};
 use crate::updates;
-use store::{Geometry, State, Store, HASH_COUNT_01, SECTOR_SIZES};
+use store::{Geometry, State, Store, HASH_COUNT_01, HEADER_BYTES, SECTOR_SIZES};
 
 type Run = dyn Fn(&mut Test) -> Result<(), Difference>;
 
@@ -42,6 +43,7 @@ impl Scenario {
         let mut test = Test {
             pair: Pair::new(reference, subject),
             random: Random::new(self.seed(round)),
+            damaged: None,
         };
         (self.run)(&mut test)?;
         Ok(test.pair.counts)
@@ -59,6 +61,8 @@ impl Scenario {
 pub(crate) struct Test<'a> {
     pub pair: Pair<'a>,
     pub random: Random,
+    /// The volume whose bytes are altered between the calls, if they are.
+    pub damaged: Option<Geometry>,
 }
 
 /// All scenarios, the short ones first.
@@ -183,6 +187,7 @@ pub fn all() -> Vec<Scenario> {
     }
     list.extend(updates::all());
     list.extend(loads::all());
+    list.extend(cuts::all());
     list
 }
 
@@ -197,12 +202,15 @@ pub(crate) fn format(test: &mut Test, s: u32, r: u32, d: u32) -> Result<(), Diff
         random.fill(ram);
     });
     let hash_count = hash_count(&mut test.random);
-    test.pair.call(Call::Format {
-        sector_size: s,
-        ra_blocks: r,
-        da_blocks: d,
-        hash_count,
-    })?;
+    cuts::call(
+        test,
+        Call::Format {
+            sector_size: s,
+            ra_blocks: r,
+            da_blocks: d,
+            hash_count,
+        },
+    )?;
     Ok(())
 }
 
@@ -311,7 +319,7 @@ fn update_of(random: &mut Random, key: u32) -> Call<'static> {
     }
 }
 
-/// A call of the mix; now and then a load.
+/// A call of the mix, now and then cut and restarted; now and then a load.
 fn call_some(test: &mut Test, mix: Mix, keys: &mut Keys) -> Result<Answer, Difference> {
     if test.random.chance(1, 50) {
         let count = test.random.below(10);
@@ -319,7 +327,7 @@ fn call_some(test: &mut Test, mix: Mix, keys: &mut Keys) -> Result<Answer, Diffe
         return load_levels(test, &levels, keys);
     }
     let call = some_call(&mut test.random, mix, keys);
-    let answer = test.pair.call(call)?;
+    let answer = cuts::call(test, call)?;
     keys.note(call, answer);
     Ok(answer)
 }
@@ -374,7 +382,7 @@ fn call_any(test: &mut Test, key: u32, keys: &mut Keys) -> Result<Answer, Differ
         }
         _ => Call::Lookup { key },
     };
-    let answer = test.pair.call(call)?;
+    let answer = cuts::call(test, call)?;
     keys.note(call, answer);
     Ok(answer)
 }
@@ -430,17 +438,21 @@ fn damaged(test: &mut Test, s: u32, r: u32, d: u32, calls: usize) -> Result<(), 
     test.pair.lend_for(geometry, extra, shift);
     let format = |test: &mut Test| {
         let hash_count = hash_count(&mut test.random);
-        test.pair.call(Call::Format {
-            sector_size: s,
-            ra_blocks: r,
-            da_blocks: d,
-            hash_count,
-        })
+        cuts::call(
+            test,
+            Call::Format {
+                sector_size: s,
+                ra_blocks: r,
+                da_blocks: d,
+                hash_count,
+            },
+        )
     };
     format(test)?;
     // No damage at first, so that there is something to damage.
     let quiet = calls / 4;
     for number in 0..calls {
+        test.damaged = (number > quiet).then_some(geometry);
         let mut damaged_key = None;
         if number > quiet && test.random.chance(1, 6) {
             damaged_key = damage(test, geometry);
@@ -460,9 +472,15 @@ fn damaged(test: &mut Test, s: u32, r: u32, d: u32, calls: usize) -> Result<(), 
         if !answer.accepted() && test.random.chance(9, 10) {
             test.pair.state = handed_in;
         }
+        // So is an altered kind.
+        if answer.refusal() == PENDING && test.random.chance(3, 4) {
+            cuts::finish(test)?;
+        }
     }
     Ok(())
 }
+
+const PENDING: u32 = 10;
 
 /// Marks on both sides of the border: with five ones a mark is fresh, with four it is programmed.
 const SPARE_BYTES: [u8; 10] = [0x00, 0x0F, 0xAA, 0xC6, 0xF0, 0x1F, 0xF8, 0x7F, 0xFE, 0xFF];
@@ -473,7 +491,7 @@ fn worn_byte(random: &mut Random) -> u8 {
 }
 
 /// Alters one byte or number where the next calls read. If it belongs to an entry, gives the entry's key.
-fn damage(test: &mut Test, geometry: Geometry) -> Option<u32> {
+pub(crate) fn damage(test: &mut Test, geometry: Geometry) -> Option<u32> {
     let random = &mut test.random;
     let pair = &mut test.pair;
     let page = geometry.page_size();
@@ -508,7 +526,7 @@ fn damage(test: &mut Test, geometry: Geometry) -> Option<u32> {
         1 => 0xFF,
         _ => random.next_byte(),
     };
-    match random.below(13) {
+    match random.below(15) {
         // The entry's record number: n or more, or another record.
         0 => {
             let number = match random.below(3) {
@@ -573,6 +591,16 @@ fn damage(test: &mut Test, geometry: Geometry) -> Option<u32> {
             };
             pair.write_spare(sector, &[random.pick(&SPARE_BYTES)]);
         }
+        // A number of the header: of the state by one or by much, of the pending call.
+        12 => {
+            let number = match random.below(3) {
+                0 => records as u32 + random.below_u32(3),
+                1 => (deletions as u32 + 1).saturating_sub(random.below_u32(3)),
+                _ => wild_number(random),
+            };
+            pair.write_header(random.below(16), number);
+        }
+        13 => pair.write_header(6, random.below_u32(6)),
         // Any byte.
         _ => {
             let [data_len, _, ram_len] = pair.lengths();
@@ -624,7 +652,7 @@ const WILD_NUMBERS: [u32; 16] = [
     0xFFFF_FFFF,
 ];
 
-fn wild_number(random: &mut Random) -> u32 {
+pub(crate) fn wild_number(random: &mut Random) -> u32 {
     match random.below(3) {
         0 => random.next_u32(),
         _ => random.pick(&WILD_NUMBERS),
@@ -655,7 +683,7 @@ fn wild_hash_count(random: &mut Random) -> u32 {
 }
 
 /// Any numbers, with those at the edges of what is allowed more often.
-fn wild_state(random: &mut Random) -> State {
+pub(crate) fn wild_state(random: &mut Random) -> State {
     let sector_size = wild_sector_size(random);
     let ra_blocks = wild_blocks(random);
     let da_blocks = wild_blocks(random);
@@ -700,6 +728,7 @@ fn wild_states(test: &mut Test) -> Result<(), Difference> {
             random.fill(data);
             spare.fill(0xFF);
             random.fill(ram);
+            clear_intent(ram);
         });
         for _ in 0..120 {
             let random = &mut test.random;
@@ -713,7 +742,10 @@ fn wild_states(test: &mut Test) -> Result<(), Difference> {
                     da_blocks: wild_blocks(random),
                     hash_count: wild_hash_count(random),
                 };
-                test.pair.call(call)?;
+                cuts::call(test, call)?;
+            } else if random.chance(1, 6) {
+                let state = wild_state(random);
+                cuts::restart_of(test, state)?;
             } else {
                 let bound = random.pick(&[20, 5000, u32::MAX]);
                 call_some(test, MANY_INSERTS, &mut Keys::below(bound))?;
@@ -762,17 +794,23 @@ fn lengths(test: &mut Test, s: u32) -> Result<(), Difference> {
             deletions: 0,
         };
         test.pair.state = wild_state(&mut test.random);
-        test.pair.call(Call::Format {
+        let format = Call::Format {
             sector_size: s,
             ra_blocks: r,
             da_blocks: d,
             hash_count,
-        })?;
+        };
+        cuts::call(test, format)?;
         // On slices too short for a format the others are refused as well.
         test.pair.state = start;
         let mut keys = Keys::below(s);
         for _ in 0..40 {
             call_some(test, MANY_INSERTS, &mut keys)?;
+            if test.random.chance(1, 8) {
+                let state = test.pair.state;
+                cuts::restart_of(test, state)?;
+                test.pair.state = state;
+            }
         }
     }
     Ok(())
@@ -800,7 +838,7 @@ fn boundaries(test: &mut Test, s: u32, r: u32, d: u32, times: usize) -> Result<(
                         0 => insert_of(random, key),
                         _ => update_of(random, key),
                     };
-                    test.pair.call(call)?;
+                    cuts::call(test, call)?;
                 }
                 2 => {
                     let levels = [(); 6].map(|()| absent_key(random));
@@ -856,8 +894,15 @@ fn due_state(random: &mut Random, geometry: Geometry, s: u32, r: u32, d: u32) ->
     }
 }
 
+/// No pending call in the header of a RAM.
+fn clear_intent(ram: &mut [u8]) {
+    if let Some(header) = ram.last_chunk_mut::<HEADER_BYTES>() {
+        header[24..].fill(0);
+    }
+}
+
 /// Entries with keys below `keys` and record numbers mostly below n, deletions of such numbers,
-/// filter bits of some density, spare bytes mostly fresh.
+/// filter bits of some density, spare bytes mostly fresh, no pending call.
 fn fill_likely(
     random: &mut Random,
     geometry: Geometry,
@@ -870,6 +915,7 @@ fn fill_likely(
     let page = geometry.page_size();
     random.fill(data);
     random.fill(ram);
+    clear_intent(ram);
     let wrong_numbers = random.chance(1, 4);
     let ka = geometry.page_start(geometry.ka_page(0));
     let da = geometry.page_start(geometry.da_page(0));

@@ -3,7 +3,7 @@
 use difftest::pair::{Call, Difference, Pair};
 use difftest::random::Random;
 use difftest::{loads, scenarios};
-use store::{FastStore, Geometry, ModelStore, State, HASH_COUNT_01};
+use store::{FastStore, Geometry, ModelStore, State, HASH_COUNT_01, HEADER_BYTES};
 
 /// The scenarios but those whose volumes take long to compare; the next test has their sets.
 #[test]
@@ -56,6 +56,9 @@ fn set(sector_size: u32, number: u32) -> Result<(), Difference> {
         random.fill(data);
         random.fill(ram);
         spare.fill(0xFF);
+        // No pending call.
+        let header = ram.len() - HEADER_BYTES;
+        ram[header..].fill(0);
     });
     let due = 64 * sector_size * (number - 1);
     pair.state = State {

@@ -1,19 +1,19 @@
-//! What an accepted change programs, erases and leaves in RAM.
+//! The steps of a change: the intent, the chip operations, the finished RAM. Until the last of them the pages of the RAM stay as
+//! they were: what is programmed are these pages with the new items and filters in their places.
 
 use crate::hash::{for_hash_count, positions};
-use crate::layout::{
-    Index, Layout, DELETION, ENTRY, FILTERS_PER_DELETION_PAGE, FILTERS_PER_FLUSH, FILTERS_PER_ROUND, RECORD,
-};
+use crate::header::{store_intent, store_state, Intent};
+use crate::layout::{Index, Layout, DELETION, ENTRY, FILTERS_PER_FLUSH, RECORD};
+use crate::plan::{FilterPlan, Filters, Item, Items, Plan, Row, Set, FOUR};
 use crate::rebuild::rebuild;
 use model::State;
+use std::ops::Range;
 
 const PROGRAMMED: u8 = 0x00;
 const ERASED: u8 = 0xFF;
-/// A mark with so many ones is fresh.
-const FRESH_ONES: u32 = 5;
 
-/// A record as its four numbers: level key, moves, goal, free word.
-pub type Record = [u32; 4];
+/// Bytes of a page of S = 512.
+const LONGEST_PAGE: usize = 2048;
 
 /// The slices that a change may write.
 pub struct Lent<'a> {
@@ -22,245 +22,246 @@ pub struct Lent<'a> {
     pub ram: &'a mut [u8],
 }
 
-/// What one call fills: pages, by first bytes in `data`, and what the filters of a page fill.
-struct Plan<'a, const S: usize> {
-    deletions: Option<usize>,
-    deletion_filters: FilterPlan<'a, S>,
-    records: Option<usize>,
-    entries: Option<usize>,
-    key_filters: FilterPlan<'a, S>,
+/// How far a call came: its steps done, and the new state if these are all.
+pub struct Progress {
+    pub steps: u64,
+    pub state: Option<State>,
 }
 
-/// What the last filter of a full page fills in its index.
-struct FilterPlan<'a, const S: usize> {
-    index: &'a Index<S>,
-    /// The first of a flush's four sectors; the next ones lie 16 sectors further each.
-    flush: Option<usize>,
-    set: Option<Set>,
+impl Progress {
+    pub fn cut(steps: u64) -> Progress {
+        Progress { steps, state: None }
+    }
 }
 
-/// Set `number` of those that are built, with `full_sets` full sets before it.
-#[derive(Clone, Copy)]
-struct Set {
-    number: usize,
-    full_sets: usize,
-}
-
-/// Appends a deletion (of a record number), a record or both. Returns the new state; nothing, and
-/// no byte moved, if a sector to be programmed is not fresh.
-pub fn change<const S: usize>(
-    layout: &Layout<S>,
+/// The steps of a call that fills no page, as many as the budget has: there is no operation.
+#[inline(always)]
+pub fn store_items<const S: usize>(
+    items: &Items,
     state: State,
-    deleted: Option<u32>,
-    inserted: Option<Record>,
+    intent: Intent,
+    budget: u64,
+    ram: &mut [u8],
+) -> Progress {
+    if budget == 0 {
+        return Progress::cut(0);
+    }
+    store_intent(state, intent, ram);
+    if budget == 1 {
+        return Progress::cut(1);
+    }
+    finish::<S>(items, ram);
+    Progress {
+        steps: 2,
+        state: Some(items.next),
+    }
+}
+
+/// The steps of any call.
+pub fn carry_out<const S: usize>(
+    plan: &Plan<S>,
+    state: State,
+    intent: Intent,
+    budget: u64,
     lent: Lent,
-) -> Option<State> {
-    let plan = Plan::new(layout, state, deleted.is_some(), inserted.is_some());
-    if !plan.fresh(lent.spare) {
-        return None;
+) -> Progress {
+    let Some(budget) = budget.checked_sub(1) else {
+        return Progress::cut(0);
+    };
+    store_intent(state, intent, lent.ram);
+    let progress = go_on(plan, 0, budget, lent);
+    Progress {
+        steps: 1 + progress.steps,
+        ..progress
     }
-    let mut next = state;
-    if let Some(number) = deleted {
-        append_deletion::<S>(state, number, lent.ram);
-        next.deletions += 1;
-    }
-    if let Some(record) = inserted {
-        append_record::<S>(state, record, lent.ram);
-        next.records += 1;
-    }
-    plan.carry_out(state, lent);
-    Some(next)
 }
 
-fn append_deletion<const S: usize>(state: State, number: u32, ram: &mut [u8]) {
-    let place = state.deletions as usize % Layout::<S>::DELETIONS * DELETION;
-    ram[Layout::<S>::RAM_DELETIONS + place..][..DELETION].copy_from_slice(&number.to_le_bytes());
-}
-
-fn append_record<const S: usize>(state: State, record: Record, ram: &mut [u8]) {
-    let place = state.records as usize % Layout::<S>::RECORDS * RECORD;
-    let (words, _) = ram[place..][..RECORD].as_chunks_mut();
-    for (word, number) in words.iter_mut().zip(record) {
-        *word = number.to_le_bytes();
-    }
-    let entry = u64::from(record[0]) | u64::from(state.records) << 32;
-    let place = state.records as usize % Layout::<S>::ENTRIES * ENTRY;
-    ram[Layout::<S>::RAM_ENTRIES + place..][..ENTRY].copy_from_slice(&entry.to_le_bytes());
-}
-
-impl<'a, const S: usize> Plan<'a, S> {
-    fn new(layout: &'a Layout<S>, state: State, deletes: bool, inserts: bool) -> Self {
-        let (records, deletions) = (state.records as usize, state.deletions as usize);
-        // The page that an item completes, if it does.
-        let page = |fills: bool, count: usize, per_page: usize| {
-            (fills && (count + 1).is_multiple_of(per_page)).then_some(count / per_page)
-        };
-        let at = |area: usize| move |page: usize| area + page * Layout::<S>::PAGE;
-        let deletion_page = page(deletes, deletions, Layout::<S>::DELETIONS);
-        let entry_page = page(inserts, records, Layout::<S>::ENTRIES);
-        Plan {
-            deletions: deletion_page.map(at(layout.deletions)),
-            deletion_filters: FilterPlan::new(
-                &layout.deletion_index,
-                deletion_page.map(|page| FILTERS_PER_DELETION_PAGE * (page + 1)),
-            ),
-            records: page(inserts, records, Layout::<S>::RECORDS).map(at(0)),
-            entries: entry_page.map(at(layout.entries)),
-            key_filters: FilterPlan::new(&layout.key_index, entry_page.map(|page| page + 1)),
+/// The steps behind the first `done` operations, as many as the budget has.
+pub fn go_on<const S: usize>(plan: &Plan<S>, done: usize, budget: u64, lent: Lent) -> Progress {
+    let Lent { data, spare, ram } = lent;
+    let left = (plan.operations() - done) as u64;
+    let to = done + left.min(budget) as usize;
+    plan.part(done, to, |row, part| match row {
+        Row::Page {
+            start,
+            ram: from,
+            last,
+        } => {
+            let page = &ram[from..][..Layout::<S>::PAGE];
+            program_page::<S>(start, page, last, part, data, spare);
         }
+        Row::Flush { start, plan: of } => program_flush(&plan.items, of, start, part, data, spare, ram),
+        Row::Set { index, set } => program_set(index, set, part, data, spare),
+        Row::Erases { index, set } => erase_earlier(index, set, part, data, spare),
+    });
+    if budget <= left {
+        return Progress::cut(budget);
     }
-
-    /// Are all sectors to be programmed fresh?
-    fn fresh(&self, spare: &[u8]) -> bool {
-        let pages = [self.deletions, self.records, self.entries];
-        pages
-            .iter()
-            .flatten()
-            .all(|&page| fresh::<S>(page, Layout::<S>::PAGE, spare))
-            && self.deletion_filters.fresh(spare)
-            && self.key_filters.fresh(spare)
+    // The items of a page have to be there yet.
+    for filters in [&plan.deletion_filters, &plan.key_filters].into_iter().flatten() {
+        finish_filters(&plan.items, filters, ram);
     }
-
-    fn carry_out(&self, state: State, lent: Lent) {
-        let Lent { data, spare, ram } = lent;
-        if let Some(page) = self.deletions {
-            let first = state.deletions as usize / Layout::<S>::DELETIONS * FILTERS_PER_DELETION_PAGE;
-            for_hash_count!(state.hash_count, K => write_deletion_filters::<S, K>(first, self.deletion_filters.index, ram));
-            program_page::<S>(page, Layout::<S>::RAM_DELETIONS, data, spare, ram);
-        }
-        self.deletion_filters.carry_out(data, spare, ram);
-        if let Some(page) = self.records {
-            program_page::<S>(page, 0, data, spare, ram);
-        }
-        if let Some(page) = self.entries {
-            let filter = state.records as usize / Layout::<S>::ENTRIES;
-            for_hash_count!(state.hash_count, K => write_key_filter::<S, K>(filter, self.key_filters.index, ram));
-            program_page::<S>(page, Layout::<S>::RAM_ENTRIES, data, spare, ram);
-        }
-        self.key_filters.carry_out(data, spare, ram);
-        ram[Layout::<S>::RAM_WORK..][..Layout::<S>::PAGE].fill(0);
+    finish::<S>(&plan.items, ram);
+    Progress {
+        steps: left + 1,
+        state: Some(plan.items.next),
     }
 }
 
-impl<'a, const S: usize> FilterPlan<'a, S> {
-    /// Of an index that gets filters and has so many then; nothing if it gets none.
-    fn new(index: &'a Index<S>, filters: Option<usize>) -> Self {
-        let full = |of: usize| filters.filter(|filters| filters.is_multiple_of(of));
-        FilterPlan {
-            index,
-            flush: full(FILTERS_PER_FLUSH).map(|filters| {
-                let flush = (filters - 1) % FILTERS_PER_ROUND / FILTERS_PER_FLUSH;
-                index.l1 + flush * S
-            }),
-            set: full(FILTERS_PER_ROUND).map(|filters| {
-                let rounds = filters / FILTERS_PER_ROUND - 1;
-                Set {
-                    number: rounds % Layout::<S>::ROUNDS + 2,
-                    full_sets: rounds / Layout::<S>::ROUNDS,
-                }
-            }),
-        }
-    }
-
-    fn fresh(&self, spare: &[u8]) -> bool {
-        let flush_fresh = |flush: usize| (0..4).all(|group| fresh::<S>(flush + group * 16 * S, S, spare));
-        let set_fresh =
-            |set: Set| fresh::<S>(set.start(self.index), Layout::<S>::set_bytes(set.number), spare);
-        self.flush.is_none_or(flush_fresh) && self.set.is_none_or(set_fresh)
-    }
-
-    fn carry_out(&self, data: &mut [u8], spare: &mut [u8], ram: &mut [u8]) {
-        if let Some(flush) = self.flush {
-            program_flush::<S>(flush, self.index, data, spare, ram);
-        }
-        if let Some(set) = self.set {
-            set.build(self.index, data, spare);
-        }
-    }
-}
-
-impl Set {
-    fn start<const S: usize>(self, index: &Index<S>) -> usize {
-        index.set(self.number, self.full_sets)
-    }
-
-    /// Programs the set's pages, then erases L1 and the earlier set.
-    #[inline(never)]
-    fn build<const S: usize>(self, index: &Index<S>, data: &mut [u8], spare: &mut [u8]) {
-        let bytes = Layout::<S>::set_bytes(self.number);
-        let start = self.start(index);
-        rebuild(index, self.number, start, data);
-        spare[start / S..][..bytes / S].fill(PROGRAMMED);
-        erase::<S>(index.l1, Layout::<S>::BLOCK, data, spare);
-        if self.number > 2 {
-            let earlier = index.set(self.number - 1, self.full_sets);
-            erase::<S>(earlier, Layout::<S>::set_bytes(self.number - 1), data, spare);
-        }
-    }
-}
-
-/// Are the sectors of these bytes fresh?
-fn fresh<const S: usize>(start: usize, bytes: usize, spare: &[u8]) -> bool {
-    all_fresh(&spare[start / S..][..bytes / S])
-}
-
-/// No exit before the end: vector code.
-fn all_fresh(marks: &[u8]) -> bool {
-    marks
-        .iter()
-        .fold(true, |all, mark| all & (mark.count_ones() >= FRESH_ONES))
-}
-
-/// Programs a page with a page of RAM, and zeroes that.
-fn program_page<const S: usize>(page: usize, from: usize, data: &mut [u8], spare: &mut [u8], ram: &mut [u8]) {
-    let from = &mut ram[from..][..Layout::<S>::PAGE];
-    data[page..][..Layout::<S>::PAGE].copy_from_slice(from);
-    spare[page / S..][..4].fill(PROGRAMMED);
-    from.fill(0);
-}
-
-/// Programs the four sectors of a flush, and zeroes the index's filters in RAM.
-fn program_flush<const S: usize>(
-    flush: usize,
-    index: &Index<S>,
+/// Programs these sectors of a page with a page of RAM and its last item.
+fn program_page<const S: usize>(
+    start: usize,
+    page: &[u8],
+    last: &[u8],
+    part: Range<usize>,
     data: &mut [u8],
     spare: &mut [u8],
-    ram: &mut [u8],
 ) {
-    let filters = &mut ram[index.ram..][..Layout::<S>::PAGE];
-    for (group, sector) in filters.chunks_exact(S).enumerate() {
-        let start = flush + group * 16 * S;
-        data[start..][..S].copy_from_slice(sector);
-        spare[start / S] = PROGRAMMED;
+    let to = &mut data[start..][..Layout::<S>::PAGE];
+    let bytes = part.start * S..part.end * S;
+    to[bytes.clone()].copy_from_slice(&page[bytes]);
+    if part.end == FOUR {
+        to[Layout::<S>::PAGE - last.len()..].copy_from_slice(last);
     }
-    filters.fill(0);
+    spare[start / S..][part].fill(PROGRAMMED);
 }
 
-fn erase<const S: usize>(start: usize, bytes: usize, data: &mut [u8], spare: &mut [u8]) {
+/// Programs these sectors of a flush: the index's page of filters in RAM with the new ones.
+#[inline(never)]
+fn program_flush<const S: usize>(
+    items: &Items,
+    of: &FilterPlan<S>,
+    start: usize,
+    part: Range<usize>,
+    data: &mut [u8],
+    spare: &mut [u8],
+    ram: &[u8],
+) {
+    let mut page = [0; LONGEST_PAGE];
+    let page = &mut page[..Layout::<S>::PAGE];
+    page.copy_from_slice(&ram[of.index.ram..][..Layout::<S>::PAGE]);
+    write_filters(items, of, ram, page);
+    for group in part {
+        let start = start + group * 16 * S;
+        data[start..][..S].copy_from_slice(&page[group * S..][..S]);
+        spare[start / S] = PROGRAMMED;
+    }
+}
+
+/// Programs these sectors of a set.
+#[inline(never)]
+fn program_set<const S: usize>(
+    index: &Index<S>,
+    set: Set,
+    part: Range<usize>,
+    data: &mut [u8],
+    spare: &mut [u8],
+) {
+    let start = set.start(index);
+    let sectors = set.sectors::<S>();
+    if part == (0..sectors) {
+        rebuild(index, set.number, start, data);
+    } else {
+        // A set is built whole: what a cut leaves out is put back.
+        let before = data[start..][..sectors * S].to_vec();
+        rebuild(index, set.number, start, data);
+        let all = &mut data[start..][..sectors * S];
+        all[..part.start * S].copy_from_slice(&before[..part.start * S]);
+        all[part.end * S..].copy_from_slice(&before[part.end * S..]);
+    }
+    spare[start / S..][part].fill(PROGRAMMED);
+}
+
+/// Erases these of L1 and the blocks of the earlier set.
+fn erase_earlier<const S: usize>(
+    index: &Index<S>,
+    set: Set,
+    part: Range<usize>,
+    data: &mut [u8],
+    spare: &mut [u8],
+) {
+    if part.start == 0 {
+        erase::<S>(index.l1, 1, data, spare);
+    }
+    let blocks = part.start.max(1) - 1..part.end - 1;
+    let (start, _) = set.earlier::<S>(index);
+    erase::<S>(
+        start + blocks.start * Layout::<S>::BLOCK,
+        blocks.len(),
+        data,
+        spare,
+    );
+}
+
+pub fn erase<const S: usize>(start: usize, blocks: usize, data: &mut [u8], spare: &mut [u8]) {
+    let bytes = blocks * Layout::<S>::BLOCK;
     data[start..][..bytes].fill(ERASED);
     spare[start / S..][..bytes / S].fill(ERASED);
 }
 
-/// The filter of RAM's full page of entries.
-fn write_key_filter<const S: usize, const K: usize>(filter: usize, index: &Index<S>, ram: &mut [u8]) {
-    let (before, filters) = ram.split_at_mut(index.ram);
-    let (entries, _) = before[Layout::<S>::RAM_ENTRIES..][..Layout::<S>::PAGE].as_chunks();
-    write_filter::<S, K, ENTRY>(filter, entries, filters);
+/// The finished RAM but for filters: new items in their places, zeros for pages that were programmed and for the work page, and the header.
+#[inline(always)]
+fn finish<const S: usize>(items: &Items, ram: &mut [u8]) {
+    if let Some(deletion) = &items.deletion {
+        finish_item::<S, DELETION>(deletion, ram);
+    }
+    if let Some(record) = &items.record {
+        finish_item::<S, RECORD>(record, ram);
+    }
+    if let Some(entry) = &items.entry {
+        finish_item::<S, ENTRY>(entry, ram);
+    }
+    ram[Layout::<S>::RAM_WORK..][..Layout::<S>::PAGE].fill(0);
+    store_state(items.next, ram);
 }
 
-/// The two filters of RAM's full page of deletions, first half first.
-fn write_deletion_filters<const S: usize, const K: usize>(first: usize, index: &Index<S>, ram: &mut [u8]) {
-    let (before, filters) = ram.split_at_mut(index.ram);
-    let (numbers, _) = before[Layout::<S>::RAM_DELETIONS..][..Layout::<S>::PAGE].as_chunks();
-    for (half, numbers) in numbers.chunks_exact(numbers.len() / 2).enumerate() {
-        write_filter::<S, K, DELETION>(first + half, numbers, filters);
+#[inline(always)]
+fn finish_item<const S: usize, const N: usize>(item: &Item<N>, ram: &mut [u8]) {
+    let page = &mut ram[item.ram..][..Layout::<S>::PAGE];
+    match item.fills {
+        Some(_) => page.fill(0),
+        None => page[item.place..][..N].copy_from_slice(&item.bytes),
     }
 }
 
-/// The filter of the first numbers of some items replaces what its place in RAM's filters held.
+/// The new filters in RAM; zeros after a flush.
+#[inline(never)]
+fn finish_filters<const S: usize>(items: &Items, of: &FilterPlan<S>, ram: &mut [u8]) {
+    let (pages, filters) = ram.split_at_mut(of.index.ram);
+    let filters = &mut filters[..Layout::<S>::PAGE];
+    match of.flush {
+        Some(_) => filters.fill(0),
+        None => write_filters(items, of, pages, filters),
+    }
+}
+
+/// The filters of a page of items, RAM's with the new one at its end, into a page of filters.
+fn write_filters<const S: usize>(items: &Items, of: &FilterPlan<S>, ram: &[u8], filters: &mut [u8]) {
+    let hash_count = items.next.hash_count;
+    match (of.filters, &items.entry, &items.deletion) {
+        (Filters::Keys, Some(entry), _) => {
+            let (all, _) = ram[entry.ram..][..Layout::<S>::PAGE].as_chunks();
+            for_hash_count!(hash_count, K => write_filter::<S, K, ENTRY>(of.first, all, &entry.bytes, filters));
+        }
+        (Filters::Deletions, _, Some(deletion)) => {
+            let (all, _) = ram[deletion.ram..][..Layout::<S>::PAGE].as_chunks();
+            let (older, newer) = all.split_at(Layout::<S>::DELETIONS / 2);
+            let middle = &older[older.len() - 1];
+            for_hash_count!(hash_count, K => {
+                write_filter::<S, K, DELETION>(of.first, older, middle, filters);
+                write_filter::<S, K, DELETION>(of.first + 1, newer, &deletion.bytes, filters);
+            });
+        }
+        // There is an item where its page is filled.
+        _ => {}
+    }
+}
+
+/// The filter of the first numbers of some items, `last` in place of their last, replaces what its place held.
 fn write_filter<const S: usize, const K: usize, const ITEM: usize>(
     filter: usize,
     items: &[[u8; ITEM]],
+    last: &[u8; ITEM],
     filters: &mut [u8],
 ) {
     let slot = filter % FILTERS_PER_FLUSH;
@@ -268,7 +269,7 @@ fn write_filter<const S: usize, const K: usize, const ITEM: usize>(
     for sector in filters.chunks_exact_mut(S) {
         sector[slot * S / 8..][..S / 8].fill(0);
     }
-    for item in items {
+    for item in items[..items.len() - 1].iter().chain([last]) {
         let number = u32::from_le_bytes([item[0], item[1], item[2], item[3]]);
         for position in positions::<S, K>(number) {
             let sector = position / S * S;

@@ -1,5 +1,6 @@
 //! Sizes and addresses. S is a constant of the type, so that all of this is shifts and sums.
 
+use crate::header::HEADER;
 use model::State;
 
 const SECTORS_PER_BLOCK: usize = 64;
@@ -46,7 +47,8 @@ impl<const S: usize> Layout<S> {
     const RAM_KEY_FILTERS: usize = 3 * Self::PAGE;
     pub const RAM_WORK: usize = 4 * Self::PAGE;
     const RAM_DELETION_FILTERS: usize = 5 * Self::PAGE;
-    pub const RAM_BYTES: usize = 6 * Self::PAGE;
+    /// Bytes of the six pages. The header is at the end of what is lent.
+    pub const RAM_PAGES: usize = 6 * Self::PAGE;
 
     /// Nothing if R or D is not allowed.
     pub fn new(ra_blocks: u32, da_blocks: u32) -> Option<Self> {
@@ -82,7 +84,9 @@ impl<const S: usize> Layout<S> {
     }
 
     pub fn holds(&self, data: &[u8], spare: &[u8], ram: &[u8]) -> bool {
-        data.len() >= self.data_bytes && spare.len() >= self.data_bytes / S && ram.len() >= Self::RAM_BYTES
+        data.len() >= self.data_bytes
+            && spare.len() >= self.data_bytes / S
+            && ram.len() >= Self::RAM_PAGES + HEADER
     }
 
     /// Bits of a filter in a page of set `number`, as a power of two: w = S/4 divided by the

@@ -2,7 +2,7 @@
 
 use crate::flash::{read_bit, set_bit};
 use crate::geometry::{
-    Geometry, Index, RamPage, FILTERS_PER_FLUSH, FILTERS_PER_ROUND, PAGES_PER_BLOCK, SECTORS_PER_PAGE,
+    Geometry, Index, FILTERS_PER_FLUSH, FILTERS_PER_ROUND, PAGES_PER_BLOCK, SECTORS_PER_PAGE,
 };
 use crate::hash::positions;
 
@@ -170,8 +170,8 @@ pub fn write_filter(index: Index, filter: usize, numbers: &[u32], ram: &mut [u8]
     }
 }
 
-/// "set number i .. is built out of L1 and set i−1", from the bits as they stand. One of its pages is put together in the work page.
-pub fn build_set_page(index: Index, set: Set, page: usize, data: &[u8], ram: &mut [u8]) {
+/// "set number i .. is built out of L1 and set i−1", from the bits as they stand: a sector, 0 to 3, of one of its pages.
+pub fn set_sector(index: Index, set: Set, page: usize, sector: usize, data: &[u8]) -> Vec<u8> {
     let geometry = index.geometry();
     let earlier = Set {
         number: set.number - 1,
@@ -179,19 +179,22 @@ pub fn build_set_page(index: Index, set: Set, page: usize, data: &[u8], ram: &mu
     };
     let from_earlier = set.filter_count() - FILTERS_PER_ROUND;
     let width = set.width(geometry);
-    let work = geometry.ram_start(RamPage::Work);
+    // A sector holds whole parts of filters.
+    let filters = 8 * geometry.sector_size() / width;
+    let first = sector * filters;
     // "The rest is zero."
-    ram[work..work + geometry.page_size()].fill(0);
-    for number in 0..set.filter_count() {
+    let mut bytes = vec![0; geometry.sector_size()];
+    for number in first..(first + filters).min(set.filter_count()) {
         let place = if number < from_earlier {
             Place::Set { set: earlier, number }
         } else {
             level_one_place(number)
         };
         for bit in 0..width {
-            if filter_bit(index, place, page * width + bit, data, ram) {
-                set_bit(&mut ram[work..], number * width + bit);
+            if filter_bit(index, place, page * width + bit, data, &[]) {
+                set_bit(&mut bytes, (number - first) * width + bit);
             }
         }
     }
+    bytes
 }

@@ -1,5 +1,6 @@
 //! Sizes, areas and addresses.
 
+use crate::header::HEADER_BYTES;
 use crate::State;
 
 /// "A page is always four sectors, a block always sixteen pages."
@@ -167,7 +168,12 @@ impl Geometry {
         SECTORS_PER_BLOCK * self.blocks()
     }
 
+    /// The pages of the RAM, then anything, then its header in the last bytes.
     pub fn ram_bytes(self) -> usize {
+        self.ram_page_bytes() + HEADER_BYTES
+    }
+
+    pub fn ram_page_bytes(self) -> usize {
         RAM_PAGES * self.page_size()
     }
 

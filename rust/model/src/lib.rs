@@ -1,6 +1,6 @@
 //! Plain model of the level store, written from the sentences of document 01 and of the requests after it.
 //!
-//! Six calls, on any state and any slices: `data`, `spare` and `ram` are the
+//! Seven calls, on any state and any slices: `data`, `spare` and `ram` are the
 //! bytes that the document calls cells, marks and desk. Nothing is kept between
 //! calls; filter bits are read from the lent bytes, and sets are built from the
 //! bits as they stand.
@@ -13,15 +13,21 @@ mod filter;
 mod flash;
 mod geometry;
 mod hash;
+mod header;
 mod load;
 mod search;
+mod steps;
 mod tab;
 
-pub use calls::{delete, format, insert, lookup, update};
+pub use calls::{
+    delete, delete_cut, format, format_cut, insert, insert_cut, lookup, restart, restart_cut, update,
+    update_cut,
+};
 pub use change::{operations, Operation};
 pub use filter::{set_page_count, Set};
 pub use geometry::{Geometry, Index, RamPage, SECTOR_SIZES};
 pub use hash::{fnv1a, positions};
+pub use header::HEADER_BYTES;
 pub use load::load;
 pub use tab::{read_tab, Reading, Row};
 
@@ -46,11 +52,22 @@ pub struct State {
     pub deletions: u32,
 }
 
-/// The answer of format, insert, update and delete. Refusal 0: accepted.
+/// The answer of format, insert, update, delete and restart. Refusal 0: accepted.
 #[repr(C)]
 #[derive(Clone, Copy, Debug, Default, PartialEq, Eq)]
 pub struct Change {
     pub refusal: u32,
+    pub state: State,
+}
+
+/// The answer of a changing call or a restart with a budget of steps. Finished 1: all its steps are done, `steps` of them, and
+/// the state is the new one. Finished 0: it was cut after `steps` of them, or refused; the state is the one handed in.
+#[repr(C)]
+#[derive(Clone, Copy, Debug, Default, PartialEq, Eq)]
+pub struct CutResult {
+    pub refusal: u32,
+    pub finished: u32,
+    pub steps: u64,
     pub state: State,
 }
 

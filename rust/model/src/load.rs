@@ -1,6 +1,6 @@
 //! Request 1: the rows of a tab, one call each.
 
-use crate::calls::{insert, judge, lookup, update};
+use crate::calls::{insert, judge_with_pending, lookup, update};
 use crate::tab::{read_tab, Row};
 use crate::{Change, LoadResult, State};
 
@@ -10,14 +10,14 @@ const FREE_WORD: u32 = 0;
 
 /// "Loading ends at the first row that is malformed or refused by the store; that row changes nothing,
 /// earlier rows remain, and the answer gives their number and the refusal." 9 is "found after 1 and 2 and
-/// before the store sees that row".
+/// before the store sees that row", and after 10. Request 8: "each is cut and finished by itself".
 pub fn load(state: State, tab: &[u8], data: &mut [u8], spare: &mut [u8], ram: &mut [u8]) -> LoadResult {
     let mut result = LoadResult {
         refusal: 0,
         rows: 0,
         state,
     };
-    if let Err(refusal) = judge(state, data, spare, ram) {
+    if let Err(refusal) = judge_with_pending(state, data, spare, ram) {
         return LoadResult { refusal, ..result };
     }
     let reading = read_tab(tab);

@@ -39,7 +39,7 @@ fn block_counts() {
     }
     assert_eq!(geometry(16, 1, 1).record_capacity(), 64);
     assert_eq!(geometry(512, 4096, 4096).blocks(), 12034);
-    assert_eq!(geometry(16, 1, 1).ram_bytes(), 24 * 16);
+    assert_eq!(geometry(16, 1, 1).ram_bytes(), 24 * 16 + 64);
     assert_eq!(Geometry::new(24, 1, 1, HASH_COUNT_01), None);
     assert_eq!(Geometry::new(16, 0, 1, HASH_COUNT_01), None);
     assert_eq!(Geometry::new(16, 1, 4097, HASH_COUNT_01), None);
@@ -185,7 +185,7 @@ fn first_set() {
     assert_eq!(volume.insert(1023), 0);
     assert_eq!(programmed(l1..l1 + 64, &volume), 0);
     assert_eq!(programmed(side_a..side_a + 64, &volume), 64);
-    assert!(volume.ram.iter().all(|&byte| byte == 0));
+    assert!(volume.ram[..24 * 16].iter().all(|&byte| byte == 0));
 }
 
 /// Request 5: the call that fills the 64th DA page flushes, builds set 2 of the index over DA and erases its L1.
@@ -202,14 +202,14 @@ fn first_set_over_deletions() {
         // Four pages of sixteen deletions have eight filters, a flush.
         let flushes = (key as usize + 1) / 64;
         assert_eq!(programmed(l1..l1 + 64, &volume), 4 * flushes, "deletion {key}");
-        let waits = volume.ram[20 * 16..].iter().any(|&byte| byte != 0);
+        let waits = volume.ram[20 * 16..24 * 16].iter().any(|&byte| byte != 0);
         assert_eq!(waits, (key + 1) % 64 >= 16, "deletion {key}");
     }
     assert_eq!(programmed(side_a..side_a + 64, &volume), 0);
     assert_eq!(volume.delete(1023), 0);
     assert_eq!(programmed(l1..l1 + 64, &volume), 0);
     assert_eq!(programmed(side_a..side_a + 64, &volume), 64);
-    assert!(volume.ram[20 * 16..].iter().all(|&byte| byte == 0));
+    assert!(volume.ram[20 * 16..24 * 16].iter().all(|&byte| byte == 0));
 }
 
 /// Numbers of a DA page whose two filters stand in the definitions, as `Checks.pairPage`.
@@ -237,10 +237,10 @@ fn filters_of_a_page_of_deletions() {
         assert_eq!(volume.insert(key), 0);
     }
     for key in PAIR {
-        assert_eq!(volume.ram[20 * 16..], [0; 64]);
+        assert_eq!(volume.ram[20 * 16..24 * 16], [0; 64]);
         assert_eq!(volume.delete(key), 0);
     }
-    assert_eq!(volume.ram[20 * 16..], pair_page());
+    assert_eq!(volume.ram[20 * 16..24 * 16], pair_page());
     assert_eq!(volume.ram[8 * 16..12 * 16], [0; 64]);
 }
 
@@ -255,7 +255,7 @@ fn deletion_pages_of_a_search() {
     volume.data[2048..2048 + 64].copy_from_slice(&words(&PAIR));
     volume.ram[64..64 + 32].copy_from_slice(&words(&[7, 0, 7, 12, 7, 5, 7, 3]));
     volume.ram[128..128 + 4].copy_from_slice(&words(&[5]));
-    volume.ram[320..].copy_from_slice(&pair_page());
+    volume.ram[320..384].copy_from_slice(&pair_page());
     let hit = volume.lookup(7);
     assert_eq!((hit.refusal, hit.found, hit.in_ram, hit.offset), (0, 1, 0, 0));
     assert_eq!((hit.count, hit.deletion_count), (0, 2));
@@ -332,14 +332,14 @@ fn deletion_pages_opened() {
     );
     // The filters of the newest page shut: its numbers are no longer met, so that the newest of them counts as live.
     let mut shut = volume;
-    for sector in shut.ram[20 * 16..].chunks_exact_mut(16) {
+    for sector in shut.ram[20 * 16..24 * 16].chunks_exact_mut(16) {
         sector[4..8].fill(0);
     }
     let hit = shut.lookup(7);
     assert_eq!((hit.found, hit.offset, hit.in_ram), (1, 31 * 16, 0));
     assert!(hit.deletion_count <= 1);
     // One of them is enough.
-    for sector in shut.ram[20 * 16..].chunks_exact_mut(16) {
+    for sector in shut.ram[20 * 16..24 * 16].chunks_exact_mut(16) {
         sector[4..6].fill(0xFF);
     }
     assert_eq!(shut.lookup(7).found, 0);

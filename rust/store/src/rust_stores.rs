@@ -1,6 +1,6 @@
 //! The stores in Rust: each call is the function of that name of a crate.
 
-use crate::{Change, LoadResult, LookupResult, State, Store};
+use crate::{Change, CutResult, LoadResult, LookupResult, State, Store};
 
 macro_rules! store_over {
     ($(#[$about:meta])* $store:ident, $calls:ident) => {
@@ -80,6 +80,88 @@ macro_rules! store_over {
                 ram: &mut [u8],
             ) -> LoadResult {
                 $calls::load(state, tab, data, spare, ram)
+            }
+
+            fn restart(&self, state: State, data: &mut [u8], spare: &mut [u8], ram: &mut [u8]) -> Change {
+                $calls::restart(state, data, spare, ram)
+            }
+
+            fn format_cut(
+                &self,
+                budget: u64,
+                old: State,
+                sector_size: u32,
+                ra_blocks: u32,
+                da_blocks: u32,
+                hash_count: u32,
+                data: &mut [u8],
+                spare: &mut [u8],
+                ram: &mut [u8],
+            ) -> CutResult {
+                $calls::format_cut(
+                    budget,
+                    old,
+                    sector_size,
+                    ra_blocks,
+                    da_blocks,
+                    hash_count,
+                    data,
+                    spare,
+                    ram,
+                )
+            }
+
+            fn insert_cut(
+                &self,
+                budget: u64,
+                state: State,
+                key: u32,
+                moves: u32,
+                goal: u32,
+                word: u32,
+                data: &mut [u8],
+                spare: &mut [u8],
+                ram: &mut [u8],
+            ) -> CutResult {
+                $calls::insert_cut(budget, state, key, moves, goal, word, data, spare, ram)
+            }
+
+            fn update_cut(
+                &self,
+                budget: u64,
+                state: State,
+                key: u32,
+                moves: u32,
+                goal: u32,
+                word: u32,
+                data: &mut [u8],
+                spare: &mut [u8],
+                ram: &mut [u8],
+            ) -> CutResult {
+                $calls::update_cut(budget, state, key, moves, goal, word, data, spare, ram)
+            }
+
+            fn delete_cut(
+                &self,
+                budget: u64,
+                state: State,
+                key: u32,
+                data: &mut [u8],
+                spare: &mut [u8],
+                ram: &mut [u8],
+            ) -> CutResult {
+                $calls::delete_cut(budget, state, key, data, spare, ram)
+            }
+
+            fn restart_cut(
+                &self,
+                budget: u64,
+                state: State,
+                data: &mut [u8],
+                spare: &mut [u8],
+                ram: &mut [u8],
+            ) -> CutResult {
+                $calls::restart_cut(budget, state, data, spare, ram)
             }
         }
     };

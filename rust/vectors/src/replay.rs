@@ -6,7 +6,7 @@ use store::{State, Store, HASH_COUNT_01};
 pub const LENT: [usize; 3] = [59_392, 3_712, 640];
 
 /// What the program `replay_large` lends: enough for full sets of both indexes at S = 16 and for sets of both at S = 64.
-pub const LENT_LARGE: [usize; 3] = [487_424, 12_224, 1_536];
+pub const LENT_LARGE: [usize; 3] = [487_424, 12_224, 1_600];
 
 /// The output for a whole input: an answer a line, each ended by a line feed. So many bytes of cells, marks
 /// and desk are lent.

@@ -1,11 +1,15 @@
 //! The commands of a trace (the README of the vectors has the format).
 
-use store::{Change, LoadResult, LookupResult, State, Store, HASH_COUNT_01};
+use store::{Change, CutResult, LoadResult, LookupResult, State, Store, HASH_COUNT_01, HEADER_BYTES};
 
 /// From this request on a trace names k.
 const NAMES_HASH_COUNT: u32 = 2;
 /// From this request on a hit or miss gives the DA pages opened, behind the count.
 const GIVES_DELETION_COUNT: u32 = 5;
+
+/// From this request on the lent RAM has a header. A trace from before it is lent as many bytes more, and neither alters nor digests
+/// them: it tells nothing of them, and all the rest of it holds.
+const LENDS_HEADER: u32 = 8;
 
 /// Lent slices, state and settings of a trace under way.
 pub struct Runner<'a> {
@@ -17,6 +21,8 @@ pub struct Runner<'a> {
     spare: Vec<u8>,
     ram: Vec<u8>,
     fill: u8,
+    /// The steps of the next changing call or restart, if it is to be cut.
+    budget: Option<u64>,
     digests: bool,
     last_digests: [Digest; 3],
 }
@@ -32,6 +38,7 @@ impl<'a> Runner<'a> {
             spare: Vec::new(),
             ram: Vec::new(),
             fill: 0,
+            budget: None,
             digests: true,
             last_digests: Default::default(),
         }
@@ -53,20 +60,25 @@ impl<'a> Runner<'a> {
             add_hash_count(name, &mut numbers)?;
         }
         let (data, spare, ram) = (&mut self.data, &mut self.spare, &mut self.ram);
-        let answer = match (name, numbers.as_slice()) {
-            ("FILL", &[byte]) => {
-                self.fill = as_byte(byte)?;
-                return Ok(None);
-            }
+        match (name, numbers.as_slice()) {
+            ("FILL", &[byte]) => self.fill = as_byte(byte)?,
             ("LEND", &[data_len, spare_len, ram_len]) => {
                 *data = vec![self.fill; data_len as usize];
                 *spare = vec![self.fill; spare_len as usize];
-                *ram = vec![self.fill; ram_len as usize];
-                return Ok(None);
+                let more = if self.request < LENDS_HEADER {
+                    HEADER_BYTES
+                } else {
+                    0
+                };
+                *ram = vec![self.fill; ram_len as usize + more];
             }
-            ("PC", &[offset, value]) => return alter(data, offset, value),
-            ("PM", &[offset, value]) => return alter(spare, offset, value),
-            ("PD", &[offset, value]) => return alter(ram, offset, value),
+            ("PC", &[offset, value]) => alter(data, offset, value)?,
+            ("PM", &[offset, value]) => alter(spare, offset, value)?,
+            ("PD", &[offset, value]) => {
+                let known = known_len(self.request, ram);
+                alter(&mut ram[..known], offset, value)?;
+            }
+            ("PH", &[number, value]) => alter_header(ram, number, value)?,
             ("PS", &[sector_size, ra_blocks, da_blocks, hash_count, records, deletions]) => {
                 self.state = State {
                     sector_size,
@@ -76,39 +88,58 @@ impl<'a> Runner<'a> {
                     records,
                     deletions,
                 };
-                return Ok(None);
             }
-            ("DIG", &[on]) => {
-                self.digests = on != 0;
-                return Ok(None);
-            }
-            ("F", &[s, r, d, k]) => {
-                let change = self.store.format(self.state, s, r, d, k, data, spare, ram);
-                self.take(change)
-            }
-            ("I", &[key, moves, goal, word]) => {
-                let change = self
-                    .store
-                    .insert(self.state, key, moves, goal, word, data, spare, ram);
-                self.take(change)
-            }
-            ("U", &[key, moves, goal, word]) => {
-                let change = self
-                    .store
-                    .update(self.state, key, moves, goal, word, data, spare, ram);
-                self.take(change)
-            }
-            ("D", &[key]) => {
-                let change = self.store.delete(self.state, key, data, spare, ram);
-                self.take(change)
-            }
+            ("DIG", &[on]) => self.digests = on != 0,
+            ("CUT", &[budget]) => self.budget = Some(u64::from(budget)),
             ("L", &[key]) => {
                 let result = self.store.lookup(self.state, key, data, spare, ram);
-                lookup_answer(self.request, result, data, ram)
+                let answer = lookup_answer(self.request, result, data, ram);
+                return Ok(Some(self.output_line(&answer)));
             }
+            (name, numbers) => {
+                let answer = match self.budget.take() {
+                    None => self.change(name, numbers)?,
+                    Some(budget) => self.change_cut(budget, name, numbers)?,
+                };
+                return Ok(Some(self.output_line(&answer)));
+            }
+        }
+        Ok(None)
+    }
+
+    /// A changing call or a restart.
+    fn change(&mut self, name: &str, numbers: &[u32]) -> Result<String, String> {
+        let (store, state) = (self.store, self.state);
+        let (data, spare, ram) = (&mut self.data, &mut self.spare, &mut self.ram);
+        let change = match (name, numbers) {
+            ("F", &[s, r, d, k]) => store.format(state, s, r, d, k, data, spare, ram),
+            ("I", &[key, moves, goal, word]) => store.insert(state, key, moves, goal, word, data, spare, ram),
+            ("U", &[key, moves, goal, word]) => store.update(state, key, moves, goal, word, data, spare, ram),
+            ("D", &[key]) => store.delete(state, key, data, spare, ram),
+            ("RESTART", []) => store.restart(state, data, spare, ram),
             _ => return Err("not a command".to_string()),
         };
-        Ok(Some(self.output_line(&answer)))
+        Ok(self.take(change))
+    }
+
+    /// The same with a budget of steps.
+    fn change_cut(&mut self, budget: u64, name: &str, numbers: &[u32]) -> Result<String, String> {
+        let (store, state) = (self.store, self.state);
+        let (data, spare, ram) = (&mut self.data, &mut self.spare, &mut self.ram);
+        let result = match (name, numbers) {
+            ("F", &[s, r, d, k]) => store.format_cut(budget, state, s, r, d, k, data, spare, ram),
+            ("I", &[key, moves, goal, word]) => {
+                store.insert_cut(budget, state, key, moves, goal, word, data, spare, ram)
+            }
+            ("U", &[key, moves, goal, word]) => {
+                store.update_cut(budget, state, key, moves, goal, word, data, spare, ram)
+            }
+            ("D", &[key]) => store.delete_cut(budget, state, key, data, spare, ram),
+            ("RESTART", []) => store.restart_cut(budget, state, data, spare, ram),
+            _ => return Err("not a command".to_string()),
+        };
+        self.state = result.state;
+        Ok(cut_answer(budget, result))
     }
 
     /// `LOAD hexbytes`, `-` for no bytes.
@@ -147,7 +178,7 @@ impl<'a> Runner<'a> {
             let [data, spare, ram] = &mut self.last_digests;
             let data = data.of(&self.data);
             let spare = spare.of(&self.spare);
-            let ram = ram.of(&self.ram);
+            let ram = ram.of(&self.ram[..known_len(self.request, &self.ram)]);
             line += &format!(" | {data:016x} {spare:016x} {ram:016x}");
         }
         line
@@ -211,10 +242,52 @@ fn lookup_answer(request: u32, result: LookupResult, data: &[u8], ram: &[u8]) ->
     }
 }
 
-fn alter(bytes: &mut [u8], offset: u32, value: u32) -> Result<Option<String>, String> {
+/// The lent RAM bytes that a trace knows of.
+fn known_len(request: u32, ram: &[u8]) -> usize {
+    match request {
+        0..LENDS_HEADER => ram.len().saturating_sub(HEADER_BYTES),
+        _ => ram.len(),
+    }
+}
+
+/// `cut DONE` if the budget was not enough.
+fn cut_answer(budget: u64, result: CutResult) -> String {
+    match result {
+        CutResult {
+            refusal: 0,
+            finished: 1,
+            steps,
+            ..
+        } if steps <= budget => "ok".to_string(),
+        CutResult {
+            refusal: 0,
+            finished: 0,
+            steps,
+            ..
+        } => format!("cut {steps}"),
+        CutResult {
+            refusal: refusal @ 1..,
+            finished: 0,
+            steps: 0,
+            ..
+        } => format!("no {refusal}"),
+        other => format!("impossible result: {other:?}"),
+    }
+}
+
+fn alter(bytes: &mut [u8], offset: u32, value: u32) -> Result<(), String> {
     let place = bytes.get_mut(offset as usize).ok_or("outside the slice")?;
     *place = as_byte(value)?;
-    Ok(None)
+    Ok(())
+}
+
+/// A number, 0 to 15, of the header in the last bytes of the RAM.
+fn alter_header(ram: &mut [u8], number: u32, value: u32) -> Result<(), String> {
+    let header = ram.last_chunk_mut::<HEADER_BYTES>().ok_or("no header")?;
+    let start = 4 * number as usize;
+    let place = header.get_mut(start..start + 4).ok_or("outside the header")?;
+    place.copy_from_slice(&value.to_le_bytes());
+    Ok(())
 }
 
 fn as_byte(number: u32) -> Result<u8, String> {
@@ -354,6 +427,50 @@ mod tests {
                 );
             }
             assert_eq!(run("L 7"), Ok(format!("{miss} | 16 1 1 3 16 16")));
+        }
+    }
+
+    /// Request 8: the fourth insert has six steps, the intent, four sectors and the finished RAM.
+    #[test]
+    fn a_trace_with_cuts() {
+        let mut runner = Runner::new(&ModelStore, 8);
+        assert_eq!(runner.command("LEND 21504 1344 448"), Ok(None));
+        let mut run = |line: &str| runner.command(line).map(|answer| answer.unwrap_or_default());
+        assert_eq!(run("DIG 0"), Ok(String::new()));
+        assert_eq!(run("F 16 1 1 3"), Ok("ok | 16 1 1 3 0 0".to_string()));
+        for key in 1..4 {
+            assert_eq!(
+                run(&format!("I {key} 1 2 3")),
+                Ok(format!("ok | 16 1 1 3 {key} 0"))
+            );
+        }
+        let steps = |run: &mut dyn FnMut(&str) -> Result<String, String>, budget: u32, call: &str| {
+            assert_eq!(run(&format!("CUT {budget}")), Ok(String::new()));
+            run(call)
+        };
+        assert_eq!(
+            steps(&mut run, 0, "I 4 1 2 3"),
+            Ok("cut 0 | 16 1 1 3 3 0".to_string())
+        );
+        assert_eq!(run("L 4"), Ok("miss 0 0 | 16 1 1 3 3 0".to_string()));
+        assert_eq!(
+            steps(&mut run, 3, "I 4 1 2 3"),
+            Ok("cut 3 | 16 1 1 3 3 0".to_string())
+        );
+        assert_eq!(run("L 4"), Ok("no 10 | 16 1 1 3 3 0".to_string()));
+        assert_eq!(run("LOAD -"), Ok("rows 0 no 10 | 16 1 1 3 3 0".to_string()));
+        assert_eq!(run("PS 0 0 0 0 0 0"), Ok(String::new()));
+        assert_eq!(
+            steps(&mut run, 2, "RESTART"),
+            Ok("cut 2 | 0 0 0 0 0 0".to_string())
+        );
+        // Another kind, and back.
+        assert_eq!(run("PH 6 5"), Ok(String::new()));
+        assert_eq!(run("RESTART"), Ok("no 1 | 0 0 0 0 0 0".to_string()));
+        assert_eq!(run("PH 6 1"), Ok(String::new()));
+        assert_eq!(steps(&mut run, 1, "RESTART"), Ok("ok | 16 1 1 3 4 0".to_string()));
+        for bad in ["CUT", "CUT -1", "RESTART 1", "PH 16 0", "PH 0"] {
+            assert!(run(bad).is_err(), "{bad}");
         }
     }
 

@@ -12,24 +12,29 @@ fn folder(name: &str) -> PathBuf {
 
 #[test]
 fn traces() {
-    for name in ["requests/5/trace", "requests/6/trace"] {
+    for (name, files) in [
+        ("requests/5/trace", 13),
+        ("requests/6/trace", 13),
+        ("requests/8/trace", 14),
+    ] {
         let summary = run_traces(&FastStore, &folder(name)).unwrap_or_else(|f| panic!("{f}"));
-        assert_eq!(summary.files, 13);
+        assert_eq!(summary.files, files, "{name}");
     }
 }
 
 #[test]
 fn replays() {
-    for name in [
-        "replay",
-        "requests/1/replay",
-        "requests/2/replay",
-        "requests/3/replay",
-        "requests/4/replay",
-        "requests/5/replay",
-        "requests/6/replay",
+    for (name, files) in [
+        ("replay", 3),
+        ("requests/1/replay", 3),
+        ("requests/2/replay", 3),
+        ("requests/3/replay", 3),
+        ("requests/4/replay", 3),
+        ("requests/5/replay", 3),
+        ("requests/6/replay", 3),
+        ("requests/8/replay", 1),
     ] {
         let summary = run_replays(&FastStore, &folder(name)).unwrap_or_else(|f| panic!("{f}"));
-        assert_eq!(summary.files, 3);
+        assert_eq!(summary.files, files, "{name}");
     }
 }

@@ -1,7 +1,7 @@
 //! The model passes all vectors of the repository, and a wrong answer is seen.
 
 use std::path::Path;
-use store::{Change, LoadResult, LookupResult, ModelStore, State, Store};
+use store::{Change, CutResult, LoadResult, LookupResult, ModelStore, State, Store};
 use vectors::{parts, run_replays, run_traces, Failure};
 
 fn folder(name: &str) -> std::path::PathBuf {
@@ -12,25 +12,30 @@ fn folder(name: &str) -> std::path::PathBuf {
 
 #[test]
 fn traces() {
-    for name in ["requests/5/trace", "requests/6/trace"] {
+    for (name, files) in [
+        ("requests/5/trace", 13),
+        ("requests/6/trace", 13),
+        ("requests/8/trace", 14),
+    ] {
         let summary = run_traces(&ModelStore, &folder(name)).unwrap_or_else(|f| panic!("{f}"));
-        assert_eq!(summary.files, 13);
+        assert_eq!(summary.files, files, "{name}");
     }
 }
 
 #[test]
 fn replays() {
-    for name in [
-        "replay",
-        "requests/1/replay",
-        "requests/2/replay",
-        "requests/3/replay",
-        "requests/4/replay",
-        "requests/5/replay",
-        "requests/6/replay",
+    for (name, files) in [
+        ("replay", 3),
+        ("requests/1/replay", 3),
+        ("requests/2/replay", 3),
+        ("requests/3/replay", 3),
+        ("requests/4/replay", 3),
+        ("requests/5/replay", 3),
+        ("requests/6/replay", 3),
+        ("requests/8/replay", 1),
     ] {
         let summary = run_replays(&ModelStore, &folder(name)).unwrap_or_else(|f| panic!("{f}"));
-        assert_eq!(summary.files, 3);
+        assert_eq!(summary.files, files, "{name}");
     }
 }
 
@@ -46,6 +51,7 @@ fn all_parts() {
         "requests/4",
         "requests/5",
         "requests/6",
+        "requests/8",
     ];
     assert_eq!(parts, expected.map(Path::new));
     let with = |kind: &str| {
@@ -54,14 +60,24 @@ fn all_parts() {
             .filter(|part| folder("").join(part).join(kind).is_dir())
             .count()
     };
-    assert_eq!((with("trace"), with("replay")), (2, 7));
+    assert_eq!((with("trace"), with("replay")), (3, 8));
 }
 
-/// Opens pages of entries or of deletions and reports none, or loads rows and reports none.
+/// Opens pages of entries or of deletions and reports none, or loads rows, or does steps.
 enum NoCount {
     Pages,
     DeletionPages,
     Rows,
+    Steps,
+}
+
+impl NoCount {
+    fn cut(&self, result: CutResult) -> CutResult {
+        match self {
+            NoCount::Steps => CutResult { steps: 0, ..result },
+            _ => result,
+        }
+    }
 }
 
 impl Store for NoCount {
@@ -120,7 +136,7 @@ impl Store for NoCount {
         match self {
             NoCount::Pages => result.count = 0,
             NoCount::DeletionPages => result.deletion_count = 0,
-            NoCount::Rows => {}
+            NoCount::Rows | NoCount::Steps => {}
         }
         result
     }
@@ -139,6 +155,78 @@ impl Store for NoCount {
         }
         result
     }
+
+    fn restart(&self, state: State, data: &mut [u8], spare: &mut [u8], ram: &mut [u8]) -> Change {
+        ModelStore.restart(state, data, spare, ram)
+    }
+
+    fn format_cut(
+        &self,
+        budget: u64,
+        old: State,
+        s: u32,
+        r: u32,
+        d: u32,
+        k: u32,
+        data: &mut [u8],
+        spare: &mut [u8],
+        ram: &mut [u8],
+    ) -> CutResult {
+        self.cut(ModelStore.format_cut(budget, old, s, r, d, k, data, spare, ram))
+    }
+
+    fn insert_cut(
+        &self,
+        budget: u64,
+        state: State,
+        key: u32,
+        moves: u32,
+        goal: u32,
+        word: u32,
+        data: &mut [u8],
+        spare: &mut [u8],
+        ram: &mut [u8],
+    ) -> CutResult {
+        self.cut(ModelStore.insert_cut(budget, state, key, moves, goal, word, data, spare, ram))
+    }
+
+    fn update_cut(
+        &self,
+        budget: u64,
+        state: State,
+        key: u32,
+        moves: u32,
+        goal: u32,
+        word: u32,
+        data: &mut [u8],
+        spare: &mut [u8],
+        ram: &mut [u8],
+    ) -> CutResult {
+        self.cut(ModelStore.update_cut(budget, state, key, moves, goal, word, data, spare, ram))
+    }
+
+    fn delete_cut(
+        &self,
+        budget: u64,
+        state: State,
+        key: u32,
+        data: &mut [u8],
+        spare: &mut [u8],
+        ram: &mut [u8],
+    ) -> CutResult {
+        self.cut(ModelStore.delete_cut(budget, state, key, data, spare, ram))
+    }
+
+    fn restart_cut(
+        &self,
+        budget: u64,
+        state: State,
+        data: &mut [u8],
+        spare: &mut [u8],
+        ram: &mut [u8],
+    ) -> CutResult {
+        self.cut(ModelStore.restart_cut(budget, state, data, spare, ram))
+    }
 }
 
 #[test]
@@ -147,6 +235,7 @@ fn a_wrong_count_is_seen() {
         run_traces(&NoCount::Pages, &folder("requests/5/trace")),
         run_traces(&NoCount::DeletionPages, &folder("requests/5/trace")),
         run_traces(&NoCount::Rows, &folder("requests/5/trace")),
+        run_traces(&NoCount::Steps, &folder("requests/8/trace")),
         run_replays(&NoCount::Pages, &folder("replay")),
     ] {
         match result {

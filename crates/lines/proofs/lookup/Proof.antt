@@ -5,7 +5,8 @@ use mathlib.Core.List.{List}
 use Prim.Native.Nat.{ℕ}
 use lib.ListN.{getD}
 use Rattle.layout.specs.Hash.{fnvFamily}
-use Rattle.layout.specs.Calls.{call, lookup}
+use Rattle.layout.specs.Calls.{lookup}
+use Rattle.layout.specs.Budgets.{callWhole}
 use Rattle.state.specs.Contract.{volume}
 use Rattle.lookup.specs.Results.{lookupOf, answerNumbers}
 use Rattle.lookup.specs.Small.{lookup-small}
@@ -46,7 +47,7 @@ returns c =
     let k = c .before .lookup in
     let x = c .before .before .before .before .before .before .args in
     let v = volume (x .s) (x .main .now) (x .spare .now) (x .ram .now) in
-    let at : (i : ℕ) → getD (k .last .1 .1 .1 .1 .1 .0) i 0 ≡ getD (answerNumbers (lookupOf (call fnvFamily v (lookup (x .key))))) i 0
+    let at : (i : ℕ) → getD (k .last .1 .1 .1 .1 .1 .0) i 0 ≡ getD (answerNumbers (lookupOf (callWhole fnvFamily v (lookup (x .key))))) i 0
     = λ i. ap (λ (l : List ℕ). getD l i 0) (k .ensures .1) in
     lookup-refused fnvFamily v (x .key) _ (at 0) (c .if1 .taken)
 
@@ -56,7 +57,7 @@ returns-2 c =
     let k = c .before .before .lookup in
     let x = c .before .before .before .before .before .before .before .args in
     let v = volume (x .s) (x .main .now) (x .spare .now) (x .ram .now) in
-    let at : (i : ℕ) → getD (k .last .1 .1 .1 .1 .1 .0) i 0 ≡ getD (answerNumbers (lookupOf (call fnvFamily v (lookup (x .key))))) i 0
+    let at : (i : ℕ) → getD (k .last .1 .1 .1 .1 .1 .0) i 0 ≡ getD (answerNumbers (lookupOf (callWhole fnvFamily v (lookup (x .key))))) i 0
     = λ i. ap (λ (l : List ℕ). getD l i 0) (k .ensures .1) in
     lookup-missed fnvFamily v (x .key) _ _ _ (at 0) (at 1) (at 2) (c .before .if1 .left) (c .if2 .taken)
 
@@ -65,7 +66,7 @@ get32-requires c κs =
     let k = c .before .before .lookup in
     let x = c .before .before .before .before .before .before .before .args in
     let v = volume (x .s) (x .main .now) (x .spare .now) (x .ram .now) in
-    let at : (i : ℕ) → getD (k .last .1 .1 .1 .1 .1 .0) i 0 ≡ getD (answerNumbers (lookupOf (call fnvFamily v (lookup (x .key))))) i 0
+    let at : (i : ℕ) → getD (k .last .1 .1 .1 .1 .1 .0) i 0 ≡ getD (answerNumbers (lookupOf (callWhole fnvFamily v (lookup (x .key))))) i 0
     = λ i. ap (λ (l : List ℕ). getD l i 0) (k .ensures .1) in
     omega (arith, lookup-hit fnvFamily v (x .key) _ _ (k .result .now) (at 1) (at 2) (k .ensures .0 .0) (c .if2 .left) .0)
 
@@ -75,7 +76,7 @@ returns-3 c =
     let k = c .before .before .before .lookup in
     let x = c .before .before .before .before .before .before .before .before .args in
     let v = volume (x .s) (x .main .now) (x .spare .now) (x .ram .now) in
-    let at : (i : ℕ) → getD (k .last .1 .1 .1 .1 .1 .0) i 0 ≡ getD (answerNumbers (lookupOf (call fnvFamily v (lookup (x .key))))) i 0
+    let at : (i : ℕ) → getD (k .last .1 .1 .1 .1 .1 .0) i 0 ≡ getD (answerNumbers (lookupOf (callWhole fnvFamily v (lookup (x .key))))) i 0
     = λ i. ap (λ (l : List ℕ). getD l i 0) (k .ensures .1) in
     ap (λ (m : ℕ). hit m (getD (k .last .1 .1 .1 .1 .1 .0) 2 0)) (c .get32 .ensures)
     ∙ lookup-hit fnvFamily v (x .key) _ _ (k .result .now) (at 1) (at 2) (k .ensures .0 .0) (c .before .if2 .left) .1

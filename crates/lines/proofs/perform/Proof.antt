@@ -4,6 +4,7 @@ use Rattle.layout.specs.Geometry.{sizesOf, defaultHashCount}
 use Rattle.layout.specs.Hash.{fnvFamily}
 use Rattle.layout.specs.Items.{Record, recordOf}
 use Rattle.layout.specs.Calls as calls
+use Rattle.layout.specs.Budgets.{callWhole, formatWhole}
 use Rattle.state.specs.Contract.{volume, effectOf}
 use Rattle.script.specs.Values.{answerOf}
 use Rattle.script.specs.Script.{perform}
@@ -37,7 +38,7 @@ returns c =
     let x = c .before .before .before .before .before .before .before .before .before .before .before .before .before .before .before .before .before .args in
     let g = c .before .before .before .before .before .before .before .before .before .before .before .before .q .given in
     let v = volume (x .s) (x .main .now) (x .spare .now) (x .ram .now) in
-    rw (g .1) (change-reply (c .after-change .result) (k .result) (k .last .1 .1 .0) (k .last .1 .1 .1 .0) (k .last .1 .1 .1 .1 .0) (calls.format v (sizesOf (g .0 .0) (g .0 .1 .0) (g .0 .1 .1 .0) defaultHashCount)) (c .after-change .ensures) (k .ensures))
+    rw (g .1) (change-reply (c .after-change .result) (k .result) (k .last .1 .1 .0) (k .last .1 .1 .1 .0) (k .last .1 .1 .1 .1 .0) (formatWhole v (sizesOf (g .0 .0) (g .0 .1 .0) (g .0 .1 .1 .0) defaultHashCount)) (c .after-change .ensures) (k .ensures))
 
 enum-known-q-2 : tie.Need-enum-known-q-2
 enum-known-q-2 c = search needs
@@ -68,8 +69,8 @@ returns-2 c =
     let g = c .before .before .before .before .before .before .before .before .before .before .before .before .before .q2 .given in
     let v = volume (x .s) (x .main .now) (x .spare .now) (x .ram .now) in
     rw (g .1)
-    (change-reply (c .after-change2 .result) (k .result) (k .last .1 .1 .0) (k .last .1 .1 .1 .0) (k .last .1 .1 .1 .1 .0) (calls.call fnvFamily v (calls.insert (recordOf (g .0 .0) (g .0 .1 .0) 0 0))) (c .after-change2 .ensures)
-    (k .ensures ∙ ap (λ (r : Record). effectOf (calls.call fnvFamily v (calls.insert r))) (c .before .before .before .before .before .before .before .before .before .before .before .level .ensures)))
+    (change-reply (c .after-change2 .result) (k .result) (k .last .1 .1 .0) (k .last .1 .1 .1 .0) (k .last .1 .1 .1 .1 .0) (callWhole fnvFamily v (calls.insert (recordOf (g .0 .0) (g .0 .1 .0) 0 0))) (c .after-change2 .ensures)
+    (k .ensures ∙ ap (λ (r : Record). effectOf (callWhole fnvFamily v (calls.insert r))) (c .before .before .before .before .before .before .before .before .before .before .before .level .ensures)))
 
 enum-known-q-3 : tie.Need-enum-known-q-3
 enum-known-q-3 c = search needs
@@ -100,8 +101,8 @@ returns-3 c =
     let g = c .before .before .before .before .before .before .before .before .before .before .before .before .before .q3 .given in
     let v = volume (x .s) (x .main .now) (x .spare .now) (x .ram .now) in
     rw (g .1)
-    (change-reply (c .after-change3 .result) (k .result) (k .last .1 .1 .0) (k .last .1 .1 .1 .0) (k .last .1 .1 .1 .1 .0) (calls.call fnvFamily v (calls.update (recordOf (g .0 .0) (g .0 .1 .0) 0 0))) (c .after-change3 .ensures)
-    (k .ensures ∙ ap (λ (r : Record). effectOf (calls.call fnvFamily v (calls.update r))) (c .before .before .before .before .before .before .before .before .before .before .before .level2 .ensures)))
+    (change-reply (c .after-change3 .result) (k .result) (k .last .1 .1 .0) (k .last .1 .1 .1 .0) (k .last .1 .1 .1 .1 .0) (callWhole fnvFamily v (calls.update (recordOf (g .0 .0) (g .0 .1 .0) 0 0))) (c .after-change3 .ensures)
+    (k .ensures ∙ ap (λ (r : Record). effectOf (callWhole fnvFamily v (calls.update r))) (c .before .before .before .before .before .before .before .before .before .before .before .level2 .ensures)))
 
 enum-known-q-4 : tie.Need-enum-known-q-4
 enum-known-q-4 c = search needs
@@ -128,7 +129,7 @@ returns-4 c =
     let x = c .before .before .before .before .before .before .before .before .before .before .before .before .before .before .before .before .before .args in
     let g = c .before .before .before .before .before .before .before .before .before .before .before .before .q4 .given in
     let v = volume (x .s) (x .main .now) (x .spare .now) (x .ram .now) in
-    rw (g .1) (change-reply (c .after-change4 .result) (k .result) (k .last .1 .1 .0) (k .last .1 .1 .1 .0) (k .last .1 .1 .1 .1 .0) (calls.call fnvFamily v (calls.delete (g .0 .0))) (c .after-change4 .ensures) (k .ensures))
+    rw (g .1) (change-reply (c .after-change4 .result) (k .result) (k .last .1 .1 .0) (k .last .1 .1 .1 .0) (k .last .1 .1 .1 .1 .0) (callWhole fnvFamily v (calls.delete (g .0 .0))) (c .after-change4 .ensures) (k .ensures))
 
 enum-known-q-5 : tie.Need-enum-known-q-5
 enum-known-q-5 c = search needs

@@ -1,15 +1,17 @@
--- 1 and 2, a tab of no bytes, the header, then the rows.
+-- 1, 2 and 10, a tab of no bytes, the header, then the rows.
 use borrow.Author.Needs.{needs}
-use mathlib.Core.Path.{_≡_, sym, ap, subst, _∙_}
+use mathlib.Core.Path.{_≡_, sym, ap, _∙_}
+use mathlib.Core.Option.{Option}
+use mathlib.Core.List.{List}
+use Prim.Native.Nat.{ℕ}
 use Rattle.layout.specs.Hash.{fnvFamily}
 use Rattle.layout.specs.Calls.{Volume}
+use Rattle.layout.specs.Several.{Several}
 use Rattle.state.specs.Contract.{volume}
-use Rattle.state.specs.Judge.{VolumeFits, GoodFits}
-use Rattle.state.specs.declared.Judgement.{Judgement}
 use Rattle.tab.specs.Reader.{body}
 use Rattle.reader.specs.Contract.{headerIn}
 use Rattle.reader.specs.declared.Header.{Header}
-use Rattle.load.specs.Load.{loadLines, load}
+use Rattle.load.specs.Load.{loadLinesBy, rowWhole, loadWhole}
 use Rattle.load.proofs.Steps.{load-judged, load-good, body-none, body-some, none-loaded}
 use Rattle.load.proofs.load.Statement.{statement}
 use Rattle.load.proofs.load.Tie as tie
@@ -18,33 +20,33 @@ use Rattle.load.proofs.load.Tie as tie
 abbrev handed : tie.Start → Volume
 handed c = volume (c .args .s) (c .args .main .now) (c .args .spare .now) (c .args .ram .now)
 
+-- its load where a text of lines is left, or none
+abbrev lines-of : tie.Start → Option (List ℕ) → Several
+lines-of s o = loadLinesBy (rowWhole fnvFamily) (handed s) o
+
 abbrev start-of : tie.After-judge → tie.Start
 start-of j = j .before .before .before .before .before .before .before .before
 
--- neither 1 nor 2 applies
+-- none of 1, 2 and 10 applies
 abbrev good-at : tie.After-header-at → tie.After-enum-told
 good-at h = h .before .before
 
 abbrev judge-at : tie.After-enum-told → tie.After-judge
 judge-at g = g .before .before
 
-fits : (g : tie.After-enum-told) → VolumeFits (handed (start-of (judge-at g))) (g .enum-told .given .0 .0)
-fits g =
-    let j = judge-at g in
-    subst (λ (r : Judgement). GoodFits (handed (start-of j)) r) (g .enum-told .given .1) (j .judge .ensures .1)
-
 after-judge : (g : tie.After-enum-told) → let s = start-of (judge-at g) in
-    load fnvFamily (handed s) (s .args .tab .now) ≡ loadLines fnvFamily (handed s) (body (s .args .tab .now))
+    loadWhole fnvFamily (handed s) (s .args .tab .now) ≡ lines-of s (body (s .args .tab .now))
 after-judge g =
-    let s = start-of (judge-at g) in
-    load-good fnvFamily (handed s) (s .args .tab .now) (g .enum-told .given .0 .0) (fits g)
+    let j = judge-at g in
+    let s = start-of j in
+    load-good fnvFamily (handed s) (s .args .tab .now) (g .enum-told .given .0 .0) (sym (j .judge .ensures .0) ∙ g .enum-told .given .1)
 
 good : (h : tie.After-header-at) → let s = start-of (judge-at (good-at h)) in
-    load fnvFamily (handed s) (s .args .tab .now) ≡ loadLines fnvFamily (handed s) (headerIn (s .args .tab .now) (h .header-at .result))
+    loadWhole fnvFamily (handed s) (s .args .tab .now) ≡ lines-of s (headerIn (s .args .tab .now) (h .header-at .result))
 good h =
     let s = start-of (judge-at (good-at h)) in
     after-judge (good-at h)
-    ∙ ap (loadLines fnvFamily (handed s)) (body-some (s .args .tab .now) (h .before .if1 .left) ∙ sym (h .header-at .ensures))
+    ∙ ap (lines-of s) (body-some (s .args .tab .now) (h .before .if1 .left) ∙ sym (h .header-at .ensures))
 
 judge-requires : tie.Need-judge-requires
 judge-requires c κs = search needs
@@ -84,8 +86,8 @@ returns-2 : tie.Need-returns-2
 returns-2 c =
     let g = c .before in
     let s = start-of (judge-at g) in
-    sym (after-judge g ∙ ap (loadLines fnvFamily (handed s)) (body-none (s .args .tab .now) (c .if1 .taken))
-    ∙ none-loaded fnvFamily (handed s))
+    sym (after-judge g ∙ ap (lines-of s) (body-none (s .args .tab .now) (c .if1 .taken))
+    ∙ none-loaded (rowWhole fnvFamily) (handed s))
 
 header-at-requires : tie.Need-header-at-requires
 header-at-requires c κs = search needs
@@ -106,7 +108,7 @@ returns-3 : tie.Need-returns-3
 returns-3 c =
     let h = c .before .before in
     let s = start-of (judge-at (good-at h)) in
-    sym (good h ∙ ap (λ (r : Header). loadLines fnvFamily (handed s) (headerIn (s .args .tab .now) r)) (c .enum-told2 .given .1))
+    sym (good h ∙ ap (λ (r : Header). lines-of s (headerIn (s .args .tab .now) r)) (c .enum-told2 .given .1))
 
 enum-known-next : tie.Need-enum-known-next
 enum-known-next c = search needs
@@ -129,7 +131,7 @@ returns-4 c =
     let n = l .before .before .before .before .before in
     let h = n .before .before in
     let s = start-of (judge-at (good-at h)) in
-    l .load-rows .ensures ∙ sym (good h ∙ ap (λ (r : Header). loadLines fnvFamily (handed s) (headerIn (s .args .tab .now) r)) (n .next .given .1))
+    l .load-rows .ensures ∙ sym (good h ∙ ap (λ (r : Header). lines-of s (headerIn (s .args .tab .now) r)) (n .next .given .1))
 
 pub load-spec : {M : Type 1} → statement M
 load-spec =

@@ -6,14 +6,15 @@ use mathlib.Core.Option.{some}
 use Prim.Native.Nat.{ℕ, _+_, _-_, _≤_, _<_}
 use lib.ListN.{length, drop}
 use Rattle.layout.specs.Hash.{fnvFamily}
-use Rattle.layout.specs.Calls.{Volume}
-use Rattle.layout.specs.Several.{Several}
-use Rattle.state.specs.Contract.{Effect, volume}
+use Rattle.layout.specs.Calls.{Volume, Result}
+use Rattle.state.specs.Contract.{outcomeOf, volume}
+use Rattle.tab.specs.Grammar.{Row}
 use Rattle.tab.specs.Reader.{gotLine, row, rowsOf}
 use Rattle.reader.specs.Contract.{lineIn}
 use Rattle.reader.specs.LineLaws.{row-goes-on}
-use Rattle.load.specs.Load.{loadRead}
-use Rattle.load.proofs.Counts.{update-counts}
+use Rattle.load.specs.Load.{loadReadBy, rowWhole}
+use Rattle.load.proofs.Counts.{row-counts}
+use Rattle.load.proofs.Rows.{row-whole}
 use Rattle.load.proofs.Steps.{moreDone, none-done, done-ended, done-more, load-end, load-malformed, load-refused, load-accepted}
 use Rattle.load.proofs.load_rows.Statement.{statement}
 use Rattle.load.proofs.load_rows.Tie as tie
@@ -21,8 +22,8 @@ use Rattle.load.proofs.load_rows.Tie as tie
 abbrev Inv-loop : tie.InvT-loop
 Inv-loop tab at main₀ spare₀ ram₀ state₀ place₀ rows₀ main spare ram state place rows =
     (length main ≡ length main₀) × (length spare ≡ length spare₀) × (length ram ≡ length ram₀) × (rows ≤ state .records)
-    × (loadRead fnvFamily (volume state₀ main₀ spare₀ ram₀) (rowsOf (drop place₀ tab))
-    ≡ moreDone rows (loadRead fnvFamily (volume state main spare ram) (rowsOf (drop place tab))))
+    × (loadReadBy (rowWhole fnvFamily) (volume state₀ main₀ spare₀ ram₀) (rowsOf (drop place₀ tab))
+    ≡ moreDone rows (loadReadBy (rowWhole fnvFamily) (volume state main spare ram) (rowsOf (drop place tab))))
 
 abbrev μ-loop : tie.MeasureT-loop
 μ-loop tab at main₀ spare₀ ram₀ state₀ place₀ rows₀ main spare ram state place rows = length tab - place
@@ -47,32 +48,42 @@ loop-at r = r .before .before
 abbrev read-at : tie.After-key Inv-loop μ-loop → tie.After-row-at Inv-loop μ-loop
 read-at k = k .before .before
 
-abbrev key-at : tie.After-update Inv-loop μ-loop → tie.After-key Inv-loop μ-loop
+abbrev key-at : tie.After-load-row Inv-loop μ-loop → tie.After-key Inv-loop μ-loop
 key-at p = p .before .before .before .before .before
 
-abbrev row-now : tie.After-update Inv-loop μ-loop → Loop
+abbrev row-now : tie.After-load-row Inv-loop μ-loop → Loop
 row-now p = loop-at (read-at (key-at p))
 
 -- the place of the row after it
-abbrev next-of : tie.After-update Inv-loop μ-loop → ℕ
+abbrev next-of : tie.After-load-row Inv-loop μ-loop → ℕ
 next-of p = key-at p .key .given .0 .1 .1 .1 .0
 
-row-is : (p : tie.After-update Inv-loop μ-loop) → let l = row-now p in let g = key-at p .key .given .0 in let tab = start-of l .args .tab .now in
+row-is : (p : tie.After-load-row Inv-loop μ-loop) → let l = row-now p in let g = key-at p .key .given .0 in let tab = start-of l .args .tab .now in
     row (drop (l .loop .place) tab) ≡ some (gotLine (g .0) (g .1 .0) (g .1 .1 .0) (drop (next-of p) tab))
 row-is p =
     let k = key-at p in
     let r = read-at k in
     sym (r .row-at .ensures) ∙ ap (lineIn (start-of (loop-at r) .args .tab .now)) (k .key .given .1)
 
--- one that is accepted is one record more
-counted : (p : tie.After-update Inv-loop μ-loop) → p .update .result .refusal ≡ 0 → p .update .result .state .records ≡ row-now p .loop .state .records + 1
-counted p z =
-    let outcome = ap (λ (e : Effect). e .outcome) (p .update .ensures) in
-    let left = ap (λ (e : Effect). e .left) (p .update .ensures) in
-    ap (λ (v : Volume). v .state .records) left ∙ update-counts (now-of (row-now p)) fnvFamily _ .by-one (sym outcome ∙ rw z)
+abbrev row-of : tie.After-load-row Inv-loop μ-loop → Row
+row-of p = let g = key-at p .key .given .0 in record { level = g .0; moves = g .1 .0; goal = g .1 .1 .0 }
 
-abbrev update-at : tie.Else1 Inv-loop μ-loop → tie.After-update Inv-loop μ-loop
-update-at c = c .before .before .before .before .before .before .before .before .before
+abbrev whole : tie.After-load-row Inv-loop μ-loop → Result
+whole p = rowWhole fnvFamily (now-of (row-now p)) (row-of p)
+
+outcome-is : (p : tie.After-load-row Inv-loop μ-loop) → outcomeOf (p .load-row .result .refusal) ≡ whole p .outcome
+outcome-is p = row-whole (now-of (row-now p)) (row-of p) _ (p .load-row .ensures) .0
+
+-- one that is accepted is one record more
+counted : (p : tie.After-load-row Inv-loop μ-loop) → p .load-row .result .refusal ≡ 0
+    → p .load-row .result .state .records ≡ row-now p .loop .state .records + 1
+counted p z =
+    let v = now-of (row-now p) in
+    ap (λ (w : Volume). w .state .records) (row-whole v (row-of p) _ (p .load-row .ensures) .1)
+    ∙ row-counts fnvFamily v (row-of p) .by-one (sym (outcome-is p) ∙ rw z)
+
+abbrev row-done : tie.Else1 Inv-loop μ-loop → tie.After-load-row Inv-loop μ-loop
+row-done c = c .before .before .before .before .before .before .before .before .before
 
 loop-holds : tie.Need-loop-holds Inv-loop μ-loop
 loop-holds c = (refl, refl, refl, omega arith, none-done _)
@@ -99,14 +110,15 @@ returns c =
     let tab = start-of l .args .tab .now in
     sym (l .loop .inv .4
     ∙ ap (moreDone (l .loop .rows))
-    (load-malformed fnvFamily (now-of l) tab (l .loop .place) (omega arith) (sym (r .row-at .ensures) ∙ ap (lineIn tab) (c .enum-told .given .1)))
+    (load-malformed (rowWhole fnvFamily) (now-of l) tab (l .loop .place) (omega arith)
+    (sym (r .row-at .ensures) ∙ ap (lineIn tab) (c .enum-told .given .1)))
     ∙ done-ended (l .loop .rows) _ (now-of l))
 
 enum-known-key : tie.Need-enum-known-key Inv-loop μ-loop
 enum-known-key c = search needs
 
-update-requires : tie.Need-update-requires Inv-loop μ-loop
-update-requires c κs = search needs
+load-row-requires : tie.Need-load-row-requires Inv-loop μ-loop
+load-row-requires c κs = search needs
 
 same-length-4 : tie.Need-same-length-4 Inv-loop μ-loop
 same-length-4 c = search needs
@@ -123,24 +135,24 @@ returns-2 c =
     let l = row-now p in
     sym (l .loop .inv .4
     ∙ ap (moreDone (l .loop .rows))
-    (load-refused fnvFamily (now-of l) (start-of l .args .tab .now) (l .loop .place) _ _ _ (next-of p) (row-is p) (p .update .result .refusal) _
-    (ap (λ (e : Effect). e .outcome) (p .update .ensures)) (ap (λ (e : Effect). e .left) (p .update .ensures)) (c .if1 .taken))
+    (load-refused (rowWhole fnvFamily) (now-of l) (start-of l .args .tab .now) (l .loop .place) _ _ _ (next-of p) (row-is p)
+    (p .load-row .result .refusal) _ (outcome-is p) (row-whole (now-of l) (row-of p) _ (p .load-row .ensures) .1) (c .if1 .taken))
     ∙ done-ended (l .loop .rows) _ _)
 
 add-rows : tie.Need-add-rows Inv-loop μ-loop
 add-rows c =
-    let p = update-at c in
-    omega (arith, counted p (c .if1 .left), row-now p .loop .inv .3, p .update .ok)
+    let p = row-done c in
+    omega (arith, counted p (c .if1 .left), row-now p .loop .inv .3, p .load-row .ok)
 
 loop-less : tie.Need-loop-less Inv-loop μ-loop
 loop-less c =
-    let p = update-at c in
+    let p = row-done c in
     let l = row-now p in
     row-goes-on (start-of l .args .tab .now) (l .loop .place) _ _ _ (next-of p) (row-is p)
 
 loop-again : tie.Need-loop-again Inv-loop μ-loop
 loop-again c =
-    let p = update-at c in
+    let p = row-done c in
     let l = row-now p in (
       search needs,
       search needs,
@@ -148,8 +160,8 @@ loop-again c =
       omega (arith, counted p (c .if1 .left), l .loop .inv .3),
       l .loop .inv .4
           ∙ ap (moreDone (l .loop .rows))
-          (load-accepted fnvFamily (now-of l) (start-of l .args .tab .now) (l .loop .place) _ _ _ (next-of p) (row-is p) (p .update .result .refusal) _
-          (ap (λ (e : Effect). e .outcome) (p .update .ensures)) (ap (λ (e : Effect). e .left) (p .update .ensures)) (c .if1 .left))
+          (load-accepted (rowWhole fnvFamily) (now-of l) (start-of l .args .tab .now) (l .loop .place) _ _ _ (next-of p) (row-is p)
+          (p .load-row .result .refusal) _ (outcome-is p) (row-whole (now-of l) (row-of p) _ (p .load-row .ensures) .1) (c .if1 .left))
           ∙ done-more (l .loop .rows) _,
     )
 
@@ -166,7 +178,7 @@ returns-3 : tie.Need-returns-3 Inv-loop μ-loop
 returns-3 c =
     let l = c .before in
     sym (l .loop .inv .4
-    ∙ ap (moreDone (l .loop .rows)) (load-end fnvFamily (now-of l) (start-of l .args .tab .now) (l .loop .place) (omega arith))
+    ∙ ap (moreDone (l .loop .rows)) (load-end (rowWhole fnvFamily) (now-of l) (start-of l .args .tab .now) (l .loop .place) (omega arith))
     ∙ done-ended (l .loop .rows) _ (now-of l))
 
 pub load-rows-spec : {M : Type 1} → statement M
@@ -183,7 +195,7 @@ load-rows-spec =
     same-length-3
     returns
     enum-known-key
-    update-requires
+    load-row-requires
     same-length-4
     same-length-5
     same-length-6

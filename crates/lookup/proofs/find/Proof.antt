@@ -1,8 +1,17 @@
 use borrow.Author.Needs.{needs}
-use mathlib.Core.Path.{sym, ap, _∙_}
+use native.Mathlib.Omega.{arith}
+use mathlib.Core.Path.{_≡_, sym, ap, _∙_}
+use mathlib.Core.List.{List}
+use Prim.Native.Nat.{ℕ, _-_, _≤_}
+use lib.ListN.{length, take, drop}
 use Rattle.layout.specs.Hash.{fnvFamily}
-use Rattle.layout.specs.Calls.{Volume}
+use Rattle.layout.specs.Calls.{Volume, lookup, answer}
+use Rattle.layout.specs.Header.{pages, onPages}
+use Rattle.laws.specs.HeaderLaws.{length-pages, pages-part}
+use Rattle.geometry.specs.Shape.{shape}
+use Rattle.geometry.specs.declared.Geometry.{Geometry}
 use Rattle.state.specs.Contract.{volume}
+use Rattle.state.specs.Judge.{VolumeFits}
 use Rattle.lookup.specs.Results.{lookupOf}
 use Rattle.lookup.proofs.LookupLaws.{lookup-refused, lookup-fits}
 use Rattle.lookup.proofs.find.Statement.{statement}
@@ -30,15 +39,50 @@ returns c =
 enum-known-g : tie.Need-enum-known-g
 enum-known-g c = search needs
 
+-- ---- a volume that is judged good
+
+abbrev start-of : tie.After-known-told2 → tie.Start
+start-of c = c .before .before .before .before .before .before .before
+
+abbrev judged : tie.After-known-told2 → Geometry
+judged c = c .before .g .given .0 .0
+
+fits : (c : tie.After-known-told2) → VolumeFits (onPages (handed (start-of c))) (judged c)
+fits c = rw (c .before .g .given .1) at (c .before .before .before .judge .ensures .1)
+
+-- its RAM has a header
+has-header : (c : tie.After-known-told2) → 64 ≤ length (start-of c .args .ram .now)
+has-header c =
+    omega (arith, fits c .long .read .ram-fits, fits c .sound .unit .1 .some, length-pages (start-of c .args .ram .now))
+
+-- and what is lent of it are its pages
+lent-pages : (c : tie.After-known-told2)
+    → let ram : List ℕ = start-of c .args .ram .now in take (length ram - 64 - 0) (drop 0 ram) ≡ pages ram
+lent-pages c = pages-part (start-of c .args .ram .now) (length (start-of c .args .ram .now) - 64) (omega arith)
+
+sub-n : tie.Need-sub-n
+sub-n c = has-header c
+
+sub-find-in : tie.Need-sub-find-in
+sub-find-in c = search needs
+
+part-find-in-start : tie.Need-part-find-in-start
+part-find-in-start c = search needs
+
+part-find-in-end : tie.Need-part-find-in-end
+part-find-in-end c = omega (arith, has-header c)
+
 find-in-requires : tie.Need-find-in-requires
-find-in-requires c κs =
-    rw (c .before .g .given .1) at (c .before .before .before .judge .ensures .1)
+find-in-requires c κs = rw (lent-pages (c .before)) (fits (c .before))
 
 returns-2 : tie.Need-returns-2
 returns-2 c =
-    let s = c .before .before .before .before .before .before .before .before in
-    let g = c .before .before .g in
-    c .find-in .ensures ∙ ap lookupOf (lookup-fits fnvFamily (handed s) (s .args .key) (g .given .0 .0) (rw (g .given .1) at (c .before .before .before .before .judge .ensures .1)))
+    let k = c .before .before in
+    let s = start-of k in
+    let v : (List ℕ → Volume) = λ ram. volume (s .args .s) (s .args .main .now) (s .args .spare .now) ram in
+    c .find-in .ensures
+    ∙ ap (λ (ram : List ℕ). lookupOf (answer fnvFamily (shape (judged k)) (v ram) (lookup (s .args .key)))) (lent-pages k)
+    ∙ lookup-fits fnvFamily (handed s) (s .args .key) (judged k) (fits k) (sym (k .before .before .before .judge .ensures .0) ∙ k .before .g .given .1)
 
 pub find-spec : {M : Type 1} → statement M
 find-spec =
@@ -49,5 +93,9 @@ find-spec =
     refuse-lookup-requires
     returns
     enum-known-g
+    sub-n
+    sub-find-in
+    part-find-in-start
+    part-find-in-end
     find-in-requires
     returns-2)

@@ -3,7 +3,8 @@ use native.Mathlib.Omega.{arith}
 use Prim.Native.Nat.{_+_, _-_}
 use mathlib.Core.Path.{_≡_, sym, ap, _∙_}
 use Rattle.layout.specs.Hash.{fnvFamily}
-use Rattle.layout.specs.Calls.{call, lookup}
+use Rattle.layout.specs.Calls.{lookup}
+use Rattle.layout.specs.Budgets.{callWhole}
 use Rattle.state.specs.Contract.{volume}
 use Rattle.lookup.specs.declared.LookupResult.{LookupResult}
 use Rattle.lookup.specs.Results.{answerNumbers}
@@ -40,7 +41,7 @@ returns c =
     let x = c .before .before .before .before .before .before .before .before .before .before .before .args in
     let f = c .before .before .before .before .before .before .before .find in
     let v = volume (x .s) (x .main .now) (x .spare .now) (x .ram .now) in
-    let e = empty-part (x .main .ptr) (x .ram .ptr) (call fnvFamily v (lookup (x .key)) .outcome) (call fnvFamily v (lookup (x .key)) .count) (call fnvFamily v (lookup (x .key)) .daPages) (ap (λ (y : LookupResult). y .found) (sym (f .ensures)) ∙ c .before .if1 .taken) in
+    let e = empty-part (x .main .ptr) (x .ram .ptr) (callWhole fnvFamily v (lookup (x .key)) .outcome) (callWhole fnvFamily v (lookup (x .key)) .count) (callWhole fnvFamily v (lookup (x .key)) .daPages) (ap (λ (y : LookupResult). y .found) (sym (f .ensures)) ∙ c .before .if1 .taken) in
     ((sym (e .0), sym (e .1)), ap answerNumbers (f .ensures))
 
 add-e : tie.Need-add-e

@@ -3,17 +3,18 @@ use mathlib.Core.Path.{_≡_, sym, _∙_}
 use mathlib.Core.Bool.{true}
 use Rattle.layout.specs.Geometry.{allowed}
 use Rattle.layout.specs.Calls.{Volume}
+use Rattle.layout.specs.Header.{pages}
 use Rattle.geometry.specs.Shape.{Sound, sizesIs, geometryFor}
 use Rattle.state.specs.Contract.{volume}
 use Rattle.state.proofs.Laws.{shaped-bad, shaped-good, judge-shape, judge-counts, judge-short, judge-good, fits-of}
 use Rattle.state.proofs.judge.Statement.{statement}
 use Rattle.state.proofs.judge.Tie as tie
 
--- the volume that is handed in
+-- the volume that is handed in, without its header
 abbrev handed : tie.After-geometry-for → Volume
 handed c =
     let x = c .before .before .before .before .args in
-    volume (x .s) (x .main .now) (x .spare .now) (x .ram .now)
+    volume (x .s) (x .main .now) (x .spare .now) (pages (x .ram .now))
 
 geometry-for-requires : tie.Need-geometry-for-requires
 geometry-for-requires c κs = search needs

@@ -5,6 +5,8 @@ use Prim.Native.Nat.{_<_, _≤_}
 use lib.ListN.{length}
 use Rattle.layout.specs.Geometry.{mainSize, spareSize}
 use Rattle.layout.specs.Calls.{tooShort}
+use Rattle.layout.specs.Flash.{flashOf}
+use Rattle.laws.specs.HeaderLaws.{longer-ram}
 use Rattle.geometry.specs.Shape.{shape}
 use Rattle.state.proofs.too_short.Statement.{statement}
 use Rattle.state.proofs.too_short.Tie as tie
@@ -38,16 +40,21 @@ returns-2 c =
 ram-size-requires : tie.Need-ram-size-requires
 ram-size-requires c κs = search needs
 
+add-result : tie.Need-add-result
+add-result c =
+    let x = c .before .before .before .before .before .before .before .before in
+    rw (c .ram-size .ensures) (omega (arith, x .pre .unit .1))
+
 -- src/lib.rt:53:1
 returns-3 : tie.Need-returns-3
-unfolding tooShort
 returns-3 c =
-    let x = c .before .before .before .before .before .before .before .before .args in
+    let y = c .before .before .before .before .before .before .before .before in
+    let x = y .args in
     let a : mainSize (shape (x .g)) ≤ length (x .main .now) = omega arith in
     let b : spareSize (shape (x .g)) ≤ length (x .spare .now) = omega arith in
-    rw (c .ram-size .ensures, le-ltb _ _ a, le-ltb _ _ b)
+    rw (c .ram-size .ensures, longer-ram (shape (x .g)) (flashOf (x .main .now) (x .spare .now)) (x .ram .now) (omega (arith, y .pre .unit .1)), le-ltb _ _ a, le-ltb _ _ b)
 
 pub too-short-spec : {M : Type 1} → statement M
 too-short-spec =
     tie.close
-    (tie.spec main-size-requires returns spare-size-requires returns-2 ram-size-requires returns-3)
+    (tie.spec main-size-requires returns spare-size-requires returns-2 ram-size-requires add-result returns-3)
