@@ -1,4 +1,4 @@
--- Demand 3 of lists of calls with power cuts: each call answers as the map does, however few steps it had, and after its last restart the
+-- Demand 3 of lists of calls with power cuts: each call answers as the map does, however few steps it had, and after its last run the
 -- volume has the map's state. Document 01's map, document 02's request 8.
 use mathlib.Core.Path.{_≡_, refl, ap, _∙_}
 use mathlib.Core.Bool.{true, false}
@@ -10,16 +10,17 @@ use Rattle.layout.specs.Hash.{Family}
 use Rattle.layout.specs.Calls.{Volume, Call, Outcome, accepted, hit, miss, refused, Result, tooShort, format, call}
 use Rattle.layout.specs.FiniteMap.{Map, emptyMap, Step, step, mapOf}
 use Rattle.layout.specs.Header.{pages, onPages, intended}
-use Rattle.layout.specs.Budgets.{callSteps, resultOf, callFor}
+use Rattle.layout.specs.Budgets.{callSteps, resultOf, callFor, callWhole}
 use Rattle.laws.specs.Sound.{sound}
-use Rattle.history.specs.Reached.{Reached, reach-call, reach-format}
-use Rattle.history.specs.RunLaws.{less, run}
+use Rattle.history.specs.Reached.{mapAfter, Reached, reach-format}
+use Rattle.history.specs.RunLaws.{run}
 use Rattle.history.specs.Runs.{after, HandedOn, Agrees, ResultAgrees}
-use Rattle.cuts.specs.Events.{lift, Event, madeBy, Numbers, AllNumbers, eventVolume, formatEnd}
-use Rattle.cuts.specs.EventLaws.{key-word, lifted-is, event-none, event-some}
+use Rattle.cuts.specs.Events.{lift, Event, whole, cut, idle, madeBy, callsOf, Numbers, EventNumbers, AllNumbers, eventResult}
+use Rattle.cuts.specs.Events.{eventVolume, Format, formatEnd}
 use Rattle.cuts.specs.RestartLaws.{taken-outcome}
-use Rattle.cuts.specs.Uncut.{agrees-lifted}
-use Rattle.cuts.specs.PowerCut.{power-cuts}
+use Rattle.cuts.specs.Uncut.{lifted-is, whole-lifted, agrees-lifted}
+use Rattle.cuts.specs.EventLaws.{key-word, event-is, event-reaches}
+use Rattle.cuts.specs.Formats.{format-end}
 
 -- the map's step for a call with a budget: without a step the call is not made. It is answered all the same
 abbrev pub stepFor : Geometry → ℕ → Map → Call → Step
@@ -32,12 +33,17 @@ pub record CutAgrees (sizes : Sizes) (v : Volume) (m : Map) (b : ℕ) (c : Call)
   -- "a cut before the intent leaves what was there"
   pub not-made : b ≡ 0 → w ≡ v
 
--- of each call of a list
+-- an event: a call with enough answers as the map does, count and all; restarts that find no call change nothing
+abbrev pub EventAgrees : Family → Sizes → Volume → Map → Event → Type 0
+EventAgrees h sizes v m (whole c) = ResultAgrees sizes v (callWhole h v c) (mapOf (geometry sizes) m c)
+EventAgrees h sizes v m (cut c b bs) = CutAgrees sizes v m b c (callFor h b v c .outcome) (eventVolume h v (cut c b bs))
+EventAgrees h sizes v m (idle bs) = (eventResult h v (idle bs) .outcome ≡ accepted) × (eventVolume h v (idle bs) ≡ v)
+
+-- of each event of a list; the map makes the steps of the calls made
 abbrev pub EventsAgree : Family → Sizes → Volume → Map → List Event → Type 0
 EventsAgree h sizes v m [] = Unit {0}
 EventsAgree h sizes v m (e ∷ es) =
-    CutAgrees sizes v m (e .budget) (e .asked) (callFor h (e .budget) v (e .asked) .outcome) (eventVolume h v e)
-    × EventsAgree h sizes (eventVolume h v e) (stepFor (geometry sizes) (e .budget) m (e .asked) .next) es
+    EventAgrees h sizes v m e × EventsAgree h sizes (eventVolume h v e) (mapAfter (geometry sizes) m (callsOf e)) es
 
 -- a budget changes no answer
 pub lifted-outcome : (h : Family) (b : ℕ) (w : Volume) (c : Call) → callFor h b (lift w) c .outcome ≡ call h w c .outcome
@@ -49,21 +55,6 @@ lifted-outcome h b w c =
 module _ (h : Family) (sizes : Sizes) where
   abbrev g : Geometry
   g = geometry sizes
-
-  moved : (w w′ : Volume) (e : Event) → w ≡ w′ → eventVolume h (lift w′) e ≡ lift (after h w′ (madeBy (e .budget) (e .asked)))
-      → eventVolume h (lift w) e ≡ lift (after h w (madeBy (e .budget) (e .asked)))
-  moved w w′ e p X = rw p X
-
-  -- what an event leaves
-  event-end : (w : Volume) (m : Map) (b : ℕ) (c : Call) (bs : List ℕ) → Reached h sizes w m → Numbers c
-      → eventVolume h (lift w) (record { asked = c; budget = b; again = bs }) ≡ lift (after h w (madeBy b c))
-  event-end w m zero c bs X n =
-      moved w _ (record { asked = c; budget = 0; again = bs }) (X .is)
-      (event-none h sizes (sound sizes (X .can)) (X .can) (X .H) (w .flash) (w .ram) (X .holds) c n (less (X .H) m (X .live)) bs .volume-is)
-  event-end w m (suc b) c bs X n =
-      moved w _ (record { asked = c; budget = suc b; again = bs }) (X .is)
-      (event-some h sizes (sound sizes (X .can)) (X .can) (X .H) (w .flash) (w .ram) (X .holds) c n (less (X .H) m (X .live)) b bs
-      .volume-is)
 
   agrees-moved : (w w′ : Volume) (c : Call) (s : Step) → w ≡ w′ → ResultAgrees sizes w′ (call h w′ c) s
       → ResultAgrees sizes w (call h w c) s
@@ -111,34 +102,29 @@ module _ (h : Family) (sizes : Sizes) where
   none-made w zero c e = refl
   none-made w (suc b) c e = absurd (omega (arith, e))
 
-  event-agrees : (w : Volume) (m : Map) (b : ℕ) (c : Call) (bs : List ℕ) → Reached h sizes w m → Numbers c
-      → CutAgrees sizes (lift w) m b c (callFor h b (lift w) c .outcome)
-      (eventVolume h (lift w) (record { asked = c; budget = b; again = bs }))
-  event-agrees w m b c bs X n =
-      rw (lifted-outcome h b w c, event-end w m b c bs X n)
+  event-agrees : (w : Volume) (m : Map) (e : Event) → Reached h sizes w m → EventNumbers e → EventAgrees h sizes (lift w) m e
+  event-agrees w m (whole c) X n =
+      rw (whole-lifted h w c) (agrees-lifted sizes w _ _ _ (mapOf g m c) (call-agrees w m c X n))
+  event-agrees w m (cut c b bs) X n =
+      rw (lifted-outcome h b w c, event-is h sizes w m (cut c b bs) X n .volume-is)
       (record {
         agrees = agrees-lifted sizes w (call h w c .outcome) 0 (after h w (madeBy b c)) (stepFor g b m c) (made-agrees w m b c X n);
         not-made = none-made w b c;
       })
-
-  reach-made : (w : Volume) (m : Map) (b : ℕ) (c : Call) → Reached h sizes w m → Numbers c
-      → Reached h sizes (after h w (madeBy b c)) (stepFor g b m c .next)
-  reach-made w m zero c X n = X
-  reach-made w m (suc b) c X n = reach-call h sizes w m c X (key-word c n)
+  event-agrees w m (idle bs) X n = (event-is h sizes w m (idle bs) X n .accepts, event-is h sizes w m (idle bs) X n .volume-is)
 
   pub events-agree : (w : Volume) (m : Map) (es : List Event) → Reached h sizes w m → AllNumbers es → EventsAgree h sizes (lift w) m es
   events-agree w m [] X n = tt
   events-agree w m (e ∷ es) X n = (
-    event-agrees w m (e .budget) (e .asked) (e .again) X (n .0),
-    rw (event-end w m (e .budget) (e .asked) (e .again) X (n .0))
-        (events-agree (after h w (madeBy (e .budget) (e .asked))) (stepFor g (e .budget) m (e .asked) .next) es
-        (reach-made w m (e .budget) (e .asked) X (n .0)) (n .1)),
+    event-agrees w m e X (n .0),
+    rw (event-is h sizes w m e X (n .0) .volume-is)
+        (events-agree (after h w (callsOf e)) (mapAfter g m (callsOf e)) es (event-reaches h sizes w m e X (n .0)) (n .1)),
   )
 
--- from a format on, itself cut and finished
+-- from a format on, uncut or cut and finished
 pub cuts-agree : (h : Family) (v : Volume) (sizes : Sizes) → allowed sizes ≡ true
-    → tooShort (geometry sizes) (v .flash) (pages (v .ram)) ≡ false → (b : ℕ) (bs : List ℕ) (es : List Event) → AllNumbers es
-    → EventsAgree h sizes (formatEnd h v sizes b bs) emptyMap es
-cuts-agree h v sizes can long b bs es n =
-    rw (power-cuts h v sizes can long b bs [] tt)
+    → tooShort (geometry sizes) (v .flash) (pages (v .ram)) ≡ false → (f : Format) (es : List Event) → AllNumbers es
+    → EventsAgree h sizes (formatEnd h v sizes f) emptyMap es
+cuts-agree h v sizes can long f es n =
+    rw (format-end h v sizes can long f)
     (events-agree h sizes (format (onPages v) sizes .volume) emptyMap es (reach-format h sizes (onPages v) can long) n)

@@ -1,37 +1,39 @@
--- One call of a list with power cuts.
+-- One event of a list with power cuts: a call with enough, a call that is cut and finished, restarts that find no call.
 use mathlib.Core.Path.{_≡_, refl, sym, ap, _∙_}
 use mathlib.Core.Logic.{_⊎_, inl, inr}
 use mathlib.Core.Bool.{true}
 use mathlib.Core.Option.{some}
 use mathlib.Core.List.{List, [], _∷_, _++_}
-use Prim.Native.Nat.{ℕ, suc, _<_}
+use Prim.Native.Nat.{ℕ, zero, suc, _<_}
 use lib.ListN.{length}
-use lib.Dec.{eqb}
-use Rattle.memory.specs.Booleans.{cond-pos}
 use Rattle.memory.specs.Cases.{either}
 use Rattle.layout.specs.Keys.{Key}
 use Rattle.layout.specs.Geometry.{Geometry, geometry, allowed, recordCapacity, deletionCapacity, spareSize, Sizes, unitOf}
 use Rattle.layout.specs.Flash.{Op, Flash, applyAll}
 use Rattle.layout.specs.Hash.{Family}
-use Rattle.layout.specs.Refusals as refusal
-use Rattle.layout.specs.Calls.{Volume, Call, insert, update, delete, lookup, Outcome, accepted, hit, miss, refused, Result, refuse}
-use Rattle.layout.specs.Calls.{judgeFirst, answer, call}
-use Rattle.laws.specs.Sound.{SizesSound}
+use Rattle.layout.specs.Calls.{Volume, Call, insert, update, delete, lookup, Outcome, accepted, hit, miss, refused, Result, call}
+use Rattle.layout.specs.FiniteMap.{Map}
+use Rattle.laws.specs.Sound.{SizesSound, sound}
 use Rattle.history.specs.FlashLaws.{AllAllowed}
 use Rattle.history.specs.ProgramOrder.{Below}
 use Rattle.history.specs.Image.{History}
 use Rattle.history.specs.Live.{findLive, HistoryStep, stepHistory}
-use Rattle.history.specs.Runs.{KeyWord, HandedOn}
+use Rattle.history.specs.Runs.{KeyWord, KeyWords, after, HandedOn}
 use Rattle.history.specs.Volumes as volumes
 use Rattle.history.specs.Volumes.{Holds, volumeOf}
 use Rattle.history.specs.Steps.{CallDone, call-done}
-use Rattle.layout.specs.Header.{onPages, intended, noIntent, headerBytes, kindIn}
-use Rattle.layout.specs.Budgets.{Step, callSteps, takenBy, taken, resultOf, callFor, restartFor, restarts, restartsOps, restartWhole}
-use Rattle.cuts.specs.Headers.{Words, pages-stored, idle-kind}
+use Rattle.history.specs.RunLaws.{less}
+use Rattle.history.specs.Reached.{mapAfter, Reached, reach}
+use Rattle.layout.specs.Header.{intended}
+use Rattle.layout.specs.Budgets.{Step, callSteps, takenBy, taken, callFor, callWhole, restartFor, restarts, restartsOps, restartWhole}
+use Rattle.cuts.specs.Headers.{Words}
 use Rattle.cuts.specs.Idle.{fits-of, idle-restart}
 use Rattle.cuts.specs.Work.{never}
 use Rattle.cuts.specs.Recover as recover
-use Rattle.cuts.specs.Events.{lift, Event, Numbers, endResult, eventVolume, eventOps}
+use Rattle.cuts.specs.Events.{lift, Event, whole, cut, idle, callsOf, made, Numbers, EventNumbers, AllNumbers, finish, finishOps}
+use Rattle.cuts.specs.Events.{eventVolume, eventOps, EventAccepts}
+use Rattle.cuts.specs.Uncut.{lifted-is, whole-lifted}
+use Rattle.cuts.specs.Whole.{call-none}
 
 pub key-word : (c : Call) → Numbers c → KeyWord c
 key-word (insert r) n = n .0
@@ -70,18 +72,6 @@ quiet? (hit place bytes) = inr tt
 quiet? miss = inr tt
 quiet? (refused i) = inr tt
 
--- a call sees the pages
-pub lifted-is : (h : Family) (w : Volume) (c : Call) → resultOf h (lift w) c ≡ call h w c
-unfolding call
-lifted-is h w c =
-    let idle : eqb (kindIn (w .ram ++ headerBytes (w .state) noIntent)) 0 ≡ true = rw (idle-kind (w .ram) (w .state)) in
-    ap (judgeFirst (onPages (lift w)))
-    (cond-pos (eqb (kindIn (w .ram ++ headerBytes (w .state) noIntent)) 0)
-    (answer h (geometry (w .state .sizes)) (onPages (lift w)) c) (refuse (onPages (lift w)) refusal.pending) idle)
-    ∙ ap (λ (p : List ℕ). judgeFirst (record { state = w .state; flash = w .flash; ram = p })
-    (answer h (geometry (w .state .sizes)) (record { state = w .state; flash = w .flash; ram = p }) c))
-    (pages-stored (w .ram) (w .state) noIntent refl)
-
 -- what an event leaves
 pub record EventIs (u N : ℕ) (h : Family) (w next : Volume) (e : Event) : Type 0 where
   pub volume-is : eventVolume h (lift w) e ≡ lift next
@@ -89,7 +79,7 @@ pub record EventIs (u N : ℕ) (h : Family) (w next : Volume) (e : Event) : Type
   pub ops-allowed : AllAllowed u (eventOps h (lift w) e) (w .flash)
   pub inside : Below N (eventOps h (lift w) e)
   -- the last restart is not refused
-  pub accepts : endResult h (lift w) e .outcome ≡ accepted
+  pub accepts : EventAccepts h (lift w) e
 
 module _ (h : Family) (sizes : Sizes) (ok : SizesSound sizes) (can : allowed sizes ≡ true) (H : History) (C : Flash) (ram : List ℕ)
     (I : Holds h sizes H C ram) where
@@ -113,7 +103,7 @@ module _ (h : Family) (sizes : Sizes) (ok : SizesSound sizes) (can : allowed siz
       idle-restart h (w .state) (w .state) C ram (fits-of h sizes ok H C ram I) (volumes.state-good h sizes ok H C ram I can)
       (volumes.long-enough h sizes ok H C ram I) b
 
-  pub idle-all : (bs : List ℕ) → restarts h bs (lift w) ≡ lift w
+  idle-all : (bs : List ℕ) → restarts h bs (lift w) ≡ lift w
   idle-all [] = refl
   idle-all (b ∷ bs) = ap (λ (r : Result). restarts h bs (r .volume)) (idle-one b) ∙ idle-all bs
 
@@ -121,30 +111,39 @@ module _ (h : Family) (sizes : Sizes) (ok : SizesSound sizes) (can : allowed siz
   idle-ops [] = refl
   idle-ops (b ∷ bs) = ap (λ (r : Result). r .ops ++ restartsOps h bs (r .volume)) (idle-one b) ∙ idle-ops bs
 
-  -- a call that did no step, or has none
-  still : (e : Event) → callFor h (e .budget) (lift w) (e .asked) .volume ≡ lift w → callFor h (e .budget) (lift w) (e .asked) .ops ≡ []
-      → EventIs (unitOf sizes) (spareSize g) h w w e
-  still e v o =
-      let vol : eventVolume h (lift w) e ≡ lift w
-      = ap (λ (x : Volume). restartWhole h (restarts h (e .again) x) .volume) v
-      ∙ ap (λ (x : Volume). restartWhole h x .volume) (idle-all (e .again)) ∙ ap (λ (r : Result). r .volume) (idle-one _) in
-      let ops : eventOps h (lift w) e ≡ []
-      = ap (λ (l : List Op). l ++ (restartsOps h (e .again) (callFor h (e .budget) (lift w) (e .asked) .volume)
-      ++ restartWhole h (restarts h (e .again) (callFor h (e .budget) (lift w) (e .asked) .volume)) .ops)) o
-      ∙ ap (λ (x : Volume). restartsOps h (e .again) x ++ restartWhole h (restarts h (e .again) x) .ops) v
-      ∙ ap (λ (l : List Op). l ++ restartWhole h (restarts h (e .again) (lift w)) .ops) (idle-ops (e .again))
-      ∙ ap (λ (x : Volume). restartWhole h x .ops) (idle-all (e .again))
-      ∙ ap (λ (r : Result). r .ops) (idle-one _) in
-      let ends : endResult h (lift w) e .outcome ≡ accepted
-      = ap (λ (x : Volume). restartWhole h (restarts h (e .again) x) .outcome) v
-      ∙ ap (λ (x : Volume). restartWhole h x .outcome) (idle-all (e .again)) ∙ ap (λ (r : Result). r .outcome) (idle-one _) in
+  -- and one with enough after them
+  pub event-idle : (bs : List ℕ) → EventIs (unitOf sizes) (spareSize g) h w w (idle bs)
+  event-idle bs =
+      let last : finish h bs (lift w) ≡ record { outcome = accepted; count = 0; daPages = 0; volume = lift w; ops = [] }
+      = ap (restartWhole h) (idle-all bs) ∙ idle-one _ in
+      let ops : finishOps h bs (lift w) ≡ []
+      = ap (λ (l : List Op). l ++ finish h bs (lift w) .ops) (idle-ops bs) ∙ ap (λ (r : Result). r .ops) last in
       record {
-        volume-is = vol;
+        volume-is = ap (λ (r : Result). r .volume) last;
         flash-is = ap (λ (l : List Op). applyAll (unitOf sizes) l C) ops;
         ops-allowed = rw ops tt;
         inside = rw ops tt;
-        accepts = ends;
+        accepts = ap (λ (r : Result). r .outcome) last;
       }
+
+  -- a call that did no step, or has none
+  still : (c : Call) (b : ℕ) (bs : List ℕ) → callFor h b (lift w) c .volume ≡ lift w → callFor h b (lift w) c .ops ≡ []
+      → EventIs (unitOf sizes) (spareSize g) h w w (cut c b bs)
+  still c b bs v o =
+      let I = event-idle bs in
+      let ops : eventOps h (lift w) (cut c b bs) ≡ finishOps h bs (lift w)
+      = ap (λ (l : List Op). l ++ finishOps h bs (callFor h b (lift w) c .volume)) o ∙ ap (finishOps h bs) v in
+      record {
+        volume-is = ap (λ (x : Volume). finish h bs x .volume) v ∙ I .volume-is;
+        flash-is = ap (λ (l : List Op). applyAll (unitOf sizes) l C) ops ∙ I .flash-is;
+        ops-allowed = rw ops (I .ops-allowed);
+        inside = rw ops (I .inside);
+        accepts = ap (λ (x : Volume). finish h bs x .outcome) v ∙ I .accepts;
+      }
+
+  -- "a cut before the intent leaves what was there"
+  pub event-none : (c : Call) (bs : List ℕ) → EventIs (unitOf sizes) (spareSize g) h w w (cut c 0 bs)
+  event-none c bs = still c 0 bs (call-none h (lift w) c .0) (call-none h (lift w) c .1)
 
   module _ (c : Call) (n : Numbers c) (less : (k : Key) (j : ℕ) → findLive H k ≡ some j → length (H .deleted) < length (H .records)) where
     abbrev next : HistoryStep
@@ -165,7 +164,7 @@ module _ (h : Family) (sizes : Sizes) (ok : SizesSound sizes) (can : allowed siz
 
     -- an accepted call of which a step was done
     done : call h w c .outcome ≡ accepted → (b : ℕ) (bs : List ℕ)
-        → EventIs (unitOf sizes) (spareSize g) h w (call h w c .volume) (record { asked = c; budget = suc b; again = bs })
+        → EventIs (unitOf sizes) (spareSize g) h w (call h w c .volume) (cut c (suc b) bs)
     done a b bs =
         let l : recover.final h sizes ok can H C ram I c (words-of a) a next did ≡ lift (call h w c .volume)
         = ap (λ (r : Result). lift (r .volume)) (sym (recover.called h sizes ok can H C ram I c (words-of a) a next did)) in
@@ -188,25 +187,62 @@ module _ (h : Family) (sizes : Sizes) (ok : SizesSound sizes) (can : allowed siz
           (callSteps (intended (lift w) c) (call h w c)) (call h w c),
     )
 
-    quiet : Quiet (call h w c .outcome) → (b : ℕ) (bs : List ℕ)
-        → EventIs (unitOf sizes) (spareSize g) h w w (record { asked = c; budget = b; again = bs })
-    quiet q b bs = still (record { asked = c; budget = b; again = bs }) (call-quiet q b .0) (call-quiet q b .1)
+    quiet : Quiet (call h w c .outcome) → (b : ℕ) (bs : List ℕ) → EventIs (unitOf sizes) (spareSize g) h w w (cut c b bs)
+    quiet q b bs = still c b bs (call-quiet q b .0) (call-quiet q b .1)
 
-    -- ---- every event
-
-    pub event-none : (bs : List ℕ) → EventIs (unitOf sizes) (spareSize g) h w w (record { asked = c; budget = 0; again = bs })
-    event-none bs =
-        either (quiet? (call h w c .outcome))
-        (λ a.
-        still (record { asked = c; budget = 0; again = bs })
-        (recover.cut-before h sizes ok can H C ram I c (words-of a) a next did)
-        (recover.cut-before-ops h sizes ok can H C ram I c (words-of a) a next did))
-        (λ q. quiet q 0 bs)
-
-    pub event-some : (b : ℕ) (bs : List ℕ) → EventIs (unitOf sizes) (spareSize g) h w (call h w c .volume)
-        (record { asked = c; budget = suc b; again = bs })
+    pub event-some : (b : ℕ) (bs : List ℕ) → EventIs (unitOf sizes) (spareSize g) h w (call h w c .volume) (cut c (suc b) bs)
     event-some b bs =
         either (quiet? (call h w c .outcome))
         (λ a. done a b bs)
         (λ q. let same : call h w c .volume ≡ w = quiet-handed (call h w c .outcome) q w (call h w c .volume) (did .handed-on) in rw same
         (quiet q (suc b) bs))
+
+    -- with enough it is document 01's
+    event-whole : EventIs (unitOf sizes) (spareSize g) h w (call h w c .volume) (whole c)
+    event-whole =
+        let ops : callWhole h (lift w) c .ops ≡ call h w c .ops = ap (λ (r : Result). r .ops) (whole-lifted h w c) in
+        record {
+          volume-is = ap (λ (r : Result). r .volume) (whole-lifted h w c);
+          flash-is = rw ops (did .flash-is);
+          ops-allowed = rw ops (did .ops-allowed);
+          inside = rw ops (did .inside);
+          accepts = tt;
+        }
+
+-- ---- every event
+
+module _ (h : Family) (sizes : Sizes) (w : Volume) (m : Map) (e : Event) (X : Reached h sizes w m) where
+  moved : (w′ : Volume) → w ≡ w′ → EventIs (unitOf sizes) (spareSize (geometry sizes)) h w′ (after h w′ (callsOf e)) e
+      → EventIs (unitOf sizes) (spareSize (geometry sizes)) h w (after h w (callsOf e)) e
+  moved w′ p E = rw p E
+
+  -- an event leaves what the call made leaves, if one was
+  pub event-is : EventNumbers e → EventIs (unitOf sizes) (spareSize (geometry sizes)) h w (after h w (callsOf e)) e
+  event-is n = moved _ (X .is) (by e n)
+    where
+      by : (e : Event) → EventNumbers e → EventIs (unitOf sizes) (spareSize (geometry sizes)) h
+          (volumeOf sizes (X .H) (w .flash) (w .ram)) (after h (volumeOf sizes (X .H) (w .flash) (w .ram)) (callsOf e)) e
+      by (whole c) n =
+          event-whole h sizes (sound sizes (X .can)) (X .can) (X .H) (w .flash) (w .ram) (X .holds) c n (less (X .H) m (X .live))
+      by (cut c zero bs) n = event-none h sizes (sound sizes (X .can)) (X .can) (X .H) (w .flash) (w .ram) (X .holds) c bs
+      by (cut c (suc b) bs) n =
+          event-some h sizes (sound sizes (X .can)) (X .can) (X .H) (w .flash) (w .ram) (X .holds) c n (less (X .H) m (X .live)) b bs
+      by (idle bs) n = event-idle h sizes (sound sizes (X .can)) (X .can) (X .H) (w .flash) (w .ram) (X .holds) bs
+
+event-words : (e : Event) → EventNumbers e → KeyWords (callsOf e)
+event-words (whole c) n = (key-word c n, tt)
+event-words (cut c zero bs) n = tt
+event-words (cut c (suc b) bs) n = (key-word c n, tt)
+event-words (idle bs) n = tt
+
+words-append : (cs ds : List Call) → KeyWords cs → KeyWords ds → KeyWords (cs ++ ds)
+words-append [] ds k l = l
+words-append (c ∷ cs) ds k l = (k .0, words-append cs ds (k .1) l)
+
+pub all-words : (es : List Event) → AllNumbers es → KeyWords (made es)
+all-words [] n = tt
+all-words (e ∷ es) n = words-append (callsOf e) (made es) (event-words e (n .0)) (all-words es (n .1))
+
+pub event-reaches : (h : Family) (sizes : Sizes) (w : Volume) (m : Map) (e : Event) → Reached h sizes w m → EventNumbers e
+    → Reached h sizes (after h w (callsOf e)) (mapAfter (geometry sizes) m (callsOf e))
+event-reaches h sizes w m e X n = reach h sizes w m (callsOf e) X (event-words e n)

@@ -29,14 +29,15 @@ use Rattle.cuts.specs.Resume.{CutAt, Fit}
 use Rattle.cuts.specs.Shape.{erases-only, apart-erases, anchored-erases}
 use Rattle.layout.specs.Header.{pages, header, onPages, formatWords, noIntent, headerBytes, headerWord, formatting, pendingIn}
 use Rattle.layout.specs.Budgets.{store, chips, lastSteps, callSteps, taken, pendingOn, formatFor, resumed, restartFor, restarts}
-use Rattle.layout.specs.Budgets.{pendingOps, restartWhole}
-use Rattle.cuts.specs.Events.{lift, formatEnd, formatOps}
+use Rattle.layout.specs.Budgets.{pendingOps, formatWhole, restartWhole}
+use Rattle.cuts.specs.Events.{lift, Format, wholeFormat, cutFormat, formatResult, formatEnd, formatOps}
 use Rattle.cuts.specs.Told.{Has, afterOps, only-in-order, erased-in-order, has-false, has-erases}
 use Rattle.cuts.specs.Later.{later}
 use Rattle.cuts.specs.Headers.{StateFits, pages-of, header-of, long-ram, word-of}
 use Rattle.cuts.specs.Idle.{fits-of, idle-restart}
+use Rattle.cuts.specs.Uncut.{format-lifted, format-lifted-ops, format-lifted-outcome}
 use Rattle.cuts.specs.Finish.{ran, restOf, allOf, short-same, call-none, call-whole, recovers, ends-by, run-cut, later-length}
-use Rattle.cuts.specs.Finish.{restart-accepts}
+use Rattle.cuts.specs.Finish.{restart-accepts, runs-flash}
 use Rattle.cuts.specs.Finish.{later-only, take-only, runs-only, runs-has, restart-whole, restart-good, call-good}
 
 below-erases : (N b k : ℕ) → Below N (erases b k)
@@ -228,9 +229,17 @@ module _ (h : Family) (v : Volume) (sizes : Sizes) (can : allowed sizes ≡ true
       ∙ ap (λ (r : Result). r .ops) (result-is st X cut) in
       omega (arith, ap length e, later-length (X .spare) ops)
 
-  -- a format that was cut, however often, and finished
-  pub format-end : (b : ℕ) (bs : List ℕ) → formatEnd h v sizes b bs ≡ lift (format (onPages v) sizes .volume)
-  format-end b bs =
+  -- what document 01's format leaves
+  pub formatted-is : format (onPages v) sizes .volume ≡ record { state = s′; flash = applyAll (unitOf sizes) ops (v .flash); ram = pages′ }
+  formatted-is = ap (λ (r : Result). r .volume) (format-on (onPages v) refl long)
+
+  format-done : format (onPages v) sizes .outcome ≡ accepted
+  format-done = ap (λ (r : Result). r .outcome) (format-on (onPages v) refl long)
+
+  -- a format with enough, and one that was cut, however often, and finished
+  pub format-end : (f : Format) → formatEnd h v sizes f ≡ lift (format (onPages v) sizes .volume)
+  format-end wholeFormat = format-lifted v sizes format-done
+  format-end (cutFormat b bs) =
       ends-by h (unitOf sizes) (spareSize g) ops (v .flash) fit (below-erases (spareSize g) 0 (blocks g)) (v .state) s′ (v .ram) intended
       finished again idle (λ b. formatFor b v sizes) first
       (length (pendingOps h (restarts h bs (formatFor (suc b) v sizes .volume))
@@ -239,19 +248,33 @@ module _ (h : Family) (v : Volume) (sizes : Sizes) (can : allowed sizes ≡ true
       (run-cut h (unitOf sizes) (spareSize g) ops (v .flash) fit (below-erases (spareSize g) 0 (blocks g)) (v .state) s′ (v .ram) intended
       finished again idle (λ b. formatFor b v sizes) first b bs)
       (λ st X cut e. rw e (whole-enough st X cut))
-      ∙ ap (λ (r : Result). lift (r .volume)) (sym (format-on (onPages v) refl long))
+      ∙ ap lift (sym formatted-is)
 
-  -- no restart of it is refused
-  pub format-accepts : (b : ℕ) (bs : List ℕ) (e : ℕ)
-      → restartFor h e (restarts h bs (formatFor (suc b) v sizes .volume)) .outcome ≡ accepted
-  format-accepts =
+  -- its last run is not refused
+  pub format-accepts : (f : Format) → formatResult h v sizes f .outcome ≡ accepted
+  format-accepts wholeFormat = format-lifted-outcome v sizes format-done
+  format-accepts (cutFormat b bs) =
       restart-accepts h (unitOf sizes) (spareSize g) ops (v .flash) fit (below-erases (spareSize g) 0 (blocks g)) (v .state) s′ (v .ram)
-      intended finished again idle (λ b. formatFor b v sizes) first
+      intended finished again idle (λ b. formatFor b v sizes) first b bs _
+
+  whole-ops : formatWhole v sizes .ops ≡ ops
+  whole-ops = format-lifted-ops v sizes format-done ∙ ap (λ (r : Result). r .ops) (format-on (onPages v) refl long)
+
+  -- the operations of all its runs, in order, give the chip that it leaves
+  pub format-flash : (f : Format) → applyAll (unitOf sizes) (formatOps h v sizes f) (v .flash) ≡ formatEnd h v sizes f .flash
+  format-flash wholeFormat =
+      ap (λ (os : List Op). applyAll (unitOf sizes) os (v .flash)) whole-ops
+      ∙ ap (λ (w : Volume). w .flash) (sym (format-end wholeFormat ∙ ap lift formatted-is))
+  format-flash (cutFormat b bs) =
+      runs-flash h (unitOf sizes) (spareSize g) ops (v .flash) fit (below-erases (spareSize g) 0 (blocks g)) (v .state) s′ (v .ram)
+      intended finished again idle (λ b. formatFor b v sizes) first b bs _
 
   -- ---- all runs of a format as one list: erases only, and each block among them
 
-  runs-are : (b : ℕ) (bs : List ℕ) → OnlyErases (formatOps h v sizes b bs) × ((k : ℕ) → k < blocks g → Has k (formatOps h v sizes b bs))
-  runs-are b bs = (
+  runs-are : (f : Format) → OnlyErases (formatOps h v sizes f) × ((k : ℕ) → k < blocks g → Has k (formatOps h v sizes f))
+  runs-are wholeFormat =
+      rw whole-ops (erases-only 0 (blocks g), (λ k l. has-erases k 0 (blocks g) (omega arith) (omega (arith, l))))
+  runs-are (cutFormat b bs) = (
     runs-only h (unitOf sizes) (spareSize g) ops (v .flash) fit (below-erases (spareSize g) 0 (blocks g)) (v .state) s′ (v .ram) intended
         finished again idle (λ b. formatFor b v sizes) first
         (erases-only 0 (blocks g)) b bs (length (pendingOps h (restarts h bs (formatFor (suc b) v sizes .volume))
@@ -274,12 +297,12 @@ module _ (h : Family) (v : Volume) (sizes : Sizes) (can : allowed sizes ≡ true
           omega (arith, ap length e)
 
   -- whatever was programmed before, after all runs nothing in the volume is
-  pub format-in-order : (b : ℕ) (bs : List ℕ) (os : List Op) (P : ℕ → Bool) → ProgramOrder os (afterOps (formatOps h v sizes b bs) P)
-      → ProgramOrder (formatOps h v sizes b bs ++ os) P
-  format-in-order b bs os P q = erased-in-order (formatOps h v sizes b bs) os P (runs-are b bs .0) q
+  pub format-in-order : (f : Format) (os : List Op) (P : ℕ → Bool) → ProgramOrder os (afterOps (formatOps h v sizes f) P)
+      → ProgramOrder (formatOps h v sizes f ++ os) P
+  format-in-order f os P q = erased-in-order (formatOps h v sizes f) os P (runs-are f .0) q
 
-  pub format-clears : (b : ℕ) (bs : List ℕ) (P : ℕ → Bool) (x : ℕ) → x < spareSize g → afterOps (formatOps h v sizes b bs) P x ≡ false
-  format-clears b bs P x l = has-false (formatOps h v sizes b bs) P x (runs-are b bs .0) (runs-are b bs .1 (x / 64) (omega (arith, l)))
+  pub format-clears : (f : Format) (P : ℕ → Bool) (x : ℕ) → x < spareSize g → afterOps (formatOps h v sizes f) P x ≡ false
+  format-clears f P x l = has-false (formatOps h v sizes f) P x (runs-are f .0) (runs-are f .1 (x / 64) (omega (arith, l)))
 
   -- a restart with enough, whenever it comes
   pub whole-ends : (st : State) (X : Flash) → CutAt (unitOf sizes) ops (v .flash) X
@@ -288,10 +311,6 @@ module _ (h : Family) (v : Volume) (sizes : Sizes) (can : allowed sizes ≡ true
   whole-ends st X cut =
       restart-whole h (unitOf sizes) (spareSize g) ops (v .flash) fit (below-erases (spareSize g) 0 (blocks g)) (v .state) s′
       (v .ram) intended finished again idle (λ b. formatFor b v sizes) first st X cut _ (whole-enough st X cut)
-
-  -- what document 01's format leaves
-  pub formatted-is : format (onPages v) sizes .volume ≡ record { state = s′; flash = applyAll (unitOf sizes) ops (v .flash); ram = pages′ }
-  formatted-is = ap (λ (r : Result). r .volume) (format-on (onPages v) refl long)
 
   -- ---- one run, for a claim that holds while the format waits and when it is finished
 

@@ -20,13 +20,13 @@ pub mod AnyState
 pub mod ByFresh
 pub mod Recover
 pub mod Events
+pub mod Whole
+pub mod Uncut
 pub mod Formats
 pub mod EventLaws
 pub mod PowerCut
-pub mod Whole
 pub mod AnyRestart
 pub mod Acts
-pub mod Uncut
 pub mod Several
 pub mod CutMap
 pub mod EveryCut

@@ -1,32 +1,31 @@
--- Request 8's claim, on the layout's definitions, for every hash family, every format, every list of calls and every list of budgets.
-use mathlib.Core.Path.{_≡_, refl, ap, _∙_}
+-- Request 8's claim, on the layout's definitions, for every hash family, every format, every list of calls, cut or not, every list of
+-- budgets, and restarts between the calls.
+use mathlib.Core.Path.{_≡_, refl, sym, ap, _∙_}
 use mathlib.Core.Bool.{Bool, true, false, cond}
 use mathlib.Core.List.{List, [], _∷_, _++_}
-use Prim.Native.Nat.{ℕ, zero, suc, _≤_, _<_}
+use Prim.Native.Nat.{ℕ, _≤_, _<_}
 use lib.ListN.{length, getD}
-use Rattle.layout.specs.Geometry.{Geometry, geometry, allowed, recordCapacity, deletionCapacity, spareSize, Sizes, unitOf}
-use Rattle.layout.specs.Flash.{Flash, applyAll}
+use Rattle.layout.specs.Geometry.{Geometry, geometry, allowed, spareSize, Sizes, unitOf}
+use Rattle.layout.specs.Flash.{applyAll}
 use Rattle.layout.specs.Hash.{Family}
-use Rattle.layout.specs.Calls.{Volume, Call, accepted, tooShort, format, formatted, call}
-use Rattle.layout.specs.FiniteMap.{Map, emptyMap, mapOf}
+use Rattle.layout.specs.Calls.{Volume, Call, accepted, tooShort, format, call}
+use Rattle.layout.specs.FiniteMap.{Map, emptyMap}
+use Rattle.layout.specs.Header.{pages, onPages}
+use Rattle.layout.specs.Budgets.{formatWhole}
 use Rattle.laws.specs.Sound.{SizesSound, sound}
 use Rattle.history.specs.FlashLaws.{AllAllowed, apply-append, allowed-append}
-use Rattle.history.specs.Image.{History}
-use Rattle.history.specs.Live.{Live, live-start, emptyHistory, stepHistory}
-use Rattle.history.specs.MapLaws.{step-same}
 use Rattle.history.specs.Runs.{after, ProgramOrder}
 use Rattle.history.specs.ProgramOrder.{Below, below-append, in-order}
-use Rattle.history.specs.Volumes.{Holds, volumeOf}
-use Rattle.history.specs.Steps.{call-done}
-use Rattle.history.specs.RunLaws.{less, format-is, start-holds, start-spare}
-use Rattle.layout.specs.Header.{pages, onPages}
-use Rattle.cuts.specs.Events.{lift, Event, formatEnd, formatOps, made, Numbers, AllNumbers, eventVolume, eventOps, eventsAfter}
-use Rattle.cuts.specs.Events.{eventsOps, formatResult, EventsAccept}
-use Rattle.cuts.specs.EventLaws.{EventIs, event-none, event-some, key-word}
-use Rattle.cuts.specs.Formats.{format-end, format-accepts, format-in-order, format-clears}
+use Rattle.history.specs.Reached.{mapAfter, Reached, reach-format}
+use Rattle.history.specs.RunLaws.{start-spare}
+use Rattle.cuts.specs.Events.{lift, Event, callsOf, made, AllNumbers, eventVolume, eventOps, eventsAfter, EventsAccept, eventsOps}
+use Rattle.cuts.specs.Events.{Format, wholeFormat, formatResult, formatEnd, formatOps}
+use Rattle.cuts.specs.Uncut.{wholeAfter, after-lifted}
+use Rattle.cuts.specs.EventLaws.{EventIs, event-is, event-reaches}
+use Rattle.cuts.specs.Formats.{formatted-is, format-end, format-accepts, format-flash, format-in-order, format-clears}
 use Rattle.cuts.specs.Told.{afterOps}
 
--- what calls with power cuts leave: the volume of the same calls without them, those of which a step was done
+-- what calls with power cuts leave: the volume of the same calls without them, those uncut or of which a step was done
 pub record EventsAre (u N : ℕ) (h : Family) (w : Volume) (es : List Event) : Type 0 where
   pub volume-is : eventsAfter h (lift w) es ≡ lift (after h w (made es))
   pub flash-is : applyAll u (eventsOps h (lift w) es) (w .flash) ≡ after h w (made es) .flash
@@ -34,7 +33,11 @@ pub record EventsAre (u N : ℕ) (h : Family) (w : Volume) (es : List Event) : T
   pub inside : Below N (eventsOps h (lift w) es)
   pub accepts : EventsAccept h (lift w) es
 
-module _ (h : Family) (sizes : Sizes) (ok : SizesSound sizes) (can : allowed sizes ≡ true) where
+after-append : (h : Family) (w : Volume) (cs ds : List Call) → after h (after h w cs) ds ≡ after h w (cs ++ ds)
+after-append h w [] ds = refl
+after-append h w (c ∷ cs) ds = after-append h (call h w c .volume) cs ds
+
+module _ (h : Family) (sizes : Sizes) where
   abbrev g : Geometry
   g = geometry sizes
 
@@ -56,88 +59,72 @@ module _ (h : Family) (sizes : Sizes) (ok : SizesSound sizes) (can : allowed siz
     accepts = (X .accepts, rw (X .volume-is) (T .accepts));
   }
 
-  moved : (w w′ : Volume) (es : List Event) → w ≡ w′ → EventsAre (unitOf sizes) (spareSize g) h w′ es
-      → EventsAre (unitOf sizes) (spareSize g) h w es
-  moved w w′ es p T = rw p T
-
-  -- an event, and the events after it, where its call was made and where it was not
-  one : (H : History) (C : Flash) (ram : List ℕ) (m : Map) (c : Call) (bs : List ℕ) (es : List Event) (b : ℕ) → Numbers c
-      → Holds h sizes H C ram → Live H m
-      → EventsAre (unitOf sizes) (spareSize g) h (volumeOf sizes H C ram) es
-      → EventsAre (unitOf sizes) (spareSize g) h
-      (volumeOf sizes (stepHistory (recordCapacity g) (deletionCapacity g) H c .next) (call h (volumeOf sizes H C ram) c .volume .flash)
-      (call h (volumeOf sizes H C ram) c .volume .ram)) es
-      → EventsAre (unitOf sizes) (spareSize g) h (volumeOf sizes H C ram) (record { asked = c; budget = b; again = bs } ∷ es)
-  one H C ram m c bs es zero n I L T U =
-      joined (volumeOf sizes H C ram) (volumeOf sizes H C ram) (record { asked = c; budget = 0; again = bs }) es refl
-      (event-none h sizes ok can H C ram I c n (less H m L) bs) T
-  one H C ram m c bs es (suc b) n I L T U =
-      let X = call-done h sizes ok can H C ram I c (key-word c n) (less H m L) in
-      joined (volumeOf sizes H C ram) (call h (volumeOf sizes H C ram) c .volume) (record { asked = c; budget = suc b; again = bs }) es refl
-      (event-some h sizes ok can H C ram I c n (less H m L) b bs)
-      (moved (call h (volumeOf sizes H C ram) c .volume) _ es (X .volume-is) U)
-
-  pub run : (H : History) (C : Flash) (ram : List ℕ) (m : Map) (es : List Event) → AllNumbers es → Holds h sizes H C ram → Live H m
-      → EventsAre (unitOf sizes) (spareSize g) h (volumeOf sizes H C ram) es
-  run H C ram m [] n I L = record { volume-is = refl; flash-is = refl; ops-allowed = tt; inside = tt; accepts = tt }
-  run H C ram m (e ∷ es) n I L =
-      let X = call-done h sizes ok can H C ram I (e .asked) (key-word (e .asked) (n .0)) (less H m L) in
-      let same = step-same (recordCapacity g) (deletionCapacity g) H m (e .asked) L in
-      one H C ram m (e .asked) (e .again) es (e .budget) (n .0) I L
-      (run H C ram m es (n .1) I L)
-      (run (stepHistory (recordCapacity g) (deletionCapacity g) H (e .asked) .next) _ _ (mapOf g m (e .asked) .next) es (n .1) (X .holds)
-      (same .1))
+  run : (w : Volume) (m : Map) (es : List Event) → AllNumbers es → Reached h sizes w m → EventsAre (unitOf sizes) (spareSize g) h w es
+  run w m [] n X = record { volume-is = refl; flash-is = refl; ops-allowed = tt; inside = tt; accepts = tt }
+  run w m (e ∷ es) n X =
+      joined w (after h w (callsOf e)) e es (after-append h w (callsOf e) (made es)) (event-is h sizes w m e X (n .0))
+      (run (after h w (callsOf e)) (mapAfter g m (callsOf e)) es (n .1) (event-reaches h sizes w m e X (n .0)))
 
 -- ---- from a format on
 
 module _ (h : Family) (v : Volume) (sizes : Sizes) (can : allowed sizes ≡ true)
-    (long : tooShort (geometry sizes) (v .flash) (pages (v .ram)) ≡ false)
-    (b : ℕ) (bs : List ℕ) (es : List Event) (numbers : AllNumbers es) where
+    (long : tooShort (geometry sizes) (v .flash) (pages (v .ram)) ≡ false) (f : Format) (es : List Event) (numbers : AllNumbers es) where
   abbrev gg : Geometry
   gg = geometry sizes
 
   okay : SizesSound sizes
   okay = sound sizes can
 
-  are : EventsAre (unitOf sizes) (spareSize (geometry sizes)) h (formatted (onPages v) sizes .volume) es
-  unfolding formatted
-  are = run h sizes okay can emptyHistory _ _ emptyMap es numbers (start-holds h sizes okay can (onPages v) long) live-start
+  -- what document 01's format leaves
+  abbrev start : Volume
+  start = format (onPages v) sizes .volume
 
-  is-formatted : format (onPages v) sizes ≡ formatted (onPages v) sizes
-  is-formatted = format-is h sizes okay can (onPages v) long
+  are : EventsAre (unitOf sizes) (spareSize (geometry sizes)) h start es
+  are = run h sizes start emptyMap es numbers (reach-format h sizes (onPages v) can long)
+
+  first : formatEnd h v sizes f ≡ lift start
+  first = format-end h v sizes can long f
 
   -- "From a format on, if nothing is altered, for a cut between any two steps, and for further cuts during restart, the desk, cells, marks
   -- and state in the end equal those of the call uncut":
-  -- a format cut and finished, then calls each cut and finished, leave what document 01's format and calls leave, with a header that has
-  -- the state and no intent
-  pub power-cuts : eventsAfter h (formatEnd h v sizes b bs) es ≡ lift (after h (format (onPages v) sizes .volume) (made es))
-  power-cuts =
-      ap (λ (w : Volume). eventsAfter h w es) (format-end h v sizes can long b bs)
-      ∙ rw is-formatted (are .volume-is)
+  -- a format, then calls, each uncut or cut and finished, and restarts between them leave what document 01's format and calls leave, with a
+  -- header that has the state and no intent
+  pub power-cuts : eventsAfter h (formatEnd h v sizes f) es ≡ lift (after h (format (onPages v) sizes .volume) (made es))
+  power-cuts = ap (λ (w : Volume). eventsAfter h w es) first ∙ are .volume-is
+
+  -- the same against uncut calls, all with their headers
+  pub as-uncut : eventsAfter h (formatEnd h v sizes f) es ≡ wholeAfter h (formatWhole v sizes .volume) (made es)
+  as-uncut =
+      power-cuts
+      ∙ sym (ap (λ (w : Volume). wholeAfter h w (made es)) (format-end h v sizes can long wholeFormat) ∙ after-lifted h start (made es))
 
   -- none of the last restarts is refused
-  pub format-accepted : formatResult h v sizes b bs .outcome ≡ accepted
-  format-accepted = format-accepts h v sizes can long b bs _
+  pub format-accepted : formatResult h v sizes f .outcome ≡ accepted
+  format-accepted = format-accepts h v sizes can long f
 
-  pub all-accepted : EventsAccept h (formatEnd h v sizes b bs) es
-  all-accepted = rw (format-end h v sizes can long b bs, is-formatted) (are .accepts)
+  pub all-accepted : EventsAccept h (formatEnd h v sizes f) es
+  all-accepted = rw first (are .accepts)
 
-  says : (P : ℕ → Bool) (x : ℕ) → x < spareSize gg → getD (formatted (onPages v) sizes .volume .flash .spare) x 0
-      ≡ cond (afterOps (formatOps h v sizes b bs) P x) 0 255
-  unfolding formatted
-  says P x l = start-spare h sizes okay can (onPages v) long .1 x l ∙ rw (format-clears h v sizes can long b bs P x l)
+  -- the operations of all runs of the format and of all calls, done in order on the chip handed to the format, give the chip in the end
+  pub all-flash : applyAll (unitOf sizes) (formatOps h v sizes f ++ eventsOps h (formatEnd h v sizes f) es) (v .flash)
+      ≡ eventsAfter h (formatEnd h v sizes f) es .flash
+  all-flash =
+      apply-append (unitOf sizes) (formatOps h v sizes f) (eventsOps h (formatEnd h v sizes f) es) (v .flash)
+      ∙ ap (applyAll (unitOf sizes) (eventsOps h (formatEnd h v sizes f) es)) (format-flash h v sizes can long f)
+      ∙ ap (λ (w : Volume). applyAll (unitOf sizes) (eventsOps h w es) (w .flash)) first
+      ∙ are .flash-is ∙ ap (λ (w : Volume). w .flash) (sym power-cuts)
 
-  fits : spareSize gg ≤ length (formatted (onPages v) sizes .volume .flash .spare)
-  unfolding formatted
-  fits = start-spare h sizes okay can (onPages v) long .0
+  fits : spareSize gg ≤ length (start .flash .spare)
+  fits = rw (formatted-is h v sizes can long) (start-spare h sizes okay can (onPages v) long .0)
 
-  -- "The rule against programming twice counts both runs as one history": the operations of all runs of the format and of all calls, in
-  -- order
-  pub all-in-order : (P : ℕ → Bool) → ProgramOrder (formatOps h v sizes b bs ++ eventsOps h (formatEnd h v sizes b bs) es)
-      P
+  says : (P : ℕ → Bool) (x : ℕ) → x < spareSize gg → getD (start .flash .spare) x 0 ≡ cond (afterOps (formatOps h v sizes f) P x) 0 255
+  says P x l =
+      rw (formatted-is h v sizes can long, format-clears h v sizes can long f P x l) (start-spare h sizes okay can (onPages v) long .1 x l)
+
+  -- "The rule against programming twice counts both runs as one history": these operations keep the chip's program order
+  pub all-in-order : (P : ℕ → Bool) → ProgramOrder (formatOps h v sizes f ++ eventsOps h (formatEnd h v sizes f) es) P
   all-in-order P =
-      rw (format-end h v sizes can long b bs, is-formatted)
-      (format-in-order h v sizes can long b bs (eventsOps h (lift (formatted (onPages v) sizes .volume)) es) P
-      (in-order (unitOf sizes) (spareSize gg) (eventsOps h (lift (formatted (onPages v) sizes .volume)) es)
-      (formatted (onPages v) sizes .volume .flash)
-      (afterOps (formatOps h v sizes b bs) P) fits (says P) (are .ops-allowed) (are .inside)))
+      rw first
+      (format-in-order h v sizes can long f (eventsOps h (lift start) es) P
+      (in-order (unitOf sizes) (spareSize gg) (eventsOps h (lift start) es) (start .flash) (afterOps (formatOps h v sizes f) P) fits (says P)
+      (are .ops-allowed) (are .inside)))

@@ -1,6 +1,6 @@
 -- "Of a call made of several, as a load, each is cut and finished by itself": calls in turn with one budget of steps. A call that is cut
 -- ends them, and those after it are not made.
-use mathlib.Core.Path.{_≡_, refl, ap, _∙_}
+use mathlib.Core.Path.{_≡_, refl, ap}
 use mathlib.Core.Bool.{true, false, cond}
 use mathlib.Core.List.{List, [], _∷_}
 use Prim.Native.Nat.{ℕ, zero, suc, _+_, _-_, _≤_}
@@ -22,8 +22,8 @@ use Rattle.history.specs.Steps.{call-done}
 use Rattle.history.specs.RunLaws.{less, format-is, start-holds}
 use Rattle.layout.specs.Budgets.{stepCount, resultOf, callFor, restarts, restartWhole}
 use Rattle.cuts.specs.Events.{lift, madeBy, Numbers}
-use Rattle.cuts.specs.EventLaws.{key-word, lifted-is, idle-one, idle-all, event-none, event-some}
-use Rattle.cuts.specs.Uncut.{enough-lifted}
+use Rattle.cuts.specs.EventLaws.{key-word, event-idle, event-none, event-some}
+use Rattle.cuts.specs.Uncut.{lifted-is, enough-lifted}
 
 -- all numbers of the calls are 32-bit numbers
 abbrev pub CallNumbers : List Call → Type 0
@@ -87,16 +87,14 @@ module _ (h : Family) (sizes : Sizes) (ok : SizesSound sizes) (can : allowed siz
       → Holds h sizes H C ram → Live H m
       → restartWhole h (restarts h bs (callFor h b (lift (volumeOf sizes H C ram)) c .volume)) .volume
       ≡ lift (after h (volumeOf sizes H C ram) (madeBy b c))
-  cut-one H C ram m zero bs c n I L = event-none h sizes ok can H C ram I c n (less H m L) bs .volume-is
+  cut-one H C ram m zero bs c n I L = event-none h sizes ok can H C ram I c bs .volume-is
   cut-one H C ram m (suc b) bs c n I L = event-some h sizes ok can H C ram I c n (less H m L) b bs .volume-is
 
   pub several-end : (H : History) (C : Flash) (ram : List ℕ) (m : Map) (b : ℕ) (bs : List ℕ) (cs : List Call) → CallNumbers cs
       → Holds h sizes H C ram → Live H m
       → restartWhole h (restarts h bs (severalFor h b (lift (volumeOf sizes H C ram)) cs)) .volume
       ≡ lift (after h (volumeOf sizes H C ram) (begun h b (volumeOf sizes H C ram) cs))
-  several-end H C ram m b bs [] n I L =
-      ap (λ (x : Volume). restartWhole h x .volume) (idle-all h sizes ok can H C ram I bs)
-      ∙ ap (λ (r : Result). r .volume) (idle-one h sizes ok can H C ram I _)
+  several-end H C ram m b bs [] n I L = event-idle h sizes ok can H C ram I bs .volume-is
   several-end H C ram m b bs (c ∷ cs) n I L =
       let w : Volume = volumeOf sizes H C ram in
       let k : ℕ = stepCount (call h w c) in

@@ -5,28 +5,28 @@ use mathlib.Core.Bool.{Bool, true, false, cond, _&&_}
 use mathlib.Core.Option.{Option, none, some}
 use mathlib.Core.List.{List, [], _∷_, _++_}
 use Prim.Native.Nat.{ℕ, suc, _+_, _-_, _≤_}
-use lib.ListN.{length}
 use native.Mathlib.Omega.{arith}
+use lib.ListN.{length}
+use lib.Dec.{eqb}
+use Rattle.memory.specs.Booleans.{cond-pos}
 use Rattle.memory.specs.Cases.{either, bool?}
-use Rattle.layout.specs.Geometry.{Geometry, geometry, allowed, Sizes, unitOf}
+use Rattle.layout.specs.Geometry.{Geometry, geometry, Sizes, unitOf}
 use Rattle.layout.specs.Flash.{Op, applyAll, Planned, planOps, allFresh}
 use Rattle.layout.specs.Hash.{Family}
 use Rattle.layout.specs.Items.{Record}
 use Rattle.layout.specs.Search.{Stop, found, corrupt}
+use Rattle.layout.specs.Refusals as refusal
 use Rattle.layout.specs.Calls.{Volume, Call, insert, update, delete, lookup, Outcome, accepted, hit, miss, refused, Result, refuse}
 use Rattle.layout.specs.Calls.{badState}
 use Rattle.layout.specs.Calls.{tooShort, judgeFirst, format, one, noRoom, noDeletion, Edit, commit, changeBy, change}
 use Rattle.layout.specs.Calls.{insertAfter, updateAfter, deleteAfter, lookupAfter, search, answer, call}
-use Rattle.history.specs.Every.{can-accepted}
 use Rattle.history.specs.Runs.{after, opsOf, HandedOn, Agrees}
 use Rattle.history.specs.WornCalls.{format-done}
 use Rattle.layout.specs.FiniteMap.{Step}
-use Rattle.layout.specs.Header.{pages, onPages, noIntent, intended, finished}
-use Rattle.layout.specs.Budgets.{stepsOf, stepCount, callSteps, takenBy, taken, callFor, callWhole, formatWhole}
-use Rattle.cuts.specs.Events.{lift, Finished, Event, formatEnd, made, AllNumbers, eventsAfter}
-use Rattle.cuts.specs.Headers.{pages-stored}
-use Rattle.cuts.specs.EventLaws.{lifted-is}
-use Rattle.cuts.specs.PowerCut.{power-cuts}
+use Rattle.layout.specs.Header.{onPages, noIntent, headerBytes, kindIn, intended, finished}
+use Rattle.layout.specs.Budgets.{stepsOf, stepCount, callSteps, takenBy, taken, resultOf, callFor, callWhole, formatWhole}
+use Rattle.cuts.specs.Events.{lift, Finished}
+use Rattle.cuts.specs.Headers.{pages-stored, idle-kind}
 use Rattle.cuts.specs.Whole.{call-enough, format-whole-is}
 
 -- ---- what a call of document 01 is, by its outcome: nothing in a result is left open
@@ -95,6 +95,18 @@ module _ (h : Family) (v : Volume) where
       shown-either v (badState (v .state)) _ _ refl (shown-either v (tooShort g (v .flash) (v .ram)) _ _ refl (answer-shown c))
 
 -- ---- one call
+
+-- a call sees the pages
+pub lifted-is : (h : Family) (w : Volume) (c : Call) → resultOf h (lift w) c ≡ call h w c
+unfolding call
+lifted-is h w c =
+    let idle : eqb (kindIn (w .ram ++ headerBytes (w .state) noIntent)) 0 ≡ true = rw (idle-kind (w .ram) (w .state)) in
+    ap (judgeFirst (onPages (lift w)))
+    (cond-pos (eqb (kindIn (w .ram ++ headerBytes (w .state) noIntent)) 0)
+    (answer h (geometry (w .state .sizes)) (onPages (lift w)) c) (refuse (onPages (lift w)) refusal.pending) idle)
+    ∙ ap (λ (p : List ℕ). judgeFirst (record { state = w .state; flash = w .flash; ram = p })
+    (answer h (geometry (w .state .sizes)) (record { state = w .state; flash = w .flash; ram = p }) c))
+    (pages-stored (w .ram) (w .state) noIntent refl)
 
 -- a result whose volume has the header
 abbrev pub liftResult : Result → Result
@@ -222,12 +234,3 @@ pub after-lifted : (h : Family) (w : Volume) (cs : List Call) → wholeAfter h (
 after-lifted h w [] = refl
 after-lifted h w (c ∷ cs) =
     ap (λ (r : Result). wholeAfter h (r .volume) cs) (whole-lifted h w c) ∙ after-lifted h (call h w c .volume) cs
-
--- "the desk, cells, marks and state in the end equal those of the call uncut": cut calls against uncut ones, both with their headers
-pub as-uncut : (h : Family) (v : Volume) (sizes : Sizes) (can : allowed sizes ≡ true)
-    (long : tooShort (geometry sizes) (v .flash) (pages (v .ram)) ≡ false) (b : ℕ) (bs : List ℕ) (es : List Event) → AllNumbers es
-    → eventsAfter h (formatEnd h v sizes b bs) es ≡ wholeAfter h (formatWhole v sizes .volume) (made es)
-as-uncut h v sizes can long b bs es numbers =
-    power-cuts h v sizes can long b bs es numbers
-    ∙ sym (ap (λ (w : Volume). wholeAfter h w (made es)) (format-lifted v sizes (can-accepted (onPages v) sizes can long))
-    ∙ after-lifted h (format (onPages v) sizes .volume) (made es))

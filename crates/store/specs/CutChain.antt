@@ -1,31 +1,33 @@
--- Power cuts of the code: every chain of cut calls and restarts whose results satisfy the contracts, from a format on, ends with what
--- document 01's calls leave, and answers as the map does. Document 02, request 8, with demands 2 and 3, at FNV-1a.
-use mathlib.Core.Path.{_≡_, refl, ap, _∙_}
+-- Power cuts of the code: every chain of calls, cut or not, and restarts whose results satisfy the contracts, from a format on, ends with
+-- what document 01's calls leave, and answers as the map does. Document 02, request 8, with demands 2 and 3, at FNV-1a.
+use mathlib.Core.Path.{_≡_, refl, sym, ap, _∙_}
 use mathlib.Core.Bool.{Bool, true, false}
 use mathlib.Core.List.{List, [], _∷_, _++_}
-use Prim.Native.Nat.{ℕ, zero, suc}
+use Prim.Native.Nat.{ℕ, suc}
 use Rattle.layout.specs.Geometry.{State, geometry, allowed, Sizes, unitOf, stateOf}
-use Rattle.layout.specs.Flash.{Op}
+use Rattle.layout.specs.Flash.{Op, applyAll}
 use Rattle.layout.specs.Hash.{fnvFamily}
 use Rattle.layout.specs.Calls.{Volume, Call, Outcome, accepted, hit, miss, refused, Result, tooShort, format}
-use Rattle.layout.specs.FiniteMap.{Map, emptyMap}
+use Rattle.layout.specs.FiniteMap.{Map, emptyMap, mapOf}
 use Rattle.layout.specs.Header.{pages, onPages, formatIntended}
-use Rattle.layout.specs.Budgets.{Step, cutBy, callFor, callCut, formatFor, formatCut, restartFor, restartCut, restarts, restartsOps}
-use Rattle.layout.specs.Budgets.{callSteps, restartWhole}
+use Rattle.layout.specs.Budgets.{Step, cutBy, callSteps, callFor, callCut, callWhole, formatFor, formatCut, formatWhole, restartFor, restartCut}
+use Rattle.layout.specs.Budgets.{restarts, restartsOps, restartWhole}
 use Rattle.layout.specs.Budgets as budgets
 use Rattle.history.specs.Demands.{demand-2, demand-3}
 use Rattle.history.specs.Every.{can-accepted}
 use Rattle.history.specs.Live.{emptyHistory}
-use Rattle.history.specs.Runs.{KeyWords, after, ProgramOrder, historyOf, ImageOf}
+use Rattle.history.specs.Reached.{mapAfter}
+use Rattle.history.specs.Runs.{after, ProgramOrder, Agrees, historyOf, ImageOf}
 use Rattle.cuts.specs.AnyState.{withState, any-state}
 use Rattle.cuts.specs.AnyRestart.{whole-state}
-use Rattle.cuts.specs.Events.{lift, Event, madeBy, made, Numbers, AllNumbers, endResult, eventOps, eventsAfter, eventsOps}
-use Rattle.cuts.specs.Events.{EventsAccept, formatEnd, formatOps}
-use Rattle.cuts.specs.CutMap.{stepFor, CutAgrees, EventsAgree, cuts-agree}
-use Rattle.cuts.specs.EventLaws.{key-word}
+use Rattle.cuts.specs.Events as events
+use Rattle.cuts.specs.Events.{lift, Event, callsOf, made, AllNumbers, finish, eventResult, eventVolume, eventOps, EventAccepts}
+use Rattle.cuts.specs.Events.{eventsAfter, EventsAccept, eventsOps, Format, formatResult, formatEnd, formatOps}
+use Rattle.cuts.specs.EventLaws.{all-words}
+use Rattle.cuts.specs.CutMap.{CutAgrees, EventAgrees, EventsAgree, cuts-agree}
 use Rattle.cuts.specs.RestartLaws.{taken-outcome}
 use Rattle.cuts.specs.Uncut.{pages-lifted}
-use Rattle.cuts.specs.PowerCut.{power-cuts, format-accepted, all-accepted, all-in-order}
+use Rattle.cuts.specs.PowerCut.{power-cuts, format-accepted, all-accepted, all-flash, all-in-order}
 use Rattle.state.specs.Contract.{Effect, effectOf, CutEffect, cutOf}
 
 -- ---- what the code does
@@ -42,18 +44,38 @@ pub record Finish : Type 0 where
   pub handed : State
   pub last : Effect
 
--- a call with its budget, what it leaves, and what follows
-pub record CodeEvent : Type 0 where
-  pub asked : Call
-  pub budget : ℕ
-  pub left : CutEffect
-  pub finish : Finish
+-- a call that is not cut, and what it leaves; a call with its budget, what it leaves, and what follows; restarts at a power-up without a
+-- pending call
+pub data CodeEvent : Type 0 where
+  whole : Call → Effect → CodeEvent
+  cut : Call → ℕ → CutEffect → Finish → CodeEvent
+  idle : Finish → CodeEvent
 
--- a format of which a step is done: its budget is one more
-pub record CodeFormat : Type 0 where
-  pub budget : ℕ
-  pub left : CutEffect
-  pub finish : Finish
+-- a format that is not cut, and what it leaves; one of which a step is done, its budget being one more, and what follows
+pub data CodeFormat : Type 0 where
+  wholeFormat : Effect → CodeFormat
+  cutFormat : ℕ → CutEffect → Finish → CodeFormat
+
+-- ---- as the events of the definitions
+
+abbrev pub budgetsOf : List Again → List ℕ
+budgetsOf [] = []
+budgetsOf (a ∷ rest) = a .budget ∷ budgetsOf rest
+
+abbrev pub eventOf : CodeEvent → Event
+eventOf (whole c l) = events.whole c
+eventOf (cut c b l f) = events.cut c b (budgetsOf (f .again))
+eventOf (idle f) = events.idle (budgetsOf (f .again))
+
+abbrev pub eventsOf : List CodeEvent → List Event
+eventsOf [] = []
+eventsOf (e ∷ es) = eventOf e ∷ eventsOf es
+
+abbrev pub formatOf : CodeFormat → Format
+formatOf (wholeFormat l) = events.wholeFormat
+formatOf (cutFormat b l f) = events.cutFormat b (budgetsOf (f .again))
+
+-- ---- what the contracts say of it
 
 abbrev pub lastLeft : Volume → List Again → Volume
 lastLeft v [] = v
@@ -69,35 +91,67 @@ abbrev pub Finishes : Volume → Finish → Type 0
 Finishes v f =
     Restarts v (f .again) × (f .last ≡ effectOf (restartWhole fnvFamily (withState (f .handed) (lastLeft v (f .again)))))
 
--- each call is handed what the last restart left
+-- what the last run leaves
+abbrev pub endOf : CodeEvent → Effect
+endOf (whole c l) = l
+endOf (cut c b l f) = f .last
+endOf (idle f) = f .last
+
+-- what an event leaves is what its contracts say; those of lookups give the first equation as in `Chain`
+abbrev pub Done : Volume → CodeEvent → Type 0
+Done v (whole c l) = l ≡ effectOf (callWhole fnvFamily v c)
+Done v (cut c b l f) = (l ≡ cutOf (callCut fnvFamily b v c)) × Finishes (l .left) f
+Done v (idle f) = Finishes v f
+
+-- each event is handed what the last run of the one before it left
 abbrev pub CutChain : Volume → List CodeEvent → Type 0
 CutChain v [] = Unit {0}
-CutChain v (e ∷ es) =
-    ((e .left ≡ cutOf (callCut fnvFamily (e .budget) v (e .asked))) × Finishes (e .left .left) (e .finish))
-    × CutChain (e .finish .last .left) es
+CutChain v (e ∷ es) = Done v e × CutChain (endOf e .left) es
+
+-- the same of a format
+abbrev pub formatEndOf : CodeFormat → Effect
+formatEndOf (wholeFormat l) = l
+formatEndOf (cutFormat b l f) = f .last
 
 abbrev pub FormatDone : Volume → Sizes → CodeFormat → Type 0
-FormatDone v sizes f = (f .left ≡ cutOf (formatCut (suc (f .budget)) v sizes)) × Finishes (f .left .left) (f .finish)
+FormatDone v sizes (wholeFormat l) = l ≡ effectOf (formatWhole v sizes)
+FormatDone v sizes (cutFormat b l f) = (l ≡ cutOf (formatCut (suc b) v sizes)) × Finishes (l .left) f
+
+-- what its caller was told
+abbrev pub formatSays : CodeFormat → Outcome
+formatSays (wholeFormat l) = l .outcome
+formatSays (cutFormat b l f) = l .outcome
 
 -- the volume in the end
 abbrev pub endVolume : Volume → List CodeEvent → Volume
 endVolume v [] = v
-endVolume v (e ∷ es) = endVolume (e .finish .last .left) es
+endVolume v (e ∷ es) = endVolume (endOf e .left) es
+
+-- a restart with enough is not refused
+abbrev pub Accepted : CodeEvent → Type 0
+Accepted (whole c l) = Unit {0}
+Accepted (cut c b l f) = f .last .outcome ≡ accepted
+Accepted (idle f) = f .last .outcome ≡ accepted
 
 abbrev pub AllAccepted : List CodeEvent → Type 0
 AllAccepted [] = Unit {0}
-AllAccepted (e ∷ es) = (e .finish .last .outcome ≡ accepted) × AllAccepted es
+AllAccepted (e ∷ es) = Accepted e × AllAccepted es
 
--- each call answers as the map does, and after its last restart the volume has the map's state. A call without a step is answered too,
--- but the map makes no step for it
+-- each call answers as the map does, and after its last run the volume has the map's state; restarts without a call change nothing
+abbrev pub CodeAgrees : Sizes → Volume → Map → CodeEvent → Type 0
+CodeAgrees sizes v m (whole c l) = Agrees sizes v (l .outcome) (l .count) (l .left) (mapOf (geometry sizes) m c)
+CodeAgrees sizes v m (cut c b l f) = CutAgrees sizes v m b c (l .outcome) (f .last .left)
+CodeAgrees sizes v m (idle f) = (f .last .outcome ≡ accepted) × (f .last .left ≡ v)
+
+-- of a list. A call without a step is answered too, but the map makes no step for it
 abbrev pub CutsAgree : Sizes → Volume → Map → List CodeEvent → Type 0
 CutsAgree sizes v m [] = Unit {0}
 CutsAgree sizes v m (e ∷ es) =
-    CutAgrees sizes v m (e .budget) (e .asked) (e .left .outcome) (e .finish .last .left)
-    × CutsAgree sizes (e .finish .last .left) (stepFor (geometry sizes) (e .budget) m (e .asked) .next) es
+    CodeAgrees sizes v m e × CutsAgree sizes (endOf e .left) (mapAfter (geometry sizes) m (callsOf (eventOf e))) es
 
 -- ---- its chip operations, those of all runs in order
 
+-- of restarts
 abbrev pub againOps : Volume → List Again → List Op
 againOps v [] = []
 againOps v (a ∷ rest) = restartFor fnvFamily (a .budget) (withState (a .handed) v) .ops ++ againOps (a .left .left) rest
@@ -105,26 +159,19 @@ againOps v (a ∷ rest) = restartFor fnvFamily (a .budget) (withState (a .handed
 abbrev pub finishOps : Volume → Finish → List Op
 finishOps v f = againOps v (f .again) ++ restartWhole fnvFamily (withState (f .handed) (lastLeft v (f .again))) .ops
 
+-- of an event
+abbrev pub runOps : Volume → CodeEvent → List Op
+runOps v (whole c l) = callWhole fnvFamily v c .ops
+runOps v (cut c b l f) = callFor fnvFamily b v c .ops ++ finishOps (l .left) f
+runOps v (idle f) = finishOps v f
+
 abbrev pub codeOps : Volume → List CodeEvent → List Op
 codeOps v [] = []
-codeOps v (e ∷ es) =
-    (callFor fnvFamily (e .budget) v (e .asked) .ops ++ finishOps (e .left .left) (e .finish)) ++ codeOps (e .finish .last .left) es
+codeOps v (e ∷ es) = runOps v e ++ codeOps (endOf e .left) es
 
 abbrev pub codeFormatOps : Volume → Sizes → CodeFormat → List Op
-codeFormatOps v sizes f = formatFor (suc (f .budget)) v sizes .ops ++ finishOps (f .left .left) (f .finish)
-
--- ---- as the events of the definitions
-
-abbrev pub budgetsOf : List Again → List ℕ
-budgetsOf [] = []
-budgetsOf (a ∷ rest) = a .budget ∷ budgetsOf rest
-
-abbrev pub eventOf : CodeEvent → Event
-eventOf e = record { asked = e .asked; budget = e .budget; again = budgetsOf (e .finish .again) }
-
-abbrev pub eventsOf : List CodeEvent → List Event
-eventsOf [] = []
-eventsOf (e ∷ es) = eventOf e ∷ eventsOf es
+codeFormatOps v sizes (wholeFormat l) = formatWhole v sizes .ops
+codeFormatOps v sizes (cutFormat b l f) = formatFor (suc b) v sizes .ops ++ finishOps (l .left) f
 
 -- ---- restarts with other states
 
@@ -175,25 +222,19 @@ restarts-same x v (a ∷ rest) m k =
 
 -- the restart with enough ends as one that is handed what the cut left
 record Ended (x v : Volume) (f : Finish) : Type 0 where
-  outcome : f .last .outcome ≡ accepted
-  left : f .last .left ≡ restartWhole fnvFamily (restarts fnvFamily (budgetsOf (f .again)) x) .volume
-  ops : finishOps v f ≡ restartsOps fnvFamily (budgetsOf (f .again)) x
-      ++ restartWhole fnvFamily (restarts fnvFamily (budgetsOf (f .again)) x) .ops
+  last : f .last ≡ effectOf (finish fnvFamily (budgetsOf (f .again)) x)
+  ops : finishOps v f ≡ events.finishOps fnvFamily (budgetsOf (f .again)) x
 
 ends : (x v : Volume) (f : Finish) → SameMemory x v → Finishes v f
-    → restartWhole fnvFamily (restarts fnvFamily (budgetsOf (f .again)) x) .outcome ≡ accepted → Ended x v f
+    → finish fnvFamily (budgetsOf (f .again)) x .outcome ≡ accepted → Ended x v f
 ends x v f m k acc =
     let y : Volume = restarts fnvFamily (budgetsOf (f .again)) x in
     let all = restarts-same x v (f .again) m (k .0) in
-    let same : restartWhole fnvFamily (withState (f .handed) (lastLeft v (f .again)))
-    ≡ restartWhole fnvFamily (restarts fnvFamily (budgetsOf (f .again)) x)
+    let same : restartWhole fnvFamily (withState (f .handed) (lastLeft v (f .again))) ≡ finish fnvFamily (budgetsOf (f .again)) x
     = ap (restartWhole fnvFamily) (handed-same y (lastLeft v (f .again)) (f .handed) (all .0))
     ∙ whole-state fnvFamily y (f .handed) acc in
-    let last : f .last ≡ effectOf (restartWhole fnvFamily (restarts fnvFamily (budgetsOf (f .again)) x))
-    = k .1 ∙ ap effectOf same in
     record {
-      outcome = ap (λ (l : Effect). l .outcome) last ∙ acc;
-      left = ap (λ (l : Effect). l .left) last;
+      last = k .1 ∙ ap effectOf same;
       ops = ap (λ (l : List Op). l ++ restartWhole fnvFamily (withState (f .handed) (lastLeft v (f .again))) .ops) (all .1)
           ∙ ap (λ (r : Result). restartsOps fnvFamily (budgetsOf (f .again)) x ++ r .ops) same;
     }
@@ -201,62 +242,56 @@ ends x v f m k acc =
 at-left : (x v : Volume) → v ≡ x → SameMemory x v
 at-left x v e = (ap (λ (w : Volume). w .flash) e, ap (λ (w : Volume). w .ram) e)
 
--- ---- calls
+-- ---- events
 
-call-ends : (v : Volume) (e : CodeEvent) → e .left ≡ cutOf (callCut fnvFamily (e .budget) v (e .asked))
-    → Finishes (e .left .left) (e .finish) → endResult fnvFamily v (eventOf e) .outcome ≡ accepted
-    → Ended (callFor fnvFamily (e .budget) v (e .asked) .volume) (e .left .left) (e .finish)
-call-ends v e k f acc =
-    ends (callFor fnvFamily (e .budget) v (e .asked) .volume) (e .left .left) (e .finish)
-    (at-left _ _ (left-is (e .left) (e .budget) _ (callFor fnvFamily (e .budget) v (e .asked)) k)) f acc
+-- an event of the code is one of the definitions
+record Same (v : Volume) (e : CodeEvent) : Type 0 where
+  end : endOf e ≡ effectOf (eventResult fnvFamily v (eventOf e))
+  ops : runOps v e ≡ eventOps fnvFamily v (eventOf e)
 
-record Same (v : Volume) (es : List CodeEvent) : Type 0 where
+same : (v : Volume) (e : CodeEvent) → Done v e → EventAccepts fnvFamily v (eventOf e) → Same v e
+same v (whole c l) d a = record { end = d; ops = refl }
+same v (cut c b l f) d a =
+    let E = ends (callFor fnvFamily b v c .volume) (l .left) f (at-left _ _ (left-is l b _ (callFor fnvFamily b v c) (d .0))) (d .1) a in
+    record { end = E .last; ops = ap (λ (os : List Op). callFor fnvFamily b v c .ops ++ os) (E .ops) }
+same v (idle f) d a = let E = ends v v f (refl, refl) d a in record { end = E .last; ops = E .ops }
+
+not-refused : (v : Volume) (e : CodeEvent) → Same v e → EventAccepts fnvFamily v (eventOf e) → Accepted e
+not-refused v (whole c l) S a = tt
+not-refused v (cut c b l f) S a = ap (λ (x : Effect). x .outcome) (S .end) ∙ a
+not-refused v (idle f) S a = ap (λ (x : Effect). x .outcome) (S .end) ∙ a
+
+agrees-so : (sizes : Sizes) (v : Volume) (m : Map) (e : CodeEvent) → Done v e → Same v e → EventAgrees fnvFamily sizes v m (eventOf e)
+    → CodeAgrees sizes v m e
+agrees-so sizes v m (whole c l) d S A = rw d A
+agrees-so sizes v m (cut c b l f) d S A = rw (answer-is l b _ (callFor fnvFamily b v c) (d .0), S .end) A
+agrees-so sizes v m (idle f) d S A = rw (S .end) A
+
+-- ---- lists of events
+
+record AllSame (v : Volume) (es : List CodeEvent) : Type 0 where
   volume : endVolume v es ≡ eventsAfter fnvFamily v (eventsOf es)
   ops : codeOps v es ≡ eventsOps fnvFamily v (eventsOf es)
   accepts : AllAccepted es
+  agrees : (sizes : Sizes) (m : Map) → EventsAgree fnvFamily sizes v m (eventsOf es) → CutsAgree sizes v m es
 
-moved : (v w : Volume) (es : List CodeEvent) → v ≡ w → EventsAccept fnvFamily w (eventsOf es) → EventsAccept fnvFamily v (eventsOf es)
-moved v w es e a = rw e a
-
-chain-same : (v : Volume) (es : List CodeEvent) → CutChain v es → EventsAccept fnvFamily v (eventsOf es) → Same v es
-chain-same v [] k a = record { volume = refl; ops = refl; accepts = tt }
+chain-same : (v : Volume) (es : List CodeEvent) → CutChain v es → EventsAccept fnvFamily v (eventsOf es) → AllSame v es
+chain-same v [] k a = record { volume = refl; ops = refl; accepts = tt; agrees = λ sizes m A. tt }
 chain-same v (e ∷ es) k a =
-    let E = call-ends v e (k .0 .0) (k .0 .1) (a .0) in
-    let S = chain-same (e .finish .last .left) es (k .1) (moved _ _ es (E .left) (a .1)) in
+    let S = same v e (k .0) (a .0) in
+    let left : endOf e .left ≡ eventVolume fnvFamily v (eventOf e) = ap (λ (l : Effect). l .left) (S .end) in
+    let T = chain-same (endOf e .left) es (k .1) (rw left (a .1)) in
     record {
-      volume = S .volume ∙ ap (λ (w : Volume). eventsAfter fnvFamily w (eventsOf es)) (E .left);
-      ops = ap (λ (l : List Op). (callFor fnvFamily (e .budget) v (e .asked) .ops ++ l) ++ codeOps (e .finish .last .left) es) (E .ops)
+      volume = T .volume ∙ ap (λ (w : Volume). eventsAfter fnvFamily w (eventsOf es)) left;
+      ops = ap (λ (l : List Op). l ++ codeOps (endOf e .left) es) (S .ops)
           ∙ ap (λ (l : List Op). eventOps fnvFamily v (eventOf e) ++ l)
-          (S .ops ∙ ap (λ (w : Volume). eventsOps fnvFamily w (eventsOf es)) (E .left));
-      accepts = (E .outcome, S .accepts);
+          (T .ops ∙ ap (λ (w : Volume). eventsOps fnvFamily w (eventsOf es)) left);
+      accepts = (not-refused v e S (a .0), T .accepts);
+      agrees = λ sizes m A. (
+        agrees-so sizes v m e (k .0) S (A .0),
+        T .agrees sizes (mapAfter (geometry sizes) m (callsOf (eventOf e))) (rw left (A .1)),
+      );
     }
-
-agree-moved : (sizes : Sizes) (v w : Volume) (m : Map) (es : List CodeEvent) → v ≡ w → EventsAgree fnvFamily sizes w m (eventsOf es)
-    → EventsAgree fnvFamily sizes v m (eventsOf es)
-agree-moved sizes v w m es e a = rw e a
-
-as-told : (sizes : Sizes) (v : Volume) (m : Map) (b : ℕ) (c : Call) (o o′ : Outcome) (w w′ : Volume) → o′ ≡ o → w′ ≡ w
-    → CutAgrees sizes v m b c o w → CutAgrees sizes v m b c o′ w′
-as-told sizes v m b c o o′ w w′ p q A = rw (p, q) A
-
-chain-agrees : (sizes : Sizes) (v : Volume) (m : Map) (es : List CodeEvent) → CutChain v es → EventsAccept fnvFamily v (eventsOf es)
-    → EventsAgree fnvFamily sizes v m (eventsOf es) → CutsAgree sizes v m es
-chain-agrees sizes v m [] k a A = tt
-chain-agrees sizes v m (e ∷ es) k a A =
-    let E = call-ends v e (k .0 .0) (k .0 .1) (a .0) in
-    let o = answer-is (e .left) (e .budget) _ (callFor fnvFamily (e .budget) v (e .asked)) (k .0 .0) in (
-      as-told sizes v m (e .budget) (e .asked) _ _ _ _ o (E .left) (A .0),
-      chain-agrees sizes (e .finish .last .left) (stepFor (geometry sizes) (e .budget) m (e .asked) .next) es (k .1)
-          (moved _ _ es (E .left) (a .1)) (agree-moved sizes _ _ _ es (E .left) (A .1)),
-    )
-
-made-words : (b : ℕ) (c : Call) (cs : List Call) → Numbers c → KeyWords cs → KeyWords (madeBy b c ++ cs)
-made-words zero c cs n k = k
-made-words (suc b) c cs n k = (key-word c n, k)
-
-all-words : (es : List Event) → AllNumbers es → KeyWords (made es)
-all-words [] n = tt
-all-words (e ∷ es) n = made-words (e .budget) (e .asked) (made es) (n .0) (all-words es (n .1))
 
 -- ---- from a format on
 
@@ -265,61 +300,76 @@ unfolding formatFor
 format-outcome v sizes b =
     taken-outcome b (unitOf sizes) v (callSteps (formatIntended v sizes) (format (onPages v) sizes)) (format (onPages v) sizes)
 
+-- a format of the code is one of the definitions
+record FormatSame (v : Volume) (sizes : Sizes) (f : CodeFormat) : Type 0 where
+  end : formatEndOf f ≡ effectOf (formatResult fnvFamily v sizes (formatOf f))
+  ops : codeFormatOps v sizes f ≡ formatOps fnvFamily v sizes (formatOf f)
+  says : formatSays f ≡ format (onPages v) sizes .outcome
+
+format-same : (v : Volume) (sizes : Sizes) (f : CodeFormat) → FormatDone v sizes f
+    → formatResult fnvFamily v sizes (formatOf f) .outcome ≡ accepted → FormatSame v sizes f
+format-same v sizes (wholeFormat l) d acc =
+    record { end = d; ops = refl; says = ap (λ (x : Effect). x .outcome) d ∙ format-outcome v sizes _ }
+format-same v sizes (cutFormat b l f) d acc =
+    let E = ends (formatFor (suc b) v sizes .volume) (l .left) f
+    (at-left _ _ (left-is l (suc b) _ (formatFor (suc b) v sizes) (d .0))) (d .1) acc in
+    record {
+      end = E .last;
+      ops = ap (λ (os : List Op). formatFor (suc b) v sizes .ops ++ os) (E .ops);
+      says = answer-is l (suc b) _ (formatFor (suc b) v sizes) (d .0) ∙ format-outcome v sizes (suc b);
+    }
+
 -- what request 8 claims, of the code, and demands 2 and 3 with it
 pub record CutRun (v : Volume) (sizes : Sizes) (f : CodeFormat) (es : List CodeEvent) : Type 0 where
   -- no restart with enough is refused
-  pub formatted : f .finish .last .outcome ≡ accepted
+  pub formatted : formatEndOf f .outcome ≡ accepted
   pub each : AllAccepted es
   -- "the desk, cells, marks and state in the end equal those of the call uncut"
-  pub end-is : endVolume (f .finish .last .left) es ≡ lift (after fnvFamily (format (onPages v) sizes .volume) (made (eventsOf es)))
+  pub end-is : endVolume (formatEndOf f .left) es ≡ lift (after fnvFamily (format (onPages v) sizes .volume) (made (eventsOf es)))
+  -- the operations of all runs, done in order on the chip handed to the format, give the flash that the last one leaves
+  pub flash-is : applyAll (unitOf sizes) (codeFormatOps v sizes f ++ codeOps (formatEndOf f .left) es) (v .flash)
+      ≡ endVolume (formatEndOf f .left) es .flash
   -- "The rule against programming twice counts both runs as one history"
-  pub in-order : (P : ℕ → Bool) → ProgramOrder (codeFormatOps v sizes f ++ codeOps (f .finish .last .left) es) P
+  pub in-order : (P : ℕ → Bool) → ProgramOrder (codeFormatOps v sizes f ++ codeOps (formatEndOf f .left) es) P
   -- demand 2: the pages, the flash and the state in the end are the image of the history of the calls made
   pub image : ImageOf fnvFamily (geometry sizes)
       (historyOf fnvFamily (format (onPages v) sizes .volume) emptyHistory (made (eventsOf es))) (onPages v)
-      (onPages (endVolume (f .finish .last .left) es))
+      (onPages (endVolume (formatEndOf f .left) es))
   -- demand 3, of the format and of each call
-  pub format-answer : f .left .outcome ≡ accepted
-  pub started : f .finish .last .left .state ≡ stateOf sizes 0 0
-  pub agrees : CutsAgree sizes (f .finish .last .left) emptyMap es
+  pub format-answer : formatSays f ≡ accepted
+  pub started : formatEndOf f .left .state ≡ stateOf sizes 0 0
+  pub agrees : CutsAgree sizes (formatEndOf f .left) emptyMap es
 
 pub cut-run : (v : Volume) (sizes : Sizes) (f : CodeFormat) (es : List CodeEvent)
     → allowed sizes ≡ true → tooShort (geometry sizes) (v .flash) (pages (v .ram)) ≡ false → AllNumbers (eventsOf es)
-    → FormatDone v sizes f → CutChain (f .finish .last .left) es
+    → FormatDone v sizes f → CutChain (formatEndOf f .left) es
     → CutRun v sizes f es
 cut-run v sizes f es can long numbers d k =
-    let bs : List ℕ = budgetsOf (f .finish .again) in
-    let first : Volume = formatFor (suc (f .budget)) v sizes .volume in
-    let F = ends (formatFor (suc (f .budget)) v sizes .volume) (f .left .left) (f .finish)
-    (at-left _ _ (left-is (f .left) (suc (f .budget)) _ (formatFor (suc (f .budget)) v sizes) (d .0))) (d .1)
-    (format-accepted fnvFamily v sizes can long (f .budget) (budgetsOf (f .finish .again)) (eventsOf es) numbers) in
-    let A = moved _ _ es (F .left)
-    (all-accepted fnvFamily v sizes can long (f .budget) (budgetsOf (f .finish .again)) (eventsOf es) numbers) in
-    let S = chain-same (f .finish .last .left) es k A in
-    let end : endVolume (f .finish .last .left) es ≡ lift (after fnvFamily (format (onPages v) sizes .volume) (made (eventsOf es)))
-    = S .volume ∙ ap (λ (w : Volume). eventsAfter fnvFamily w (eventsOf es)) (F .left)
-    ∙ power-cuts fnvFamily v sizes can long (f .budget) (budgetsOf (f .finish .again)) (eventsOf es) numbers in
-    let words : KeyWords (made (eventsOf es)) = all-words (eventsOf es) numbers in
-    let ops : codeFormatOps v sizes f ++ codeOps (f .finish .last .left) es
-    ≡ formatOps fnvFamily v sizes (f .budget) (budgetsOf (f .finish .again))
-    ++ eventsOps fnvFamily (formatEnd fnvFamily v sizes (f .budget) (budgetsOf (f .finish .again))) (eventsOf es)
-    = ap (λ (l : List Op). (formatFor (suc (f .budget)) v sizes .ops ++ l) ++ codeOps (f .finish .last .left) es) (F .ops)
-    ∙ ap (λ (l : List Op). formatOps fnvFamily v sizes (f .budget) (budgetsOf (f .finish .again)) ++ l)
-    (S .ops ∙ ap (λ (w : Volume). eventsOps fnvFamily w (eventsOf es)) (F .left)) in
+    let acc = format-accepted fnvFamily v sizes can long (formatOf f) (eventsOf es) numbers in
+    let F = format-same v sizes f d acc in
+    let left : formatEndOf f .left ≡ formatEnd fnvFamily v sizes (formatOf f) = ap (λ (l : Effect). l .left) (F .end) in
+    let S = chain-same (formatEndOf f .left) es k
+    (rw left (all-accepted fnvFamily v sizes can long (formatOf f) (eventsOf es) numbers)) in
+    let last : endVolume (formatEndOf f .left) es ≡ eventsAfter fnvFamily (formatEnd fnvFamily v sizes (formatOf f)) (eventsOf es)
+    = S .volume ∙ ap (λ (w : Volume). eventsAfter fnvFamily w (eventsOf es)) left in
+    let end : endVolume (formatEndOf f .left) es ≡ lift (after fnvFamily (format (onPages v) sizes .volume) (made (eventsOf es)))
+    = last ∙ power-cuts fnvFamily v sizes can long (formatOf f) (eventsOf es) numbers in
+    let ops : codeFormatOps v sizes f ++ codeOps (formatEndOf f .left) es
+    ≡ formatOps fnvFamily v sizes (formatOf f) ++ eventsOps fnvFamily (formatEnd fnvFamily v sizes (formatOf f)) (eventsOf es)
+    = ap (λ (l : List Op). l ++ codeOps (formatEndOf f .left) es) (F .ops)
+    ∙ ap (λ (l : List Op). formatOps fnvFamily v sizes (formatOf f) ++ l)
+    (S .ops ∙ ap (λ (w : Volume). eventsOps fnvFamily w (eventsOf es)) left) in
     record {
-      formatted = F .outcome;
+      formatted = ap (λ (l : Effect). l .outcome) (F .end) ∙ acc;
       each = S .accepts;
       end-is = end;
-      in-order = λ P. rw ops
-          (all-in-order fnvFamily v sizes can long (f .budget) (budgetsOf (f .finish .again)) (eventsOf es) numbers P);
+      flash-is = ap (λ (l : List Op). applyAll (unitOf sizes) l (v .flash)) ops
+          ∙ all-flash fnvFamily v sizes can long (formatOf f) (eventsOf es) numbers ∙ ap (λ (w : Volume). w .flash) (sym last);
+      in-order = λ P. rw ops (all-in-order fnvFamily v sizes can long (formatOf f) (eventsOf es) numbers P);
       image = rw (end, pages-lifted (after fnvFamily (format (onPages v) sizes .volume) (made (eventsOf es))))
-          (demand-2 fnvFamily (onPages v) sizes (made (eventsOf es)) can long words);
-      format-answer = answer-is (f .left) (suc (f .budget)) _ (formatFor (suc (f .budget)) v sizes) (d .0)
-          ∙ format-outcome v sizes (suc (f .budget)) ∙ can-accepted (onPages v) sizes can long;
-      started = ap (λ (w : Volume). w .state)
-          (F .left ∙ power-cuts fnvFamily v sizes can long (f .budget) (budgetsOf (f .finish .again)) [] tt)
+          (demand-2 fnvFamily (onPages v) sizes (made (eventsOf es)) can long (all-words (eventsOf es) numbers));
+      format-answer = F .says ∙ can-accepted (onPages v) sizes can long;
+      started = ap (λ (w : Volume). w .state) (left ∙ power-cuts fnvFamily v sizes can long (formatOf f) [] tt)
           ∙ demand-3 fnvFamily (onPages v) sizes [] can long tt .started;
-      agrees = chain-agrees sizes (f .finish .last .left) emptyMap es k A
-          (agree-moved sizes _ _ emptyMap es (F .left)
-          (cuts-agree fnvFamily v sizes can long (f .budget) (budgetsOf (f .finish .again)) (eventsOf es) numbers));
+      agrees = S .agrees sizes emptyMap (rw left (cuts-agree fnvFamily v sizes can long (formatOf f) (eventsOf es) numbers));
     }
