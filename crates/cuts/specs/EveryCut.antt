@@ -33,7 +33,8 @@ use Rattle.laws.specs.Sound as units
 use Rattle.history.specs.FlashLaws.{apply-main-length, apply-spare-length}
 use Rattle.history.specs.Frames.{Beyond}
 use Rattle.history.specs.Inside.{Inside, main-past, spare-past}
-use Rattle.history.specs.Every.{state-allowed, beyond-kept, format-beyond-kept, ops-inside, format-ops-inside}
+use Rattle.history.specs.Every.{state-allowed, beyond-kept, format-beyond-kept, ops-inside, format-ops-inside, again-beyond-kept}
+use Rattle.history.specs.Every.{again-ops-inside}
 use Rattle.history.specs.CallRefusals.{refusalsOf, Among, call-refusals}
 use Rattle.cuts.specs.Headers.{header-size, intent-length}
 use Rattle.cuts.specs.Whole as whole
@@ -371,20 +372,38 @@ module _ (b : ℕ) (v : Volume) (sizes : Sizes) where
       (header-fits (geometry sizes) (v .flash) (v .ram) (units.pu sizes (units.sound sizes a)) q)))
       (λ a. rw (format-refused 1 (rw a)) (same-beyond (geometry sizes) v))
 
--- a restart that finds a format
-pub restart-format-beyond : (h : Family) (b : ℕ) (v : Volume) (sizes : Sizes) → pendingIn (v .ram) ≡ formatting sizes
-    → CutBeyond (geometry sizes) v (restartFor h b v .volume)
-restart-format-beyond h b v sizes q =
-    either (le? 64 (length (v .ram)))
-    (λ l.
-    rw (restart-is h b v (l .1) ∙ ap (resumed h b v) q)
-    (taken-beyond sizes b v (lastSteps (format (pendingOn v) sizes)) (format (pendingOn v) sizes)
-    (rw (last-ops (format (pendingOn v) sizes .ops) (finished (format (pendingOn v) sizes .volume)))
-    (format-ops-inside (pendingOn v) sizes))
-    (last-stores (KeptRam (ramSize (geometry sizes)) (v .ram)) (format (pendingOn v) sizes .ops)
-    (finished (format (pendingOn v) sizes .volume))
-    (finished-kept sizes v (format (pendingOn v) sizes) (l .1) (format-beyond-kept (pendingOn v) sizes)))))
-    (λ l. rw (short-ram h b v (l .1)) (same-beyond (geometry sizes) v))
+-- the last steps of a result, as a restart does them
+last-beyond : (sizes : Sizes) (b : ℕ) (v : Volume) (r : Result) → 64 ≤ length (v .ram)
+    → Beyond (geometry sizes) (v .flash) (r .volume .flash) (pages (v .ram)) (r .volume .ram)
+    → Inside (unitOf sizes) (blocks (geometry sizes)) (r .ops)
+    → CutBeyond (geometry sizes) v (taken b (unitOf sizes) v (lastSteps r) r .volume)
+last-beyond sizes b v r long B i =
+    taken-beyond sizes b v (lastSteps r) r (rw (last-ops (r .ops) (finished (r .volume))) i)
+    (last-stores (KeptRam (ramSize (geometry sizes)) (v .ram)) (r .ops) (finished (r .volume)) (finished-kept sizes v r long B))
+
+module _ (h : Family) (b : ℕ) (v : Volume) where
+  -- a RAM with no header is refused
+  resumed-beyond : (g : Geometry) (p : Pending) → pendingIn (v .ram) ≡ p
+      → (64 ≤ length (v .ram) → CutBeyond g v (resumed h b v p .volume)) → CutBeyond g v (restartFor h b v .volume)
+  resumed-beyond g p q f =
+      either (le? 64 (length (v .ram)))
+      (λ l. rw (restart-is h b v (l .1) ∙ ap (resumed h b v) q) (f (l .1)))
+      (λ l. rw (short-ram h b v (l .1)) (same-beyond g v))
+
+  -- a restart that finds a format
+  pub restart-format-beyond : (sizes : Sizes) → pendingIn (v .ram) ≡ formatting sizes
+      → CutBeyond (geometry sizes) v (restartFor h b v .volume)
+  restart-format-beyond sizes q =
+      resumed-beyond (geometry sizes) (formatting sizes) q (λ l.
+      last-beyond sizes b v (format (pendingOn v) sizes) l (format-beyond-kept (pendingOn v) sizes) (format-ops-inside (pendingOn v) sizes))
+
+  -- one that finishes a change, by the header's state
+  pub restart-change-beyond : (c : Call) → pendingIn (v .ram) ≡ changing c
+      → CutBeyond (geometry (stateIn (v .ram) .sizes)) v (restartFor h b v .volume)
+  restart-change-beyond c q =
+      resumed-beyond (geometry (stateIn (v .ram) .sizes)) (changing c) q (λ l.
+      last-beyond (stateIn (v .ram) .sizes) b v (callAgain h (pendingOn v) c) l (again-beyond-kept h (pendingOn v) c)
+      (again-ops-inside h (pendingOn v) c))
 
 -- the chip and the RAM as they were
 abbrev pub SameBytes : Volume → Result → Type 0
@@ -402,3 +421,30 @@ restart-idle-keeps h b v q =
     (either-same v (ltb (length (v .ram)) 64) _ _ (refl, refl)
     (either-same v (badState (stateIn (v .ram))) _ _ (refl, refl)
     (either-same v (tooShort (geometry (stateIn (v .ram) .sizes)) (v .flash) (pages (v .ram))) _ _ (refl, refl) (refl, refl))))
+
+bytes-beyond : (g : Geometry) (v w : Volume) → w .flash ≡ v .flash → w .ram ≡ v .ram → CutBeyond g v w
+bytes-beyond g v w f r = record {
+  main = λ x l. rw f;
+  spare = λ x l. rw f;
+  main-length = rw f;
+  spare-length = rw f;
+  ram = rw r (same-ram (ramSize g) (v .ram));
+}
+
+-- the sizes that a header names: those of a pending format, else its state's
+abbrev pub sizesNamed : Pending → List ℕ → Sizes
+sizesNamed nothing ram = stateIn ram .sizes
+sizesNamed (changing c) ram = stateIn ram .sizes
+sizesNamed (formatting sizes) ram = sizes
+sizesNamed unknown ram = stateIn ram .sizes
+
+-- any restart
+pub restart-beyond : (h : Family) (b : ℕ) (v : Volume)
+    → CutBeyond (geometry (sizesNamed (pendingIn (v .ram)) (v .ram))) v (restartFor h b v .volume)
+restart-beyond h b v = by (pendingIn (v .ram)) refl
+  where
+    by : (p : Pending) → pendingIn (v .ram) ≡ p → CutBeyond (geometry (sizesNamed p (v .ram))) v (restartFor h b v .volume)
+    by nothing q = let k = restart-idle-keeps h b v q in bytes-beyond _ v _ (k .0) (k .1)
+    by (changing c) q = restart-change-beyond h b v c q
+    by (formatting sizes) q = restart-format-beyond h b v sizes q
+    by unknown q = resumed-beyond h b v _ unknown q (λ l. same-beyond _ v)

@@ -8,13 +8,14 @@ use Prim.Native.Nat.{ℕ, _+_, _*_, _/_, _%_, _≤_, _<_, zero-le}
 use native.Mathlib.Nat.{mul-le-mul-right}
 use native.Mathlib.Omega.{arith}
 use lib.ListN.{length, replicate, length-replicate}
+use lib.Dec.{eqb}
 use borrow.Author.Tests.{leb-false, eqb-true}
 use Rattle.memory.specs.Cases.{either, bool?}
 use Rattle.memory.specs.Lists.{length-write, getD-write-after}
 use Rattle.memory.specs.Numbers.{carry, div-lt}
 use Rattle.layout.specs.Geometry.{Geometry, geometry, allowed, blocks, kaBlocks, fullSets, recordCapacity, deletionCapacity, ramSize}
 use Rattle.layout.specs.Geometry.{entriesPerPage, deletionIndexBlock, deletionSets, workRam, Sizes, unitOf}
-use Rattle.layout.specs.Flash.{Flash, Op, applyAll, erases, Planned, planOps, allFresh}
+use Rattle.layout.specs.Flash.{Flash, erases, Planned, planOps, allFresh}
 use Rattle.layout.specs.Hash.{Family, fnvFamily}
 use Rattle.layout.specs.Items.{RA, KA, DA, entryBytes, deletionBytes, fills, Record, recordBytes}
 use Rattle.layout.specs.Search.{Stop, found, corrupt}
@@ -22,18 +23,18 @@ use Rattle.layout.specs.Keys.{Key}
 use Rattle.layout.specs.Refusals as refusal
 use Rattle.layout.specs.Calls.{Volume, Call, insert, update, delete, lookup, Outcome, accepted, hit, miss, refused, Result, refuse}
 use Rattle.layout.specs.Calls.{badState, tooShort, judgeFirst, format, formatted, keyIndex, keyFilters, keyPositions, tryAt, maybeIn}
-use Rattle.layout.specs.Calls.{searchAt, search, deletionPlan, deletionRam, newFilter, insertionPlan, insertionRam, commit, noRoom}
-use Rattle.layout.specs.Calls.{noDeletion, insertAfter, updateAfter, deleteAfter, lookupAfter, answer, call, Edit, one, changeBy, change}
-use Rattle.layout.specs.Calls.{deletionIndex, deletionFilters, newHalf}
-use Rattle.history.specs.Operations.{recordRam, entryOps, entryRam, entered, numberOps, numberRam, oneHalf}
+use Rattle.layout.specs.Calls.{searchAt, search, deletionPlan, deletionRam, newFilter, insertionPlan, insertionRam, Commit, performed, commit}
+use Rattle.layout.specs.Calls.{noRoom, noDeletion, insertAfter, updateAfter, deleteAfter, lookupAfter, answer, call, Edit, one, changeBy, change}
+use Rattle.layout.specs.Calls.{insertBy, updateBy, deleteBy, answerBy, deletionIndex, deletionFilters, newHalf}
+use Rattle.layout.specs.Later.{laterPlan, commitLater, callAgain}
+use Rattle.history.specs.Operations.{recordRam, entryRam, numberRam, oneHalf}
 use Rattle.history.specs.FlashLaws.{apply-main-length, apply-spare-length}
 use Rattle.laws.specs.ItemLaws.{length-record, length-entry, length-deletion}
 use Rattle.history.specs.ScanLaws.{search-opened}
-use Rattle.history.specs.PlanLaws.{ops-append}
-use Rattle.history.specs.ChangeLaws.{deletion-ops, deletion-ram, insertion-after, insertion-ops, insertion-ram}
+use Rattle.history.specs.ChangeLaws.{deletion-ram, insertion-ram}
 use Rattle.history.specs.Frames.{Beyond, beyond-same}
-use Rattle.history.specs.Inside.{Inside, inside-none, inside-append, inside-erases, main-past, spare-past, inside-item, inside-filter}
-use Rattle.history.specs.Inside.{Past, past-then, past-zero, past-item, past-filter}
+use Rattle.history.specs.Inside.{Inside, inside-none, inside-erases, main-past, spare-past, PlanInside, inside-ops, inside-later}
+use Rattle.history.specs.Inside.{inside-append, inside-if, inside-item, inside-filter, Past, past-then, past-zero, past-item, past-filter}
 use Rattle.laws.specs.SetLaws.{places-suffice, deletion-places-suffice, first-of-pair}
 use Rattle.laws.specs.Sound.{SizesSound, sound}
 use Rattle.laws.specs.Sound as units
@@ -219,9 +220,9 @@ count-most h v c =
 
 -- ---- "bytes past the volume and past the desk's 20S never change", 24S since document 02, §5
 
--- operations inside the volume, and a RAM that keeps what is past its pages
-record Bounded (g : Geometry) (ram : List ℕ) (ops : List Op) (ram′ : List ℕ) : Type 0 where
-  inside : Inside (g .u) (blocks g) ops
+-- a plan inside the volume, and a RAM that keeps what is past its pages
+record Bounded (g : Geometry) (ram : List ℕ) (plan : List Planned) (ram′ : List ℕ) : Type 0 where
+  inside : PlanInside (g .u) (blocks g) plan
   past : Past (ramSize g) ram ram′
 
 module _ (h : Family) (sizes : Sizes) (ok : SizesSound sizes) where
@@ -233,10 +234,6 @@ module _ (h : Family) (sizes : Sizes) (ok : SizesSound sizes) where
 
   pu : 0 < unitOf sizes
   pu = units.pu sizes ok
-
-  inside-if : (B : ℕ) (b : Bool) (ops : List Op) → (b ≡ true → Inside u B ops) → Inside u B (cond b ops [])
-  inside-if B true ops a = a refl
-  inside-if B false ops a = inside-none u B
 
   past-if : (ram : List ℕ) (b : Bool) (r s : List ℕ) → Past (ramSize g) ram r → Past (ramSize g) ram s → Past (ramSize g) ram (cond b r s)
   past-if ram true r s p q = p
@@ -251,7 +248,7 @@ module _ (h : Family) (sizes : Sizes) (ok : SizesSound sizes) where
       let two : 2 * ((d + 1) / (16 * u)) ≡ 2 * (d / (16 * u)) + 1 + 1 = rw next (omega arith) in
       rw (← two) (deletion-places-suffice u (sizes .daBlocks) (d + 1) pu (omega arith))
 
-  module _ (d j : ℕ) (ram : List ℕ) (C : Flash) (room : d < deletionCapacity g) where
+  module _ (d j : ℕ) (ram : List ℕ) (room : d < deletionCapacity g) where
     number-past : Past (ramSize g) ram (numberRam g d j ram)
     number-past = past-item u (DA g) d (ramSize g) (deletionBytes j) ram (omega (arith, pu)) (omega arith) (length-deletion j) (omega arith)
 
@@ -262,15 +259,21 @@ module _ (h : Family) (sizes : Sizes) (ok : SizesSound sizes) where
         at (past-filter u pu (deletionIndex g) (deletionFilters g d) (ramSize g) (newHalf h g d j 0 ram) (numberRam g d j ram)
         (omega arith)))
 
-    deletion-bounded : Bounded g ram (planOps u (deletionPlan h g d j ram) C) (deletionRam h g d j ram)
+    deletion-inside : PlanInside u (blocks g) (deletionPlan h g d j ram)
+    unfolding deletionPlan
+    deletion-inside =
+        inside-append u (blocks g) _ _
+        (inside-item u (blocks g) (DA g) (sizes .daBlocks) d (deletionBytes j) ram (omega arith)
+        (div-lt d (16 * u) ((sizes .daBlocks) * 16) (omega (arith, pu)) (omega arith)))
+        (inside-if u (blocks g) (fills (DA g) d) _ (λ a.
+        inside-append u (blocks g) _ _
+        (inside-if u (blocks g) (eqb (deletionFilters g d % 8 + 1) 8) _ (λ q. absurd (true≢false (sym q ∙ first-of-pair (d / (16 * u))))))
+        (inside-filter u (ok .e) (units.unit sizes ok) (blocks g) (deletionIndex g) (deletionSets g) (omega arith)
+        (deletionFilters g d + 1) _ (halves-room d room (eqb-true (d % (16 * u) + 1) (16 * u) a)))))
+
+    deletion-bounded : Bounded g ram (deletionPlan h g d j ram) (deletionRam h g d j ram)
     deletion-bounded = record {
-      inside = rw (deletion-ops h g d j ram (ok .e) (units.unit sizes ok) C)
-          (inside-append u (blocks g) (numberOps g d j ram) _
-          (inside-item u (blocks g) (DA g) (sizes .daBlocks) d (deletionBytes j) ram (omega arith)
-          (div-lt d (16 * u) ((sizes .daBlocks) * 16) (omega (arith, pu)) (omega arith)))
-          (inside-if (blocks g) (fills (DA g) d) _ (λ a.
-          inside-filter u (ok .e) (units.unit sizes ok) (blocks g) (deletionIndex g) (deletionSets g) (omega arith)
-          (deletionFilters g d + 1) _ _ (halves-room d room (eqb-true (d % (16 * u) + 1) (16 * u) a)))));
+      inside = deletion-inside;
       past = rw (deletion-ram h g d j ram)
           (past-if ram (fills (DA g) d) _ _
           (past-then (ramSize g) ram _ _ half-past
@@ -289,47 +292,49 @@ module _ (h : Family) (sizes : Sizes) (ok : SizesSound sizes) where
       = either (carry n (8 * u) (omega (arith, pu))) (λ c. c .1) (λ c. absurd (c .0 full)) in
       rw (← next) (places-suffice u (sizes .raBlocks) (n + 1) pu (omega arith))
 
-  module _ (n : ℕ) (key : Key) (bytes ram : List ℕ) (C : Flash) (room : n < recordCapacity g) (size : length bytes ≡ 16) where
+  module _ (n : ℕ) (key : Key) (bytes ram : List ℕ) (room : n < recordCapacity g) (size : length bytes ≡ 16) where
     entry-past : Past (ramSize g) ram (entryRam g n key bytes ram)
     entry-past =
         past-then (ramSize g) ram _ _ (past-item u (RA g) n (ramSize g) bytes ram (omega (arith, pu)) (omega arith) size (omega arith))
         (past-item u (KA g) n (ramSize g) (entryBytes key n) _ (omega (arith, pu)) (omega arith) (length-entry key n) (omega arith))
 
-    -- its operations lie before the index over DA
-    pub insertion-inside : (B : ℕ) → deletionIndexBlock g ≤ B → Inside u B (planOps u (insertionPlan h g n key bytes ram) C)
-    insertion-inside B end =
-        rw (insertion-ops h g n key bytes (ok .e) (units.unit sizes ok) size ram C)
-        (inside-append u B _ _
+    -- it lies before the index over DA
+    insertion-planned : (B : ℕ) → deletionIndexBlock g ≤ B → PlanInside u B (insertionPlan h g n key bytes ram)
+    unfolding insertionPlan
+    insertion-planned B end =
+        inside-append u B _ _
         (inside-item u B (RA g) (sizes .raBlocks) n bytes ram (omega (arith, end))
         (div-lt n (4 * u) ((sizes .raBlocks) * 16) (omega (arith, pu)) (omega arith)))
-        (inside-append u B (entryOps g n key bytes ram) _
-        (inside-item u B (KA g) (kaBlocks g) n (entryBytes key n) (recordRam g n bytes ram) (omega (arith, end)) (ka-room n room))
-        (inside-if B (fills (KA g) n) _ (λ a.
-        inside-filter u (ok .e) (units.unit sizes ok) B (keyIndex g) (fullSets g) (omega (arith, end)) (keyFilters g n)
-        (entered g n key bytes ram C) _ (sets-room n room (eqb-true (n % (8 * u) + 1) (8 * u) a))))))
+        (inside-append u B _ _
+        (inside-item u B (KA g) (kaBlocks g) n (entryBytes key n) ram (omega (arith, end)) (ka-room n room))
+        (inside-if u B (fills (KA g) n) _ (λ a.
+        inside-filter u (ok .e) (units.unit sizes ok) B (keyIndex g) (fullSets g) (omega (arith, end)) (keyFilters g n) _
+        (sets-room n room (eqb-true (n % (8 * u) + 1) (8 * u) a)))))
 
-    insertion-bounded : Bounded g ram (planOps u (insertionPlan h g n key bytes ram) C) (insertionRam h g n key bytes ram)
-    insertion-bounded = record {
-      inside = insertion-inside (blocks g) (omega arith);
-      past = rw (insertion-ram h g n key bytes pu size ram)
-          (past-if ram (fills (KA g) n) _ _
-          (past-then (ramSize g) ram _ _ entry-past
-          (past-filter u pu (keyIndex g) (keyFilters g n) (ramSize g) (newFilter h g n key (recordRam g n bytes ram)) _
-          (omega arith))) entry-past);
-    }
+    insertion-past : Past (ramSize g) ram (insertionRam h g n key bytes ram)
+    insertion-past =
+        rw (insertion-ram h g n key bytes pu size ram)
+        (past-if ram (fills (KA g) n) _ _
+        (past-then (ramSize g) ram _ _ entry-past
+        (past-filter u pu (keyIndex g) (keyFilters g n) (ramSize g) (newFilter h g n key (recordRam g n bytes ram)) _
+        (omega arith))) entry-past)
 
-  update-bounded : (n d j : ℕ) (key : Key) (bytes ram : List ℕ) (C : Flash) → n < recordCapacity g → d < deletionCapacity g
-      → length bytes ≡ 16
-      → Bounded g ram (planOps u (deletionPlan h g d j ram ++ insertionPlan h g n key bytes ram) C)
-      (insertionRam h g n key bytes (deletionRam h g d j ram))
-  update-bounded n d j key bytes ram C room less size =
-      let D₁ = deletion-bounded d j ram C less in
-      let I₁ = insertion-bounded n key bytes (deletionRam h g d j ram) (applyAll u (planOps u (deletionPlan h g d j ram) C) C) room size in
+    insertion-bounded : Bounded g ram (insertionPlan h g n key bytes ram) (insertionRam h g n key bytes ram)
+    insertion-bounded = record { inside = insertion-planned (blocks g) (omega arith); past = insertion-past }
+
+  -- its operations on any chip do
+  pub insertion-inside : (n : ℕ) (key : Key) (bytes ram : List ℕ) (C : Flash) → n < recordCapacity g → length bytes ≡ 16 → (B : ℕ)
+      → deletionIndexBlock g ≤ B → Inside u B (planOps u (insertionPlan h g n key bytes ram) C)
+  insertion-inside n key bytes ram C room size B end =
+      inside-ops u B (insertionPlan h g n key bytes ram) C (insertion-planned n key bytes ram room size B end)
+
+  update-bounded : (n d j : ℕ) (key : Key) (bytes ram : List ℕ) → n < recordCapacity g → d < deletionCapacity g → length bytes ≡ 16
+      → Bounded g ram (deletionPlan h g d j ram ++ insertionPlan h g n key bytes ram) (insertionRam h g n key bytes (deletionRam h g d j ram))
+  update-bounded n d j key bytes ram room less size =
+      let D₁ = deletion-bounded d j ram less in
       record {
-        inside =
-            rw (ops-append u (deletionPlan h g d j ram) (insertionPlan h g n key bytes ram) C, insertion-after h g n key bytes pu d j ram)
-            (inside-append u (blocks g) _ _ (D₁ .inside) (I₁ .inside));
-        past = past-then (ramSize g) ram _ _ (D₁ .past) (I₁ .past);
+        inside = inside-append u (blocks g) _ _ (D₁ .inside) (insertion-bounded n key bytes ram room size .inside);
+        past = past-then (ramSize g) ram _ _ (D₁ .past) (insertion-past n key bytes (deletionRam h g d j ram) room size);
       }
 
   -- what is kept of a volume, and where the operations lie
@@ -343,54 +348,66 @@ module _ (h : Family) (sizes : Sizes) (ok : SizesSound sizes) where
   refuse-kept : (v : Volume) (i : ℕ) → Kept v (refuse v i)
   refuse-kept v i = (beyond-same g (v .flash) (v .ram), inside-none u (blocks g))
 
-  commit-kept : (v : Volume) (n d : ℕ) (plan : List Planned) (ram : List ℕ) → Bounded g (v .ram) (planOps u plan (v .flash)) ram
-      → Kept v (commit g v n d plan ram)
-  unfolding commit
-  commit-kept v n d plan ram b =
-      kept-either v (allFresh (v .flash .spare) (planOps u plan (v .flash))) _ _
-      (λ fresh.
+  -- a way to end a change that stays inside the volume where the plan does
+  abbrev Keeping : Commit → Type 0
+  Keeping end = (v : Volume) (n d : ℕ) (plan : List Planned) (ram : List ℕ) → Bounded g (v .ram) plan ram → Kept v (end g v n d plan ram)
+
+  performed-kept : Keeping performed
+  performed-kept v n d plan ram b =
+      let i = inside-ops u (blocks g) plan (v .flash) (b .inside) in
       let p = past-then (ramSize g) (v .ram) ram _ (b .past) (past-zero u (workRam u) (ramSize g) ram (omega arith)) in (
         record {
-          main = λ x l. main-past u (blocks g) (planOps u plan (v .flash)) (v .flash) x (b .inside) l;
-          spare = λ x l. spare-past u (blocks g) (planOps u plan (v .flash)) (v .flash) x (b .inside) l;
+          main = λ x l. main-past u (blocks g) (planOps u plan (v .flash)) (v .flash) x i l;
+          spare = λ x l. spare-past u (blocks g) (planOps u plan (v .flash)) (v .flash) x i l;
           ram = p .same;
           main-length = apply-main-length u (planOps u plan (v .flash)) (v .flash);
           spare-length = apply-spare-length u (planOps u plan (v .flash)) (v .flash);
           ram-length = p .long;
         },
-        b .inside,
-      ))
-      (λ fresh. refuse-kept v refusal.notFresh)
+        i,
+      )
 
-  module _ (v : Volume) where
-    insert-kept : (r : Record) (s : Option Stop) → Kept v (insertAfter h g v r s)
+  commit-kept : Keeping commit
+  unfolding commit
+  commit-kept v n d plan ram b =
+      kept-either v (allFresh (v .flash .spare) (planOps u plan (v .flash))) _ _
+      (λ fresh. performed-kept v n d plan ram b) (λ fresh. refuse-kept v refusal.notFresh)
+
+  later-kept : Keeping commitLater
+  unfolding commitLater
+  later-kept v n d plan ram b =
+      performed-kept v n d (laterPlan (v .flash .spare) plan) ram
+      (record { inside = inside-later u (blocks g) (v .flash .spare) plan (b .inside); past = b .past })
+
+  module _ (end : Commit) (keeping : Keeping end) (v : Volume) where
+    insert-kept : (r : Record) (s : Option Stop) → Kept v (insertBy end h g v r s)
     unfolding changeBy
     insert-kept r (some corrupt) = refuse-kept v refusal.corruptEntry
     insert-kept r (some (found j)) = refuse-kept v refusal.present
     insert-kept r none =
         kept-either v (noRoom g v) _ _ (λ a. refuse-kept v refusal.full)
-        (λ a. commit-kept v _ _ _ _ (insertion-bounded (v .state .records) (r .key) (recordBytes r) (v .ram) (v .flash)
+        (λ a. keeping v _ _ _ _ (insertion-bounded (v .state .records) (r .key) (recordBytes r) (v .ram)
         (leb-false (recordCapacity g) (v .state .records) a) (length-record r)))
 
-    update-kept : (r : Record) (s : Option Stop) → Kept v (updateAfter h g v r s)
+    update-kept : (r : Record) (s : Option Stop) → Kept v (updateBy end h g v r s)
     unfolding changeBy
     update-kept r (some corrupt) = refuse-kept v refusal.corruptEntry
     update-kept r none = insert-kept r none
     update-kept r (some (found j)) =
         kept-either v (noRoom g v) _ _ (λ a. refuse-kept v refusal.full)
         (λ a. kept-either v (noDeletion g v) _ _ (λ b. refuse-kept v refusal.deletionsFull)
-        (λ b. commit-kept v _ _ _ _
-        (update-bounded (v .state .records) (v .state .deletions) j (r .key) (recordBytes r) (v .ram) (v .flash)
+        (λ b. keeping v _ _ _ _
+        (update-bounded (v .state .records) (v .state .deletions) j (r .key) (recordBytes r) (v .ram)
         (leb-false (recordCapacity g) (v .state .records) a) (leb-false (deletionCapacity g) (v .state .deletions) b) (length-record r))))
 
-    delete-kept : (s : Option Stop) → Kept v (deleteAfter h g v s)
+    delete-kept : (s : Option Stop) → Kept v (deleteBy end h g v s)
     unfolding changeBy
     delete-kept (some corrupt) = refuse-kept v refusal.corruptEntry
     delete-kept none = refuse-kept v refusal.absent
     delete-kept (some (found j)) =
         kept-either v (noDeletion g v) _ _ (λ b. refuse-kept v refusal.deletionsFull)
-        (λ b. commit-kept v _ _ _ _ (rw (append-nil (deletionPlan h g (v .state .deletions) j (v .ram)))
-        (deletion-bounded (v .state .deletions) j (v .ram) (v .flash) (leb-false (deletionCapacity g) (v .state .deletions) b))))
+        (λ b. keeping v _ _ _ _ (rw (append-nil (deletionPlan h g (v .state .deletions) j (v .ram)))
+        (deletion-bounded (v .state .deletions) j (v .ram) (leb-false (deletionCapacity g) (v .state .deletions) b))))
 
     lookup-kept : (opened daPages : ℕ) (s : Option Stop) → Kept v (lookupAfter g v opened daPages s)
     unfolding lookupAfter
@@ -398,27 +415,27 @@ module _ (h : Family) (sizes : Sizes) (ok : SizesSound sizes) where
     lookup-kept opened daPages none = refuse-kept v 0
     lookup-kept opened daPages (some (found j)) = refuse-kept v 0
 
-    answer-kept : (c : Call) → Kept v (answer h g v c)
+    answer-kept : (c : Call) → Kept v (answerBy end h g v c)
     answer-kept (insert r) = insert-kept r (search h g v (r .key) .stop)
     answer-kept (update r) = update-kept r (search h g v (r .key) .stop)
     answer-kept (delete key) = delete-kept (search h g v key .stop)
     answer-kept (lookup key) = lookup-kept (search h g v key .opened) _ (search h g v key .stop)
 
-    format-kept : Kept v (formatted v sizes)
-    unfolding formatted
-    format-kept =
-        let l : length (replicate {A = ℕ} (6 * (64 * u)) 0) ≡ 6 * (64 * u) = length-replicate {A = ℕ} (6 * (64 * u)) 0 in
-        let i = inside-erases u (blocks g) 0 (blocks g) (omega arith) in (
-          record {
-            main = λ x q. main-past u (blocks g) (erases 0 (blocks g)) (v .flash) x i q;
-            spare = λ x q. spare-past u (blocks g) (erases 0 (blocks g)) (v .flash) x i q;
-            ram = λ x q. getD-write-after (v .ram) 0 (replicate (6 * (64 * u)) 0) x 0 (omega (arith, l));
-            main-length = apply-main-length u (erases 0 (blocks g)) (v .flash);
-            spare-length = apply-spare-length u (erases 0 (blocks g)) (v .flash);
-            ram-length = length-write (v .ram) 0 (replicate (6 * (64 * u)) 0);
-          },
-          i,
-        )
+  format-kept : (v : Volume) → Kept v (formatted v sizes)
+  unfolding formatted
+  format-kept v =
+      let l : length (replicate {A = ℕ} (6 * (64 * u)) 0) ≡ 6 * (64 * u) = length-replicate {A = ℕ} (6 * (64 * u)) 0 in
+      let i = inside-erases u (blocks g) 0 (blocks g) (omega arith) in (
+        record {
+          main = λ x q. main-past u (blocks g) (erases 0 (blocks g)) (v .flash) x i q;
+          spare = λ x q. spare-past u (blocks g) (erases 0 (blocks g)) (v .flash) x i q;
+          ram = λ x q. getD-write-after (v .ram) 0 (replicate (6 * (64 * u)) 0) x 0 (omega (arith, l));
+          main-length = apply-main-length u (erases 0 (blocks g)) (v .flash);
+          spare-length = apply-spare-length u (erases 0 (blocks g)) (v .flash);
+          ram-length = length-write (v .ram) 0 (replicate (6 * (64 * u)) 0);
+        },
+        i,
+      )
 
 -- a state that is not bad has allowed sizes
 pub state-allowed : (v : Volume) → badState (v .state) ≡ false → allowed (v .state .sizes) ≡ true
@@ -433,14 +450,27 @@ Bounds sizes v r =
 same-bounds : (sizes : Sizes) (v : Volume) (i : ℕ) → Bounds sizes v (refuse v i)
 same-bounds sizes v i = (beyond-same (geometry sizes) (v .flash) (v .ram), inside-none (unitOf sizes) (blocks (geometry sizes)))
 
-call-bounds : (h : Family) (v : Volume) (c : Call) → Bounds (v .state .sizes) v (call h v c)
-unfolding call judgeFirst
-call-bounds h v c =
+-- 1 and 2 first
+judged-bounds : (v : Volume) (r : Result) → (allowed (v .state .sizes) ≡ true → Bounds (v .state .sizes) v r)
+    → Bounds (v .state .sizes) v (judgeFirst v r)
+unfolding judgeFirst
+judged-bounds v r f =
     either (bool? (badState (v .state)))
     (λ a. rw a (same-bounds (v .state .sizes) v refusal.badState))
     (λ a. either (bool? (tooShort (geometry (v .state .sizes)) (v .flash) (v .ram)))
     (λ b. rw (a, b) (same-bounds (v .state .sizes) v refusal.tooShort))
-    (λ b. rw (a, b) (answer-kept h (v .state .sizes) (sound _ (state-allowed v a)) v c)))
+    (λ b. rw (a, b) (f (state-allowed v a))))
+
+call-bounds : (h : Family) (v : Volume) (c : Call) → Bounds (v .state .sizes) v (call h v c)
+unfolding call
+call-bounds h v c =
+    judged-bounds v _ (λ a. answer-kept h (v .state .sizes) (sound _ a) commit (commit-kept h (v .state .sizes) (sound _ a)) v c)
+
+-- the same call, gone on with by a restart
+again-bounds : (h : Family) (v : Volume) (c : Call) → Bounds (v .state .sizes) v (callAgain h v c)
+unfolding callAgain
+again-bounds h v c =
+    judged-bounds v _ (λ a. answer-kept h (v .state .sizes) (sound _ a) commitLater (later-kept h (v .state .sizes) (sound _ a)) v c)
 
 format-bounds : (v : Volume) (sizes : Sizes) → Bounds sizes v (format v sizes)
 unfolding format
@@ -455,6 +485,10 @@ pub beyond-kept : (h : Family) (v : Volume) (c : Call)
     → Beyond (geometry (v .state .sizes)) (v .flash) (call h v c .volume .flash) (v .ram) (call h v c .volume .ram)
 beyond-kept h v c = call-bounds h v c .0
 
+pub again-beyond-kept : (h : Family) (v : Volume) (c : Call)
+    → Beyond (geometry (v .state .sizes)) (v .flash) (callAgain h v c .volume .flash) (v .ram) (callAgain h v c .volume .ram)
+again-beyond-kept h v c = again-bounds h v c .0
+
 pub format-beyond-kept : (v : Volume) (sizes : Sizes)
     → Beyond (geometry sizes) (v .flash) (format v sizes .volume .flash) (v .ram) (format v sizes .volume .ram)
 format-beyond-kept v sizes = format-bounds v sizes .0
@@ -463,6 +497,10 @@ format-beyond-kept v sizes = format-bounds v sizes .0
 pub ops-inside : (h : Family) (v : Volume) (c : Call)
     → Inside (unitOf (v .state .sizes)) (blocks (geometry (v .state .sizes))) (call h v c .ops)
 ops-inside h v c = call-bounds h v c .1
+
+pub again-ops-inside : (h : Family) (v : Volume) (c : Call)
+    → Inside (unitOf (v .state .sizes)) (blocks (geometry (v .state .sizes))) (callAgain h v c .ops)
+again-ops-inside h v c = again-bounds h v c .1
 
 pub format-ops-inside : (v : Volume) (sizes : Sizes) → Inside (unitOf sizes) (blocks (geometry sizes)) (format v sizes .ops)
 format-ops-inside v sizes = format-bounds v sizes .1

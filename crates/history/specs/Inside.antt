@@ -1,22 +1,25 @@
--- Operations inside the first B blocks of a chip, and RAM written below byte N: what lies past these is kept.
+-- Operations inside the first B blocks of a chip, plans whose operations lie there on every chip, and RAM written below byte N: what lies
+-- past these is kept.
 use mathlib.Core.Path.{_≡_, refl, _∙_}
 use mathlib.Core.Logic.{inr}
-use mathlib.Core.Bool.{Bool}
+use mathlib.Core.Bool.{Bool, true, false, cond}
 use mathlib.Core.List.{List, [], _∷_, _++_}
 use Prim.Native.Nat.{ℕ, zero, suc, _+_, _*_, _/_, _%_, _≤_, _<_}
 use native.Mathlib.Nat.{mul-le-mul-right, mod-lt}
 use native.Mathlib.Omega.{arith}
 use lib.ListN.{length, getD, replicate, length-replicate}
 use lib.Seq.{getD-set-other}
+use lib.Dec.{eqb}
+use borrow.Author.Tests.{eqb-true}
 use Rattle.memory.specs.Cases.{either, bool?, eq?}
 use Rattle.memory.specs.Lists.{length-tab, length-write, getD-write-after}
 use Rattle.memory.specs.Numbers.{carry}
 use Rattle.layout.specs.Geometry.{sector, page, block}
-use Rattle.layout.specs.Flash.{Flash, Op, program, erase, apply, applyAll, erases}
-use Rattle.layout.specs.Items.{Area, put, fills, itemRam, zeroPage}
-use Rattle.layout.specs.Index.{Index, inSka, inL1, inSet, inFull, setPages, setBlocks, sideBlock, fullBlock, setBlock, withFilter}
-use Rattle.layout.specs.Index.{filterRam}
-use Rattle.history.specs.Operations.{programs, itemOps, flushOps, buildOps, flushAndBuildOps, filterOps}
+use Rattle.layout.specs.Flash.{Flash, Op, program, erase, apply, applyAll, erases, Planned, known, made, wipe, plannedFrom, planOps}
+use Rattle.layout.specs.Items.{Area, put, fills, pageSector, itemPlan, itemRam, zeroPage}
+use Rattle.layout.specs.Index.{Index, inSka, inL1, inSet, inFull, setPages, setBlocks, sideBlock, fullBlock, setBlock, setByte, withFilter}
+use Rattle.layout.specs.Index.{flushSector, setSector, buildPlan, flushAndBuild, filterPlan, filterRam}
+use Rattle.layout.specs.Later.{freshPlan, laterPlan}
 use Rattle.laws.specs.SetLaws.{blocks-fit, side-range}
 use Rattle.history.specs.SkaLaws.{filter-out, filter-length}
 use Rattle.laws.specs.Units.{UnitIs}
@@ -30,22 +33,6 @@ Inside u B (program s bytes ∷ os) = (s < B * 64) × (length bytes ≡ sector u
 Inside u B (erase b ∷ os) = (b < B) × Inside u B os
 
 module _ (u B : ℕ) where
-  pub inside-append : (xs ys : List Op) → Inside u B xs → Inside u B ys → Inside u B (xs ++ ys)
-  unfolding Inside
-  inside-append [] ys a b = b
-  inside-append (program s bytes ∷ os) ys a b = (a .0, a .1, inside-append os ys (a .2) b)
-  inside-append (erase k ∷ os) ys a b = (a .0, inside-append os ys (a .1) b)
-
-  pub inside-programs : (d s k : ℕ) (f : ℕ → ℕ → ℕ) → ((j : ℕ) → j < k → s + j * d < B * 64) → Inside u B (programs u d s k f)
-  unfolding Inside
-  inside-programs d s zero f h = tt
-  inside-programs d s (suc k) f h =
-      let first = h 0 (omega arith) in (
-        omega arith,
-        length-tab (16 * u) (f zero),
-        inside-programs d (s + d) k (λ j. f (suc j)) (λ j l. let next = h (suc j) (omega arith) in omega arith),
-      )
-
   pub inside-erases : (b k : ℕ) → b + k ≤ B → Inside u B (erases b k)
   unfolding Inside
   inside-erases b zero h = tt
@@ -78,14 +65,56 @@ module _ (u B : ℕ) where
   unfolding Inside
   inside-none = tt
 
+-- ---- plans
+
+-- a planned operation, on whatever chip it is done
+abbrev pub OneInside : ℕ → ℕ → Planned → Type 0
+OneInside u B (known s bytes) = (s < B * 64) × (length bytes ≡ sector u)
+OneInside u B (made s bytes) = (s < B * 64) × ((main : List ℕ) → length (bytes main) ≡ sector u)
+OneInside u B (wipe b) = b < B
+
+unfoldable pub PlanInside : ℕ → ℕ → List Planned → Type 0
+PlanInside u B [] = Unit {0}
+PlanInside u B (p ∷ ps) = OneInside u B p × PlanInside u B ps
+
+module _ (u B : ℕ) where
+  -- so are its operations
+  pub inside-ops : (ps : List Planned) (c : Flash) → PlanInside u B ps → Inside u B (planOps u ps c)
+  unfolding Inside PlanInside
+  inside-ops [] c i = tt
+  inside-ops (known s bytes ∷ ps) c i = (i .0 .0, i .0 .1, inside-ops ps (apply u (program s bytes) c) (i .1))
+  inside-ops (made s bytes ∷ ps) c i =
+      (i .0 .0, i .0 .1 (c .main), inside-ops ps (apply u (program s (bytes (c .main))) c) (i .1))
+  inside-ops (wipe b ∷ ps) c i = (i .0, inside-ops ps (apply u (erase b) c) (i .1))
+
+  -- and the end of it that a restart finds to do
+  pub inside-later : (spare : List ℕ) (ps : List Planned) → PlanInside u B ps → PlanInside u B (laterPlan spare ps)
+  unfolding PlanInside laterPlan
+  inside-later spare [] i = tt
+  inside-later spare (p ∷ ps) i =
+      either (bool? (freshPlan spare (p ∷ ps))) (λ q. rw q i) (λ q. rw q (inside-later spare ps (i .1)))
+
+  pub inside-append : (xs ys : List Planned) → PlanInside u B xs → PlanInside u B ys → PlanInside u B (xs ++ ys)
+  unfolding PlanInside
+  inside-append [] ys a b = b
+  inside-append (p ∷ ps) ys a b = (a .0, inside-append ps ys (a .1) b)
+
+  pub inside-if : (b : Bool) (ps : List Planned) → (b ≡ true → PlanInside u B ps) → PlanInside u B (cond b ps [])
+  unfolding PlanInside
+  inside-if true ps a = a refl
+  inside-if false ps a = tt
+
+  inside-planned : (f : ℕ → Planned) (i k : ℕ) → ((j : ℕ) → j < i + k → OneInside u B (f j)) → PlanInside u B (plannedFrom f i k)
+  unfolding PlanInside
+  inside-planned f i zero h = tt
+  inside-planned f i (suc k) h = (h i (omega arith), inside-planned f (suc i) k (λ j l. h j (omega arith)))
+
   -- a page of an area that has so many blocks
   pub inside-item : (a : Area) (blocks n : ℕ) (item ram : List ℕ) → a .first + blocks ≤ B → n / a .perPage < blocks * 16
-      → Inside u B (itemOps u a n item ram)
+      → PlanInside u B (itemPlan u a n item ram)
   inside-item a blocks n item ram e h =
-      either (bool? (fills a n))
-      (λ f. rw f (inside-programs 1 (a .first * 64 + n / a .perPage * 4) 4 (λ j y. getD (put a n item ram) (a .ram + (j * sector u + y)) 0)
-      (λ j l. omega arith)))
-      (λ f. rw f inside-none)
+      inside-if (fills a n) _ (λ f.
+      inside-planned (pageSector u a n (put a n item ram)) 0 4 (λ j l. (omega arith, length-tab (16 * u) _)))
 
 -- ---- one more filter of an index with Z places for full sets
 
@@ -93,9 +122,8 @@ module _ (u e : ℕ) (unit : UnitIs u e) (B : ℕ) (ix : Index) (Z : ℕ) (end :
   four-pos : 0 < 4 * u
   four-pos = omega (arith, unit .some)
 
-  inside-flush : (t : ℕ) (ram : List ℕ) → t < 16 → Inside u B (flushOps u ix t ram)
-  inside-flush t ram h =
-      inside-programs u B 16 (ix .first * 64 + t) 4 (λ i y. getD ram (ix .ska + (i * sector u + y)) 0) (λ j l. omega (arith, end))
+  inside-flush : (t : ℕ) (ram : List ℕ) → t < 16 → PlanInside u B (plannedFrom (flushSector u ix t ram) 0 4)
+  inside-flush t ram h = inside-planned u B (flushSector u ix t ram) 0 4 (λ j l. (omega (arith, end), length-tab (16 * u) _))
 
   -- the set of c + 1 rounds at its place, and that of c rounds on its side
   new-inside : (z c : ℕ) → c < 4 * u → (c + 1 ≡ 4 * u → z < Z) → setBlock u ix z c * 64 + setPages (c + 1) * 4 ≤ B * 64
@@ -109,12 +137,15 @@ module _ (u e : ℕ) (unit : UnitIs u e) (B : ℕ) (ix : Index) (Z : ℕ) (end :
   old-inside zero h = omega (arith, end, side-range u ix zero .1)
   old-inside (suc c) h = omega (arith, end, side-range u ix (suc c) .1, blocks-fit u e (unit .power) (suc c) (omega arith))
 
-  inside-build : (main : List ℕ) (z c : ℕ) → c < 4 * u → (c + 1 ≡ 4 * u → z < Z) → Inside u B (buildOps u ix main z c)
-  inside-build main z c hc hz =
+  inside-build : (z c : ℕ) → c < 4 * u → (c + 1 ≡ 4 * u → z < Z) → PlanInside u B (buildPlan u ix z c)
+  inside-build z c hc hz =
       let n = new-inside z c hc hz in
-      inside-append u B _ _ (inside-programs u B 1 (setBlock u ix z c * 64) (setPages (c + 1) * 4) _ (λ j l. omega (arith, n)))
-      (inside-append u B _ _ (inside-erases u B (ix .first) 1 (omega (arith, end)))
-      (inside-erases u B (sideBlock u ix c) (setBlocks c) (old-inside c hc)))
+      let o = old-inside c hc in
+      inside-append u B _ _
+      (inside-planned u B (setSector u ix z c) 0 (setPages (c + 1) * 4)
+      (λ j l. (omega (arith, n), λ main. length-tab (16 * u) (setByte u ix main z c j))))
+      (inside-append u B _ _ (inside-planned u B (λ j. wipe (ix .first + j)) 0 1 (λ j l. omega (arith, end)))
+      (inside-planned u B (λ j. wipe (sideBlock u ix c + j)) 0 (setBlocks c) (λ j l. omega (arith, o))))
 
   -- the last round of a set takes one more place
   place-left : (N : ℕ) → inFull u (N + 1) ≤ Z → N % 8 + 1 ≡ 8 → N / 8 % 16 + 1 ≡ 16 → inSet u N + 1 ≡ 4 * u → inFull u N < Z
@@ -124,19 +155,15 @@ module _ (u e : ℕ) (unit : UnitIs u e) (B : ℕ) (ix : Index) (Z : ℕ) (end :
       let r : (N / 8 / 16 + 1) / (4 * u) ≤ Z = rw (a, b) at room in
       either (carry (N / 8 / 16) (4 * u) four-pos) (λ d. omega (arith, d .1, r)) (λ d. absurd (d .0 last))
 
-  pub inside-filter : (N : ℕ) (C : Flash) (ram : List ℕ) → inFull u (N + 1) ≤ Z → Inside u B (filterOps u ix C N ram)
-  unfolding flushAndBuildOps
-  inside-filter N C ram room =
-      either (eq? (N % 8 + 1) 8)
-      (λ a. rw (a .0) (flushed (a .1)))
-      (λ a. rw (a .0) (inside-none u B))
+  pub inside-filter : (N : ℕ) (ram : List ℕ) → inFull u (N + 1) ≤ Z → PlanInside u B (filterPlan u ix N ram)
+  unfolding flushAndBuild
+  inside-filter N ram room = inside-if u B (eqb (N % 8 + 1) 8) _ (λ q. flushed (eqb-true (N % 8 + 1) 8 q))
     where
-      flushed : N % 8 + 1 ≡ 8 → Inside u B (flushAndBuildOps u ix C N ram)
+      flushed : N % 8 + 1 ≡ 8 → PlanInside u B (flushAndBuild u ix N ram)
       flushed eight =
           inside-append u B _ _ (inside-flush (inL1 N) ram (omega arith))
-          (either (eq? (N / 8 % 16 + 1) 16)
-          (λ b. rw (b .0) (inside-build _ (inFull u N) (inSet u N) (mod-lt (N / 8 / 16) four-pos) (place-left N room eight (b .1))))
-          (λ b. rw (b .0) (inside-none u B)))
+          (inside-if u B (eqb (N / 8 % 16 + 1) 16) _ (λ q.
+          inside-build (inFull u N) (inSet u N) (mod-lt (N / 8 / 16) four-pos) (place-left N room eight (eqb-true (N / 8 % 16 + 1) 16 q))))
 
 -- ---- RAM
 
