@@ -112,7 +112,7 @@ module _ (h : Family) (sizes : Sizes) (ok : SizesSound sizes) (can : allowed siz
   idle-ops (b ∷ bs) = ap (λ (r : Result). r .ops ++ restartsOps h bs (r .volume)) (idle-one b) ∙ idle-ops bs
 
   -- and one with enough after them
-  pub event-idle : (bs : List ℕ) → EventIs (unitOf sizes) (spareSize g) h w w (idle bs)
+  event-idle : (bs : List ℕ) → EventIs (unitOf sizes) (spareSize g) h w w (idle bs)
   event-idle bs =
       let last : finish h bs (lift w) ≡ record { outcome = accepted; count = 0; daPages = 0; volume = lift w; ops = [] }
       = ap (restartWhole h) (idle-all bs) ∙ idle-one _ in
@@ -142,7 +142,7 @@ module _ (h : Family) (sizes : Sizes) (ok : SizesSound sizes) (can : allowed siz
       }
 
   -- "a cut before the intent leaves what was there"
-  pub event-none : (c : Call) (bs : List ℕ) → EventIs (unitOf sizes) (spareSize g) h w w (cut c 0 bs)
+  event-none : (c : Call) (bs : List ℕ) → EventIs (unitOf sizes) (spareSize g) h w w (cut c 0 bs)
   event-none c bs = still c 0 bs (call-none h (lift w) c .0) (call-none h (lift w) c .1)
 
   module _ (c : Call) (n : Numbers c) (less : (k : Key) (j : ℕ) → findLive H k ≡ some j → length (H .deleted) < length (H .records)) where
@@ -190,7 +190,7 @@ module _ (h : Family) (sizes : Sizes) (ok : SizesSound sizes) (can : allowed siz
     quiet : Quiet (call h w c .outcome) → (b : ℕ) (bs : List ℕ) → EventIs (unitOf sizes) (spareSize g) h w w (cut c b bs)
     quiet q b bs = still c b bs (call-quiet q b .0) (call-quiet q b .1)
 
-    pub event-some : (b : ℕ) (bs : List ℕ) → EventIs (unitOf sizes) (spareSize g) h w (call h w c .volume) (cut c (suc b) bs)
+    event-some : (b : ℕ) (bs : List ℕ) → EventIs (unitOf sizes) (spareSize g) h w (call h w c .volume) (cut c (suc b) bs)
     event-some b bs =
         either (quiet? (call h w c .outcome))
         (λ a. done a b bs)

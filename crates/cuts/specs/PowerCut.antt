@@ -59,7 +59,8 @@ module _ (h : Family) (sizes : Sizes) where
     accepts = (X .accepts, rw (X .volume-is) (T .accepts));
   }
 
-  run : (w : Volume) (m : Map) (es : List Event) → AllNumbers es → Reached h sizes w m → EventsAre (unitOf sizes) (spareSize g) h w es
+  pub run : (w : Volume) (m : Map) (es : List Event) → AllNumbers es → Reached h sizes w m
+      → EventsAre (unitOf sizes) (spareSize (geometry sizes)) h w es
   run w m [] n X = record { volume-is = refl; flash-is = refl; ops-allowed = tt; inside = tt; accepts = tt }
   run w m (e ∷ es) n X =
       joined w (after h w (callsOf e)) e es (after-append h w (callsOf e) (made es)) (event-is h sizes w m e X (n .0))

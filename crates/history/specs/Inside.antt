@@ -73,6 +73,7 @@ OneInside u B (known s bytes) = (s < B * 64) × (length bytes ≡ sector u)
 OneInside u B (made s bytes) = (s < B * 64) × ((main : List ℕ) → length (bytes main) ≡ sector u)
 OneInside u B (wipe b) = b < B
 
+-- all of a plan
 unfoldable pub PlanInside : ℕ → ℕ → List Planned → Type 0
 PlanInside u B [] = Unit {0}
 PlanInside u B (p ∷ ps) = OneInside u B p × PlanInside u B ps
@@ -104,6 +105,7 @@ module _ (u B : ℕ) where
   inside-if true ps a = a refl
   inside-if false ps a = tt
 
+  -- k of them in a row
   inside-planned : (f : ℕ → Planned) (i k : ℕ) → ((j : ℕ) → j < i + k → OneInside u B (f j)) → PlanInside u B (plannedFrom f i k)
   unfolding PlanInside
   inside-planned f i zero h = tt

@@ -1,5 +1,5 @@
 -- Loads on volumes with a header: a load that is not cut is document 01's, so demands 2 and 3 hold of lists of calls and loads with enough
--- steps; and a load that is cut in a row is finished by a restart. Document 02, requests 1 and 8.
+-- steps; and a load that is cut in a row is finished by a restart, also in lists of calls and loads. Document 02, requests 1 and 8.
 use mathlib.Core.Path.{_≡_, refl, sym, ap, subst, _∙_}
 use mathlib.Core.Bool.{Bool, true, false, cond}
 use mathlib.Core.Option.{Option, none, some}
@@ -19,16 +19,16 @@ use Rattle.layout.specs.FiniteMap.{Map, emptyMap, mapOf}
 use Rattle.layout.specs.Header.{pages, onPages, noIntent, kindIn}
 use Rattle.layout.specs.Budgets.{callWhole, formatWhole, restarts, restartWhole}
 use Rattle.layout.specs.Several.{Several, goOn, isLive, putCall}
-use Rattle.laws.specs.Sound.{sound}
 use Rattle.history.specs.Every.{can-accepted}
 use Rattle.history.specs.Live.{emptyHistory}
 use Rattle.history.specs.Reached.{Reached}
 use Rattle.history.specs.Runs.{after, opsOf, ProgramOrder, ResultAgrees, historyOf, ImageOf, replyOf}
-use Rattle.cuts.specs.Events.{lift, Finished, Numbers}
+use Rattle.cuts.specs.Events.{lift, Finished, Numbers, Format, formatEnd, formatOps}
 use Rattle.cuts.specs.Headers.{pages-stored, idle-kind}
 use Rattle.cuts.specs.Uncut.{pages-lifted, finished-lifted, agrees-lifted, whole-lifted, format-lifted, format-lifted-ops, wholeOps}
-use Rattle.cuts.specs.Uncut.{ops-lifted}
-use Rattle.cuts.specs.Several.{CallNumbers, severalFor, begun, allSteps, all-begun, several-whole, several-end}
+use Rattle.cuts.specs.Uncut.{ops-lifted, wholeAfter, after-lifted}
+use Rattle.cuts.specs.Several.{CallNumbers, severalFor, begun, allSteps, all-begun, several-whole, several-end, Turn, TurnNumbers}
+use Rattle.cuts.specs.Several.{wholeTurn, cutTurn, turnsAfter, turnsOps, turnsBegun, turns-end, turns-flash, turns-in-order}
 use Rattle.tab.specs.Grammar.{Row}
 use Rattle.tab.specs.Reader.{GotLine, body, row, rowsIn, rowsOf, continue}
 use Rattle.tab.specs.Agree.{row-sound}
@@ -226,19 +226,11 @@ module _ (h : Family) where
   pub tab-numbers : (v : Volume) (text : List ℕ) → CallNumbers (tabCalls h v text)
   tab-numbers v text = lines-numbers v (body text)
 
-  moved : (w w′ : Volume) (b : ℕ) (bs : List ℕ) (cs : List Call) → w ≡ w′
-      → restartWhole h (restarts h bs (severalFor h b (lift w′) cs)) .volume ≡ lift (after h w′ (begun h b w′ cs))
-      → restartWhole h (restarts h bs (severalFor h b (lift w) cs)) .volume ≡ lift (after h w (begun h b w cs))
-  moved w w′ b bs cs e X = rw e X
-
   -- "Of a call made of several, as a load, each is cut and finished by itself": with b steps for all rows, then any restarts and one with
   -- enough, the rows up to the one that was cut are loaded, that one too if a step of it was done
   pub load-cut : (sizes : Sizes) (w : Volume) (m : Map) (text : List ℕ) (b : ℕ) (bs : List ℕ) → Reached h sizes w m
       → restartWhole h (restarts h bs (severalFor h b (lift w) (tabCalls h w text))) .volume ≡ lift (after h w (begun h b w (tabCalls h w text)))
-  load-cut sizes w m text b bs X =
-      moved w _ b bs (tabCalls h w text) (X .is)
-      (several-end h sizes (sound sizes (X .can)) (X .can) (X .H) (w .flash) (w .ram) m b bs (tabCalls h w text) (tab-numbers w text)
-      (X .holds) (X .live))
+  load-cut sizes w m text b bs X = several-end h sizes w m b bs (tabCalls h w text) (tab-numbers w text) X
 
   -- with as many steps as all rows have, these are all rows, and the volume is that of the load with enough
   pub load-begun : (w : Volume) (text : List ℕ) (b : ℕ) → allSteps h w (tabCalls h w text) ≤ b
@@ -251,3 +243,69 @@ module _ (h : Family) where
   load-enough sizes w m text b X l =
       several-whole h w b (tabCalls h w text) l ∙ ap lift (sym (load-is h sizes w m text X))
       ∙ ap (λ (s : Several). s .volume) (sym (load-lifted w text))
+
+  -- a load with enough leaves what its rows leave, each with enough
+  pub load-rows : (sizes : Sizes) (w : Volume) (m : Map) (text : List ℕ) → Reached h sizes w m
+      → loadWhole h (lift w) text .volume ≡ wholeAfter h (lift w) (tabCalls h w text)
+  load-rows sizes w m text X =
+      ap (λ (s : Several). s .volume) (load-lifted w text) ∙ ap lift (load-is h sizes w m text X)
+      ∙ sym (after-lifted h w (tabCalls h w text))
+
+-- ---- lists of calls and loads, each whole or cut
+
+-- a call or a load with enough; one with its budget, and the budgets of the restarts after it; restarts with no call pending. After the
+-- restarts one with enough follows
+pub data CutMove : Type 0 where
+  wholeCall : Call → CutMove
+  wholeLoad : List ℕ → CutMove
+  cutCall : Call → ℕ → List ℕ → CutMove
+  cutLoad : List ℕ → ℕ → List ℕ → CutMove
+  idleMove : List ℕ → CutMove
+
+-- all numbers of the calls are 32-bit numbers; nothing is asked of a tab
+abbrev pub CutNumbers : List CutMove → Type 0
+CutNumbers [] = Unit {0}
+CutNumbers (wholeCall c ∷ ms) = Numbers c × CutNumbers ms
+CutNumbers (wholeLoad text ∷ ms) = CutNumbers ms
+CutNumbers (cutCall c b bs ∷ ms) = Numbers c × CutNumbers ms
+CutNumbers (cutLoad text b bs ∷ ms) = CutNumbers ms
+CutNumbers (idleMove bs ∷ ms) = CutNumbers ms
+
+module _ (h : Family) where
+  -- a load is the calls of its rows
+  abbrev pub turnOf : CutMove → Turn
+  turnOf (wholeCall c) = wholeTurn (λ w. c ∷ [])
+  turnOf (wholeLoad text) = wholeTurn (λ w. tabCalls h w text)
+  turnOf (cutCall c b bs) = cutTurn (λ w. c ∷ []) b bs
+  turnOf (cutLoad text b bs) = cutTurn (λ w. tabCalls h w text) b bs
+  turnOf (idleMove bs) = cutTurn (λ w. []) 0 bs
+
+  -- all of a list
+  abbrev pub turnsOf : List CutMove → List Turn
+  turnsOf [] = []
+  turnsOf (m ∷ ms) = turnOf m ∷ turnsOf ms
+
+  turn-numbers : (ms : List CutMove) → CutNumbers ms → TurnNumbers (turnsOf ms)
+  turn-numbers [] n = tt
+  turn-numbers (wholeCall c ∷ ms) n = ((λ w. (n .0, tt)), turn-numbers ms (n .1))
+  turn-numbers (wholeLoad text ∷ ms) n = ((λ w. tab-numbers h w text), turn-numbers ms n)
+  turn-numbers (cutCall c b bs ∷ ms) n = ((λ w. (n .0, tt)), turn-numbers ms (n .1))
+  turn-numbers (cutLoad text b bs ∷ ms) n = ((λ w. tab-numbers h w text), turn-numbers ms n)
+  turn-numbers (idleMove bs ∷ ms) n = ((λ w. tt), turn-numbers ms n)
+
+  module _ (v : Volume) (sizes : Sizes) (can : allowed sizes ≡ true) (long : tooShort (geometry sizes) (v .flash) (pages (v .ram)) ≡ false)
+      (f : Format) (ms : List CutMove) (n : CutNumbers ms) where
+    -- from a format on, whole or cut too, they leave what document 01's calls leave, of each load those up to its cut
+    pub loads-cut : turnsAfter h (formatEnd h v sizes f) (turnsOf ms)
+        ≡ lift (after h (format (onPages v) sizes .volume) (turnsBegun h (format (onPages v) sizes .volume) (turnsOf ms)))
+    loads-cut = turns-end h v sizes can long f (turnsOf ms) (turn-numbers ms n)
+
+    -- the operations of the format, of all calls, of all rows and of all restarts, done in order on the chip handed to the format, give the
+    -- chip in the end
+    pub loads-flash : applyAll (unitOf sizes) (formatOps h v sizes f ++ turnsOps h (formatEnd h v sizes f) (turnsOf ms)) (v .flash)
+        ≡ turnsAfter h (formatEnd h v sizes f) (turnsOf ms) .flash
+    loads-flash = turns-flash h v sizes can long f (turnsOf ms) (turn-numbers ms n)
+
+    -- "The rule against programming twice counts both runs as one history": these operations keep the chip's program order
+    pub loads-in-order : (P : ℕ → Bool) → ProgramOrder (formatOps h v sizes f ++ turnsOps h (formatEnd h v sizes f) (turnsOf ms)) P
+    loads-in-order P = turns-in-order h v sizes can long f (turnsOf ms) (turn-numbers ms n) P
