@@ -1,8 +1,10 @@
 //! Cuts and restarts, request 8: now and then in the histories of other scenarios, and each cut of chosen calls.
 
+use crate::loads;
 use crate::pair::{Answer, Call, Difference, Moment};
 use crate::random::Random;
 use crate::scenarios::{damage, format, wild_number, wild_state, Scenario, Test};
+use crate::tabs::Row;
 use store::State;
 
 /// Of the header: the pending call's kind, and the first of its arguments.
@@ -132,19 +134,22 @@ pub(crate) fn restart_of(test: &mut Test, state: State) -> Result<(), Difference
 /// entries or deletions, and four rounds fill a set.
 pub fn all() -> Vec<Scenario> {
     type Run = fn(&mut Test) -> Result<(), Difference>;
-    let runs: [(&str, Run); 4] = [
+    let runs: [(&str, Run); 6] = [
         ("cuts-pages", pages),
         ("cuts-entries", entries),
         ("cuts-deletions", deletions),
         ("cuts-both", both),
+        ("cuts-season", season),
+        ("cuts-rows", rows),
     ];
     runs.into_iter()
         .map(|(name, run)| Scenario::new(name.into(), false, run))
         .collect()
 }
 
-/// Up to so many steps each cut is restarted with every budget. Calls with more of them build a set larger than set 2.
-const FEW_STEPS: u64 = 80;
+/// Up to so many steps each cut is restarted with every budget. Calls with more of them build a set larger than set 3, or sets of both
+/// indexes.
+const FEW_STEPS: u64 = 160;
 
 /// The call uncut, and then cut after each number of its steps and restarted, with every budget or some, and finished: "the desk, cells,
 /// marks and state in the end equal those of the call uncut; a cut before the intent leaves what was there".
@@ -160,17 +165,29 @@ fn every_cut(test: &mut Test, call: Call) -> Result<(), Difference> {
     if !answer.accepted() {
         return Err(failed(test, call, "accepted", answer));
     }
-    let steps = count_steps(test, call, &before)?;
+    each_cut(test, call, &before, [&unchanged, &whole])?;
+    test.pair.back_to(&whole);
+    Ok(())
+}
+
+/// From the moment before a call: each of its cuts, restarted and finished. The ends: of a cut before the intent, and of every other.
+fn each_cut(
+    test: &mut Test,
+    call: Call,
+    before: &Moment,
+    [unchanged, whole]: [&Moment; 2],
+) -> Result<(), Difference> {
+    let steps = count_steps(test, call, before)?;
     let offset = test.random.below(steps as usize) as u64;
     for budget in 0..steps {
-        test.pair.back_to(&before);
+        test.pair.back_to(before);
         let answer = test.pair.call_cut(budget, call)?;
         if !answer.is_cut() {
             return Err(failed(test, call, "cut", answer));
         }
         let cut = test.pair.moment();
         // Nothing was pending before: a cut before the intent changes nothing.
-        let end = if budget == 0 { &unchanged } else { &whole };
+        let end = if budget == 0 { unchanged } else { whole };
         if steps <= FEW_STEPS {
             let mut again = 0;
             while restarted(test, again, &cut, end)? {
@@ -182,7 +199,6 @@ fn every_cut(test: &mut Test, call: Call) -> Result<(), Difference> {
             restarted(test, 1, &cut, end)?;
         }
     }
-    test.pair.back_to(&whole);
     Ok(())
 }
 
@@ -313,4 +329,76 @@ fn both(test: &mut Test) -> Result<(), Difference> {
         test.pair.call(update(key))?;
     }
     every_cut(test, update(1023))
+}
+
+/// Filters of a round, in records or in deletions.
+const ROUND: u32 = 1024;
+/// Levels of the season: few, so that almost every call deletes.
+const LEVELS: u32 = 24;
+
+/// Every call of a season with k = 3 that builds sets 2 and 3 of both indexes and flushes once more behind them.
+fn season(test: &mut Test) -> Result<(), Difference> {
+    format(test, 16, 34, 9)?;
+    test.pair.call(format_of(34, 9, 3))?;
+    let mut live = [false; LEVELS as usize];
+    while test.pair.state.deletions < 2 * ROUND + 64 {
+        let key = test.random.below_u32(LEVELS);
+        let is_live = &mut live[key as usize];
+        let call = match (*is_live, test.random.chance(1, 8)) {
+            (true, true) => Call::Delete { key },
+            (false, true) => insert(key),
+            (_, false) => update(key),
+        };
+        *is_live = !matches!(call, Call::Delete { .. });
+        every_cut(test, call)?;
+    }
+    Ok(())
+}
+
+/// Rows of the tab, and its levels: those of a page of deletions and more come twice.
+const ROWS: usize = 140;
+const ROW_LEVELS: u32 = 100;
+
+/// The rows of a load, each cut: "of a call made of several, as a load, each is cut and finished by itself". There is no load with a
+/// budget: the rows before are loaded, the row's own call is cut, and in the end every byte is that of a load up to the row.
+fn rows(test: &mut Test) -> Result<(), Difference> {
+    format(test, 16, 3, 1)?;
+    test.pair.call(format_of(3, 1, 3))?;
+    let fresh = test.pair.moment();
+    let rows: Vec<Row> = (0..ROWS)
+        .map(|_| {
+            let random = &mut test.random;
+            [random.below_u32(ROW_LEVELS), random.next_u32(), random.next_u32()]
+        })
+        .collect();
+    let mut before = loaded(test, &fresh, &[])?;
+    for (i, &[key, moves, goal]) in rows.iter().enumerate() {
+        let after = loaded(test, &fresh, &rows[..=i])?;
+        let word = 0;
+        let call = if rows[..i].iter().any(|row| row[0] == key) {
+            Call::Update {
+                key,
+                moves,
+                goal,
+                word,
+            }
+        } else {
+            Call::Insert {
+                key,
+                moves,
+                goal,
+                word,
+            }
+        };
+        each_cut(test, call, &before, [&before, &after])?;
+        before = after;
+    }
+    Ok(())
+}
+
+/// The moment after a load of these rows into the fresh volume.
+fn loaded(test: &mut Test, fresh: &Moment, rows: &[Row]) -> Result<Moment, Difference> {
+    test.pair.back_to(fresh);
+    loads::load(test, &loads::tab_of(rows.iter().copied()), rows.len() as u32, 0)?;
+    Ok(test.pair.moment())
 }

@@ -49,7 +49,7 @@ pub fn strings(count: usize) -> Scenario {
 }
 
 /// The load on both sides, which must end as said.
-fn load(test: &mut Test, tab: &[u8], rows: u32, refusal: u32) -> Result<(), Difference> {
+pub(crate) fn load(test: &mut Test, tab: &[u8], rows: u32, refusal: u32) -> Result<(), Difference> {
     let handed_in = test.pair.state;
     let call = Call::Load { tab };
     match test.pair.call(call)? {
@@ -61,7 +61,7 @@ fn load(test: &mut Test, tab: &[u8], rows: u32, refusal: u32) -> Result<(), Diff
     }
 }
 
-fn tab_of(rows: impl IntoIterator<Item = Row>) -> Vec<u8> {
+pub(crate) fn tab_of(rows: impl IntoIterator<Item = Row>) -> Vec<u8> {
     let mut tab = HEADER.to_string();
     for [level, moves, goal] in rows {
         tab += &format!("{level},{moves},{goal}\n");

@@ -49,6 +49,12 @@ enum Fault {
     FormatByHeader,
     /// A restart that finds nothing pending gives the state handed in.
     NothingGivesHandedIn,
+    /// A lookup does not ask for 10.
+    LookupWhilePending,
+    /// A load does not ask for 10, only its rows do: a tab without a row is accepted, or draws 9.
+    LoadWhilePending,
+    /// A restart repeats the erases before the last programmed sector, as those of a deletion's index behind a sector of RA.
+    ErasesRepeated,
 }
 
 struct Broken(Fault);
@@ -138,9 +144,7 @@ fn state_of(header: [u32; 16]) -> State {
 fn pending_list(data: &[u8], spare: &[u8], ram: &[u8]) -> Option<Vec<Operation>> {
     let header = header_of(ram)?;
     let state = state_of(header);
-    let mut cleared = ram.to_vec();
-    write_header(&mut cleared, 6, &[0]);
-    let level = ModelStore.lookup(state, header[7], data, spare, &cleared);
+    let level = ModelStore.lookup(state, header[7], data, spare, &cleared(ram));
     let (deletes, inserts) = match (level.refusal, header[6], level.found) {
         (0, 1, 0) | (0, 2, 0) => (false, true),
         (0, 2, 1) => (true, true),
@@ -266,10 +270,8 @@ impl Broken {
         let list = pending_list(data, spare, ram).unwrap_or_default();
         let programmed = list.iter().any(|operation| is_programmed(operation, spare));
         let judged = || {
-            let mut cleared = ram.to_vec();
-            write_header(&mut cleared, 6, &[0]);
             ModelStore
-                .restart(state, &mut data.to_vec(), &mut spare.to_vec(), &mut cleared)
+                .restart(state, &mut data.to_vec(), &mut spare.to_vec(), &mut cleared(ram))
                 .refusal
         };
         match self.0 {
@@ -278,6 +280,7 @@ impl Broken {
                 return on_taken(budget, state, data, spare, ram, taken);
             }
             Fault::ErasesLeftOut => return without_erases(budget, state, data, spare, ram, &list),
+            Fault::ErasesRepeated => return with_erases(budget, state, data, spare, ram, &list),
             Fault::StateHandedIn if (1..=3).contains(&header[6]) => {
                 write_header(ram, 0, &numbers_of(state));
                 let result = model_cut(budget, Call::Restart, state, data, spare, ram);
@@ -395,6 +398,49 @@ fn without_erases(
     }
 }
 
+/// A restart whose first steps are the erases before the last programmed sector.
+fn with_erases(
+    budget: u64,
+    state: State,
+    data: &mut [u8],
+    spare: &mut [u8],
+    ram: &mut [u8],
+    list: &[Operation],
+) -> CutResult {
+    let last = list.iter().rposition(|operation| is_programmed(operation, spare));
+    let erases: Vec<usize> = list[..last.unwrap_or(0)]
+        .iter()
+        .filter_map(|operation| match operation {
+            Operation::Erase { block } => Some(*block),
+            Operation::Program { .. } => None,
+        })
+        .take(budget as usize)
+        .collect();
+    let steps = erases.len() as u64;
+    let sector_size = header_of(ram).map_or(0, |header| header[0] as usize);
+    let result = model_cut(budget - steps, Call::Restart, state, data, spare, ram);
+    if result.refusal != 0 {
+        return result;
+    }
+    for block in erases {
+        data[block * 64 * sector_size..(block + 1) * 64 * sector_size].fill(0xFF);
+        spare[block * 64..(block + 1) * 64].fill(0xFF);
+    }
+    CutResult {
+        steps: result.steps + steps,
+        ..result
+    }
+}
+
+/// The RAM without its pending call.
+fn cleared(ram: &[u8]) -> Vec<u8> {
+    let mut ram = ram.to_vec();
+    if header_of(&ram).is_some() {
+        write_header(&mut ram, 6, &[0]);
+    }
+    ram
+}
+
 fn whole(result: CutResult) -> Change {
     Change {
         refusal: result.refusal,
@@ -454,7 +500,10 @@ impl Store for Broken {
     }
 
     fn lookup(&self, state: State, key: u32, data: &[u8], spare: &[u8], ram: &[u8]) -> LookupResult {
-        ModelStore.lookup(state, key, data, spare, ram)
+        match self.0 {
+            Fault::LookupWhilePending => ModelStore.lookup(state, key, data, spare, &cleared(ram)),
+            _ => ModelStore.lookup(state, key, data, spare, ram),
+        }
     }
 
     fn load(
@@ -465,7 +514,20 @@ impl Store for Broken {
         spare: &mut [u8],
         ram: &mut [u8],
     ) -> LoadResult {
-        ModelStore.load(state, tab, data, spare, ram)
+        let result = ModelStore.load(state, tab, data, spare, ram);
+        if self.0 == Fault::LoadWhilePending && result.refusal == 10 {
+            let idle = ModelStore.load(
+                state,
+                tab,
+                &mut data.to_vec(),
+                &mut spare.to_vec(),
+                &mut cleared(ram),
+            );
+            if idle.rows == 0 && [0, 9].contains(&idle.refusal) {
+                return idle;
+            }
+        }
+        result
     }
 
     fn restart(&self, state: State, data: &mut [u8], spare: &mut [u8], ram: &mut [u8]) -> Change {
@@ -599,12 +661,13 @@ fn broken_cuts_are_reported() {
         Fault::IntentNotCounted,
         Fault::RestartRefusesBySeven,
         Fault::NothingGivesHandedIn,
+        Fault::ErasesRepeated,
     ] {
         assert!(run(fault, &EVERY_CUT).is_err(), "{fault:?} is not reported");
     }
 }
 
-/// On volumes that nobody alters these do what the model does.
+/// On volumes that nobody alters, and on which no other call is made while one is pending, these do what the model does.
 #[test]
 fn broken_refusals_and_spare_bytes_are_reported() {
     for fault in [
@@ -616,6 +679,8 @@ fn broken_refusals_and_spare_bytes_are_reported() {
         Fault::UnknownKindLast,
         Fault::NoHeaderByOne,
         Fault::FormatByHeader,
+        Fault::LookupWhilePending,
+        Fault::LoadWhilePending,
     ] {
         assert!(run(fault, &ALTERED).is_err(), "{fault:?} is not reported");
     }

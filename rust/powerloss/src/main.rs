@@ -2,7 +2,8 @@
 //!
 //! Main area, spare area and RAM lie in a file that a child process maps. The child restarts, finds its place in the season by n
 //! and d, makes calls, and kills itself when the steps of its life are used up, in the middle of a call or of a restart; then
-//! the next one begins. In the end the file has to equal, byte for byte, the memory of a season that was never cut.
+//! the next one begins. In the end the file has to equal, byte for byte, the memory of a season that was never cut; and units must have
+//! died, in calls and in restarts.
 
 mod life;
 mod season;
@@ -64,6 +65,14 @@ fn main() -> ExitCode {
             eprintln!("powerloss: store {name}, season {seed}: {problem}");
             return ExitCode::FAILURE;
         }
+    }
+    // Without these the seasons show nothing.
+    if tally.deaths == 0 || tally.pending == 0 || tally.again == 0 {
+        eprintln!(
+            "powerloss: store {name}: {} deaths, {} with a call pending, {} of these in a restart: each must occur",
+            tally.deaths, tally.pending, tally.again
+        );
+        return ExitCode::FAILURE;
     }
     println!(
         "powerloss: store {name}: {seasons} seasons of {} calls, {} deaths, {} with a call pending, {} of these in a restart; \
