@@ -1,9 +1,9 @@
 #!/usr/bin/env python3
 """check.py: holds the documents to the tree; prints what is wrong, and ends with status 1 if anything is.
 
-Of README files and docs/*.md: lines of 140 characters at most, links that lead somewhere. Of ARCHITECTURE.md: every name
-stands in the file that it is said to be in, every edit is there, and the contract of every function in a column "code"
-cites what its row says.
+Of README files and docs/*.md: lines of 140 characters at most, links that lead somewhere. Of these and of the landings: no
+placeholder, a word of capitals on a line of its own. Of ARCHITECTURE.md: every name stands in the file that it is said to be in,
+every edit is there, and the contract of every function in a column "code" cites what its row says.
 """
 
 import pathlib
@@ -58,6 +58,13 @@ def check_document(path):
         wrong.append(f"{path.relative_to(ROOT)}: nothing uses the reference [{label}]")
     for label in sorted(used - set(known)) if known else []:
         wrong.append(f"{path.relative_to(ROOT)}: no reference [{label}]")
+
+
+def check_placeholders(path):
+    """What is still to come: a line of one word, three capitals or more and nothing else."""
+    for number, line in enumerate(path.read_text(encoding="utf-8").splitlines(), 1):
+        if re.fullmatch(r"[A-Z_]{3,}:?", line.strip()):
+            wrong.append(f"{path.relative_to(ROOT)}:{number}: placeholder {line.strip()}")
 
 
 def contract(source, name):
@@ -117,6 +124,8 @@ def check_names(path):
 READMES = [ROOT / name / "README.md" for name in (".", "rust", "tests/vectors")]
 for document in READMES + sorted((ROOT / "docs").glob("*.md")):
     check_document(document)
+for document in READMES + sorted((ROOT / "docs").glob("**/*.md")):
+    check_placeholders(document)
 check_names(ROOT / "docs" / "ARCHITECTURE.md")
 print("\n".join(wrong) or "the documents agree with the tree")
 sys.exit(1 if wrong else 0)

@@ -10,8 +10,9 @@
  *   ram    working memory               at least LEVEL_STORE_RAM_SIZE(S) bytes; between calls it belongs to the store, and it has to
  *                                       survive a loss of power, as the chip does
  * S is the sector size in bytes: 16, 32, 64, 128, 256 or 512. A page is four sectors, a block sixteen pages. R blocks hold the
- * records, D blocks the deletions; both are 1 to 4096. Longer arrays are allowed; bytes past these sizes never change. All
- * lengths are in bytes. Multi-byte numbers in the arrays are little-endian.
+ * records, D blocks the deletions; both are 1 to 4096. Longer arrays are allowed: of data and spare the bytes past these sizes never
+ * change; of ram the last 64 bytes lent are the header, and the bytes between 24S and it never change. All lengths are in bytes.
+ * Multi-byte numbers in the arrays are little-endian.
  *
  * Header. The last 64 bytes of ram, wherever it ends, are the header, sixteen numbers of 4 bytes: S, R, D, k, n and d, as the state
  * has them; the kind of a pending call (1 insert, 2 update, 3 delete, 4 format, 0 none); its arguments (key, moves, goal, word; key;
