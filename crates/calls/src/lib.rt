@@ -38,7 +38,7 @@ pub enum Resolved {
 }
 
 // The judge's refusal, or 8, or whether the key is live.
-fn resolve_judged(
+pub fn resolve_judged(
     j: Judgement,
     s: State,
     key: u32,

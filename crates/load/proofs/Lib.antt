@@ -1,3 +1,4 @@
 mod Counts
+mod Judged
 mod Rows
 mod Steps

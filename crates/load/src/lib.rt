@@ -6,11 +6,12 @@ ghost use Rattle.layout.specs.Hash.{fnvFamily};
 ghost use Rattle.layout.specs.Header.{onPages};
 ghost use Rattle.layout.specs.Several.{putCall};
 ghost use Rattle.layout.specs.Budgets.{callCut};
-ghost use Rattle.state.specs.Contract.{recordIs, given, cutOf, cutBy};
+ghost use Rattle.state.specs.Contract.{recordIs, volume, given, cutOf, cutBy};
 ghost use Rattle.tab.specs.Reader.{rowsOf};
 ghost use Rattle.load.specs.Load.{loadReadBy, rowWhole, loadWhole};
-ghost use Rattle.load.specs.Contract.{rowRequest, loadedBy};
+ghost use Rattle.load.specs.Contract.{rowRequest, loadedBy, Judged};
 use calls::Resolved;
+use geometry::Geometry;
 use reader::Header;
 use reader::Parsed;
 use state::Cut;
@@ -38,25 +39,30 @@ fn row_request(record: Record, r: Resolved) -> Request
     }
 }
 
-// A row's call, with a budget of steps; its level is searched once.
+// A row's call, with a budget of steps; its level is searched once, and the volume is judged good already.
 fn load_row(
     budget: usize,
+    g: Geometry,
     s: State,
     record: Record,
     main: &mut [u8],
     spare: &mut [u8],
     ram: &mut [u8],
 ) -> Cut
+    requires { ⌜ Judged g (volume s (now main) (now spare) (now ram)) ⌝ }
     ensures { λ c. ⌜ cutBy c main spare ram ≡ cutOf (callCut fnvFamily budget (given s main spare ram)
         (putCall fnvFamily (onPages (given s main spare ram)) (recordIs «record»))) ⌝ }
 {
-    let r = calls::resolve(s, record.key, main, spare, ram);
+    let j = Judgement::Good(g);
+    let r = calls::resolve_judged(j, s, record.key, main, spare, ram);
     let q = row_request(record, r);
     calls::perform_resolved(budget, s, q, r, main, spare, ram)
 }
 
-// The rows from a place of the tab on. A row that is loaded is one more record, so they can be counted.
+// The rows from a place of the tab on. A row that is loaded is one more record, so they can be counted; it leaves a volume that is judged
+// good again, so that the judge is asked once for all rows.
 fn load_rows(
+    g: Geometry,
     s: State,
     tab: &[u8],
     at: usize,
@@ -64,6 +70,7 @@ fn load_rows(
     spare: &mut [u8],
     ram: &mut [u8],
 ) -> Loaded
+    requires { ⌜ Judged g (volume s (now main) (now spare) (now ram)) ⌝ }
     ensures { λ r. ⌜ loadedBy r main spare ram
         ≡ loadReadBy (rowWhole fnvFamily) (given s main spare ram) (rowsOf (drop at (before tab))) ⌝ }
 {
@@ -86,7 +93,7 @@ fn load_rows(
                     goal,
                     free: 0,
                 };
-                let c = load_row(state::ENOUGH, state, record, main, spare, ram);
+                let c = load_row(state::ENOUGH, g, state, record, main, spare, ram);
                 state = c.state;
                 if c.refusal != state::ACCEPTED {
                     return Loaded {
@@ -119,7 +126,7 @@ pub fn load(s: State, tab: &[u8], main: &mut [u8], spare: &mut [u8], ram: &mut [
                 state: s,
             };
         }
-        Judgement::Good(_) => {
+        Judgement::Good(g) => {
             if tab.len() == 0 {
                 return Loaded {
                     refusal: state::ACCEPTED,
@@ -136,7 +143,7 @@ pub fn load(s: State, tab: &[u8], main: &mut [u8], spare: &mut [u8], ram: &mut [
                     };
                 }
                 Header::Lines(next) => {
-                    return load_rows(s, tab, next, main, spare, ram);
+                    return load_rows(g, s, tab, next, main, spare, ram);
                 }
             }
         }

@@ -63,18 +63,17 @@ module _ (l : List ℕ) (i : ℕ) where
   unfolding digits
   digits-more v h a b = rw (drop-cons l i 0, le-leb 48 (getD l i 0) a, le-leb (getD l i 0) 57 b, add-one)
 
-  pub digits-low : (v : ℕ) → i < length l → v < 4294967296 → getD l i 0 < 48 → small (digits v (drop i l)) ≡ some (got v (drop i l))
+  pub digits-low : (v : ℕ) → i < length l → getD l i 0 < 48 → digits v (drop i l) ≡ got v (drop i l)
   unfolding digits
-  digits-low v h w a = rw (drop-cons l i 0, lt-leb 48 (getD l i 0) a, lt-ltb v 4294967296 w)
+  digits-low v h a = rw (drop-cons l i 0, lt-leb 48 (getD l i 0) a)
 
-  pub digits-high : (v : ℕ) → i < length l → v < 4294967296 → 57 < getD l i 0 → small (digits v (drop i l)) ≡ some (got v (drop i l))
+  pub digits-high : (v : ℕ) → i < length l → 57 < getD l i 0 → digits v (drop i l) ≡ got v (drop i l)
   unfolding digits
-  digits-high v h w b =
-      rw (drop-cons l i 0, le-leb 48 (getD l i 0) (omega arith), lt-leb (getD l i 0) 57 b, lt-ltb v 4294967296 w)
+  digits-high v h b = rw (drop-cons l i 0, le-leb 48 (getD l i 0) (omega arith), lt-leb (getD l i 0) 57 b)
 
-  pub digits-end : (v : ℕ) → length l ≤ i → v < 4294967296 → small (digits v (drop i l)) ≡ some (got v (drop i l))
+  pub digits-end : (v : ℕ) → length l ≤ i → digits v (drop i l) ≡ got v (drop i l)
   unfolding digits
-  digits-end v h w = rw (drop-of-length-le, lt-ltb v 4294967296 w)
+  digits-end v h = rw drop-of-length-le
 
   pub decimal-end : length l ≤ i → decimal (drop i l) ≡ none
   unfolding decimal

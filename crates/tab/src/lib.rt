@@ -2,9 +2,11 @@
 // Document 02, request 1; the grammar is in `specs/Grammar.antt`.
 ghost use mathlib.Core.Path.{_≡_};
 ghost use mathlib.Core.Bool.{false};
+ghost use mathlib.Core.List.{List};
+ghost use Prim.Native.Nat.{ℕ};
 ghost use lib.ListN.{drop};
 ghost use Rattle.memory.specs.Lent.{before};
-ghost use Rattle.tab.specs.Reader.{decimal, word, nameOf, bare, quoted, after, lineEnd, ends, field};
+ghost use Rattle.tab.specs.Reader.{got, small, decimal, word, nameOf, bare, quoted, after, lineEnd, ends, field};
 ghost use Rattle.tab.specs.Places.{placeIn, tokenIn, fieldIn};
 
 // A column of a tab.
@@ -78,7 +80,24 @@ fn end_at(tab: &[u8], at: usize, c: Column) -> Place
 
 // ---- what stands in a field
 
-// A decimal number. It stops at 2^32, so that no number has too many digits: leading zeros are free.
+fn wide(c: u8) -> u64
+    ensures { λ r. ⌜ r ≡ c ⌝ }
+{
+    c as u64
+}
+
+// A number that is read, and the place after it; from 2^32 on there is none.
+fn read_token(v: u64, next: usize) -> Token
+    ensures { λ r. ⌜ ((tab : List ℕ) → tokenIn tab r ≡ small (got v (drop next tab))) ⌝ }
+{
+    if v >= 4294967296 {
+        return Token::Malformed;
+    }
+    Token::Value(v as u32, next)
+}
+
+// A decimal number. It stops where one digit more would be too many, so that no number has too many digits: leading zeros are free. The
+// test is before the digit, with a number that the compiler compares with directly.
 fn decimal_at(tab: &[u8], at: usize) -> Token
     ensures { λ r. ⌜ tokenIn (before tab) r ≡ decimal (drop at (before tab)) ⌝ }
 {
@@ -96,18 +115,18 @@ fn decimal_at(tab: &[u8], at: usize) -> Token
     while i < tab.len() {
         let c = tab[i];
         if c < b'0' {
-            return Token::Value(v as u32, i);
+            return read_token(v, i);
         }
         if c > b'9' {
-            return Token::Value(v as u32, i);
+            return read_token(v, i);
         }
-        v = v * 10 + text::digit_value(c);
-        if v >= 4294967296 {
+        if v > 429496729 {
             return Token::Malformed;
         }
+        v = v * 10 + (wide(c) - 48);
         i += 1;
     }
-    Token::Value(v as u32, i)
+    read_token(v, i)
 }
 
 // The bytes of a word.

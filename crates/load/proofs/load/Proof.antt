@@ -1,13 +1,15 @@
 -- 1, 2 and 10, a tab of no bytes, the header, then the rows.
 use borrow.Author.Needs.{needs}
-use mathlib.Core.Path.{_≡_, sym, ap, _∙_}
+use mathlib.Core.Path.{_≡_, sym, ap, subst, _∙_}
 use mathlib.Core.Option.{Option}
 use mathlib.Core.List.{List}
 use Prim.Native.Nat.{ℕ}
 use Rattle.layout.specs.Hash.{fnvFamily}
 use Rattle.layout.specs.Calls.{Volume}
 use Rattle.layout.specs.Several.{Several}
+use Rattle.layout.specs.Header.{onPages}
 use Rattle.state.specs.Contract.{volume}
+use Rattle.state.specs.Judge.{GoodFits}
 use Rattle.tab.specs.Reader.{body}
 use Rattle.reader.specs.Contract.{headerIn}
 use Rattle.reader.specs.declared.Header.{Header}
@@ -28,18 +30,18 @@ abbrev start-of : tie.After-judge → tie.Start
 start-of j = j .before .before .before .before .before .before .before .before
 
 -- none of 1, 2 and 10 applies
-abbrev good-at : tie.After-header-at → tie.After-enum-told
-good-at h = h .before .before
+abbrev good-at : tie.After-header-at → tie.After-g
+good-at h = h .before .before .before
 
-abbrev judge-at : tie.After-enum-told → tie.After-judge
+abbrev judge-at : tie.After-g → tie.After-judge
 judge-at g = g .before .before
 
-after-judge : (g : tie.After-enum-told) → let s = start-of (judge-at g) in
+after-judge : (g : tie.After-g) → let s = start-of (judge-at g) in
     loadWhole fnvFamily (handed s) (s .args .tab .now) ≡ lines-of s (body (s .args .tab .now))
 after-judge g =
     let j = judge-at g in
     let s = start-of j in
-    load-good fnvFamily (handed s) (s .args .tab .now) (g .enum-told .given .0 .0) (sym (j .judge .ensures .0) ∙ g .enum-told .given .1)
+    load-good fnvFamily (handed s) (s .args .tab .now) (g .g .given .0 .0) (sym (j .judge .ensures .0) ∙ g .g .given .1)
 
 good : (h : tie.After-header-at) → let s = start-of (judge-at (good-at h)) in
     loadWhole fnvFamily (handed s) (s .args .tab .now) ≡ lines-of s (headerIn (s .args .tab .now) (h .header-at .result))
@@ -70,8 +72,8 @@ returns c =
     let s = start-of j in
     sym (load-judged fnvFamily (handed s) (s .args .tab .now) (i .i .given .0 .0) (sym (j .judge .ensures .0) ∙ i .i .given .1))
 
-enum-told : tie.Need-enum-told
-enum-told c = search needs
+enum-known-g : tie.Need-enum-known-g
+enum-known-g c = search needs
 
 same-length-4 : tie.Need-same-length-4
 same-length-4 c = search needs
@@ -84,7 +86,7 @@ same-length-6 c = search needs
 
 returns-2 : tie.Need-returns-2
 returns-2 c =
-    let g = c .before in
+    let g = c .before .before in
     let s = start-of (judge-at g) in
     sym (after-judge g ∙ ap (lines-of s) (body-none (s .args .tab .now) (c .if1 .taken))
     ∙ none-loaded (rowWhole fnvFamily) (handed s))
@@ -92,8 +94,8 @@ returns-2 c =
 header-at-requires : tie.Need-header-at-requires
 header-at-requires c κs = search needs
 
-enum-told-2 : tie.Need-enum-told-2
-enum-told-2 c = search needs
+enum-told : tie.Need-enum-told
+enum-told c = search needs
 
 same-length-7 : tie.Need-same-length-7
 same-length-7 c = search needs
@@ -108,13 +110,16 @@ returns-3 : tie.Need-returns-3
 returns-3 c =
     let h = c .before .before in
     let s = start-of (judge-at (good-at h)) in
-    sym (good h ∙ ap (λ (r : Header). lines-of s (headerIn (s .args .tab .now) r)) (c .enum-told2 .given .1))
+    sym (good h ∙ ap (λ (r : Header). lines-of s (headerIn (s .args .tab .now) r)) (c .enum-told .given .1))
 
 enum-known-next : tie.Need-enum-known-next
 enum-known-next c = search needs
 
 load-rows-requires : tie.Need-load-rows-requires
-load-rows-requires c κs = search needs
+load-rows-requires c κs =
+    let g = good-at (c .before .before .before .before .before .before) in
+    let j = judge-at g in
+    (sym (j .judge .ensures .0) ∙ g .g .given .1, subst (GoodFits (onPages (handed (start-of j)))) (g .g .given .1) (j .judge .ensures .1))
 
 same-length-10 : tie.Need-same-length-10
 same-length-10 c = search needs
@@ -143,13 +148,13 @@ load-spec =
     same-length-2
     same-length-3
     returns
-    enum-told
+    enum-known-g
     same-length-4
     same-length-5
     same-length-6
     returns-2
     header-at-requires
-    enum-told-2
+    enum-told
     same-length-7
     same-length-8
     same-length-9

@@ -3,12 +3,14 @@ use borrow.Author.Needs.{needs}
 use mathlib.Core.Path.{_≡_, sym, ap, _∙_}
 use Rattle.layout.specs.Hash.{fnvFamily}
 use Rattle.layout.specs.Calls.{Volume}
+use Rattle.layout.specs.Header.{onPages}
 use Rattle.layout.specs.Budgets.{callCut}
 use Rattle.state.specs.Contract.{callOf, volume, cutOf}
+use Rattle.state.specs.declared.Judgement.{Judgement}
 use Rattle.state.specs.declared.Request.{Request}
 use Rattle.calls.specs.declared.Resolved.{Resolved}
 use Rattle.calls.specs.Request.{keyOf}
-use Rattle.calls.specs.Resolve.{resolvedOf}
+use Rattle.calls.specs.Resolve.{resolvedBy, resolvedOf}
 use Rattle.load.specs.Contract.{rowRequest}
 use Rattle.load.proofs.Rows.{row-key, row-cut}
 use Rattle.load.proofs.load_row.Statement.{statement}
@@ -18,14 +20,23 @@ use Rattle.load.proofs.load_row.Tie as tie
 abbrev handed : tie.Start → Volume
 handed c = volume (c .args .s) (c .args .main .now) (c .args .spare .now) (c .args .ram .now)
 
-abbrev start-of : tie.After-row-request → tie.Start
-start-of q = q .before .before .before .before .before .before .before .before
+abbrev start-at : tie.After-resolve-judged → tie.Start
+start-at r = r .before .before .before .before .before .before .before
 
-resolve-requires : tie.Need-resolve-requires
-resolve-requires c κs = search needs
+abbrev start-of : tie.After-row-request → tie.Start
+start-of q = start-at (q .before)
+
+resolve-judged-requires : tie.Need-resolve-judged-requires
+resolve-judged-requires c κs = search needs
 
 row-request-requires : tie.Need-row-request-requires
 row-request-requires c κs = search needs
+
+-- the judge would find it good
+resolved : (r : tie.After-resolve-judged) → let s = start-at r in r .resolve-judged .result ≡ resolvedOf (handed s) (s .args .record .key)
+resolved r =
+    let s = start-at r in
+    r .resolve-judged .ensures .0 ∙ ap (λ (j : Judgement). resolvedBy j (onPages (handed s)) (s .args .record .key)) (sym (s .pre .0))
 
 perform-resolved-requires : tie.Need-perform-resolved-requires
 perform-resolved-requires c κs =
@@ -33,8 +44,8 @@ perform-resolved-requires c κs =
     let r = q .before in
     let s = start-of q in
     let key : keyOf (q .row-request .result) ≡ s .args .record .key =
-    ap keyOf (q .row-request .ensures) ∙ row-key (s .args .record) (r .resolve .result) in
-    (r .resolve .ensures .0 ∙ sym (ap (resolvedOf (handed s)) key), r .resolve .ensures .1)
+    ap keyOf (q .row-request .ensures) ∙ row-key (s .args .record) (r .resolve-judged .result) in
+    (resolved r ∙ sym (ap (resolvedOf (handed s)) key), r .resolve-judged .ensures .1)
 
 same-length : tie.Need-same-length
 same-length c = search needs
@@ -53,14 +64,14 @@ returns c =
     let b = s .args .budget in
     p .perform-resolved .ensures
     ∙ ap (λ (x : Request). cutOf (callCut fnvFamily b (handed s) (callOf x)))
-    (q .row-request .ensures ∙ ap (rowRequest (s .args .record)) (q .before .resolve .ensures .0))
+    (q .row-request .ensures ∙ ap (rowRequest (s .args .record)) (resolved (q .before)))
     ∙ row-cut b (handed s) (s .args .record)
 
 pub load-row-spec : {M : Type 1} → statement M
 load-row-spec =
     tie.close
     (tie.spec
-    resolve-requires
+    resolve-judged-requires
     row-request-requires
     perform-resolved-requires
     same-length

@@ -1,32 +1,36 @@
 -- At each place the rows left are loaded into the volume as it stands then.
 use borrow.Author.Needs.{needs}
 use native.Mathlib.Omega.{arith}
-use mathlib.Core.Path.{_≡_, refl, sym, ap, _∙_}
+use mathlib.Core.Path.{_≡_, refl, sym, ap, subst, _∙_}
 use mathlib.Core.Option.{some}
 use Prim.Native.Nat.{ℕ, _+_, _-_, _≤_, _<_}
 use lib.ListN.{length, drop}
+use Rattle.layout.specs.Geometry as layout
 use Rattle.layout.specs.Hash.{fnvFamily}
-use Rattle.layout.specs.Calls.{Volume, Result}
+use Rattle.layout.specs.Calls.{Volume, Result, accepted}
 use Rattle.state.specs.Contract.{outcomeOf, volume}
 use Rattle.tab.specs.Grammar.{Row}
 use Rattle.tab.specs.Reader.{gotLine, row, rowsOf}
 use Rattle.reader.specs.Contract.{lineIn}
 use Rattle.reader.specs.LineLaws.{row-goes-on}
 use Rattle.load.specs.Load.{loadReadBy, rowWhole}
-use Rattle.load.proofs.Counts.{row-counts}
+use Rattle.load.specs.Contract.{Judged}
+use Rattle.load.proofs.Counts.{Added, row-counts}
+use Rattle.load.proofs.Judged.{judged-again}
 use Rattle.load.proofs.Rows.{row-whole}
 use Rattle.load.proofs.Steps.{moreDone, none-done, done-ended, done-more, load-end, load-malformed, load-refused, load-accepted}
 use Rattle.load.proofs.load_rows.Statement.{statement}
 use Rattle.load.proofs.load_rows.Tie as tie
 
 abbrev Inv-loop : tie.InvT-loop
-Inv-loop tab at main₀ spare₀ ram₀ state₀ place₀ rows₀ main spare ram state place rows =
+Inv-loop g tab at main₀ spare₀ ram₀ state₀ place₀ rows₀ main spare ram state place rows =
     (length main ≡ length main₀) × (length spare ≡ length spare₀) × (length ram ≡ length ram₀) × (rows ≤ state .records)
     × (loadReadBy (rowWhole fnvFamily) (volume state₀ main₀ spare₀ ram₀) (rowsOf (drop place₀ tab))
     ≡ moreDone rows (loadReadBy (rowWhole fnvFamily) (volume state main spare ram) (rowsOf (drop place tab))))
+    × Judged g (volume state main spare ram)
 
 abbrev μ-loop : tie.MeasureT-loop
-μ-loop tab at main₀ spare₀ ram₀ state₀ place₀ rows₀ main spare ram state place rows = length tab - place
+μ-loop g tab at main₀ spare₀ ram₀ state₀ place₀ rows₀ main spare ram state place rows = length tab - place
 
 -- ---- the row at hand
 
@@ -80,13 +84,28 @@ counted : (p : tie.After-load-row Inv-loop μ-loop) → p .load-row .result .ref
 counted p z =
     let v = now-of (row-now p) in
     ap (λ (w : Volume). w .state .records) (row-whole v (row-of p) _ (p .load-row .ensures) .1)
-    ∙ row-counts fnvFamily v (row-of p) .by-one (sym (outcome-is p) ∙ rw z)
+    ∙ row-counts fnvFamily v (row-of p) .added (sym (outcome-is p) ∙ rw z) .by-one
+
+-- and leaves a volume that the judge finds good again
+judged : (p : tie.After-load-row Inv-loop μ-loop) → p .load-row .result .refusal ≡ 0
+    → let l = p .load-row .last .1 .1 .1 .1 in
+    Judged (start-of (row-now p) .args .g) (volume (p .load-row .result .state) (l .0) (l .1 .0) (l .1 .1 .0))
+judged p z =
+    let v = now-of (row-now p) in
+    let l = p .load-row .last .1 .1 .1 .1 in
+    let left : Volume = volume (p .load-row .result .state) (l .0) (l .1 .0) (l .1 .1 .0) in
+    let is : left ≡ whole p .volume = row-whole v (row-of p) _ (p .load-row .ensures) .1 in
+    let ok : whole p .outcome ≡ accepted = sym (outcome-is p) ∙ rw z in
+    let W = row-counts fnvFamily v (row-of p) in
+    judged-again (start-of (row-now p) .args .g) v left (row-now p .loop .inv .5)
+    (subst (λ (y : Volume). Added (layout.geometry (v .state .sizes)) (v .state) (y .state)) (sym is) (W .added ok))
+    (search needs) (search needs) (search needs) (W .stored ok .0) (ap (λ (y : Volume). y .ram) is ∙ W .stored ok .1)
 
 abbrev row-done : tie.Else1 Inv-loop μ-loop → tie.After-load-row Inv-loop μ-loop
 row-done c = c .before .before .before .before .before .before .before .before .before
 
 loop-holds : tie.Need-loop-holds Inv-loop μ-loop
-loop-holds c = (refl, refl, refl, omega arith, none-done _)
+loop-holds c = (refl, refl, refl, omega arith, none-done _, c .before .before .before .before .pre)
 
 row-at-requires : tie.Need-row-at-requires Inv-loop μ-loop
 row-at-requires c κs = search needs
@@ -118,7 +137,7 @@ enum-known-key : tie.Need-enum-known-key Inv-loop μ-loop
 enum-known-key c = search needs
 
 load-row-requires : tie.Need-load-row-requires Inv-loop μ-loop
-load-row-requires c κs = search needs
+load-row-requires c κs = c .before .before .before .before .before .before .before .before .loop .inv .5
 
 same-length-4 : tie.Need-same-length-4 Inv-loop μ-loop
 same-length-4 c = search needs
@@ -163,6 +182,7 @@ loop-again c =
           (load-accepted (rowWhole fnvFamily) (now-of l) (start-of l .args .tab .now) (l .loop .place) _ _ _ (next-of p) (row-is p)
           (p .load-row .result .refusal) _ (outcome-is p) (row-whole (now-of l) (row-of p) _ (p .load-row .ensures) .1) (c .if1 .left))
           ∙ done-more (l .loop .rows) _,
+      judged p (c .if1 .left),
     )
 
 same-length-7 : tie.Need-same-length-7 Inv-loop μ-loop

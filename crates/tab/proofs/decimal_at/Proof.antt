@@ -1,4 +1,4 @@
--- What is left to read, at each digit: the value so far is below 2^32.
+-- What is left to read, at each digit: the value so far has at most one digit too many.
 use native.Mathlib.Omega.{arith}
 use mathlib.Core.Path.{_≡_, refl, sym, ap, _∙_}
 use Prim.Native.Nat.{_+_, _*_, _-_, _≤_, _<_}
@@ -11,7 +11,7 @@ use Rattle.tab.proofs.decimal_at.Statement.{statement}
 use Rattle.tab.proofs.decimal_at.Tie as tie
 
 abbrev Inv-loop : tie.InvT-loop
-Inv-loop tab at v₀ i₀ v i = (i ≤ length tab) × (v < 4294967296) × (decimal (drop at tab) ≡ small (digits v (drop i tab)))
+Inv-loop tab at v₀ i₀ v i = (i ≤ length tab) × (v ≤ 4294967299) × (decimal (drop at tab) ≡ small (digits v (drop i tab)))
 
 abbrev μ-loop : tie.MeasureT-loop
 μ-loop tab at v₀ i₀ v i = length tab - i
@@ -41,50 +41,45 @@ loop-holds c =
 shared-slice-read-c : tie.Need-shared-slice-read-c Inv-loop μ-loop
 shared-slice-read-c c = omega arith
 
-cast-t15 : tie.Need-cast-t15 Inv-loop μ-loop
-cast-t15 c = omega arith
+read-token-requires : tie.Need-read-token-requires Inv-loop μ-loop
+read-token-requires c κs = search needs
 
 returns-4 : tie.Need-returns-4 Inv-loop μ-loop
 returns-4 c =
-    let l = c .before .before .before in
-    let x = c .before .before .before .before .before .before .before .before .before .before .args in
-    sym (l .loop .inv .2 ∙ digits-low (x .tab .now) (l .loop .i) (l .loop .v) (omega arith) (omega arith) (c .if4 .taken))
+    let l = c .before .before .before .before in
+    let x = l .before .before .before .before .before .before .before .args in
+    c .read-token .ensures (x .tab .now)
+    ∙ sym (l .loop .inv .2 ∙ ap small (digits-low (x .tab .now) (l .loop .i) (l .loop .v) (omega arith) (c .before .if4 .taken)))
 
-cast-t16 : tie.Need-cast-t16 Inv-loop μ-loop
-cast-t16 c = omega arith
+read-token-requires-2 : tie.Need-read-token-requires-2 Inv-loop μ-loop
+read-token-requires-2 c κs = search needs
 
 returns-5 : tie.Need-returns-5 Inv-loop μ-loop
 returns-5 c =
-    let l = c .before .before .before .before in
-    let x = c .before .before .before .before .before .before .before .before .before .before .before .args in
-    sym (l .loop .inv .2 ∙ digits-high (x .tab .now) (l .loop .i) (l .loop .v) (omega arith) (omega arith) (c .if5 .taken))
+    let l = c .before .before .before .before .before in
+    let x = l .before .before .before .before .before .before .before .args in
+    c .read-token2 .ensures (x .tab .now)
+    ∙ sym (l .loop .inv .2 ∙ ap small (digits-high (x .tab .now) (l .loop .i) (l .loop .v) (omega arith) (c .before .if5 .taken)))
+
+-- one digit more, whatever it is, is too many
+returns-6 : tie.Need-returns-6 Inv-loop μ-loop
+returns-6 c =
+    let l = c .before .before .before .before .before in
+    let x = l .before .before .before .before .before .before .before .args in
+    let e = digits-more (x .tab .now) (l .loop .i) (l .loop .v) (omega arith) (omega arith) (omega arith) in
+    sym (l .loop .inv .2 ∙ ap small e ∙ stays-large _ (drop (l .loop .i + 1) (x .tab .now)) (omega (arith, c .if6 .taken)))
 
 mul-v : tie.Need-mul-v Inv-loop μ-loop
 mul-v c = omega arith
 
-digit-value-requires : tie.Need-digit-value-requires Inv-loop μ-loop
-digit-value-requires c κs = omega arith
+wide-requires : tie.Need-wide-requires Inv-loop μ-loop
+wide-requires c κs = search needs
+
+sub-v : tie.Need-sub-v Inv-loop μ-loop
+sub-v c = omega (arith, c .wide .ensures)
 
 add-v : tie.Need-add-v Inv-loop μ-loop
-add-v c = omega arith
-
--- after one more digit
-step : (c : tie.After-digit-value Inv-loop μ-loop)
-    → let l = c .before .before .before .before .before in
-    let x = c .before .before .before .before .before .before .before .before .before .before .before .before .args in
-    decimal (drop (x .at) (x .tab .now)) ≡ small (digits (l .loop .v * 10 + c .digit-value .result) (drop (l .loop .i + 1) (x .tab .now)))
-step c =
-    let l = c .before .before .before .before .before in
-    let x = c .before .before .before .before .before .before .before .before .before .before .before .before .args in
-    let e = digits-more (x .tab .now) (l .loop .i) (l .loop .v) (omega arith) (omega arith) (omega arith) in
-    l .loop .inv .2 ∙ rw (c .digit-value .ensures .0) (ap small e)
-
-returns-6 : tie.Need-returns-6 Inv-loop μ-loop
-returns-6 c =
-    let e = c .before in
-    let l = c .before .before .before .before .before .before in
-    let x = c .before .before .before .before .before .before .before .before .before .before .before .before .before .args in
-    sym (step e ∙ stays-large (l .loop .v * 10 + e .digit-value .result) (drop (l .loop .i + 1) (x .tab .now)) (c .if6 .taken))
+add-v c = omega (arith, c .wide .ensures)
 
 add-i : tie.Need-add-i Inv-loop μ-loop
 add-i c = omega arith
@@ -93,16 +88,21 @@ loop-less : tie.Need-loop-less Inv-loop μ-loop
 loop-less c = omega arith
 
 loop-again : tie.Need-loop-again Inv-loop μ-loop
-loop-again c = (omega arith, omega arith, step (c .before))
+loop-again c =
+    let l = c .before .before .before .before .before .before in
+    let x = l .before .before .before .before .before .before .before .args in
+    let e = digits-more (x .tab .now) (l .loop .i) (l .loop .v) (omega arith) (omega arith) (omega arith) in
+    (omega arith, omega (arith, c .wide .ensures), l .loop .inv .2 ∙ rw (c .wide .ensures) (ap small e))
 
-cast-t19 : tie.Need-cast-t19 Inv-loop μ-loop
-cast-t19 c = omega arith
+read-token-requires-3 : tie.Need-read-token-requires-3 Inv-loop μ-loop
+read-token-requires-3 c κs = search needs
 
 returns-7 : tie.Need-returns-7 Inv-loop μ-loop
 returns-7 c =
-    let l = c .before in
-    let x = c .before .before .before .before .before .before .before .before .args in
-    sym (l .loop .inv .2 ∙ digits-end (x .tab .now) (l .loop .i) (l .loop .v) (omega arith) (omega arith))
+    let l = c .before .before in
+    let x = l .before .before .before .before .before .before .before .args in
+    c .read-token3 .ensures (x .tab .now)
+    ∙ sym (l .loop .inv .2 ∙ ap small (digits-end (x .tab .now) (l .loop .i) (l .loop .v) (omega arith)))
 
 pub decimal-at-spec : {M : Type 1} → statement M
 decimal-at-spec =
@@ -117,16 +117,17 @@ decimal-at-spec =
     returns-3
     loop-holds
     shared-slice-read-c
-    cast-t15
+    read-token-requires
     returns-4
-    cast-t16
+    read-token-requires-2
     returns-5
-    mul-v
-    digit-value-requires
-    add-v
     returns-6
+    mul-v
+    wide-requires
+    sub-v
+    add-v
     add-i
     loop-less
     loop-again
-    cast-t19
+    read-token-requires-3
     returns-7)
