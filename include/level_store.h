@@ -30,7 +30,8 @@
  * back: the header has the state of the last finished call, so it need not be kept elsewhere. An accepted changing call is a list of
  * steps: it stores its intent in the header, does its operations on the chip, each a sector programmed or a block erased, and stores the
  * finished ram with the new state and without the intent. The hardware has to see to it that each step happens wholly or not at all,
- * and that they happen in this order. Power may then be lost between any two steps, during a restart too: restart finishes the call,
+ * and that they happen in this order: here a step is many plain stores, so the arrays are a copy, out of which a driver commits step
+ * after step. Power may then be lost between any two steps, during a restart too: restart finishes the call,
  * and all bytes and the state are those of the call never cut. Before the intent is stored nothing has changed, and the call is not
  * made. Which of the two it was is seen by the state: every accepted insert, update and delete raises n or d, or both. Each row of a
  * load is such a call, and the rows behind the one that was cut are not loaded. While a call is pending, all calls but restart and
@@ -230,15 +231,18 @@ level_store_load_result level_store_load(level_store_state state, const uint8_t 
 /* To be called first at power-up. Finishes the pending call, or finds none and changes nothing; gives the state to go on with. It goes by
  * the header; `state` is not judged, and comes back on a refusal. What counts as done is all up to the last sector of the call's list
  * that is programmed; no sector is programmed again, an erase behind that sector perhaps made again. Refused by 2 first if ram is
- * under 64 bytes, and by 1 if the kind is unknown; then as the pending call would be, by the header's state, but never by 7 and 10;
- * with none pending by 1, 2. On a volume that was formatted and not altered it is never refused. */
+ * under 64 bytes, and by 1 if the kind is unknown; then as the pending call would be, a format by its four arguments and any other by the
+ * header's state, but never by 7 and 10; with none pending by 1, 2. On a volume that was formatted and not altered it is never refused.
+ * If it is refused, the pending call cannot be finished, and only a format helps. */
 level_store_change level_store_restart(level_store_state state,
     uint8_t *data, size_t data_len, uint8_t *spare, size_t spare_len, uint8_t *ram, size_t ram_len);
 
 /* The same calls with a budget: they do the first `budget` of their steps, as if power was lost then, and leave the bytes of that moment.
- * For tests and benches; harmless in firmware, since a restart finishes a call that was stopped. A budget of 0 changes nothing; one that
- * is not used up is the call without a budget. A restart that finds nothing pending has finished 1, steps 0 and the header's state. What
- * budgets b and b + 1 leave differs by one step: so a driver that works on a copy of the chip can learn the steps and their order. */
+ * For tests and benches; harmless in firmware, since a restart finishes a call that was stopped, if it has enough steps: one with a small
+ * budget may erase the same blocks again each time. A budget of 0 changes nothing; one of all steps or more is the call without a budget.
+ * A restart that finds nothing pending has finished 1, steps 0 and the header's state. What budgets b and b + 1 leave differs by one step,
+ * though erasing a block of all FF changes no byte: so a driver that works on a copy can learn the steps and their order. A load has no
+ * budget of its own: its rows are inserts and updates. */
 level_store_cut_result level_store_format_cut(uint64_t budget, level_store_state old,
     uint32_t sector_size, uint32_t ra_blocks, uint32_t da_blocks, uint32_t hash_count,
     uint8_t *data, size_t data_len, uint8_t *spare, size_t spare_len, uint8_t *ram, size_t ram_len);

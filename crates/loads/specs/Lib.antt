@@ -3,3 +3,4 @@ pub mod LoadMap
 pub mod Moves
 pub mod WornLoads
 pub mod WholeLoads
+pub mod RowsKept

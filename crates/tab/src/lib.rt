@@ -7,7 +7,7 @@ ghost use Prim.Native.Nat.{ℕ};
 ghost use lib.ListN.{drop};
 ghost use Rattle.memory.specs.Lent.{before};
 ghost use Rattle.tab.specs.Reader.{got, small, decimal, word, nameOf, bare, quoted, after, lineEnd, ends, field};
-ghost use Rattle.tab.specs.Places.{placeIn, tokenIn, fieldIn};
+ghost use Rattle.tab.specs.Places.{placeIn, Opened, tokenIn, fieldIn};
 
 // A column of a tab.
 pub enum Column {
@@ -169,19 +169,30 @@ fn bare_at(tab: &[u8], at: usize, c: Column, header: bool) -> Token
     decimal_at(tab, at)
 }
 
-// The same, quoted or not.
+// Where what stands in a field begins: behind a quote, if there is one.
+fn content_start(tab: &[u8], at: usize) -> usize
+    ensures { λ r. ⌜ Opened (before tab) at r ⌝ }
+{
+    if at >= tab.len() {
+        return at;
+    }
+    if tab[at] != b'"' {
+        return at;
+    }
+    at + 1
+}
+
+// A name or a number, quoted or not. It is read at one place for both, so that the compiler makes one copy of it.
 fn content_at(tab: &[u8], at: usize, c: Column, header: bool) -> Token
     ensures { λ r. ⌜ tokenIn (before tab) r ≡ quoted (bare header c) (drop at (before tab)) ⌝ }
 {
-    if at >= tab.len() {
-        return bare_at(tab, at, c, header);
-    }
-    if tab[at] != b'"' {
-        return bare_at(tab, at, c, header);
-    }
-    let Token::Value(v, next) = bare_at(tab, at + 1, c, header) else {
+    let start = content_start(tab, at);
+    let Token::Value(v, next) = bare_at(tab, start, c, header) else {
         return Token::Malformed;
     };
+    if start == at {
+        return Token::Value(v, next);
+    }
     let Place::At(end) = after_byte(tab, next, b'"') else {
         return Token::Malformed;
     };
