@@ -12,12 +12,20 @@ use Rattle.layout.specs.Geometry.{State}
 use Rattle.layout.specs.Flash.{Flash, applyAll}
 use Rattle.layout.specs.Calls.{Result, Call, insert, update, delete, lookup}
 use Rattle.layout.specs.Header.{headerSize, pages, header, finished, headerBytes, intentWords, noIntent}
-use Rattle.layout.specs.Budgets.{memory, steps, lastSteps}
+use Rattle.layout.specs.Budgets.{Memory, memory, steps, lastSteps}
 use Rattle.laws.specs.StepLaws.{last-cut, last-length}
 use Rattle.laws.specs.HeaderLaws.{pages-of, whole-ram, length-header}
 use Rattle.state.specs.Contract.{Ran}
 use Rattle.state.specs.declared.Progress.{Progress}
 use Rattle.changes.specs.Tasks.{Carried}
+
+-- no budget, no step
+pub ran-none : (u : ℕ) (r : Result) (m m′ : Memory) → m′ ≡ m → Ran u (lastSteps r) 0 m m′ (record { steps = 0; finished = false })
+ran-none u r m m′ e = record {
+  memory-is = e;
+  steps-is = omega arith;
+  finished-is = sym (lt-leb (length (lastSteps r)) 0 (omega (arith, last-length r)));
+}
 
 module _ (u : ℕ) (r : Result) (b : ℕ) (flash flash′ : Flash) (p : Progress) where
   module _ (ram part ram′ : List ℕ) (C : Carried u r b flash (pages ram) p flash′ part) (back : ram′ ≡ part ++ header ram) where

@@ -1,6 +1,7 @@
 // The changing calls insert, update and delete, by one way: 1, 2, 10, 8, then 3 or 4 by whether the key is live, then 5, 6, 7 or the change
 // in steps; and the same of a pending call by a restart. Document 01, "Calls"; document 02, request 8.
 ghost use mathlib.Core.Path.{_≡_};
+ghost use mathlib.Core.Bool.{false};
 ghost use Prim.Native.Nat.{_≤_};
 ghost use lib.ListN.{length};
 ghost use Rattle.memory.specs.Lent.{before};
@@ -12,10 +13,10 @@ ghost use Rattle.geometry.specs.Shape.{shape};
 ghost use Rattle.state.specs.Contract.{recordIs, callOf, volume, given, effectOf, effectBy, cutOf, cutBy, memoryBefore, memoryAfter, Ran};
 ghost use Rattle.state.specs.Judge.{VolumeFits, GoodFits};
 ghost use Rattle.state.specs.declared.Judgement.{Judgement};
-ghost use Rattle.planning.specs.Edits.{Room};
+ghost use Rattle.planning.specs.Edits.{Room, programsIn};
 ghost use Rattle.changes.specs.Tasks.{taskOn, taskSlots, taskPlan, taskResult};
 ghost use Rattle.calls.specs.Resolve.{resolvedBy, resolvedOf, ResolvedFits};
-ghost use Rattle.calls.specs.Request.{keyOf, ofAbsent, ofLive, decisionOf};
+ghost use Rattle.calls.specs.Request.{keyOf, ofAbsent, ofLive, decisionOf, Decided};
 use changes::Edit;
 use changes::Task;
 use geometry::Geometry;
@@ -164,6 +165,87 @@ fn finish(
     }
 }
 
+// A change with a budget of steps: 5, 6 and 7, else its intent and the steps behind it.
+fn perform_planned(
+    budget: usize,
+    t: Task,
+    q: Request,
+    main: &mut [u8],
+    spare: &mut [u8],
+    ram: &mut [u8],
+) -> Cut
+    requires { ⌜ Decided t q (taskOn t (now main) (now spare) (now ram)) ⌝ }
+    ensures { λ c. ⌜ cutBy c main spare ram ≡ cutOf (callCut fnvFamily budget (given (t .state) main spare ram) (callOf q)) ⌝ }
+{
+    let edit = t.edit;
+    let i = changes::refusal(t, spare);
+    if i != state::ACCEPTED {
+        return state::refuse_cut(t.state, i);
+    }
+    if budget == 0 {
+        let none = Progress {
+            steps: 0,
+            finished: false,
+        };
+        return state::cut_after(none, t.state, t.state);
+    }
+    header::intend(t.state, q, ram);
+    let p = finish(t, 0, budget - 1, main, spare, ram);
+    let after = Progress {
+        steps: p.steps + 1,
+        finished: p.finished,
+    };
+    state::cut_after(after, t.state, changes::counted_state(t.state, edit))
+}
+
+// The same of a change that fills no page, the common one: its steps are its intent and its RAM, and the chip is only named.
+fn append_change(
+    budget: usize,
+    t: Task,
+    q: Request,
+    main: &[u8],
+    spare: &[u8],
+    ram: &mut [u8],
+) -> Cut
+    requires { ⌜ Decided t q (taskOn t (now main) (now spare) (now ram)) × (programsIn (shape (t .g)) (taskSlots t) ≡ false) ⌝ }
+    ensures { λ c. ⌜ cutBy c main spare ram ≡ cutOf (callCut fnvFamily budget (given (t .state) main spare ram) (callOf q)) ⌝ }
+{
+    let g = t.g;
+    let s = t.state;
+    let edit = t.edit;
+    let i = changes::room_refusal(g, s, edit);
+    if i != state::ACCEPTED {
+        return state::refuse_cut(s, i);
+    }
+    if budget == 0 {
+        return Cut {
+            refusal: state::ACCEPTED,
+            finished: 0,
+            steps: 0,
+            state: s,
+        };
+    }
+    header::intend(s, q, ram);
+    if budget == 1 {
+        return Cut {
+            refusal: state::ACCEPTED,
+            finished: 0,
+            steps: 1,
+            state: s,
+        };
+    }
+    let n = ram.len() - state::HEADER_SIZE;
+    changes::append(t, &mut ram[0..n]);
+    let new = changes::counted_state(s, edit);
+    header::clear(new, ram);
+    Cut {
+        refusal: state::ACCEPTED,
+        finished: 1,
+        steps: 2,
+        state: new,
+    }
+}
+
 // A changing call whose key is resolved, with a budget of steps: 3 to 7, else its intent and the steps behind it.
 pub fn perform_resolved(
     budget: usize,
@@ -184,24 +266,10 @@ pub fn perform_resolved(
         }
         Decision::Change(g, edit) => {
             let t = Task { g, state: s, edit };
-            let i = changes::refusal(t, spare);
-            if i != state::ACCEPTED {
-                return state::refuse_cut(s, i);
+            if changes::programs(t) {
+                return perform_planned(budget, t, q, main, spare, ram);
             }
-            if budget == 0 {
-                let none = Progress {
-                    steps: 0,
-                    finished: false,
-                };
-                return state::cut_after(none, s, s);
-            }
-            header::intend(s, q, ram);
-            let p = finish(t, 0, budget - 1, main, spare, ram);
-            let after = Progress {
-                steps: p.steps + 1,
-                finished: p.finished,
-            };
-            return state::cut_after(after, s, changes::counted_state(s, edit));
+            return append_change(budget, t, q, main, spare, ram);
         }
     }
 }

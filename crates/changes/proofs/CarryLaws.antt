@@ -192,17 +192,22 @@ module _ (g : Geometry) (v : Volume) (e : Edit) (S : Slots) (j : ℕ) (r : CodeR
             some-done (g .u) from b plan (v .flash) (result from) refl (v .ram) (v .ram) flash′ (rw (← (all ∙ total-is)) h)
             (run-is (record { from = from; to = from + b }) flash′ run) refl
 
-  -- no operation, and the RAM
-  pub carried-nothing : (from b : ℕ) → 0 < b → from ≤ length plan → programsIn g S ≡ false → (ram′ : List ℕ)
-      → ram′ ≡ cleared (appended g new (v .ram) S)
-      → Carried (g .u) (result from) b (v .flash) (v .ram) (progress 0 true) (v .flash) ram′
-  carried-nothing from b some l t ram′ k =
-      let none : plan ≡ [] = no-plan g v e (A .pos) (rw (A .slots-are) at t) in
-      let z : from ≡ 0 = omega (arith, l, ap (λ (ps : List Planned). length ps) none) in
-      let no : result from .ops ≡ [] = ap (λ (ps : List Planned). planOps (g .u) (drop from ps) (v .flash)) none ∙ rw z in
-      all-done (g .u) 0 b [] (v .flash) (result from) no (v .ram) ram′ (v .flash) 0 refl some refl
-      (ram-is [] (no-filters g j (r .key) (v .ram) [] S (A .pos) t) from ram′
-      (k ∙ ap cleared (kept-appended g (A .pos) new [] (v .ram) S t)))
+  -- the RAM where nothing is programmed
+  pub ram-appended : programsIn g S ≡ false → (ram′ : List ℕ) → ram′ ≡ cleared (appended g new (v .ram) S) → ram′ ≡ result 0 .volume .ram
+  ram-appended t ram′ k =
+      ram-is [] (no-filters g j (r .key) (v .ram) [] S (A .pos) t) 0 ram′ (k ∙ ap cleared (kept-appended g (A .pos) new [] (v .ram) S t))
+
+-- no operation, and the RAM
+pub carried-nothing : (g : Geometry) (v : Volume) (e : Edit) (from b : ℕ) → 0 < g .u → 0 < b
+    → from ≤ length (changePlan fnvFamily g v (editIs e)) → programsIn g (slotsOf (v .state .records) (v .state .deletions) e) ≡ false
+    → (ram′ : List ℕ) → ram′ ≡ changed g v (editIs e) from .volume .ram
+    → Carried (g .u) (changed g v (editIs e) from) b (v .flash) (v .ram) (progress 0 true) (v .flash) ram′
+carried-nothing g v e from b pos some l t ram′ k =
+    let none : changePlan fnvFamily g v (editIs e) ≡ [] = no-plan g v e pos t in
+    let z : from ≡ 0 = omega (arith, l, ap (λ (ps : List Planned). length ps) none) in
+    let no : changed g v (editIs e) from .ops ≡ []
+    = ap (λ (ps : List Planned). planOps (g .u) (drop from ps) (v .flash)) none ∙ rw z in
+    all-done (g .u) 0 b [] (v .flash) (changed g v (editIs e) from) no (v .ram) ram′ (v .flash) 0 refl some refl k
 
 -- no budget, no step
 pub carried-none : (u : ℕ) (r : Result) (flash : Flash) (ram : List ℕ) → Carried u r 0 flash ram (progress 0 false) flash ram

@@ -1,5 +1,6 @@
 // A change of a volume: 5, 6, 7, else its operations and then its RAM, by a budget of steps. Document 01, "Calls"; document 02, request 8.
 ghost use mathlib.Core.Path.{_≡_};
+ghost use mathlib.Core.Bool.{false};
 ghost use mathlib.Core.List.{List};
 ghost use Prim.Native.Nat.{ℕ, _+_, _<_, _≤_};
 ghost use lib.ListN.{length};
@@ -12,7 +13,7 @@ ghost use Rattle.geometry.specs.Shape.{shape, Sound};
 ghost use Rattle.state.specs.Contract.{recordIs};
 ghost use Rattle.state.specs.Judge.{VolumeFits};
 ghost use Rattle.planning.specs.New.{newBytes};
-ghost use Rattle.planning.specs.Edits.{Room};
+ghost use Rattle.planning.specs.Edits.{Room, programsIn};
 ghost use Rattle.changes.specs.Edits.{editIs, slotsOf, oldNumber, newRecord, recordNumber, fullAt, deletionsFullAt, roomRefusal};
 ghost use Rattle.changes.specs.Filters.{DeletionFilters, EntryFilter, FiltersOf};
 ghost use Rattle.changes.specs.Tasks.{changeRefusal, Carried, taskOn, taskSlots, taskPlan, taskResult};
@@ -256,7 +257,30 @@ fn run_plan(
     }
 }
 
-// The same of any change; one that fills no page makes no plan.
+// Whether a change fills a page.
+pub fn programs(t: Task) -> bool
+    requires { ⌜ Sound (t .g) ⌝ }
+    ensures { λ r. ⌜ r ≡ programsIn (shape (t .g)) (taskSlots t) ⌝ }
+{
+    let g = t.g;
+    let edit = t.edit;
+    planning::programs(g, slots(t.state, edit))
+}
+
+// The RAM after a change that fills none, whatever the chip.
+pub fn append(t: Task, ram: &mut [u8])
+    requires { ⌜ Sound (t .g) × Room (shape (t .g)) (taskSlots t) × (ramSize (shape (t .g)) ≤ length (now ram)) ⌝ }
+    requires { ⌜ programsIn (shape (t .g)) (taskSlots t) ≡ false ⌝ }
+    ensures { λ _. ⌜ ((main spare : List ℕ) → after ram ≡ taskResult t main spare (before ram) 0 .volume .ram) ⌝ }
+{
+    let g = t.g;
+    let edit = t.edit;
+    let e = slots(t.state, edit);
+    let new = new_bytes(old_number(edit), new_record(edit), record_number(g, e));
+    kept::append(g, e, &new, ram);
+}
+
+// The steps of any change; one that fills no page makes no plan.
 pub fn carry_on(
     t: Task,
     from: usize,
@@ -276,14 +300,10 @@ pub fn carry_on(
             finished: false,
         };
     }
-    let g = t.g;
-    let edit = t.edit;
-    let e = slots(t.state, edit);
-    if planning::programs(g, e) {
+    if programs(t) {
         return run_plan(t, from, budget, main, spare, ram);
     }
-    let new = new_bytes(old_number(edit), new_record(edit), record_number(g, e));
-    kept::append(g, e, &new, ram);
+    append(t, ram);
     Progress {
         steps: 0,
         finished: true,
