@@ -46,8 +46,8 @@
  * its level, from the newest on, against the deletions, by their filters, until one is live. A level that was updated often and
  * then deleted takes longest. A load takes the time of reading its tab and of its rows' calls.
  *
- * Needs. The library is x86-64 code, 62 KB with its constants, and has no other data. Of C it calls memcpy and memset alone. It
- * takes at most 7.7 KB of stack, arguments included (measured: format 0.6, lookup 2.0, restart 7.5, load 7.6, insert, update and
+ * Needs. The library is x86-64 code, 70 KB with its constants, and has no other data. Of C it calls memcpy and memset alone. It
+ * takes at most 7.7 KB of stack, arguments included (measured: format 0.6, lookup 2.2, restart 7.5, load 7.6, insert, update and
  * delete 7.7).
  */
 #ifndef LEVEL_STORE_H

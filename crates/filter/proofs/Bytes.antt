@@ -51,6 +51,14 @@ module _ (row w step n low len : ℕ) (e : step * 8 ≡ w) (reach : row + (n + 7
       let s : suc i * step ≤ n * step = mul-le-mul-right step l in
       omega (arith, t, z, reach, s)
 
+  -- one past them is a number of the machine
+  pub few-fits : w ≤ 512 → len < 2 ^ 63 → row + low / 8 + n * step < 2 ^ 64
+  few-fits m l =
+      let k : n ≤ (n + 7) / 8 * 8 = omega arith in
+      let t = mul-le-mul-right step k in
+      let z : (n + 7) / 8 * w ≡ (n + 7) / 8 * 8 * step = omega (arith, ap (λ (y : ℕ). (n + 7) / 8 * y) e) in
+      omega (arith, t, z, reach)
+
 pub few-bit : (bytes : List ℕ) (row low step i y : ℕ) → bit y i ≡ bit (getD bytes (row + low / 8 + i * step) 0) (low % 8)
     → bit y i ≡ bitIn bytes row (i * (step * 8) + low)
 few-bit bytes row low step i y e =

@@ -1,5 +1,5 @@
 -- Each level has the filters from its start on, where the layout puts their bits.
-use mathlib.Core.Path.{_≡_, sym, ap, _∙_}
+use mathlib.Core.Path.{_≡_, refl, sym, ap, _∙_}
 use mathlib.Core.Bool.{true, false, cond, false≢true}
 use mathlib.Core.List.{List}
 use Prim.Native.Nat.{ℕ, _+_, _*_, _-_, _/_, _%_, _^_, _≤_, _<_}
@@ -16,28 +16,25 @@ use Rattle.memory.specs.Bits.{bitIn}
 use Rattle.laws.specs.SetLaws.{width-is, side-range}
 use Rattle.laws.specs.Units.{UnitIs, UnitSound}
 use Rattle.filter.specs.Filter.{IndexFits}
-use Rattle.filter.specs.Groups.{stageOf, skaLevel, l1Level, setLevel, fullLevel, levelInSets, levelOnFlash, levelBelow, rowAt}
+use Rattle.filter.specs.Groups.{stageOf, skaLevel, l1Level, setLevel, fullLevel, levelInSets, rowAt}
 use Rattle.filter.specs.declared.groups.Level.{Level}
 
 -- ---- what a level must be
 
--- the bytes that a level lies in
-abbrev pub levelBytes : Level → List ℕ → List ℕ → List ℕ
-levelBytes l main ram = cond (l .«in_ram») ram main
+-- filter f of the index, of F, is one of the level's, in these bytes
+abbrev pub Lies : ℕ → Index → List ℕ → List ℕ → ℕ → Level → List ℕ → ℕ → Type 0
+Lies u ix main ram F l bytes f =
+    (x : ℕ) → filterBit u ix main ram F f x ≡ bitIn bytes (rowAt l x) ((f - l .start) * 2 ^ l .exponent + x % 2 ^ l .exponent)
 
--- the level has the filters from its start to `below` - 1, of F
+-- the level, on flash, has the filters from its start to `below` - 1, of F
 pub record LevelAt (u : ℕ) (ix : Index) (main ram : List ℕ) (F below : ℕ) (l : Level) : Type 0 where
   pub start-lt : l .start < below
   pub even : l .start % 2 ≡ 0
   pub narrow : l .exponent < 10
-  pub whole : l .«in_ram» ≡ true → 3 ≤ l .exponent
-  pub few : l .«in_ram» ≡ true → below ≤ l .start + 8
   pub small : (below - l .start) * 2 ^ l .exponent < 2 ^ 60
-  pub eights : (x : ℕ) → x < 64 * u → rowAt l x + (below - l .start + 7) / 8 * 2 ^ l .exponent ≤ length (levelBytes l main ram)
-  pub blocks : l .«in_ram» ≡ false → (x : ℕ) → x < 64 * u
-      → rowAt l x + ((below - l .start) * 2 ^ l .exponent + 511) / 512 * 64 ≤ length (levelBytes l main ram)
-  pub bit-is : (f x : ℕ) → l .start ≤ f → f < below
-      → filterBit u ix main ram F f x ≡ bitIn (levelBytes l main ram) (rowAt l x) ((f - l .start) * 2 ^ l .exponent + x % 2 ^ l .exponent)
+  pub eights : (x : ℕ) → x < 64 * u → rowAt l x + (below - l .start + 7) / 8 * 2 ^ l .exponent ≤ length main
+  pub blocks : (x : ℕ) → x < 64 * u → rowAt l x + ((below - l .start) * 2 ^ l .exponent + 511) / 512 * 64 ≤ length main
+  pub lies : (f : ℕ) → l .start ≤ f → f < below → Lies u ix main ram F l main f
 
 -- ---- powers
 
@@ -84,27 +81,10 @@ exponent-is u r U is =
 
 -- ---- the four levels
 
-module _ (u e : ℕ) (S : UnitIs u e) (ix : Index) (main ram : List ℕ) (F below : ℕ) (le : below ≤ F) where
-  pub ska-at : ix .ska + 64 * u ≤ length ram → F / 8 * 8 < below → LevelAt u ix main ram F below (skaLevel u e ix (F / 8 * 8))
+module _ (u e : ℕ) (S : UnitIs u e) (ix : Index) (main ram : List ℕ) (F : ℕ) where
+  pub ska-lies : (f : ℕ) → F / 8 * 8 ≤ f → Lies u ix main ram F (skaLevel u e ix (F / 8 * 8)) ram f
   unfolding filterBit bitAt
-  ska-at fits h =
-      let p : 2 ^ (e + 4) ≡ 16 * u = power-4 u e S in
-      let n : below - F / 8 * 8 ≤ 8 = omega arith in
-      let k : (below - F / 8 * 8 + 7) / 8 ≤ 1 = omega arith in
-      let m = mul-le-mul-right (16 * u) n in
-      record {
-        start-lt = h;
-        even = omega arith;
-        narrow = omega (arith, S .small);
-        whole = λ t. omega arith;
-        few = λ t. omega arith;
-        small = rw p (omega (arith, S .most));
-        eights = rw p (λ x l.
-            let q : x / (16 * u) < 4 = div-lt x (16 * u) 4 (omega (arith, S .some)) (omega arith) in
-            omega (arith, mul-le-mul-right (16 * u) q, mul-le-mul-right (16 * u) k));
-        blocks = λ t x l. absurd (false≢true (sym t));
-        bit-is = rw p (λ f x a b. rw (le-ltb f (F / 8 * 8) a));
-      }
+  ska-lies f a = let p : 2 ^ (e + 4) ≡ 16 * u = power-4 u e S in rw p (λ x. rw (le-ltb f (F / 8 * 8) a))
 
   -- flush t = g / 8 of a round lies t sectors after the first
   l1-byte : (b i r g : ℕ) → b * (1024 * u) + i * (4 * (64 * u)) + (g * (16 * u) + r) / 8
@@ -117,39 +97,22 @@ module _ (u e : ℕ) (S : UnitIs u e) (ix : Index) (main ram : List ℕ) (F belo
   l1-bit : (r g : ℕ) → (g * (16 * u) + r) % 8 ≡ (g % 8 * (16 * u) + r) % 8
   l1-bit r g = omega arith
 
-  module _ (near : F / 8 * 8 ≤ inFull u F * (128 * (4 * u)) + 128 * inSet u F + 128) where
-    pub l1-at : (ix .first + 1) * (1024 * u) ≤ length main → below ≤ F / 8 * 8 → inFull u F * (128 * (4 * u)) + 128 * inSet u F < below
-        → LevelAt u ix main ram F below (l1Level u e ix (inFull u F * (128 * (4 * u)) + 128 * inSet u F))
-    unfolding filterBit bitAt
-    l1-at fits top h =
-        let start : ℕ = inFull u F * (128 * (4 * u)) + 128 * inSet u F in
-        let p : 2 ^ (e + 4) ≡ 16 * u = power-4 u e S in
-        let n : below - start ≤ 128 = omega arith in
-        let k : (below - start + 7) / 8 ≤ 16 = omega arith in
-        let m = mul-le-mul-right (16 * u) n in
-        record {
-          start-lt = h;
-          even = omega arith;
-          narrow = omega (arith, S .small);
-          whole = λ t. omega arith;
-          few = λ t. absurd (false≢true t);
-          small = rw p (omega (arith, S .most));
-          eights = rw p (λ x l.
-              let q : x / (16 * u) < 4 = div-lt x (16 * u) 4 (omega (arith, S .some)) (omega arith) in
-              omega (arith, mul-le-mul-right (4 * (64 * u)) q, mul-le-mul-right (16 * u) k));
-          blocks = rw p (λ t x l.
-              let q : x / (16 * u) < 4 = div-lt x (16 * u) 4 (omega (arith, S .some)) (omega arith) in
-              omega (arith, mul-le-mul-right (4 * (64 * u)) q));
-          bit-is = rw p (λ f x a b.
-              rw (
-                lt-ltb f (F / 8 * 8) (omega arith),
-                le-ltb f (inFull u F * (128 * (4 * u))) (omega arith),
-                le-ltb f start a,
-                l1-byte (ix .first) (x / (16 * u)) (x % (16 * u)) (f - start),
-                l1-bit (x % (16 * u)) (f - start),
-              ));
-        }
+  pub l1-lies : (start f : ℕ) → start ≡ inFull u F * (128 * (4 * u)) + 128 * inSet u F → start ≤ f → f < F / 8 * 8
+      → Lies u ix main ram F (l1Level u e ix start) main f
+  unfolding filterBit bitAt
+  l1-lies start f is a b =
+      let p : 2 ^ (e + 4) ≡ 16 * u = power-4 u e S in
+      rw p (λ x.
+      rw (
+        lt-ltb f (F / 8 * 8) b,
+        le-ltb f (inFull u F * (128 * (4 * u))) (omega arith),
+        ← is,
+        le-ltb f start a,
+        l1-byte (ix .first) (x / (16 * u)) (x % (16 * u)) (f - start),
+        l1-bit (x % (16 * u)) (f - start),
+      ))
 
+module _ (u e : ℕ) (S : UnitIs u e) (ix : Index) (main ram : List ℕ) (F below : ℕ) (le : below ≤ F) where
   module _ (few : inSet u F < 4 * u) where
     pub set-at : (ix .first + 1 + 2 * (4 * u)) * (1024 * u) ≤ length main → below ≤ F / 8 * 8
         → inFull u F * (128 * (4 * u)) < below → below ≤ inFull u F * (128 * (4 * u)) + 128 * inSet u F
@@ -167,16 +130,14 @@ module _ (u e : ℕ) (S : UnitIs u e) (ix : Index) (main ram : List ℕ) (F belo
           start-lt = h;
           even = omega arith;
           narrow = omega (arith, S .small);
-          whole = λ t. absurd (false≢true t);
-          few = λ t. absurd (false≢true t);
           small = omega (arith, S .most, Q .whole);
           eights = λ x b.
               let r : x / w < 16 * 2 ^ log2up (inSet u F) = div-lt x w (16 * 2 ^ log2up (inSet u F)) (Q .some) (omega (arith, Q .whole)) in
               omega (arith, Q .whole, mul-le-mul-right w k, mul-le-mul-right (64 * u) r, mul-le-mul-right (1024 * u) (side-range u ix (inSet u F) .1), mul-le-mul-right (1024 * u) (Q .side));
-          blocks = λ t x b.
+          blocks = λ x b.
               let r : x / w < 16 * 2 ^ log2up (inSet u F) = div-lt x w (16 * 2 ^ log2up (inSet u F)) (Q .some) (omega (arith, Q .whole)) in
               omega (arith, Q .whole, mul-le-mul-right (64 * u) r, mul-le-mul-right (1024 * u) (side-range u ix (inSet u F) .1), mul-le-mul-right (1024 * u) (Q .side));
-          bit-is = λ f x a b.
+          lies = λ f a b x.
               rw (lt-ltb f (F / 8 * 8) (omega arith), le-ltb f start a, lt-ltb f (start + 128 * inSet u F) (omega arith), width-is u e (S .power) (inSet u F) (omega arith));
         }
 
@@ -192,16 +153,14 @@ module _ (u e : ℕ) (S : UnitIs u e) (ix : Index) (main ram : List ℕ) (F belo
         start-lt = lo;
         even = omega arith;
         narrow = omega arith;
-        whole = λ t. absurd (false≢true t);
-        few = λ t. absurd (false≢true t);
         small = omega (arith, S .most);
         eights = λ x b.
             let d : x / 1 ≡ x = div-one x in
             rw d (omega (arith, mul-le-mul-right (4 * u * (1024 * u)) j, mul-le-mul-right (64 * u) b));
-        blocks = λ t x b.
+        blocks = λ x b.
             let d : x / 1 ≡ x = div-one x in
             rw d (omega (arith, mul-le-mul-right (4 * u * (1024 * u)) j, mul-le-mul-right (64 * u) b));
-        bit-is = λ f x a b.
+        lies = λ f a b x.
             let s : f ≡ k * (128 * (4 * u)) + (f - k * (128 * (4 * u))) = omega arith in
             let r : f - k * (128 * (4 * u)) < 128 * (4 * u) = omega arith in
             rw (
@@ -212,7 +171,7 @@ module _ (u e : ℕ) (S : UnitIs u e) (ix : Index) (main ram : List ℕ) (F belo
             );
       }
 
--- ---- the level that has filter `below` - 1
+-- ---- the set that has filter `below` - 1
 
 module _ (u e F below Z : ℕ) (ix : Index) (main ram : List ℕ) (S : UnitIs u e) (I : IndexFits u ix Z main ram) (z : inFull u F ≤ Z) (pos : 0 < below) (le : below ≤ F) where
   long : (ix .first + 1 + 2 * (4 * u) + inFull u F * (4 * u)) * (1024 * u) ≤ length main
@@ -221,26 +180,10 @@ module _ (u e F below Z : ℕ) (ix : Index) (main ram : List ℕ) (S : UnitIs u 
   rounds : Euclid (F / 8 / 16) (4 * u)
   rounds = euclid (F / 8 / 16) (4 * u) (omega (arith, S .some))
 
-  in-sets : below ≤ stageOf u F .flash → below ≤ stageOf u F .partitioned → LevelAt u ix main ram F below (levelInSets u e ix (stageOf u F) below)
+  pub in-sets : below ≤ F / 8 * 8 → below ≤ inFull u F * (128 * (4 * u)) + 128 * inSet u F → LevelAt u ix main ram F below (levelInSets u e ix (stageOf u F) below)
   in-sets top l =
       by-lt
       (λ t. LevelAt u ix main ram F below (cond t (setLevel u e ix (inSet u F) (stageOf u F .full)) (fullLevel u ix ((below - 1) / 2 ^ (e + 9)))))
       (stageOf u F .full) below
       (λ h. set-at u e S ix main ram F below le (rounds .small) (omega (arith, long)) top h l)
       (λ h. full-at u e S ix main ram F below le ((below - 1) / 2 ^ (e + 9)) (ap (λ (w : ℕ). (below - 1) / w) (power-9 u e S)) long pos top h)
-
-  on-flash : below ≤ stageOf u F .flash → LevelAt u ix main ram F below (levelOnFlash u e ix (stageOf u F) below)
-  on-flash top =
-      by-lt
-      (λ t. LevelAt u ix main ram F below (cond t (l1Level u e ix (stageOf u F .partitioned)) (levelInSets u e ix (stageOf u F) below)))
-      (stageOf u F .partitioned) below
-      (λ h. l1-at u e S ix main ram F below le (omega (arith, rounds .whole)) (omega (arith, long)) top h)
-      (λ h. in-sets top h)
-
-  pub level-at : LevelAt u ix main ram F below (levelBelow u e ix (stageOf u F) below)
-  level-at =
-      by-lt
-      (λ t. LevelAt u ix main ram F below (cond t (skaLevel u e ix (stageOf u F .flash)) (levelOnFlash u e ix (stageOf u F) below)))
-      (stageOf u F .flash) below
-      (λ h. ska-at u e S ix main ram F below le (I .in-ram) h)
-      (λ h. on-flash h)

@@ -1,5 +1,10 @@
 pub mod Levels
 pub mod Rows
+pub mod Masks
+pub mod Recent
+pub mod RecentWords
+pub mod RecentShut
+pub mod RecentBytes
 pub mod Pairs
 pub mod Bytes
 pub mod Setting

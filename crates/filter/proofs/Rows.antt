@@ -21,7 +21,7 @@ use Rattle.filter.specs.Groups.{rowAt, levelHas}
 use Rattle.filter.specs.Blocks.{BlockOf, BlockAt}
 use Rattle.filter.specs.declared.groups.Block.{Block}
 use Rattle.filter.specs.declared.groups.Level.{Level}
-use Rattle.filter.proofs.Levels.{levelBytes, LevelAt}
+use Rattle.filter.proofs.Levels.{Lies, LevelAt}
 
 -- the first i elements of an array are those of f
 abbrev pub Filled : (ℕ → ℕ) → ℕ → List ℕ → Type 0
@@ -34,7 +34,7 @@ and-swap true b c = refl
 and-swap false true c = refl
 and-swap false false c = refl
 
-all-take : (f : ℕ → Bool) (ps : List ℕ) (k : ℕ) → k < length ps → allOf f (take (suc k) ps) ≡ (f (getD ps k 0) && allOf f (take k ps))
+pub all-take : (f : ℕ → Bool) (ps : List ℕ) (k : ℕ) → k < length ps → allOf f (take (suc k) ps) ≡ (f (getD ps k 0) && allOf f (take k ps))
 unfolding allOf
 all-take f [] k h = absurd (omega arith)
 all-take f (x ∷ xs) zero h = refl
@@ -97,7 +97,7 @@ bits-only n r i h =
 -- ---- blocks
 
 -- only the first n bits count
-upto-same : (G H : ℕ → ℕ → Bool) (n : ℕ) (r : List ℕ) → ((j i : ℕ) → j * 64 + i < n → G j i ≡ H j i) → Upto G n r → Upto H n r
+pub upto-same : (G H : ℕ → ℕ → Bool) (n : ℕ) (r : List ℕ) → ((j i : ℕ) → j * 64 + i < n → G j i ≡ H j i) → Upto G n r → Upto H n r
 unfolding Upto
 upto-same G H n r e R j l i h =
     R j l i h
@@ -171,21 +171,22 @@ module _ (l : Level) (bytes : List ℕ) (below : ℕ) (ps : List ℕ) where
             W);
       }
 
+-- a level's filters are those of the index
+pub level-same : (u : ℕ) (ix : Index) (main ram : List ℕ) (F : ℕ) (l : Level) (ps bytes : List ℕ) (f : ℕ)
+    → Lies u ix main ram F l bytes f → allOf (filterBit u ix main ram F f) ps ≡ levelHas l bytes ps (f - l .start)
+level-same u ix main ram F l ps bytes f L =
+    let w : ℕ = 2 ^ l .exponent in
+    all-ext (filterBit u ix main ram F f) (λ x. bitIn bytes (rowAt l x) ((f - l .start) * w + x % w)) ps L
+
 -- a level's block is one of the index
-pub block-at : (u : ℕ) (ix : Index) (main ram : List ℕ) (F below : ℕ) (l : Level) (ps : List ℕ) (b : Block) (bytes : List ℕ)
-    → LevelAt u ix main ram F below l → levelBytes l main ram ≡ bytes → BlockOf l bytes below ps b → BlockAt u ix main ram F below ps b
-block-at u ix main ram F below l ps b bytes L e B =
+pub block-at : (u : ℕ) (ix : Index) (main ram : List ℕ) (F below : ℕ) (l : Level) (ps : List ℕ) (b : Block)
+    → LevelAt u ix main ram F below l → BlockOf l main below ps b → BlockAt u ix main ram F below ps b
+block-at u ix main ram F below l ps b L B =
     record {
       start-lt = B .start-lt;
       few = B .few;
       even = omega (arith, L .even, B .pairs, B .start-le);
-      shown = upto-same (λ j i. levelHas l bytes ps (b .start + (j * 64 + i) - l .start))
+      shown = upto-same (λ j i. levelHas l main ps (b .start + (j * 64 + i) - l .start))
           (λ j i. allOf (filterBit u ix main ram F (b .start + (j * 64 + i))) ps) (below - b .start) (b .words)
-          (λ j i h. sym (same (b .start + (j * 64 + i)) (omega (arith, B .start-le)) (omega (arith, B .start-lt)))) (B .shown);
+          (λ j i h. sym (level-same u ix main ram F l ps main (b .start + (j * 64 + i)) (L .lies (b .start + (j * 64 + i)) (omega (arith, B .start-le)) (omega (arith, B .start-lt))))) (B .shown);
     }
-  where
-    same : (f : ℕ) → l .start ≤ f → f < below → allOf (filterBit u ix main ram F f) ps ≡ levelHas l bytes ps (f - l .start)
-    same f a c =
-        let w : ℕ = 2 ^ l .exponent in
-        all-ext (filterBit u ix main ram F f) (λ x. bitIn bytes (rowAt l x) ((f - l .start) * w + x % w)) ps
-        (λ x. L .bit-is f x a c ∙ ap (λ (t : List ℕ). bitIn t (rowAt l x) ((f - l .start) * w + x % w)) e)

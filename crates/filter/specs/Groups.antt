@@ -17,42 +17,30 @@ use Rattle.filter.specs.declared.groups.Stage.{Stage}
 module _ (u e : ℕ) (ix : Index) where
   -- the SKA page: a sector for each fourth of the filters' bits
   abbrev pub skaLevel : ℕ → Level
-  skaLevel start = record { start = start; «in_ram» = true; base = ix .ska; exponent = e + 4; stride = sector u }
+  skaLevel start = record { start = start; base = ix .ska; exponent = e + 4; stride = sector u }
 
   -- L1: four pages for each fourth, flush after flush
   abbrev pub l1Level : ℕ → Level
   l1Level start =
-      record { start = start; «in_ram» = false; base = ix .first * block u; exponent = e + 4; stride = pagesPerFourth * page u }
+      record { start = start; base = ix .first * block u; exponent = e + 4; stride = pagesPerFourth * page u }
 
   -- the current set after c rounds
   abbrev pub setLevel : ℕ → ℕ → Level
   setLevel c start =
-      record { start = start; «in_ram» = false; base = sideBlock u ix c * block u; exponent = e + 2 - log2up c; stride = page u }
+      record { start = start; base = sideBlock u ix c * block u; exponent = e + 2 - log2up c; stride = page u }
 
 -- full set k
 abbrev pub fullLevel : ℕ → Index → ℕ → Level
-fullLevel u ix k = record { start = k * fullFilters u; «in_ram» = false; base = fullBlock u ix k * block u; exponent = 0; stride = page u }
+fullLevel u ix k = record { start = k * fullFilters u; base = fullBlock u ix k * block u; exponent = 0; stride = page u }
 
--- how F filters are shared out: rounds in the current set; filters in full sets, in any set, on flash
+-- how F filters are shared out: rounds in the current set; filters in full sets
 abbrev pub stageOf : ℕ → ℕ → Stage
-stageOf u F =
-    record {
-      rounds = inSet u F;
-      full = inFull u F * fullFilters u;
-      partitioned = inFull u F * fullFilters u + filtersPerRound * inSet u F;
-      flash = F / filtersPerFlush * filtersPerFlush;
-    }
+stageOf u F = record { rounds = inSet u F; full = inFull u F * fullFilters u }
 
--- the level that has filter `below` - 1, which is in a set, on flash, anywhere
-module _ (u e : ℕ) (ix : Index) (st : Stage) (below : ℕ) where
-  abbrev pub levelInSets : Level
-  levelInSets = cond (ltb (st .full) below) (setLevel u e ix (st .rounds) (st .full)) (fullLevel u ix ((below - 1) / 2 ^ (e + 9)))
-
-  abbrev pub levelOnFlash : Level
-  levelOnFlash = cond (ltb (st .partitioned) below) (l1Level u e ix (st .partitioned)) levelInSets
-
-  abbrev pub levelBelow : Level
-  levelBelow = cond (ltb (st .flash) below) (skaLevel u e ix (st .flash)) levelOnFlash
+-- the set that has filter `below` - 1
+abbrev pub levelInSets : ℕ → ℕ → Index → Stage → ℕ → Level
+levelInSets u e ix st below =
+    cond (ltb (st .full) below) (setLevel u e ix (st .rounds) (st .full)) (fullLevel u ix ((below - 1) / 2 ^ (e + 9)))
 
 -- ---- what a level has
 

@@ -4,3 +4,4 @@ pub mod Groups
 pub mod Blocks
 pub mod Pieces
 pub mod NewFilter
+pub mod Recent

@@ -2,8 +2,9 @@
 // Document 01, "Filters". A `Stage` says how many filters each of these has, a `Level` where one of them lies, a `Block` which of up to 512
 // of its filters have all bits of some positions.
 ghost use mathlib.Core.Path.{_≡_};
-ghost use mathlib.Core.Bool.{false};
-ghost use Prim.Native.Nat.{ℕ, _+_, _-_, _*_, _/_, _%_, _^_, _<_, _≤_};
+ghost use mathlib.Core.Bool.{Bool, true};
+ghost use mathlib.Core.Logic.{_⊎_};
+ghost use Prim.Native.Nat.{ℕ, _+_, _-_, _*_, _/_, _%_, _^_, _<_, _≤_, min};
 ghost use lib.ListN.{length, getD, take};
 ghost use Rattle.memory.specs.Bits.{bit, bitIn};
 ghost use Rattle.memory.specs.Power.{log2up};
@@ -12,10 +13,12 @@ ghost use Rattle.layout.specs.Geometry.{filterBits, sideBlocks};
 ghost use Rattle.layout.specs.Index.{filtersPerRound, inFull};
 ghost use Rattle.laws.specs.Units.{UnitIs};
 ghost use Rattle.geometry.specs.Indexes.{indexOf};
-ghost use Rattle.kernels.specs.Blocks.{Shows};
+ghost use Rattle.kernels.specs.Blocks.{Shows, Upto};
+ghost use Rattle.kernels.specs.Masks.{Shut};
 ghost use Rattle.filter.specs.Filter.{IndexFits};
-ghost use Rattle.filter.specs.Groups.{stageOf, skaLevel, l1Level, setLevel, fullLevel, levelBelow, rowAt, levelHas};
+ghost use Rattle.filter.specs.Groups.{stageOf, skaLevel, l1Level, setLevel, fullLevel, levelInSets, rowAt, levelHas};
 ghost use Rattle.filter.specs.Blocks.{EightsIn, BlocksIn, BlockOf, BlockAt};
+ghost use Rattle.filter.specs.Recent.{MaskOf, OneRow, recentHas, RecentIn, RecentOf};
 use geometry::Chip;
 use geometry::sets;
 use geometry::sets::Index;
@@ -33,22 +36,26 @@ pub struct Block {
     pub words: [u64; 8],
 }
 
-// Where a group lies: its first filter, in RAM or on flash, the first byte of its first row; a filter has 2 ^ exponent bits in a row, and
-// the next ones in the row `stride` bytes further on.
+// Where a group lies: its first filter, the first byte of its first row, of the RAM for the SKA page and else of the flash; a filter has
+// 2 ^ exponent bits in a row, and the next ones in the row `stride` bytes further on.
 struct Level {
     start: usize,
-    in_ram: bool,
     base: usize,
     exponent: usize,
     stride: usize,
 }
 
-// How filters are shared out over the levels.
+// The filters since the last round up to `below` - 1: L1's and, behind them, those of the SKA page.
+struct Recent {
+    l1: Level,
+    ska: Level,
+    below: usize,
+}
+
+// How filters are shared out over sets: the rounds in the current one, and the filters in full ones.
 struct Stage {
     rounds: usize,
     full: usize,
-    partitioned: usize,
-    flash: usize,
 }
 
 // ---- numbers
@@ -90,7 +97,6 @@ fn ska_level(chip: Chip, e: usize, ix: Index, flash: usize) -> Level
 {
     Level {
         start: flash,
-        in_ram: true,
         base: ix.ska,
         exponent: e + 4,
         stride: chip.sector_size(),
@@ -104,7 +110,6 @@ fn l1_level(chip: Chip, e: usize, ix: Index, partitioned: usize) -> Level
 {
     Level {
         start: partitioned,
-        in_ram: false,
         base: chip.block_address(ix.first),
         exponent: e + 4,
         stride: sets::PAGES_PER_FOURTH * chip.page_size(),
@@ -118,7 +123,6 @@ fn set_level(chip: Chip, e: usize, ix: Index, c: usize, full: usize) -> Level
 {
     Level {
         start: full,
-        in_ram: false,
         base: chip.block_address(sets::side_block(chip, ix, c)),
         exponent: e + 2 - exponent(c),
         stride: chip.page_size(),
@@ -132,7 +136,6 @@ fn full_level(chip: Chip, ix: Index, k: usize) -> Level
 {
     Level {
         start: k * (sets::FILTERS_PER_ROUND * chip.side_blocks()),
-        in_ram: false,
         base: chip.block_address(sets::full_block(chip, ix, k)),
         exponent: 0,
         stride: chip.page_size(),
@@ -151,26 +154,15 @@ fn stage_of(chip: Chip, e: usize, filters: usize) -> Stage
     let full_sets = shifted(all, e + 2);
     let rounds = all - full_sets * side;
     let full = full_sets * (sets::FILTERS_PER_ROUND * side);
-    Stage {
-        rounds,
-        full,
-        partitioned: full + sets::FILTERS_PER_ROUND * rounds,
-        flash: flushes * sets::FILTERS_PER_FLUSH,
-    }
+    Stage { rounds, full }
 }
 
-// The level that has filter `below` - 1.
-fn level_below(chip: Chip, e: usize, ix: Index, st: Stage, below: usize) -> Level
+// The set that has filter `below` - 1.
+fn level_in_sets(chip: Chip, e: usize, ix: Index, st: Stage, below: usize) -> Level
     requires { ⌜ UnitIs (chip .unit) e × (ix .first ≤ 20000) × (st .rounds < sideBlocks (chip .unit)) ⌝ }
-    requires { ⌜ (st .partitioned ≡ st .full + filtersPerRound * st .rounds) × (0 < below) × (below ≤ 2 ^ 20) ⌝ }
-    ensures { λ r. ⌜ r ≡ levelBelow (chip .unit) e (indexOf ix) st below ⌝ }
+    requires { ⌜ (below ≤ st .full + filtersPerRound * st .rounds) × (0 < below) × (below ≤ 2 ^ 20) ⌝ }
+    ensures { λ r. ⌜ r ≡ levelInSets (chip .unit) e (indexOf ix) st below ⌝ }
 {
-    if below > st.flash {
-        return ska_level(chip, e, ix, st.flash);
-    }
-    if below > st.partitioned {
-        return l1_level(chip, e, ix, st.partitioned);
-    }
     if below > st.full {
         return set_level(chip, e, ix, st.rounds, st.full);
     }
@@ -227,7 +219,7 @@ fn position_bits(l: Level, p: u32, first: usize, n: usize, bytes: &[u8]) -> u64
     let step = w / 8;
     let low = x % w;
     let row = l.base + shifted(x, e) * l.stride;
-    kernels::row_bits(row + first * step + low / 8, low, step, n, bytes)
+    kernels::row_bits(0, row + first * step + low / 8, low, step, n, bytes)
 }
 
 // Which of them have all of the first `count` positions. The loop begins with the first one, so that where the bytes lie is computed once.
@@ -291,6 +283,222 @@ fn block_by_words(l: Level, below: usize, ps: [u32; 8], count: usize, bytes: &[u
     }
 }
 
+// ---- filters since the last round
+
+// The lesser of two numbers.
+fn lesser(a: usize, b: usize) -> usize
+    ensures { λ r. ⌜ r ≡ min a b ⌝ }
+{
+    if a < b {
+        return a;
+    }
+    b
+}
+
+// The first byte of the row of a position.
+fn row_of(l: Level, p: u32) -> usize
+    requires { ⌜ (l .exponent < 10) × (rowAt l p < 2 ^ 64) ⌝ }
+    ensures { λ r. ⌜ r ≡ rowAt l p ⌝ }
+{
+    l.base + shifted(wide(p), l.exponent) * l.stride
+}
+
+// Positions as bits among the 2 ^ e that a filter has in a row, and whether they lie in one row.
+struct Mask {
+    bits: u64,
+    one_row: bool,
+}
+
+// They differ from the first in no bit from e on if they lie in its row, as a key's do.
+fn mask_of(e: usize, ps: [u32; 8], count: usize) -> Mask
+    requires { ⌜ (e ≤ 6) × (count ≤ 8) ⌝ }
+    ensures bits { λ r. ⌜ (r .bits < 2 ^ 2 ^ e) × MaskOf ps count (2 ^ e) (r .bits) ⌝ }
+    ensures row { λ r. ⌜ (r .«one_row» ≡ true → OneRow ps count e) ⌝ }
+{
+    let w = power(e);
+    let first = ps[0];
+    let mut bits: u64 = 0;
+    let mut differ: u32 = 0;
+    let mut i = 0;
+    while i < count {
+        let p = ps[i];
+        let b = kernels::single(wide(p) % w);
+        bits = bits | b;
+        differ = differ | (p ^ first);
+        i += 1;
+    }
+    let one_row = shifted(wide(differ), e) == 0;
+    Mask { bits, one_row }
+}
+
+// Filters of eight bytes: a word for each.
+fn recent_64(rs: Recent, mask: u64, ps: [u32; 8], count: usize, main: &[u8], ram: &[u8]) -> Block
+    requires { ⌜ (rs .l1 .exponent ≡ 6) × (1 ≤ count) × (count ≤ 8) × RecentIn rs count ps (length (now main)) (length (now ram)) ⌝ }
+    requires { ⌜ OneRow ps count 6 × MaskOf ps count 64 mask ⌝ }
+    ensures { λ r. ⌜ RecentOf rs (before main) (before ram) (take count ps) r ⌝ }
+{
+    let top = lesser(rs.below, rs.ska.start);
+    let start = rs.l1.start;
+    let all = top - start;
+    let few = lesser(all, 64);
+    let row = row_of(rs.l1, ps[0]);
+    let a = kernels::words_with(mask, row, few, main);
+    let b = kernels::words_with(mask, row + 512, all - few, main);
+    let at = row_of(rs.ska, ps[0]);
+    let c = kernels::words_with(mask, at, rs.below - top, ram);
+    if all < 64 {
+        return Block {
+            start,
+            words: [a | c << all, 0, 0, 0, 0, 0, 0, 0],
+        };
+    }
+    Block {
+        start,
+        words: [a, b | c << (all - 64), 0, 0, 0, 0, 0, 0],
+    }
+}
+
+// A block of filters of two bytes, 128 at the most, by the words of those that are shut.
+fn block_of_shut(start: usize, n: usize, a: u64, b: u64) -> Block
+    requires { ⌜ (0 < n) × (n ≤ 128) ⌝ }
+    ensures { λ r. ⌜ (r .start ≡ start)
+        × ((gate : ℕ → Bool) → Shut gate ((min n 64 + 3) / 4) a → Shut (λ g. gate (64 + g)) ((n - 64 + 3) / 4) b
+        → Upto (λ j i. gate (j * 64 + i)) n (r .words)) ⌝ }
+{
+    if n > 64 {
+        return Block {
+            start,
+            words: [
+                kernels::having(a, 64),
+                kernels::having(b, n - 64),
+                0,
+                0,
+                0,
+                0,
+                0,
+                0,
+            ],
+        };
+    }
+    Block {
+        start,
+        words: [kernels::having(a, n), 0, 0, 0, 0, 0, 0, 0],
+    }
+}
+
+// Filters of two bytes: four to a word.
+fn recent_16(rs: Recent, mask: u64, ps: [u32; 8], count: usize, main: &[u8], ram: &[u8]) -> Block
+    requires { ⌜ (rs .l1 .exponent ≡ 4) × (1 ≤ count) × (count ≤ 8) × RecentIn rs count ps (length (now main)) (length (now ram)) ⌝ }
+    requires { ⌜ OneRow ps count 4 × MaskOf ps count 16 mask × (mask < 65536) ⌝ }
+    ensures { λ r. ⌜ RecentOf rs (before main) (before ram) (take count ps) r ⌝ }
+{
+    let top = lesser(rs.below, rs.ska.start);
+    let start = rs.l1.start;
+    let words = (top - start + 3) / 4;
+    let few = lesser(words, 16);
+    let row = row_of(rs.l1, ps[0]);
+    let a = kernels::lacking(0, mask, row, few, main);
+    let b = kernels::lacking(0, mask, row + 128, words - few, main);
+    let more = (rs.below - top + 3) / 4;
+    let at = row_of(rs.ska, ps[0]);
+    if words < 16 {
+        let c = kernels::lacking(a, mask, at, more, ram);
+        return block_of_shut(start, rs.below - start, c, b);
+    }
+    let c = kernels::lacking(b, mask, at, more, ram);
+    block_of_shut(start, rs.below - start, a, c)
+}
+
+// Filters of whole bytes: which of the 64 from `first` on, L1's and those behind them, have all of the positions.
+fn recent_word(rs: Recent, first: usize, ps: [u32; 8], count: usize, main: &[u8], ram: &[u8]) -> u64
+    requires { ⌜ ((first ≡ 0) ⊎ (first ≡ 64)) × (rs .l1 .start + first < rs .below) × (count ≤ 8)
+        × RecentIn rs count ps (length (now main)) (length (now ram)) ⌝ }
+    ensures { λ r. ⌜ Shows (λ g. recentHas rs (before main) (before ram) (take count ps) (rs .l1 .start + g))
+        first (min (rs .below - rs .l1 .start - first) 64) r ⌝ }
+{
+    let w = power(rs.l1.exponent);
+    let step = w / 8;
+    let top = lesser(rs.below, rs.ska.start);
+    let n = lesser((top - rs.l1.start + 7) / 8 - first / 8, 8);
+    let mut r: u64 = 0xffff_ffff_ffff_ffff;
+    let mut i = 0;
+    while i < count {
+        let p = ps[i];
+        let row = row_of(rs.l1, p);
+        let other = row_of(rs.ska, p);
+        let low = wide(p) % w;
+        let o = low / 8;
+        let s = kernels::byte_bits(other + o, low, step, rs.below - top, ram);
+        let y = kernels::row_bits(s, row + first * step + o, low, step, n, main);
+        r = r & y;
+        i += 1;
+    }
+    r
+}
+
+// The same as a block, in one word or two.
+fn recent_by_bytes(rs: Recent, ps: [u32; 8], count: usize, main: &[u8], ram: &[u8]) -> Block
+    requires { ⌜ (count ≤ 8) × RecentIn rs count ps (length (now main)) (length (now ram)) ⌝ }
+    ensures { λ r. ⌜ RecentOf rs (before main) (before ram) (take count ps) r ⌝ }
+{
+    let start = rs.l1.start;
+    let n = rs.below - start;
+    let a = recent_word(rs, 0, ps, count, main, ram);
+    if n > 64 {
+        let b = recent_word(rs, 64, ps, count, main, ram);
+        return Block {
+            start,
+            words: [a, kernels::lowest(b, n - 64), 0, 0, 0, 0, 0, 0],
+        };
+    }
+    Block {
+        start,
+        words: [kernels::lowest(a, n), 0, 0, 0, 0, 0, 0, 0],
+    }
+}
+
+// At S = 16 by a mask, if the positions lie in one row.
+fn recent_at_16(rs: Recent, ps: [u32; 8], count: usize, main: &[u8], ram: &[u8]) -> Block
+    requires { ⌜ (rs .l1 .exponent ≡ 4) × (1 ≤ count) × (count ≤ 8) × RecentIn rs count ps (length (now main)) (length (now ram)) ⌝ }
+    ensures { λ r. ⌜ RecentOf rs (before main) (before ram) (take count ps) r ⌝ }
+{
+    let m = mask_of(4, ps, count);
+    if m.one_row {
+        return recent_16(rs, m.bits, ps, count, main, ram);
+    }
+    recent_by_bytes(rs, ps, count, main, ram)
+}
+
+// At S = 64 by a mask, if the positions lie in one row.
+fn recent_at_64(rs: Recent, ps: [u32; 8], count: usize, main: &[u8], ram: &[u8]) -> Block
+    requires { ⌜ (rs .l1 .exponent ≡ 6) × (1 ≤ count) × (count ≤ 8) × RecentIn rs count ps (length (now main)) (length (now ram)) ⌝ }
+    ensures { λ r. ⌜ RecentOf rs (before main) (before ram) (take count ps) r ⌝ }
+{
+    let m = mask_of(6, ps, count);
+    if m.one_row {
+        return recent_64(rs, m.bits, ps, count, main, ram);
+    }
+    recent_by_bytes(rs, ps, count, main, ram)
+}
+
+// The filters since the last round. At S = 16 and 64 a filter's part of a row is a number; at other S it is read by bytes, and where L1 has
+// no filter yet those of the SKA page alone.
+fn recent_block(rs: Recent, ps: [u32; 8], count: usize, main: &[u8], ram: &[u8]) -> Block
+    requires { ⌜ (1 ≤ count) × (count ≤ 8) × RecentIn rs count ps (length (now main)) (length (now ram)) ⌝ }
+    ensures { λ r. ⌜ RecentOf rs (before main) (before ram) (take count ps) r ⌝ }
+{
+    if rs.l1.exponent == 4 {
+        return recent_at_16(rs, ps, count, main, ram);
+    }
+    if rs.l1.exponent == 6 {
+        return recent_at_64(rs, ps, count, main, ram);
+    }
+    if rs.ska.start == rs.l1.start {
+        return block_of_few(rs.ska, rs.below, ps, count, ram);
+    }
+    recent_by_bytes(rs, ps, count, main, ram)
+}
+
 // ---- blocks
 
 // The newest filters below `below`, for the first `count` positions: which of them have all of these.
@@ -310,10 +518,19 @@ pub fn block_below(
 {
     let chip = fs.chip;
     let e = exponent(chip.unit);
-    let l = level_below(chip, e, fs.index, stage_of(chip, e, fs.count), below);
-    if l.in_ram {
-        return block_of_few(l, below, ps, count, ram);
+    let start = fs.count / sets::FILTERS_PER_ROUND * sets::FILTERS_PER_ROUND;
+    if below > start {
+        let l1 = l1_level(chip, e, fs.index, start);
+        let ska = ska_level(
+            chip,
+            e,
+            fs.index,
+            fs.count / sets::FILTERS_PER_FLUSH * sets::FILTERS_PER_FLUSH,
+        );
+        let rs = Recent { l1, ska, below };
+        return recent_block(rs, ps, count, main, ram);
     }
+    let l = level_in_sets(chip, e, fs.index, stage_of(chip, e, fs.count), below);
     if l.exponent > 5 {
         return block_by_eights(l, below, ps, count, main);
     }

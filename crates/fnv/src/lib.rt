@@ -5,7 +5,7 @@ ghost use lib.Bits.{bitXor};
 ghost use lib.ListN.{getD};
 ghost use Rattle.memory.specs.Power.{PowerOfTwo};
 ghost use Rattle.memory.specs.Words.{bytes4};
-ghost use Rattle.layout.specs.Geometry.{filterBits};
+ghost use Rattle.layout.specs.Geometry.{sector, filterBits};
 ghost use Rattle.layout.specs.Hash.{fnv1a, fnvFamily};
 ghost use Rattle.laws.specs.Positions.{positionArray};
 ghost use Rattle.laws.specs.Units.{UnitSound};
@@ -90,18 +90,35 @@ fn within(base: u32, size: u32, h: u32) -> u32
     base + (h & (size - 1))
 }
 
+// The first bit of the fourth of a filter that has a key's positions: hash 0 picks it.
+fn fourth_of(chip: Chip, key: u32) -> u32
+    requires { ⌜ UnitSound (chip .unit) ⌝ }
+    ensures { λ r. ⌜ (r ≡ fnvFamily 0 (bytes4 key) % 4 * sector (chip .unit)) × (r ≤ 3 * sector (chip .unit)) ⌝ }
+{
+    let size = chip.sector_size() as u32;
+    fourth(size, hash(0, key))
+}
+
+// Position i of a key, in the fourth that starts at `start`.
+fn position(chip: Chip, start: u32, i: usize, key: u32) -> u32
+    requires { ⌜ UnitSound (chip .unit) × (start ≤ 3 * sector (chip .unit)) × (i < 8) ⌝ }
+    ensures { λ r. ⌜ (r ≡ start + fnvFamily (i + 1) (bytes4 key) % sector (chip .unit)) × (r < filterBits (chip .unit)) ⌝ }
+{
+    let size = chip.sector_size() as u32;
+    within(start, size, hash((i + 1) as u8, key))
+}
+
 // The `count` positions of a key in a filter of 4S bits, (h0 mod 4) S + (hj mod S) for j = 1 to `count`, and zeros after them.
 pub fn positions(chip: Chip, count: usize, key: u32) -> [u32; 8]
     requires { ⌜ UnitSound (chip .unit) × (count ≤ 8) ⌝ }
     ensures equal { λ r. ⌜ r ≡ positionArray fnvFamily count (chip .unit) (bytes4 key) ⌝ }
     ensures below { λ r. ⌜ ((i : ℕ) → i < count → getD r i 0 < filterBits (chip .unit)) ⌝ }
 {
-    let size = chip.sector_size() as u32;
-    let base = fourth(size, hash(0, key));
+    let start = fourth_of(chip, key);
     let mut ps = [0u32; 8];
     let mut i = 0;
     while i < count {
-        ps[i] = within(base, size, hash((i + 1) as u8, key));
+        ps[i] = position(chip, start, i, key);
         i += 1;
     }
     ps

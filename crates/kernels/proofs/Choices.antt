@@ -1,7 +1,7 @@
 -- The numbers of each width.
 use mathlib.Core.Path.{_≡_, refl, sym, ap, _∙_}
 use mathlib.Core.Bool.{Bool, _&&_}
-use Prim.Native.Nat.{ℕ, zero, suc, _+_, _*_, _-_, _/_, _%_, _^_, _≤_, _<_}
+use Prim.Native.Nat.{ℕ, zero, suc, _+_, _*_, _/_, _%_, _^_, _≤_, _<_}
 use native.Mathlib.Omega.{arith}
 use lib.Dec.{ltb}
 use lib.Pow.{pow-pos}
@@ -9,24 +9,6 @@ use borrow.Author.Tests.{le-ltb}
 use Rattle.memory.specs.Bits.{bit}
 use Rattle.memory.specs.Cases.{either, lt?}
 use Rattle.kernels.specs.Blocks.{Shows, Open}
-
--- w = 2 and 4
-pub record Few (e w from m : ℕ) : Type 0 where
-  pub low-e : 0 < e
-  pub high-e : e < 7
-  pub word : 64 / w * w ≡ 64
-  pub one-block : from / 64 * w % 8 + w ≤ 8
-  pub first : from / 64 * w * (64 / w) ≡ from
-  pub all : w * (64 / w) ≡ 64
-  pub in-block : (from / 64 * w - from / 64 * w % 8) * 8 + 64 ≤ ((from + m) * w + 511) / 512 * 64
-
-pub few : (e w from m : ℕ) → w ≡ 2 ^ e → 1 < w → w < 8 → from % 64 ≡ 0 → 0 < m → m ≤ 64 → Few e w from m
-few zero w from m c h l f p q = absurd (omega arith)
-few (suc zero) w from m c h l f p q =
-    rw c (record { low-e = omega arith; high-e = omega arith; word = refl; one-block = omega arith; first = omega arith; all = refl; in-block = omega arith })
-few (suc (suc zero)) w from m c h l f p q =
-    rw c (record { low-e = omega arith; high-e = omega arith; word = refl; one-block = omega arith; first = omega arith; all = refl; in-block = omega arith })
-few (suc (suc (suc e))) w from m c h l f p q = absurd (omega (arith, pow-pos e))
 
 -- w = 8 to 64
 pub record More (e w from m n : ℕ) : Type 0 where

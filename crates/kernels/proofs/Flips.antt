@@ -1,6 +1,6 @@
--- A word with one bit cleared.
+-- Bits that differ, and a word with one bit cleared.
 use mathlib.Core.Path.{_≡_, refl, sym, ap, _∙_}
-use mathlib.Core.Bool.{Bool, _&&_, not, and-comm}
+use mathlib.Core.Bool.{Bool, true, false, _&&_, not, xor, and-comm}
 use Prim.Native.Nat.{ℕ, zero, suc, _+_, _*_, _-_, _/_, _%_, _^_, _<_}
 use native.Mathlib.Omega.{arith}
 use lib.Bits.{bitXor, bitAnd, xor-step, differ}
@@ -12,48 +12,54 @@ use Rattle.memory.specs.Cases.{either, lt?, eq?}
 use Rattle.kernels.specs.Conjunction.{bit-and}
 use Rattle.kernels.proofs.Bits.{bit-shl, bit-shl-low, bit-over}
 
--- ---- one bit cleared
+-- ---- bits that differ
 
-flip : (k m i : ℕ) → i < k → bit (bitXor (2 ^ k - 1) m) i ≡ not (bit m i)
+differ-xor : (a b : ℕ) → a < 2 → b < 2 → (differ a b < 2) × (eqb (differ a b) 1 ≡ xor (eqb a 1) (eqb b 1))
+unfolding xor
+differ-xor zero zero h l = (omega arith, refl)
+differ-xor zero (suc zero) h l = (omega arith, refl)
+differ-xor zero (suc (suc b)) h l = absurd (omega arith)
+differ-xor (suc zero) zero h l = (omega arith, refl)
+differ-xor (suc zero) (suc zero) h l = (omega arith, refl)
+differ-xor (suc zero) (suc (suc b)) h l = absurd (omega arith)
+differ-xor (suc (suc a)) b h l = absurd (omega arith)
+
+pub bit-xor : (a b i : ℕ) → bit (bitXor a b) i ≡ xor (bit a i) (bit b i)
 unfolding bit
-flip zero m i h = absurd (omega arith)
-flip (suc k) m zero h =
-    let s = xor-step (2 ^ suc k - 1) m in
-    let o : (2 ^ suc k - 1) % 2 ≡ 1 = omega (arith, pow-pos k) in
-    let e : bitXor (2 ^ suc k - 1) m % 2 ≡ differ 1 (m % 2) = digit (bitXor (2 ^ suc k - 1) m) (bitXor ((2 ^ suc k - 1) / 2) (m / 2)) (differ 1 (m % 2)) (s ∙ ap (λ (z : ℕ). bitXor ((2 ^ suc k - 1) / 2) (m / 2) * 2 + differ z (m % 2)) o) (small (m % 2) (omega arith)) in
-    ap (λ (y : ℕ). eqb y 1) e ∙ other (m % 2) (omega arith)
+bit-xor a b zero =
+    let d = differ-xor (a % 2) (b % 2) (omega arith) (omega arith) in
+    ap (λ (y : ℕ). eqb y 1) (digit (bitXor a b) (bitXor (a / 2) (b / 2)) (differ (a % 2) (b % 2)) (xor-step a b) (d .0)) ∙ d .1
   where
     digit : (x y d : ℕ) → x ≡ y * 2 + d → d < 2 → x % 2 ≡ d
     digit x y d e l = omega arith
-
-    small : (a : ℕ) → a < 2 → differ 1 a < 2
-    small zero l = omega arith
-    small (suc zero) l = omega arith
-    small (suc (suc a)) l = absurd (omega arith)
-
-    other : (a : ℕ) → a < 2 → eqb (differ 1 a) 1 ≡ not (eqb a 1)
-    other zero l = refl
-    other (suc zero) l = refl
-    other (suc (suc a)) l = absurd (omega arith)
-flip (suc k) m (suc i) h =
-    let s = xor-step (2 ^ suc k - 1) m in
-    let o : (2 ^ suc k - 1) / 2 ≡ 2 ^ k - 1 = omega (arith, pow-pos k) in
-    let e : bitXor (2 ^ suc k - 1) m / 2 ≡ bitXor (2 ^ k - 1) (m / 2) =
-    half (bitXor (2 ^ suc k - 1) m) (bitXor (2 ^ k - 1) (m / 2)) (differ ((2 ^ suc k - 1) % 2) (m % 2)) (s ∙ ap (λ (z : ℕ). bitXor z (m / 2) * 2 + differ ((2 ^ suc k - 1) % 2) (m % 2)) o) (small ((2 ^ suc k - 1) % 2) (m % 2) (omega arith) (omega arith)) in
-    ap (λ (y : ℕ). bit y i) e ∙ flip k (m / 2) i (omega arith)
+bit-xor a b (suc i) =
+    let d = differ-xor (a % 2) (b % 2) (omega arith) (omega arith) in
+    ap (λ (y : ℕ). bit y i) (half (bitXor a b) (bitXor (a / 2) (b / 2)) (differ (a % 2) (b % 2)) (xor-step a b) (d .0)) ∙ bit-xor (a / 2) (b / 2) i
   where
     half : (x y d : ℕ) → x ≡ y * 2 + d → d < 2 → x / 2 ≡ y
     half x y d e l = omega arith
 
-    small : (a b : ℕ) → a < 2 → b < 2 → differ a b < 2
-    small zero b l k = k
-    small (suc zero) zero l k = omega arith
-    small (suc zero) (suc zero) l k = omega arith
-    small (suc zero) (suc (suc b)) l k = absurd (omega arith)
-    small (suc (suc a)) b l k = absurd (omega arith)
+other : (t : Bool) → xor true t ≡ not t
+unfolding xor
+other true = refl
+other false = refl
+
+ones : (k i : ℕ) → i < k → bit (2 ^ k - 1) i ≡ true
+unfolding bit
+ones zero i h = absurd (omega arith)
+ones (suc k) zero h = let o : (2 ^ suc k - 1) % 2 ≡ 1 = omega (arith, pow-pos k) in rw o
+ones (suc k) (suc i) h =
+    let o : (2 ^ suc k - 1) / 2 ≡ 2 ^ k - 1 = omega (arith, pow-pos k) in
+    ap (λ (y : ℕ). bit y i) o ∙ ones k i (omega arith)
+
+-- all bits flipped
+pub flip : (k m i : ℕ) → i < k → bit (bitXor (2 ^ k - 1) m) i ≡ not (bit m i)
+flip k m i h = bit-xor (2 ^ k - 1) m i ∙ (ap (λ (t : Bool). xor t (bit m i)) (ones k i h) ∙ other (bit m i))
+
+-- ---- one bit cleared
 
 -- the only bit of a power of two
-one-bit : (f i : ℕ) → f < 64 → i < 64 → bit ((1 * 2 ^ f) % 2 ^ 64) i ≡ eqb i f
+pub one-bit : (f i : ℕ) → f < 64 → i < 64 → bit ((1 * 2 ^ f) % 2 ^ 64) i ≡ eqb i f
 unfolding bit
 one-bit f i h l =
     either (lt? i f)

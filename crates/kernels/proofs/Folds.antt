@@ -42,21 +42,27 @@ module _ (f : ℕ → Bool) (b d n r s : ℕ) (fits : n + d ≤ 64) (R : (i : �
       let u : bit ((r * 2 ^ d) % 2 ^ 64) i ≡ bit r (i - d) = rw e at (bit-shl r d 64 (i - d) (omega (arith, l .1))) in
       rw (u, Z i (l .1) (omega arith)) (or-false (bit r (i - d)) ∙ (R (i - d) (omega (arith, l .1)) ∙ ap f k)))
 
+-- every w-th bit of a word is a filter's
+pub filter-at : (bytes at low : List ℕ) (count w per Q x u : ℕ) → per * w ≡ 64 → ((i : ℕ) → i < count → getD low i 0 < w)
+    → Words bytes at low count Q x → u < per → bit x (u * w) ≡ allIn bytes at low w count (Q * per + u)
+unfolding Words
+filter-at bytes at low count w per Q x u word lows W h =
+    let f : u * w + w ≤ 64 = omega (arith, mul-le-mul-right w h) in
+    let e : (Q * per + u) * w ≡ Q * 64 + u * w = omega (arith, ap (λ (z : ℕ). Q * z) word) in
+    v (u * w) (λ i l. omega (arith, lows i l)) ∙ sym (all-from bytes at low w count (Q * per + u) ∙ ap (allIn bytes at low 1 count) e)
+  where
+    v : (i : ℕ) → ((k : ℕ) → k < count → getD low k 0 + i < 64) → bit x i ≡ allIn bytes at low 1 count (Q * 64 + i)
+    v = W
+
 module _ (bytes at low : List ℕ) (count w per Q N r x s : ℕ) (pw : 0 < w) (word : per * w ≡ 64)
     (lows : (i : ℕ) → i < count → getD low i 0 < w) (W : Words bytes at low count Q x) (S : Squeezed w x s) where
   own : (u : ℕ) → u < per → bit s u ≡ allIn bytes at low w count (Q * per + u)
-  unfolding Words Squeezed
+  unfolding Squeezed
   own u h =
-      let f : u * w + w ≤ 64 = omega (arith, mul-le-mul-right w h) in
-      let e : (Q * per + u) * w ≡ Q * 64 + u * w = omega (arith, ap (λ (z : ℕ). Q * z) word) in
       let p : per ≤ 64 = omega (arith, mul-le-mul-right per pw) in
       S u (omega arith)
-      ∙ (ap (λ (t : Bool). t && bit x (u * w)) (lt-ltb (u * w) 64 (omega arith))
-      ∙ (v (u * w) (λ i l. omega (arith, lows i l))
-      ∙ sym (all-from bytes at low w count (Q * per + u) ∙ ap (allIn bytes at low 1 count) e)))
-    where
-      v : (i : ℕ) → ((k : ℕ) → k < count → getD low k 0 + i < 64) → bit x i ≡ allIn bytes at low 1 count (Q * 64 + i)
-      v = W
+      ∙ (ap (λ (t : Bool). t && bit x (u * w)) (lt-ltb (u * w) 64 (omega (arith, mul-le-mul-right w h)))
+      ∙ filter-at bytes at low count w per Q x u word lows W h)
 
   none : (i : ℕ) → per ≤ i → i < 64 → bit s i ≡ false
   unfolding Squeezed

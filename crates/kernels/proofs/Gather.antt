@@ -1,14 +1,14 @@
 -- A bit out of each of several bytes, side by side.
 use mathlib.Core.Path.{_≡_, sym, ap, _∙_}
-use mathlib.Core.Bool.{Bool}
+use mathlib.Core.Bool.{Bool, or-false}
 use Prim.Native.Nat.{ℕ, zero, suc, _+_, _*_, _-_, _/_, _%_, _^_, _≤_, _<_}
-use native.Mathlib.Nat.{mod-lt, mod-eq-of-lt, mul-div-cancel}
+use native.Mathlib.Nat.{mod-lt, mod-eq-of-lt, mul-div-cancel, mul-le-mul-right}
 use native.Mathlib.Omega.{arith}
 use lib.Bits.{bitAnd, bitOr, and-high}
 use lib.Dec.{eqb}
-use lib.Pow.{pow-pos, pow-lt, pow-add}
-use Rattle.memory.specs.Bits.{bit, bit-is}
-use Rattle.kernels.proofs.Bits.{bit-over}
+use lib.Pow.{pow-pos, pow-lt, pow-add, pow-mono}
+use Rattle.memory.specs.Bits.{bit, bit-is, bit-or}
+use Rattle.kernels.proofs.Bits.{bit-over, bit-shl}
 use Rattle.kernels.proofs.Folds.{below}
 
 -- a byte's bit s in its place
@@ -88,16 +88,27 @@ pub eight-more : (f : ℕ → Bool) (b n r s : ℕ) → n + 8 ≤ 64 → s < 256
     → ((i : ℕ) → i < n → bit r i ≡ f (b + 8 + i)) → (i : ℕ) → i < n + 8 → bit (bitOr ((r * 2 ^ 8) % 2 ^ 64) s) i ≡ f (b + i)
 eight-more f b n r s fits small S R = below f b 8 n r s fits R S (λ i l m. bit-over 8 s i small l)
 
--- ---- a bit more, below those of later bytes
+-- and leave those above as they were
+pub above-eight : (r s i : ℕ) → 8 + i < 64 → s < 256 → bit (bitOr ((r * 2 ^ 8) % 2 ^ 64) s) (8 + i) ≡ bit r i
+above-eight r s i h small =
+    bit-or ((r * 2 ^ 8) % 2 ^ 64) s (8 + i) ∙ rw (bit-over 8 s (8 + i) small (omega arith), bit-shl r 8 64 i h) (or-false (bit r i))
 
-pub bit-below : (f : ℕ → Bool) (k n r b : ℕ) → b < 2 → bit b 0 ≡ f k → ((i : ℕ) → i < n → bit r i ≡ f (k + 1 + i))
-    → (i : ℕ) → i < n + 1 → bit (r * 2 + b) i ≡ f (k + i)
-unfolding bit
-bit-below f k n r b h e R zero l =
-    let d : (r * 2 + b) % 2 ≡ b % 2 = omega arith in
-    let z : k + 0 ≡ k = omega arith in
-    rw z (ap (λ (t : ℕ). eqb t 1) d ∙ e)
-bit-below f k n r b h e R (suc i) l =
-    let d : (r * 2 + b) / 2 ≡ r = omega arith in
-    let z : k + 1 + i ≡ k + suc i = omega arith in
-    ap (λ (t : ℕ). bit t i) d ∙ (R i (omega arith) ∙ ap f z)
+-- ---- digits one after another
+
+-- none yet
+pub pack-none : (f : ℕ → Bool) (s k n : ℕ) → n ≡ 0 → Packed f s k n (2 ^ n) 0
+pack-none f s k n e = record { q = 0; is = omega arith; small = pow-pos n; bits = λ j h. absurd (omega arith) }
+
+-- eight at the most
+pub pack-small : (f : ℕ → Bool) (s k n acc : ℕ) → s < 8 → n ≤ 8 → Packed f s k n (2 ^ n) acc → acc < 32768
+pack-small f s k n acc hs hn P =
+    let l : s ≤ 7 = omega arith in
+    let a : 2 ^ s ≤ 2 ^ 7 = pow-mono l in
+    let b : 2 ^ n ≤ 2 ^ 8 = pow-mono hn in
+    let c : P .q ≤ 255 = omega (arith, P .small, b) in
+    let m = mul-le-mul-right (2 ^ s) c in
+    omega (arith, P .is, m, a)
+
+-- all of them
+pub pack-all : (f : ℕ → Bool) (s n k acc : ℕ) → k ≡ 0 → Packed f s k (n - k) (2 ^ (n - k)) acc → Packed f s 0 n (2 ^ n) acc
+pack-all f s n k acc z P = let e : n - k ≡ n = omega arith in rw (e, z) at P

@@ -160,7 +160,7 @@ squeezed-2 x r0 r1 r2 r3 r4 h e0 e1 e2 e3 e4 =
 
 -- ---- w = 4
 
-first-4 : Lows 1229782938247303441 4 1
+pub first-4 : Lows 1229782938247303441 4 1
 unfolding isLow bit
 first-4 i h = low-at 1229782938247303441 4 1 64 i refl h
 

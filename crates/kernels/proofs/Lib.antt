@@ -8,3 +8,9 @@ pub mod Flips
 pub mod Choices
 pub mod Uptos
 pub mod Gather
+pub mod Lanes
+pub mod Masks
+pub mod Exchanges
+pub mod Shuts
+pub mod Sides
+pub mod Fews

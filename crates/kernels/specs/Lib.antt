@@ -1,3 +1,5 @@
 pub mod Rows
 pub mod Blocks
 pub mod Conjunction
+pub mod Masks
+pub mod Exchanges

@@ -12,6 +12,7 @@ use Rattle.layout.specs.Geometry as layout
 use Rattle.geometry.specs.declared.Geometry.{Geometry}
 use Rattle.geometry.specs.Shape.{shape}
 use Rattle.items.specs.Scans.{lastEntry}
+use Rattle.search.specs.declared.Opened.{Opened}
 use Rattle.search.specs.declared.Tried.{Tried}
 
 -- the first byte of page p of the entries on flash
@@ -46,6 +47,14 @@ abbrev pub newestIn : Geometry → Key → ℕ → ℕ → List ℕ → ℕ
 newestIn g key from bits main = newestOf (bit bits) (entryOf g key from main) 64
 
 -- what came of them; the bits left are those below the newest's
+pub record OpenedAt (g : Geometry) (key : Key) (from bits : ℕ) (main : List ℕ) (r : Opened) : Type 0 where
+  pub left : (i : ℕ) → i < 64 → bit (r .bits) i ≡ (ltb i (newestIn g key from bits main - 1) && bit bits i)
+  pub opened : r .opened ≡ openedOf (bit bits) (entryOf g key from main) 64
+  pub none : newestIn g key from bits main ≡ 0 → (r .bits ≡ 0) × (r .entry ≡ 0)
+  pub some : 0 < newestIn g key from bits main
+      → (r .page ≡ newestIn g key from bits main - 1) × (r .entry ≡ entryOf g key from main (newestIn g key from bits main - 1))
+
+-- the same by the first byte of the newest
 pub record TriedAt (g : Geometry) (key : Key) (from bits : ℕ) (main : List ℕ) (r : Tried) : Type 0 where
   pub left : (i : ℕ) → i < 64 → bit (r .bits) i ≡ (ltb i (newestIn g key from bits main - 1) && bit bits i)
   pub opened : r .opened ≡ openedOf (bit bits) (entryOf g key from main) 64

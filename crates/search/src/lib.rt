@@ -14,7 +14,7 @@ ghost use Rattle.layout.specs.Search.{scan, scanCost, unlessEnded};
 ghost use Rattle.geometry.specs.Shape.{shape, Sound};
 ghost use Rattle.search.specs.Find.{stopOf, foundOf, whole, viewed, Ready, tryOf, costOf, tryIn, costIn};
 ghost use Rattle.search.specs.Find.{pagesBelow, costBelow, onward, Low, filtersOf, deletionsOf};
-ghost use Rattle.search.specs.Tries.{pageStart, PagesIn, TriedAt};
+ghost use Rattle.search.specs.Tries.{pageStart, PagesIn, OpenedAt, TriedAt};
 use deletions::Deletions;
 use filter::Filters;
 use geometry::Geometry;
@@ -188,20 +188,20 @@ struct Walk {
     start: usize,
 }
 
-// What came of the pages of a word: the bits of those left, the pages opened, and the first byte and the newest entry
-// with the key, plus one, of the page that has one; 0 and 0 if none has.
-struct Tried {
+// What came of the pages of a word: the bits of those left, the pages opened, and the number and the newest entry with the key, plus one,
+// of the page that has one; 0 and 0 if none has.
+struct Opened {
     bits: u64,
     opened: u32,
-    start: usize,
+    page: usize,
     entry: usize,
 }
 
 // The newest page with an entry of the key, of those from page `from` on whose bits are set; the pages before it are
 // opened in vain. It is a function because its loop calls nothing that stays a call, and so keeps its values in registers.
-fn next_with_key(g: Geometry, key: u32, from: usize, bits: u64, main: &[u8]) -> Tried
+fn next_page(g: Geometry, key: u32, from: usize, bits: u64, main: &[u8]) -> Opened
     requires { ⌜ Sound g × (from ≤ 32768) × PagesIn g from bits (now main) ⌝ }
-    ensures { λ r. ⌜ TriedAt g key from bits (before main) r ⌝ }
+    ensures { λ r. ⌜ OpenedAt g key from bits (before main) r ⌝ }
 {
     let mut left = bits;
     let mut opened: u32 = 0;
@@ -212,19 +212,53 @@ fn next_with_key(g: Geometry, key: u32, from: usize, bits: u64, main: &[u8]) -> 
         let start = page_start(g, from + f);
         let entry = items::find_in_page(g.chip, start, key, main);
         if entry > 0 {
-            return Tried {
+            return Opened {
                 bits: left,
                 opened,
-                start,
+                page: f,
                 entry,
             };
         }
     }
-    Tried {
+    Opened {
         bits: 0,
         opened,
-        start: 0,
+        page: 0,
         entry: 0,
+    }
+}
+
+// The same with the first byte of that page in place of its number.
+struct Tried {
+    bits: u64,
+    opened: u32,
+    start: usize,
+    entry: usize,
+}
+
+// The newest page with an entry of the key, by its first byte: that is made again here, since the loop would have to keep it for each page.
+fn next_with_key(g: Geometry, key: u32, from: usize, bits: u64, main: &[u8]) -> Tried
+    requires { ⌜ Sound g × (from ≤ 32768) × PagesIn g from bits (now main) ⌝ }
+    ensures { λ r. ⌜ TriedAt g key from bits (before main) r ⌝ }
+{
+    let p = next_page(g, key, from, bits, main);
+    let opened = p.opened;
+    let entry = p.entry;
+    if entry == 0 {
+        return Tried {
+            bits: 0,
+            opened,
+            start: 0,
+            entry: 0,
+        };
+    }
+    let start = page_start(g, from + p.page);
+    let bits = p.bits;
+    Tried {
+        bits,
+        opened,
+        start,
+        entry,
     }
 }
 

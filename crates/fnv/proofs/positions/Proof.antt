@@ -1,51 +1,34 @@
 -- Position after position.
 use native.Mathlib.Omega.{arith}
 use Prim.Native.Nat.{ℕ, _+_, _-_, _*_, _%_, _≤_, _<_}
-use mathlib.Core.Path.{_≡_, refl, _∙_}
+use mathlib.Core.Path.{_≡_, refl, ap, _∙_}
 use lib.ListN.{length, getD, length-set, getD-replicate}
 use Rattle.layout.specs.Hash.{fnvFamily}
 use Rattle.memory.specs.Words.{bytes4}
-use Rattle.fnv.proofs.Laws.{fourth-power, filled, more}
+use Rattle.fnv.proofs.Laws.{filled, more}
 use borrow.Author.Needs.{needs}
 use Rattle.fnv.proofs.positions.Statement.{statement}
 use Rattle.fnv.proofs.positions.Tie as tie
 
 abbrev Inv-loop : tie.InvT-loop
-Inv-loop count key size base ps₀ i₀ ps i =
-    (i ≤ count) × (length ps ≡ 8) × ((j : ℕ) → j < i → (getD ps j 0 ≡ base + fnvFamily (j + 1) (bytes4 key) % size) × (getD ps j 0 < 4 * size))
+Inv-loop chip count key start ps₀ i₀ ps i =
+    (i ≤ count) × (length ps ≡ 8)
+    × ((j : ℕ) → j < i → (getD ps j 0 ≡ start + fnvFamily (j + 1) (bytes4 key) % (16 * chip .unit)) × (getD ps j 0 < 64 * chip .unit))
     × ((j : ℕ) → i ≤ j → j < 8 → getD ps j 0 ≡ 0)
 
 abbrev μ-loop : tie.MeasureT-loop
-μ-loop count key size base ps₀ i₀ ps i = count - i
+μ-loop chip count key start ps₀ i₀ ps i = count - i
 
-sector-size-requires : tie.Need-sector-size-requires Inv-loop μ-loop
-sector-size-requires c κs = search needs
-
-cast-size : tie.Need-cast-size Inv-loop μ-loop
-cast-size c = search needs
-
-hash-requires : tie.Need-hash-requires Inv-loop μ-loop
-hash-requires c κs = search needs
-
-fourth-requires : tie.Need-fourth-requires Inv-loop μ-loop
-fourth-requires c κs = search needs
+fourth-of-requires : tie.Need-fourth-of-requires Inv-loop μ-loop
+fourth-of-requires c κs = search needs
 
 loop-holds : tie.Need-loop-holds Inv-loop μ-loop
 loop-holds c = (omega arith, refl, λ j h. absurd (omega arith), λ j l h. getD-replicate {A = ℕ} 8 j 0 0 h)
 
-add-hash : tie.Need-add-hash Inv-loop μ-loop
-add-hash c = omega arith
-
-cast-hash : tie.Need-cast-hash Inv-loop μ-loop
-cast-hash c = omega arith
-
-hash-requires-2 : tie.Need-hash-requires-2 Inv-loop μ-loop
-hash-requires-2 c κs = search needs
-
-within-requires : tie.Need-within-requires Inv-loop μ-loop
-within-requires c κs =
-    let z = c .before .before .before .before .before in
-    (fourth-power (z .before .args .chip .unit) (z .sector-size .result) (z .before .pre .0) (z .sector-size .ensures), omega arith, search needs)
+position-requires : tie.Need-position-requires Inv-loop μ-loop
+position-requires c κs =
+    let f = c .before .before in
+    (f .before .pre .0, f .fourth-of .ensures .1, omega (arith, f .before .pre .1))
 
 mul-ps : tie.Need-mul-ps Inv-loop μ-loop
 mul-ps c = search needs
@@ -61,30 +44,25 @@ loop-less c = omega arith
 
 loop-again : tie.Need-loop-again Inv-loop μ-loop
 loop-again c =
-    let l = c .before .before .before .loop in
-    let f = c .before .before .before .before in
-    let size = f .before .before .sector-size .result in
-    let key = f .before .before .before .args .key in
-    let w = c .within .ensures in
-    let new : (c .within .result ≡ f .fourth .result + fnvFamily (l .i + 1) (bytes4 key) % size) × (c .within .result < 4 * size)
-    = (w .0 ∙ rw (c .before .hash2 .ensures), w .1) in
-    let m = more (λ j x. (x ≡ f .fourth .result + fnvFamily (j + 1) (bytes4 key) % size) × (x < 4 * size)) (l .ps) (l .i) (c .within .result)
-    (omega arith) (l .inv .1) new (l .inv .2) (l .inv .3) in
-    (omega arith, length-set (l .ps) (l .i) (c .within .result) ∙ l .inv .1, m .0, m .1)
+    let l = c .before .before .loop in
+    let f = c .before .before .before in
+    let x = f .before .args in
+    let m = more (λ j y. (y ≡ f .fourth-of .result + fnvFamily (j + 1) (bytes4 (x .key)) % (16 * x .chip .unit)) × (y < 64 * x .chip .unit)) (l .ps) (l .i) (c .position .result)
+    (omega arith) (l .inv .1) (c .position .ensures) (l .inv .2) (l .inv .3) in
+    (omega arith, length-set (l .ps) (l .i) (c .position .result) ∙ l .inv .1, m .0, m .1)
 
 returns : tie.Need-returns Inv-loop μ-loop
 returns c =
     let l = c .before .loop in
     let f = c .before .before in
-    let x = f .before .before .before .args in
-    let s = f .before .before .sector-size .ensures in
+    let x = f .before .args in
     let done : l .i ≡ x .count = omega arith in
-    let first : f .fourth .result ≡ fnvFamily 0 (bytes4 (x .key)) % 4 * (16 * x .chip .unit)
-    = f .fourth .ensures .0 ∙ rw (f .before .hash .ensures, s) in (
-      filled fnvFamily (x .count) (x .chip .unit) (bytes4 (x .key)) (l .ps) (omega arith) (l .inv .1)
-          (λ j h. l .inv .2 j (omega arith) .0 ∙ rw (first, s))
-          (λ j h k. l .inv .3 j (omega arith) k),
-      λ j h. omega (arith, l .inv .2 j (omega arith) .1, s),
+    let q = fnvFamily 0 (bytes4 (x .key)) % 4 in
+    let size = 16 * x .chip .unit in
+    let each : (j : ℕ) → j < x .count → getD (l .ps) j 0 ≡ q * size + fnvFamily (j + 1) (bytes4 (x .key)) % size
+    = λ j h. l .inv .2 j (omega arith) .0 ∙ ap (λ (z : ℕ). z + fnvFamily (j + 1) (bytes4 (x .key)) % size) (f .fourth-of .ensures .0) in (
+      filled fnvFamily (x .count) (x .chip .unit) (bytes4 (x .key)) (l .ps) (omega arith) (l .inv .1) each (λ j h k. l .inv .3 j (omega arith) k),
+      λ j h. l .inv .2 j (omega arith) .1,
     )
 
 pub positions-spec : {M : Type 1} → statement M
@@ -93,15 +71,9 @@ positions-spec =
     (tie.spec
     Inv-loop
     μ-loop
-    sector-size-requires
-    cast-size
-    hash-requires
-    fourth-requires
+    fourth-of-requires
     loop-holds
-    add-hash
-    cast-hash
-    hash-requires-2
-    within-requires
+    position-requires
     mul-ps
     array-write-ps
     add-i

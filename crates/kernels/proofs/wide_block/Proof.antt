@@ -22,7 +22,7 @@ Inv-loop w first n count at low bytes r₀ j₀ r j =
 abbrev μ-loop : tie.MeasureT-loop
 μ-loop w first n count at low bytes r₀ j₀ r j = (n + 63) / 64 - j
 
-small : (len first n w : ℕ) → 1 < w → (first + n) * w < 2 ^ 60 → first + n < 2 ^ 60
+small : (len first n w : ℕ) → 7 < w → (first + n) * w < 2 ^ 60 → first + n < 2 ^ 60
 small len first n w h l = omega (arith, mul-le-mul-left (first + n) h)
 
 of-open : (gate : ℕ → Bool) (first j m k y : ℕ) → m ≡ k → Open gate (first + j * 64) m y → (i : ℕ) → i < 64 → bit y i ≡ (ltb i k && gate (first + (j * 64 + i)))

@@ -1,149 +1,75 @@
--- The pages above the highest bit left were opened in vain.
+-- The page's first byte by its number.
+use borrow.Author.Needs.{needs}
 use native.Mathlib.Omega.{arith}
 use mathlib.Core.Path.{_≡_, refl, sym, ap, _∙_}
-use mathlib.Core.Bool.{Bool, true, _&&_}
-use Prim.Native.Nat.{ℕ, suc, _-_, _<_}
-use borrow.Author.Tests.{le-ltb}
-use Rattle.memory.specs.Bits.{bit, bit-zero}
-use Rattle.memory.specs.Candidate.{candidate}
-use Rattle.search.specs.Tries.{entryOf}
-use Rattle.search.proofs.Tries.{cleared-less, Vain, vain-first, vain-few, vain-newest, vain-opened, vain-next, top-both, top-left, some-newest, some-opened}
+use Prim.Native.Nat.{ℕ, _+_, _-_, _≤_, _<_}
+use Rattle.memory.specs.Bits.{bit}
+use Rattle.memory.specs.Cases.{either, lt?}
+use Rattle.search.specs.Tries.{newestIn, entryOf}
+use Rattle.search.proofs.Tries.{newest-some, newest-le}
 use Rattle.search.proofs.next_with_key.Statement.{statement}
 use Rattle.search.proofs.next_with_key.Tie as tie
 
-abbrev Inv-loop : tie.InvT-loop
-Inv-loop g key from bits main left₀ opened₀ left opened = Vain bits (entryOf g key from main) left opened
+-- the newest with an entry, plus one
+abbrev newest : tie.Start → ℕ
+newest b = newestIn (b .args .g) (b .args .key) (b .args .from) (b .args .bits) (b .args .main .now)
 
-abbrev μ-loop : tie.MeasureT-loop
-μ-loop g key from bits main left₀ opened₀ left opened = candidate (bit left) 64
+abbrev Opened : Type 0
+Opened = tie.After-next-page
 
-abbrev Start : Type 0
-Start = tie.Start Inv-loop μ-loop
+-- an entry was found if and only if there is one
+found : (c : Opened) → 0 < newest (c .before .before) → 0 < c .next-page .result .entry
+found c h =
+    let x = c .before .before .args in
+    omega (arith, c .next-page .ensures .some h .1, newest-some (bit (x .bits)) (entryOf (x .g) (x .key) (x .from) (x .main .now)) 64 h)
 
-abbrev entry-at : Start → ℕ → ℕ
-entry-at b = entryOf (b .args .g) (b .args .key) (b .args .from) (b .args .main .now)
+there : (c : Opened) → 0 < c .next-page .result .entry → 0 < newest (c .before .before)
+there c h = either (lt? 0 (newest (c .before .before))) (λ t. t .1) (λ t. absurd (omega (arith, c .next-page .ensures .none (omega (arith, t .1)) .1)))
 
-loop-holds : tie.Need-loop-holds Inv-loop μ-loop
-loop-holds c = vain-first (c .before .args .bits) (entry-at (c .before))
+page-lt : (c : Opened) → 0 < c .next-page .result .entry → c .next-page .result .page < 64
+page-lt c h =
+    let x = c .before .before .args in
+    omega (arith, c .next-page .ensures .some (there c h) .0, there c h, newest-le (bit (x .bits)) (entryOf (x .g) (x .key) (x .from) (x .main .now)) 64)
 
-top-requires : tie.Need-top-requires Inv-loop μ-loop
-top-requires c κs = omega (arith, c .loop-test .taken)
+next-page-requires : tie.Need-next-page-requires
+next-page-requires c κs = search needs
 
-without-requires : tie.Need-without-requires Inv-loop μ-loop
-without-requires c κs = c .top .ensures .0
-
--- ---- the page of the highest bit
-
-abbrev Visited : Type 0
-Visited = tie.After-without Inv-loop μ-loop
-
-abbrev loop-of : Visited → tie.At-loop Inv-loop μ-loop
-loop-of U = U .before .before .before
-
-abbrev start-of : Visited → Start
-start-of U = loop-of U .before .before
-
-is-set : (U : Visited) → bit (start-of U .args .bits) (U .before .top .result) ≡ true
-is-set U =
-    let l = loop-of U in
-    let b = start-of U in
-    let T = U .before .top in
-    top-both (b .args .bits) (entry-at b) (l .loop .left) (l .loop .opened) (l .loop .inv) (T .result) (T .ensures .0) (T .ensures .1) (T .ensures .2) .1
-
-add-opened : tie.Need-add-opened Inv-loop μ-loop
-add-opened c =
-    let l = loop-of c in
-    let b = start-of c in
-    omega (arith, vain-few (b .args .bits) (entry-at b) (l .loop .left) (l .loop .opened) (l .loop .inv))
-
-add-page-start : tie.Need-add-page-start Inv-loop μ-loop
-add-page-start c = omega (arith, start-of c .pre .1, c .before .top .ensures .0)
-
-page-start-requires : tie.Need-page-start-requires Inv-loop μ-loop
-page-start-requires c κs = (start-of c .pre .0, omega (arith, start-of c .pre .1, c .before .top .ensures .0))
-
-find-in-page-requires : tie.Need-find-in-page-requires Inv-loop μ-loop
-find-in-page-requires c κs =
-    let U = c .before in
-    let b = start-of U in
-    let T = U .before .top in
-    (b .pre .0 .unit, rw (c .page-start .ensures) (b .pre .2 .page-in (T .result) (T .ensures .0) (is-set U)))
-
--- its newest entry
-abbrev Looked : Type 0
-Looked = tie.After-find-in-page Inv-loop μ-loop
-
-entry-is : (F : Looked) → let U = F .before .before in F .find-in-page .result ≡ entry-at (start-of U) (U .before .top .result)
-entry-is F = rw (F .before .page-start .ensures) at (F .find-in-page .ensures)
-
-returns : tie.Need-returns Inv-loop μ-loop
+returns : tie.Need-returns
 returns c =
-    let F = c .before in
-    let P = F .before in
-    let U = P .before in
-    let l = loop-of U in
-    let b = start-of U in
-    let T = U .before .top in
-    let h : 0 < entry-at b (T .result) = omega (arith, entry-is F, c .if1 .taken) in
-    let n =
-    some-newest (b .args .bits) (entry-at b) (l .loop .left) (l .loop .opened) (l .loop .inv) (T .result) (T .ensures .0) (T .ensures .1) (T .ensures .2)
-    (U .without .result) (U .without .ensures) h in
-    let s : suc (T .result) - 1 ≡ T .result = omega arith in
+    let o = c .before in
+    let P = o .next-page .ensures in
+    let z : newest (o .before .before) ≡ 0 = either (lt? 0 (newest (o .before .before))) (λ t. absurd (omega (arith, found o (t .1), c .if1 .taken))) (λ t. omega (arith, t .1)) in
     record {
-      left = rw (n, s)
-          (top-left (b .args .bits) (entry-at b) (l .loop .left) (l .loop .opened) (l .loop .inv) (T .result) (T .ensures .0) (T .ensures .1) (T .ensures .2)
-          (U .without .result) (U .without .ensures));
-      opened =
-          some-opened (b .args .bits) (entry-at b) (l .loop .left) (l .loop .opened) (l .loop .inv) (T .result) (T .ensures .0) (T .ensures .1) (T .ensures .2)
-          (U .without .result) (U .without .ensures) h;
-      none = λ z. absurd (omega (arith, n));
-      some = λ p. rw (n, s) (P .page-start .ensures, entry-is F);
+      left = λ i h. sym (ap (λ (y : ℕ). bit y i) (P .none z .0)) ∙ P .left i h;
+      opened = P .opened;
+      none = λ h. (refl, refl, refl);
+      some = λ h. absurd (omega (arith, z));
     }
 
-loop-less : tie.Need-loop-less Inv-loop μ-loop
-loop-less c =
-    let U = c .before .before .before in
-    let T = U .before .top in
-    cleared-less (loop-of U .loop .left) (T .result) (T .ensures .2) (U .without .result) (U .without .ensures) (T .ensures .0) (T .ensures .1)
+add-page-start : tie.Need-add-page-start
+add-page-start c =
+    let o = c .before .before in
+    omega (arith, o .before .before .pre .1, page-lt o (omega (arith, c .before .if1 .left)))
 
-loop-again : tie.Need-loop-again Inv-loop μ-loop
-loop-again c =
-    let F = c .before in
-    let U = F .before .before in
-    let l = loop-of U in
-    let b = start-of U in
-    let T = U .before .top in
-    vain-next (b .args .bits) (entry-at b) (l .loop .left) (l .loop .opened) (l .loop .inv) (T .result) (T .ensures .0) (T .ensures .1) (T .ensures .2)
-    (U .without .result) (U .without .ensures) (omega (arith, entry-is F, c .if1 .left))
+page-start-requires : tie.Need-page-start-requires
+page-start-requires c κs =
+    let o = c .before .before in
+    let b = o .before .before in
+    (b .pre .0, omega (arith, b .pre .1, page-lt o (omega (arith, c .before .if1 .left))))
 
--- none is left
-returns-2 : tie.Need-returns-2 Inv-loop μ-loop
+returns-2 : tie.Need-returns-2
 returns-2 c =
-    let l = c .before in
-    let b = l .before .before in
-    let z : l .loop .left ≡ 0 = c .loop-test .left in
-    let n = vain-newest (b .args .bits) (entry-at b) (l .loop .left) (l .loop .opened) (l .loop .inv) z in
+    let e = c .before .before in
+    let o = e .before in
+    let P = o .next-page .ensures in
+    let h = there o (omega (arith, e .if1 .left)) in
+    let x = o .before .before .args in
     record {
-      left = λ i k. rw n (bit-zero i ∙ sym (ap (λ (t : Bool). t && bit (b .args .bits) i) (le-ltb i 0 (omega arith))));
-      opened = vain-opened (b .args .bits) (entry-at b) (l .loop .left) (l .loop .opened) (l .loop .inv) z;
-      none = λ h. (refl, refl, refl);
-      some = λ h. absurd (omega (arith, n));
+      left = P .left;
+      opened = P .opened;
+      none = λ z. absurd (omega (arith, z, h));
+      some = λ k. (rw (P .some h .0) at (c .page-start .ensures), P .some h .1);
     }
 
 pub next-with-key-spec : {M : Type 1} → statement M
-next-with-key-spec =
-    tie.close
-    (tie.spec
-    Inv-loop
-    μ-loop
-    loop-holds
-    top-requires
-    without-requires
-    add-opened
-    add-page-start
-    page-start-requires
-    find-in-page-requires
-    returns
-    loop-less
-    loop-again
-    returns-2)
+next-with-key-spec = tie.close (tie.spec next-page-requires returns add-page-start page-start-requires returns-2)

@@ -1,9 +1,10 @@
 -- The byte of each filter, and its bit in it.
 use native.Mathlib.Nat.{mod-lt}
 use native.Mathlib.Omega.{arith}
-use Prim.Native.Nat.{_+_, _*_, _/_, _%_}
+use Prim.Native.Nat.{_+_, _*_, _/_, _%_, _≤_}
 use lib.ListN.{length}
-use Rattle.filter.proofs.Bytes.{eighth, few-in, few-bit}
+use lib.Pow.{pow-mono}
+use Rattle.filter.proofs.Bytes.{eighth, few-in, few-fits, few-bit}
 use borrow.Author.Needs.{needs}
 use Rattle.filter.proofs.groups.few_bits.Statement.{statement}
 use Rattle.filter.proofs.groups.few_bits.Tie as tie
@@ -53,7 +54,15 @@ byte-bits-requires c κs =
     let W = c .before .before .before .before .wide in
     let s = rw (← W .ensures, ← S .ensures, ← P .ensures .0) at (b .pre .1 .reach) in
     let e = eighth (x .l .exponent) (P .result) (P .ensures .0) (b .pre .1 .some) in
-    (b .pre .0, few-in (x .l .base + S .result * x .l .stride) (P .result) (P .result / 8) (x .n) (W .result % P .result) (length (x .bytes .now)) e s (mod-lt (W .result) (P .ensures .1)))
+    let t : x .l .exponent ≤ 9 = omega (arith, b .pre .1 .few) in
+    let m : P .result ≤ 512 = omega (arith, P .ensures .0, pow-mono t) in
+    let low = mod-lt (W .result) (P .ensures .1) in
+    let row = x .l .base + S .result * x .l .stride in (
+      b .pre .0,
+      omega (arith, e, P .ensures .1),
+      few-fits row (P .result) (P .result / 8) (x .n) (W .result % P .result) (length (x .bytes .now)) e s low m (omega arith),
+      few-in row (P .result) (P .result / 8) (x .n) (W .result % P .result) (length (x .bytes .now)) e s low,
+    )
 
 returns : tie.Need-returns
 returns c =

@@ -86,7 +86,7 @@ returns c i h =
     let P = c .before .before .before .before .power in
     let W = c .before .before .before .before .before .wide in
     let e = eighth (x .l .exponent) (P .result) (P .ensures .0) (b .pre .1 .some) in
-    rw (e, S .ensures, P .ensures .0, W .ensures) at (step-bit (x .bytes .now) (x .l .base + S .result * x .l .stride) (W .result % P .result) (x .first) (P .result / 8) i (c .row-bits .result) (c .row-bits .ensures i h))
+    rw (e, S .ensures, P .ensures .0, W .ensures) at (step-bit (x .bytes .now) (x .l .base + S .result * x .l .stride) (W .result % P .result) (x .first) (P .result / 8) i (c .row-bits .result) (c .row-bits .ensures .0 i h))
 
 pub position-bits-spec : {M : Type 1} → statement M
 position-bits-spec =

@@ -50,17 +50,6 @@ mul-full-2 c =
     let E = parts c in
     rw (quotient c, c .before .side-blocks .ensures) (omega arith)
 
-mul-t10 : tie.Need-mul-t10
-mul-t10 c = search needs
-
-add-t11 : tie.Need-add-t11
-add-t11 c =
-    let E = parts c in
-    rw (quotient c, c .before .side-blocks .ensures) (omega arith)
-
-mul-t12 : tie.Need-mul-t12
-mul-t12 c = search needs
-
 returns : tie.Need-returns
 returns c =
     let E = parts c in
@@ -68,4 +57,4 @@ returns c =
     rw (quotient c, c .before .side-blocks .ensures, r)
 
 pub stage-of-spec : {M : Type 1} → statement M
-stage-of-spec = tie.close (tie.spec side-blocks-requires add-shifted shifted-requires mul-rounds sub-rounds mul-full mul-full-2 mul-t10 add-t11 mul-t12 returns)
+stage-of-spec = tie.close (tie.spec side-blocks-requires add-shifted shifted-requires mul-rounds sub-rounds mul-full mul-full-2 returns)
