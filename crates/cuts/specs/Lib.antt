@@ -30,3 +30,6 @@ pub mod Acts
 pub mod Several
 pub mod CutMap
 pub mod EveryCut
+pub mod EveryTurn
+pub mod Waiting
+pub mod WornWhole

@@ -1,6 +1,6 @@
 -- One call on a volume that holds the image of a history: it answers as the history does, and leaves the image of the next history.
 use mathlib.Core.Path.{_≡_, refl, sym, ap, _∙_}
-use mathlib.Core.Logic.{_≢_, inl, inr}
+use mathlib.Core.Logic.{inl, inr}
 use mathlib.Core.Bool.{true, false}
 use mathlib.Core.Option.{Option, none, some, Option·map}
 use mathlib.Core.List.{List, [], _∷_, _++_, append-nil}
@@ -21,7 +21,7 @@ use Rattle.layout.specs.Search.{found}
 use Rattle.layout.specs.Keys.{Key, KeyOk}
 use Rattle.layout.specs.Calls.{Volume, Call, insert, update, delete, lookup, Result, refuse, judgeFirst, keyIndex, keyFilters, deletionPlan}
 use Rattle.layout.specs.Calls.{deletionRam, insertionPlan, insertionRam, commit, insertAfter, updateAfter, deleteAfter, lookupAfter, answer}
-use Rattle.layout.specs.Calls.{call, changeBy, deletionIndex, deletionFilters}
+use Rattle.layout.specs.Calls.{refused, call, changeBy, deletionIndex, deletionFilters}
 use Rattle.layout.specs.FiniteMap.{accepts, hits, refuses}
 use Rattle.history.specs.FlashLaws.{fresh-append, AllAllowed, apply-append, allowed-append}
 use Rattle.history.specs.PlanLaws.{ops-append}
@@ -115,8 +115,7 @@ module _ (h : Family) (sizes : Sizes) (ok : SizesSound sizes) (can : allowed siz
 
     -- ---- refusals, and answers that change nothing
 
-    refuse-done : (i : ℕ) → (i ≢ 1) × (i ≢ 2) × (i ≢ 7) × (i ≢ 8) × (i ≢ 10)
-        → CallDone h sizes H C ram (refuse v i) (historyStep (refuses i) H)
+    refuse-done : (i : ℕ) → Possible (refused i) → CallDone h sizes H C ram (refuse v i) (historyStep (refuses i) H)
     refuse-done i p = record {
       says = refl;
       possible = p;

@@ -37,6 +37,7 @@ pub record SameResult (sizes : Sizes) (v w : Volume) (r s : Result) : Type 0 whe
   -- the same answer
   pub outcome : s .outcome ≡ r .outcome
   pub count : s .count ≡ r .count
+  pub daPages : s .daPages ≡ r .daPages
   -- the same main area, RAM and state
   pub volume-is : s .volume ≡ withSpare (s .volume .flash .spare) (r .volume)
   -- by the same operations; the marks are those that they leave
@@ -57,11 +58,11 @@ EachSame h sizes v (c ∷ cs) =
     → WornResult sizes v (withSpare spare v) (call h v c) (call h (withSpare spare v) c))
     × EachSame h sizes (call h v c .volume) cs
 
--- the same answers from the volumes v and w on: outcome, count and state of each call
+-- the same answers from the volumes v and w on: outcome, both counts and state of each call
 abbrev pub SameAnswers : Family → Volume → Volume → List Call → Type 0
 SameAnswers h v w [] = Unit {0}
 SameAnswers h v w (c ∷ cs) =
-    (call h w c .outcome ≡ call h v c .outcome) × (call h w c .count ≡ call h v c .count)
+    (call h w c .outcome ≡ call h v c .outcome) × (call h w c .count ≡ call h v c .count) × (call h w c .daPages ≡ call h v c .daPages)
     × (call h w c .volume .state ≡ call h v c .volume .state) × SameAnswers h (call h v c .volume) (call h w c .volume) cs
 
 -- a list of calls on the volume v, and on the worn volume w

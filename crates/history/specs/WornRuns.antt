@@ -43,6 +43,7 @@ module _ (sizes : Sizes) (v : Volume) (spare : List ℕ) (r : Result) (long : le
   redone-same = record {
     outcome = refl;
     count = refl;
+    daPages = refl;
     volume-is =
         ap (λ (m : List ℕ). record { state = r .volume .state; flash = flashOf m (worn .spare); ram = r .volume .ram })
         (all-main u (r .ops) (v .flash) (flashOf (v .flash .main) spare) refl ∙ ap (λ (c : Flash). c .main) done);
@@ -111,7 +112,7 @@ module _ (h : Family) (sizes : Sizes) where
       (G : SameRun h sizes (call h v c .volume) (call h w c .volume) cs) where
     run-more : SameRun h sizes v w (c ∷ cs)
     run-more = record {
-      answers = (F .same .outcome, F .same .count, ap (λ (x : Volume). x .state) (F .same .volume-is), G .answers);
+      answers = (F .same .outcome, F .same .count, F .same .daPages, ap (λ (x : Volume). x .state) (F .same .volume-is), G .answers);
       volume-is = G .volume-is;
       ops = rw (F .same .ops, G .ops);
       flash-is =
