@@ -94,7 +94,7 @@ call-refusals h v c =
     either-among _ (badState (v .state)) _ _ (first c .0)
     (either-among _ (tooShort g (v .flash) (v .ram)) _ _ (first c .1) (answer-among h g v c))
 
--- "for such an update 5 and 7 apply, and 6 does not"
+-- "for such an update 5 and 7 apply, and 6 does not"; without the header, so without 10
 pub absent-refusals : (h : Family) (v : Volume) (r : Record) → search h (geometry (v .state .sizes)) v (r .key) .stop ≡ none
     → Among (refusal.badState ∷ refusal.tooShort ∷ refusal.full ∷ refusal.notFresh ∷ []) (call h v (update r) .outcome)
 unfolding call judgeFirst changeBy memb

@@ -65,7 +65,7 @@ badState s =
     || (ltb (recordCapacity (geometry (s .sizes))) (s .records)
     || (ltb (deletionCapacity (geometry (s .sizes))) (s .deletions) || ltb (s .records) (s .deletions)))
 
--- "cells under 64SB, marks under 64B or desk under 20S bytes"; §5: "Refusal 2 uses the larger sums"
+-- "cells under 64SB, marks under 64B or desk under 20S bytes"; §5: "Refusal 2 uses the larger sums"; asked of the RAM without §8's header
 unfoldable pub tooShort : Geometry → Flash → List ℕ → Bool
 tooShort g c ram = ltb (length (c .main)) (mainSize g) || (ltb (length (c .spare)) (spareSize g) || ltb (length ram) (ramSize g))
 
@@ -281,7 +281,8 @@ unfoldable pub commit : Commit
 commit g v n d plan ram =
     cond (allFresh (v .flash .spare) (planOps (g .u) plan (v .flash))) (performed g v n d plan ram) (refuse v refusal.notFresh)
 
--- ---- the calls after 1 and 2, by what the search met: "Checked in the order 1, 2, 8, 3, 4, 5, 6, 7"
+-- ---- the calls after 1 and 2, and after §8's 10 (`Budgets.resultOf`), by what the search met: "Checked in the order 1, 2, 8, 3, 4, 5, 6,
+-- 7"
 
 -- "n at capacity", "d at capacity"
 abbrev pub noRoom : Geometry → Volume → Bool

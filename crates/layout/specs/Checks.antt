@@ -233,13 +233,13 @@ unfolding write wordsBytes sameKey itemWord scan scanCost searchPages tryDeletio
     filterBit bitAt bit positions tab tabFrom fnvFrom
 da-pages = refl
 
--- the call that fills the DA page leaves them so, "first half first", and the DA page zeroed
+-- the call that fills the DA page leaves them so, "first half first", and the DA page, bytes 128 to 191, zeroed
 abbrev filled : List ℕ
 filled =
     deletionRam fnvFamily (geometry (sizesOf 16 1 1 3)) 15 28
     (write (replicate 384 0) 128 (wordsBytes (1 ∷ 2 ∷ 3 ∷ 4 ∷ 17 ∷ 18 ∷ 19 ∷ 20 ∷ 9 ∷ 10 ∷ 11 ∷ 12 ∷ 25 ∷ 26 ∷ 27 ∷ [])))
 
-pub filters-put : drop 320 filled ≡ pairPage
+pub filters-put : drop 128 filled ≡ replicate 192 0 ++ pairPage
 unfolding write wordsBytes deletionBytes put pieces pack halfFilter any memb positions tab tabFrom fnvFrom deletionRam
 filters-put = refl
 

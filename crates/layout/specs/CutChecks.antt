@@ -2,10 +2,11 @@
 -- budgets, the order of refusals, restarts.
 use mathlib.Core.Path.{_≡_, refl}
 use mathlib.Core.List.{List, [], _∷_, _++_}
-use Prim.Native.Nat.{ℕ, _+_}
+use Prim.Native.Nat.{ℕ, _+_, _*_}
 use lib.ListN.{length, getD, replicate, set}
 use lib.Count.{onesIn}
 use Rattle.memory.specs.Lists.{write, tab, tabFrom, pieces}
+use Rattle.memory.specs.Bits.{num}
 use Rattle.memory.specs.Ranges.{memb}
 use Rattle.memory.specs.Words.{wordsBytes}
 use Rattle.layout.specs.Keys.{sameKey}
@@ -14,13 +15,13 @@ use Rattle.layout.specs.Items.{recordOf, recordBytes, entryBytes, itemWo
 use Rattle.layout.specs.Flash.{flashOf, Op, program, erase, Planned, known, made, wipe, fresh, allFresh}
 use Rattle.layout.specs.Hash.{fnvFamily}
 use Rattle.layout.specs.Search.{searchPages, scan}
-use Rattle.layout.specs.Calls.{Volume, insert, update, delete, lookup, Outcome, accepted, hit, miss, refused, Result, badState}
-use Rattle.layout.specs.Calls.{tooShort, judgeFirst, format, searchAt, tryAt, lookupAfter, changeBy, insertionPlan}
+use Rattle.layout.specs.Calls.{Volume, insert, update, delete, lookup, Outcome, accepted, hit, miss, refused, Result, refuse}
+use Rattle.layout.specs.Calls.{badState, tooShort, judgeFirst, format, searchAt, tryAt, lookupAfter, changeBy, insertionPlan}
 use Rattle.layout.specs.Calls.{insertionRam, commit, deletionPlan, call}
 use Rattle.layout.specs.Later.{freshPlan, laterPlan, commitLater, callAgain}
-use Rattle.layout.specs.Header.{pages, header, intentWords, noIntent, formatWords, headerBytes, headerWord, changing, pendingIn}
-use Rattle.layout.specs.Header.{kindIn, formatIntended}
-use Rattle.layout.specs.Budgets.{callSteps, taken, callFor, restartFor}
+use Rattle.layout.specs.Header.{pages, header, intentWords, noIntent, formatWords, headerBytes, headerWord, changing, formatting}
+use Rattle.layout.specs.Header.{pendingOf, pendingIn, kindIn, intended, formatIntended}
+use Rattle.layout.specs.Budgets.{Step, store, callSteps, taken, Cut, cutBy, callFor, restartFor}
 
 abbrev s : State
 s = stateOf (sizesOf 16 1 1 3) 2 1
@@ -73,6 +74,24 @@ idle-bytes = refl
 pub reads-back : pendingIn (0 ∷ 0 ∷ headerBytes s (intentWords (insert (recordOf 7 40 8 9)))) ≡ changing (insert (recordOf 7 40 8 9))
 unfolding pendingIn headerWord header headerBytes wordsBytes
 reads-back = refl
+
+-- each kind with its arguments in their order
+pub arguments : pendingOf 1 7 40 8 9 ∷ pendingOf 2 7 40 8 9 ∷ pendingOf 3 7 40 8 9 ∷ pendingOf 4 16 2 1 3 ∷ []
+    ≡ changing (insert (recordOf 7 40 8 9)) ∷ changing (update (recordOf 7 40 8 9)) ∷ changing (delete 7)
+    ∷ formatting (sizesOf 16 2 1 3) ∷ []
+arguments = refl
+
+-- "the state handed over" is stored with an intent, whatever the header said before: n = 2 and d = 1 over n = 9 and d = 8
+pub intent-handed :
+    let ram : List ℕ = intended (record {
+      state = s;
+      flash = flashOf [] [];
+      ram = headerBytes (stateOf (sizesOf 32 2 2 5) 9 8) noIntent;
+    }) (delete 7) in
+    headerWord ram 0 ∷ headerWord ram 3 ∷ headerWord ram 4 ∷ headerWord ram 5 ∷ headerWord ram 6 ∷ headerWord ram 7 ∷ []
+    ≡ 16 ∷ 3 ∷ 2 ∷ 1 ∷ 3 ∷ 7 ∷ []
+unfolding pages headerWord header headerBytes wordsBytes
+intent-handed = refl
 
 -- as an update's: sector 3 of L1 (block 0), sector 64 of the next set, made when it is programmed, the erase of L1, then sector 192 of a
 -- page of records and an erase of the other index
@@ -159,6 +178,16 @@ pub in-steps : cutAt 0 ∷ cutAt 1 ∷ cutAt 2 ∷ cutAt 3 ∷ cutAt 4 ∷ cutAt
 unfolding write headerBytes wordsBytes
 in-steps = refl
 
+-- what a caller is told of b steps of three: whether all were done, and how many; of a refusal none
+abbrev cutTold : Outcome → ℕ → List ℕ
+cutTold o b =
+    let c : Cut = cutBy o b (store [] ∷ store [] ∷ store [] ∷ []) (refuse before 5) in
+    num (c .complete) ∷ c .steps ∷ []
+
+pub steps-told : cutTold accepted 0 ∷ cutTold accepted 2 ∷ cutTold accepted 3 ∷ cutTold accepted 9 ∷ cutTold (refused 5) 9 ∷ []
+    ≡ (0 ∷ 0 ∷ []) ∷ (0 ∷ 2 ∷ []) ∷ (1 ∷ 3 ∷ []) ∷ (1 ∷ 3 ∷ []) ∷ (0 ∷ 0 ∷ []) ∷ []
+steps-told = refl
+
 -- ---- refusals, in order
 
 abbrev refusalOf : Outcome → ℕ
@@ -208,6 +237,21 @@ pub by-header : restarted 0 0 ∷ restarted 1 7 ∷ restarted 2 7 ∷ restarted 
 unfolding restartFor callAgain call format judgeFirst badState allowed memb tooShort pages pendingIn headerWord header headerBytes
     wordsBytes
 by-header = refl
+
+-- one that finds no call, handed n = 5 and d = 6, with this k in the header's state, this many blocks and bytes of pages
+abbrev idle : ℕ → ℕ → ℕ → List ℕ
+idle k blocks ram =
+    let r : Result = restartFor fnvFamily 0 (record {
+      state = stateOf (sizesOf 0 0 0 0) 5 6;
+      flash = flashOf (replicate (blocks * 1024) 255) (replicate (blocks * 64) 255);
+      ram = replicate ram 0 ++ headerBytes (stateOf (sizesOf 16 1 1 k) 2 1) noIntent;
+    }) in
+    refusalOf (r .outcome) ∷ r .volume .state .records ∷ r .volume .state .deletions ∷ []
+
+-- "with none, by 1 and 2", in that order; else it "finds none and returns the state", the header's
+pub idle-restarts : idle 9 0 0 ∷ idle 3 0 0 ∷ idle 3 21 384 ∷ [] ≡ (1 ∷ 5 ∷ 6 ∷ []) ∷ (2 ∷ 5 ∷ 6 ∷ []) ∷ (0 ∷ 2 ∷ 1 ∷ []) ∷ []
+unfolding restartFor badState allowed memb tooShort pages pendingIn headerWord header headerBytes wordsBytes
+idle-restarts = refl
 
 -- "a desk under 64 bytes by 2 first": the kind in these would be unknown
 pub short-ram : refusalOf (restartFor fnvFamily 9 (record { state = s; flash = flashOf [] []; ram = replicate 63 1 }) .outcome) ≡ 2

@@ -1,16 +1,17 @@
 -- Document 01, "Examples": its starred lines, one table and one theorem.
 use mathlib.Core.Path.{_≡_, refl}
-use mathlib.Core.List.{List, [], _∷_}
-use Prim.Native.Nat.{ℕ, _+_, _-_, _*_, _/_, _%_}
+use mathlib.Core.List.{List, [], _∷_, _++_}
+use Prim.Native.Nat.{ℕ, zero, suc, _+_, _-_, _*_, _/_, _%_}
 use lib.ListN.{length, getD}
 use Rattle.memory.specs.Bits.{num}
 use Rattle.memory.specs.Power.{log2up}
 use Rattle.layout.specs.Geometry.{Geometry, sizesOf, geometry, blocks, indexBlock, recordCapacity, sectorSizes, sector, page}
-use Rattle.layout.specs.Geometry.{recordsPerPage, entriesPerPage, filterBits}
+use Rattle.layout.specs.Geometry.{recordsPerPage, entriesPerPage, filterBits, block, deletionsPerPage, deletionsPerFilter}
+use Rattle.layout.specs.Geometry.{fourthSize, sideBlocks, fullSets, deletionSets, ramSize}
 use Rattle.layout.specs.Flash.{Planned, known, made, wipe, plannedFrom}
 use Rattle.layout.specs.Hash.{Family, fnvFrom, fnv1a}
 use Rattle.layout.specs.Index.{Index, BitPlace, inSka, inL1, setPages, setWidth, setPlace, l1Place, flushSector, flushAndBuild}
-use Rattle.layout.specs.Items.{RA, Place, itemPlace}
+use Rattle.layout.specs.Items.{RA, KA, Place, itemPlace}
 use Rattle.layout.specs.Calls.{keyFilters, insertionPlan}
 
 -- a line: what the definitions give, and what the document says
@@ -71,6 +72,11 @@ g16 = geometry (sizesOf 16 16 1 3)
 abbrev filters : ℕ
 filters = keyFilters g16 1023
 
+-- how many of the first k entries are in RAM, by their places
+abbrev entriesInRam : ℕ → ℕ
+entriesInRam zero = 0
+entriesInRam (suc j) = num (itemPlace 1 (KA g16) 1023 j .inRam) + entriesInRam j
+
 abbrev oneMore : Family → ℕ → List ℕ → List Planned
 oneMore h key bytes = insertionPlan h g16 1023 key bytes []
 
@@ -111,7 +117,7 @@ examples h key bytes =
     -- S = 16, R = 16, n = 1023: 15 flushes, 7 filters and 7 entries on the desk
     ∷ line (inL1 filters) 15
     ∷ line (inSka filters) 7
-    ∷ line (1023 % entriesPerPage 1) 7
+    ∷ line (entriesInRam 1023) 7
     -- one more insert builds set 2: after its RA page, its KA page and the flush's four sectors come 16 pages of side A; and erases L1
     ∷ line (length (sectorsOf (oneMore h key bytes))) (4 + 4 + 4 + 16 * 4)
     ∷ line (getD (sectorsOf (oneMore h key bytes)) 12 0) ((indexBlock g16 + 1) * 64)
@@ -123,15 +129,28 @@ pub examples-hold : (h : Family) (key : ℕ) (bytes : List ℕ) → computed (ex
 unfolding fnvFrom log2up insertionPlan flushAndBuild
 examples-hold h key bytes = refl
 
--- ---- the table of sector sizes: "records a page (S/4)", "entries a page (S/2)", "filter bits m (4S)"
+-- ---- the table of sector sizes: "records a page (S/4)", "entries a page (S/2)", "filter bits m (4S)"; and every other size in bytes or
+-- items that the documents name by S: a page 4S, a block 64S, deletions a page S and a filter S/2, bytes of a filter's fourth S/8, blocks of
+-- a side S/4, the RAM 24S; and floor(R/(4S)) and floor(D/S) places for full sets
 
-abbrev units : List ℕ → List ℕ
-units [] = []
-units (S ∷ ss) = sector (S / 16) ∷ recordsPerPage (S / 16) ∷ entriesPerPage (S / 16) ∷ filterBits (S / 16) ∷ units ss
+abbrev sets : ℕ → ℕ → ℕ → List ℕ
+sets S R D = let g : Geometry = geometry (sizesOf S R D 3) in fullSets g ∷ deletionSets g ∷ []
 
-abbrev table : List ℕ → List ℕ
-table [] = []
-table (S ∷ ss) = S ∷ S / 4 ∷ S / 2 ∷ (4 * S) ∷ table ss
+abbrev units : ℕ → List ℕ
+units S =
+    let u : ℕ = S / 16 in
+    sector u ∷ recordsPerPage u ∷ entriesPerPage u ∷ filterBits u ∷ page u ∷ block u ∷ deletionsPerPage u ∷ deletionsPerFilter u
+    ∷ fourthSize u ∷ sideBlocks u ∷ ramSize (geometry (sizesOf S 1 1 3))
+    ∷ sets S (4 * S - 1) (S - 1) ++ (sets S (4 * S) S ++ sets S (8 * S - 1) (2 * S - 1))
 
-pub rows : units sectorSizes ≡ table sectorSizes
+abbrev row : ℕ → List ℕ
+row S =
+    S ∷ S / 4 ∷ S / 2 ∷ (4 * S) ∷ (4 * S) ∷ (64 * S) ∷ S ∷ S / 2 ∷ S / 8 ∷ S / 4 ∷ (24 * S) ∷ 0 ∷ 0 ∷ 1 ∷ 1 ∷ 1 ∷ 1 ∷ []
+
+-- each of them for each sector size
+abbrev each : (ℕ → List ℕ) → List ℕ → List (List ℕ)
+each f [] = []
+each f (S ∷ ss) = f S ∷ each f ss
+
+pub rows : each units sectorSizes ≡ each row sectorSizes
 rows = refl

@@ -157,7 +157,7 @@ module _ (u : ℕ) where
     abbrev pub setSector : ℕ → ℕ → ℕ → Planned
     setSector z c j = made (setBlock z c * sectorsPerBlock + j) (λ main. tab (sector u) (setByte main z c j))
 
-    -- "set pages, each rising; last the erases, L1, then the blocks of set i-1"
+    -- "set pages, each rising; last the erases, L1, then the blocks of set i-1"; last of an index: since §5 a call may have two
     abbrev pub buildPlan : ℕ → ℕ → List Planned
     buildPlan z c =
         plannedFrom (setSector z c) 0 (setPages (c + 1) * sectorsPerPage)

@@ -15,3 +15,4 @@ pub mod FiniteMap
 pub mod Examples
 pub mod Checks
 pub mod CutChecks
+pub mod AnswerChecks

@@ -4,3 +4,4 @@ pub mod Trace
 pub mod FirstFilter
 pub mod LoadExample
 pub mod CutExample
+pub mod RefusalTable
