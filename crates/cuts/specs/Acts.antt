@@ -1,37 +1,41 @@
 -- Calls, formats and restarts in any order, each with any budget, from a format on: a format over a pending call or over a cut format,
--- calls
--- while one is pending, restarts that find nothing. The operations of all of them, as one list, keep the chip's program order.
-use mathlib.Core.Path.{_≡_, sym, ap, _∙_}
-use mathlib.Core.Bool.{Bool, true, false}
+-- calls while one is pending, restarts that find nothing. The operations of all of them, as one list, keep the chip's program order, and a
+-- restart with enough leaves what document 01's format and calls leave: the last format begun, and the calls begun since.
+use mathlib.Core.Path.{_≡_, refl, sym, ap, _∙_}
+use mathlib.Core.Bool.{Bool, true, false, cond}
 use mathlib.Core.List.{List, [], _∷_, _++_}
 use Prim.Native.Nat.{ℕ, zero, suc, _≤_}
 use lib.ListN.{length}
+use lib.Dec.{eqb}
 use Rattle.memory.specs.Booleans.{cond-pos, cond-neg}
 use Rattle.memory.specs.Cases.{either, bool?}
 use Rattle.layout.specs.Geometry.{State, Geometry, geometry, allowed, blocks, recordCapacity, deletionCapacity, spareSize, Sizes, unitOf}
 use Rattle.layout.specs.Flash.{Op, Flash, applyAll, erases}
 use Rattle.layout.specs.Hash.{Family}
-use Rattle.layout.specs.Calls.{Volume, Call, accepted, Result, refuse, tooShort, format, call}
+use Rattle.layout.specs.Calls.{Volume, Call, Outcome, accepted, hit, miss, refused, Result, refuse, tooShort, format, call}
 use Rattle.layout.specs.FiniteMap.{Map, emptyMap, mapOf}
 use Rattle.laws.specs.Sound.{SizesSound, sound}
+use Rattle.history.specs.Every.{can-accepted}
 use Rattle.history.specs.Image.{History}
 use Rattle.history.specs.Live.{Live, live-start, emptyHistory, HistoryStep, stepHistory}
 use Rattle.history.specs.MapLaws.{step-same}
-use Rattle.history.specs.Runs.{ProgramOrder}
+use Rattle.history.specs.Runs.{after, ProgramOrder}
 use Rattle.history.specs.ProgramOrder.{Says}
+use Rattle.history.specs.Reached.{mapAfter, map-append}
 use Rattle.history.specs.Volumes.{Holds, volumeOf}
 use Rattle.history.specs.Steps.{CallDone, call-done}
 use Rattle.history.specs.RunLaws.{less, start-holds, start-spare}
-use Rattle.layout.specs.Header.{pages, onPages, formatIntended}
+use Rattle.layout.specs.Header.{pages, onPages, formatIntended, kindIn}
 use Rattle.layout.specs.Budgets.{callSteps, taken, callFor, formatFor, restartFor, restartWhole}
 use Rattle.cuts.specs.Events.{lift, Numbers}
-use Rattle.cuts.specs.Headers.{Words, kind-stored}
+use Rattle.cuts.specs.Headers.{Words, idle-kind, kind-stored}
 use Rattle.cuts.specs.Resume.{CutAt}
 use Rattle.cuts.specs.Told.{afterOps, order-append}
 use Rattle.cuts.specs.Recover as recover
 use Rattle.cuts.specs.Formats as formats
-use Rattle.cuts.specs.EventLaws.{key-word, words-of, quiet?, call-quiet, idle-one}
-use Rattle.cuts.specs.Whole.{pending-stops}
+use Rattle.cuts.specs.EventLaws.{Quiet, quiet?, quiet-handed, key-word, words-of, call-quiet, idle-one}
+use Rattle.cuts.specs.PowerCut.{after-append}
+use Rattle.cuts.specs.Whole.{call-none, format-none, pending-stops}
 
 -- a call, a format or a restart, with its budget of steps
 pub data Act : Type 0 where
@@ -48,7 +52,45 @@ abbrev pub ActsNumbers : List Act → Type 0
 ActsNumbers [] = Unit {0}
 ActsNumbers (a ∷ rest) = ActNumbers a × ActsNumbers rest
 
+-- ---- what acts come to, in document 01's words
+
+-- the volume handed to the last format of which a step was done, header and all, the format's sizes, and the calls begun since
+pub record UncutRun : Type 0 where
+  pub handed : Volume
+  pub sizes : Sizes
+  pub calls : List Call
+
+abbrev pub formatRun : Volume → Sizes → UncutRun
+formatRun v sizes = record { handed = v; sizes = sizes; calls = [] }
+
+abbrev pub callRun : UncutRun → Call → UncutRun
+callRun t c = record { handed = t .handed; sizes = t .sizes; calls = t .calls ++ (c ∷ []) }
+
+-- a format that is refused begins nothing
+abbrev pub formatRunBy : Outcome → UncutRun → Volume → Sizes → UncutRun
+formatRunBy accepted t v sizes = formatRun v sizes
+formatRunBy (hit place bytes) t v sizes = t
+formatRunBy miss t v sizes = t
+formatRunBy (refused i) t v sizes = t
+
+-- "a cut before the intent leaves what was there"; "10, a call other than format and restart while the kind is not 0"; a restart begins
+-- nothing
+abbrev pub stepRun : UncutRun → Volume → Act → UncutRun
+stepRun t v (ask zero c) = t
+stepRun t v (ask (suc b) c) = cond (eqb (kindIn (v .ram)) 0) (callRun t c) t
+stepRun t v (shape zero sizes) = t
+stepRun t v (shape (suc b) sizes) = formatRunBy (format (onPages v) sizes .outcome) t v sizes
+stepRun t v (again b) = t
+
+-- the map that has made the calls
+abbrev pub runMap : UncutRun → Map
+runMap t = mapAfter (geometry (t .sizes)) emptyMap (t .calls)
+
 module _ (h : Family) where
+  -- what document 01's format and calls leave
+  abbrev pub runEnd : UncutRun → Volume
+  runEnd t = after h (format (onPages (t .handed)) (t .sizes) .volume) (t .calls)
+
   abbrev pub actResult : Volume → Act → Result
   actResult v (ask b c) = callFor h b v c
   actResult v (shape b sizes) = formatFor b v sizes
@@ -62,42 +104,42 @@ module _ (h : Family) where
   actsOps v [] = []
   actsOps v (a ∷ rest) = actResult v a .ops ++ actsOps (actResult v a .volume) rest
 
-  -- volumes that document 01's format and calls leave
-  pub data Reached : Volume → Type 0 where
-    by-format : (v : Volume) (sizes : Sizes) → allowed sizes ≡ true → tooShort (geometry sizes) (v .flash) (v .ram) ≡ false
-        → Reached (format v sizes .volume)
-    by-call : (w : Volume) (c : Call) → Reached w → Reached (call h w c .volume)
-
-  reached-as : (v w : Volume) → v ≡ w → Reached w → Reached v
-  reached-as v w e R = rw e R
+  abbrev pub runAfter : UncutRun → Volume → List Act → UncutRun
+  runAfter t v [] = t
+  runAfter t v (a ∷ rest) = runAfter (stepRun t v a) (actResult v a .volume) rest
 
   -- the volumes that are met; the spare bytes tell what the operations say was programmed, unless a format waits
-  pub data Met : (ℕ → Bool) → Volume → Type 0 where
-    idle : (sizes : Sizes) (ok : SizesSound sizes) (can : allowed sizes ≡ true) (H : History) (C : Flash) (ram : List ℕ) (m : Map)
-        (P : ℕ → Bool) → Holds h sizes H C ram → Live H m → Reached (volumeOf sizes H C ram)
-        → (spareSize (geometry sizes) ≤ length (C .spare)) × Says (spareSize (geometry sizes)) C P → Met P (lift (volumeOf sizes H C ram))
-    calling : (sizes : Sizes) (ok : SizesSound sizes) (can : allowed sizes ≡ true) (H : History) (C : Flash) (ram : List ℕ)
-        (I : Holds h sizes H C ram)
-        (c : Call) (words : Words c) (acc : call h (volumeOf sizes H C ram) c .outcome ≡ accepted)
-        (next : HistoryStep) (did : CallDone h sizes H C ram (call h (volumeOf sizes H C ram) c) next) (m : Map) → Live (next .next) m
-        → Reached (volumeOf sizes H C ram)
-        → (P : ℕ → Bool) (st : State) (X : Flash) → CutAt (unitOf sizes) (recover.ops h sizes ok can H C ram I c words acc next did) C X
-        → (spareSize (geometry sizes) ≤ length (X .spare)) × Says (spareSize (geometry sizes)) X P
-        → Met P (record { state = st; flash = X; ram = recover.intended h sizes ok can H C ram I c words acc next did })
+  pub data Met : UncutRun → (ℕ → Bool) → Volume → Type 0 where
+    idle : (t : UncutRun) (ok : SizesSound (t .sizes)) (can : allowed (t .sizes) ≡ true) (H : History) (C : Flash) (ram : List ℕ)
+        (P : ℕ → Bool) → Holds h (t .sizes) H C ram → Live H (runMap t) → volumeOf (t .sizes) H C ram ≡ runEnd t
+        → (spareSize (geometry (t .sizes)) ≤ length (C .spare)) × Says (spareSize (geometry (t .sizes))) C P
+        → Met t P (lift (volumeOf (t .sizes) H C ram))
+    calling : (t : UncutRun) (ok : SizesSound (t .sizes)) (can : allowed (t .sizes) ≡ true) (H : History) (C : Flash) (ram : List ℕ)
+        (I : Holds h (t .sizes) H C ram) → Live H (runMap t) → volumeOf (t .sizes) H C ram ≡ runEnd t
+        → (c : Call) (words : Words c) (acc : call h (volumeOf (t .sizes) H C ram) c .outcome ≡ accepted) (next : HistoryStep)
+        (did : CallDone h (t .sizes) H C ram (call h (volumeOf (t .sizes) H C ram) c) next) → Live (next .next) (runMap (callRun t c))
+        → (P : ℕ → Bool) (X : Flash)
+        → CutAt (unitOf (t .sizes)) (recover.ops h (t .sizes) ok can H C ram I c words acc next did) C X
+        → (spareSize (geometry (t .sizes)) ≤ length (X .spare)) × Says (spareSize (geometry (t .sizes))) X P
+        → Met (callRun t c) P (record {
+          state = volumeOf (t .sizes) H C ram .state;
+          flash = X;
+          ram = recover.intended h (t .sizes) ok can H C ram I c words acc next did;
+        })
     forming : (v : Volume) (sizes : Sizes) (can : allowed sizes ≡ true)
         (long : tooShort (geometry sizes) (v .flash) (pages (v .ram)) ≡ false)
         (P : ℕ → Bool) (st : State) (X : Flash) → CutAt (unitOf sizes) (erases 0 (blocks (geometry sizes))) (v .flash) X
-        → Met P (record { state = st; flash = X; ram = formats.intended h v sizes can long })
+        → Met (formatRun v sizes) P (record { state = st; flash = X; ram = formats.intended h v sizes can long })
 
-  moved : (P : ℕ → Bool) (v w : Volume) → v ≡ w → Met P w → Met P v
-  moved P v w e G = rw e G
+  moved : (t : UncutRun) (P : ℕ → Bool) (v w : Volume) → v ≡ w → Met t P w → Met t P v
+  moved t P v w e G = rw e G
 
-  abbrev Next : (ℕ → Bool) → Result → Type 0
-  Next P r = ProgramOrder (r .ops) P × Met (afterOps (r .ops) P) (r .volume)
+  abbrev Next : UncutRun → (ℕ → Bool) → Result → Type 0
+  Next t P r = ProgramOrder (r .ops) P × Met t (afterOps (r .ops) P) (r .volume)
 
   -- nothing done
-  stays : (P : ℕ → Bool) (v : Volume) (r : Result) → r .volume ≡ v → r .ops ≡ [] → Met P v → Next P r
-  stays P v r e o G = rw (o, e) (tt, G)
+  stays : (t : UncutRun) (P : ℕ → Bool) (v : Volume) (r : Result) → r .volume ≡ v → r .ops ≡ [] → Met t P v → Next t P r
+  stays t P v r e o G = rw (o, e) (tt, G)
 
   -- ---- a format, on any volume
 
@@ -117,140 +159,164 @@ module _ (h : Family) where
 
     module _ (can : allowed sizes ≡ true) (long : tooShort (geometry sizes) (v .flash) (pages (v .ram)) ≡ false) where
       waits : (P : ℕ → Bool) (st : State) (X : Flash) → CutAt (unitOf sizes) (erases 0 (blocks (geometry sizes))) (v .flash) X
-          → Met P (record { state = st; flash = X; ram = formats.intended h v sizes can long })
+          → Met (formatRun v sizes) P (record { state = st; flash = X; ram = formats.intended h v sizes can long })
       waits P st X cut = forming v sizes can long P st X cut
 
       ends : (P : ℕ → Bool) → Says (spareSize (geometry sizes)) (applyAll (unitOf sizes) (erases 0 (blocks (geometry sizes))) (v .flash)) P
-          → Met P (record {
+          → Met (formatRun v sizes) P (record {
             state = formats.s′ h v sizes can long;
             flash = applyAll (unitOf sizes) (erases 0 (blocks (geometry sizes)))
                 (v .flash);
             ram = formats.finished h v sizes can long;
           })
       ends P m =
-          idle sizes (sound sizes can) can emptyHistory (applyAll (unitOf sizes) (erases 0 (blocks (geometry sizes))) (v .flash))
-          (formats.pages′ h v sizes can long) emptyMap P
-          (start-holds h sizes (sound sizes can) can (onPages v) long) live-start
-          (reached-as _ (format (onPages v) sizes .volume) (sym (formats.formatted-is h v sizes can long))
-          (by-format (onPages v) sizes can long)) (start-spare h sizes (sound sizes can) can (onPages v) long .0, m)
+          idle (formatRun v sizes) (sound sizes can) can emptyHistory
+          (applyAll (unitOf sizes) (erases 0 (blocks (geometry sizes))) (v .flash)) (formats.pages′ h v sizes can long) P
+          (start-holds h sizes (sound sizes can) can (onPages v) long) live-start (sym (formats.formatted-is h v sizes can long))
+          (start-spare h sizes (sound sizes can) can (onPages v) long .0, m)
 
-      pub format-first : (P : ℕ → Bool) (b : ℕ) → Next P (formatFor (suc b) v sizes)
-      format-first P b = formats.first-good h v sizes can long Met waits ends P b
+      format-first : (P : ℕ → Bool) (b : ℕ) → Next (formatRun v sizes) P (formatFor (suc b) v sizes)
+      format-first P b = formats.first-good h v sizes can long (Met (formatRun v sizes)) waits ends P b
 
       format-again : (P : ℕ → Bool) (st : State) (X : Flash) → CutAt (unitOf sizes) (erases 0 (blocks (geometry sizes))) (v .flash) X
           → (b : ℕ)
-          → Next P (restartFor h b (record { state = st; flash = X; ram = formats.intended h v sizes can long }))
-      format-again P st X cut b = formats.again-good h v sizes can long Met waits ends P st X cut b
+          → Next (formatRun v sizes) P (restartFor h b (record { state = st; flash = X; ram = formats.intended h v sizes can long }))
+      format-again P st X cut b = formats.again-good h v sizes can long (Met (formatRun v sizes)) waits ends P st X cut b
 
-      format-some : (P : ℕ → Bool) → Met P v → (b : ℕ) → Next P (formatFor b v sizes)
-      format-some P G zero =
-          stays P v (formatFor 0 v sizes) (formats.format-none h v sizes can long) (formats.format-none-ops h v sizes can long) G
-      format-some P G (suc b) = format-first P b
+      -- whatever was there before
+      pub format-begins : (t : UncutRun) (P : ℕ → Bool) (b : ℕ)
+          → Next (stepRun t v (shape (suc b) sizes)) P (formatFor (suc b) v sizes)
+      format-begins t P b = rw (can-accepted (onPages v) sizes can long) (format-first P b)
 
-    format-next : (P : ℕ → Bool) → Met P v → (b : ℕ) → Next P (formatFor b v sizes)
-    format-next P G b =
-        either (bool? (allowed sizes))
-        (λ can. either (bool? (tooShort (geometry sizes) (v .flash) (pages (v .ram))))
-        (λ l. let e = refused-by b 2 (too-short can l) in stays P v (formatFor b v sizes) (ap (λ (r : Result). r .volume) e)
-        (ap (λ (r : Result). r .ops) e) G)
-        (λ l. format-some can l P G b))
-        (λ no. let e = refused-by b 1 (not-allowed no) in stays P v (formatFor b v sizes) (ap (λ (r : Result). r .volume) e)
-        (ap (λ (r : Result). r .ops) e) G)
+    module _ (t : UncutRun) (P : ℕ → Bool) (G : Met t P v) where
+      format-refused : (b i : ℕ) → format (onPages v) sizes ≡ refuse (onPages v) i
+          → Next (stepRun t v (shape (suc b) sizes)) P (formatFor (suc b) v sizes)
+      format-refused b i e =
+          let f = refused-by (suc b) i e in
+          rw e (stays t P v (formatFor (suc b) v sizes) (ap (λ (r : Result). r .volume) f) (ap (λ (r : Result). r .ops) f) G)
+
+      format-next : (b : ℕ) → Next (stepRun t v (shape b sizes)) P (formatFor b v sizes)
+      format-next zero = stays t P v (formatFor 0 v sizes) (format-none v sizes .0) (format-none v sizes .1) G
+      format-next (suc b) =
+          either (bool? (allowed sizes))
+          (λ can. either (bool? (tooShort (geometry sizes) (v .flash) (pages (v .ram))))
+          (λ l. format-refused b 2 (too-short can l))
+          (λ l. format-begins can l t P b))
+          (λ no. format-refused b 1 (not-allowed no))
 
   -- ---- a call, and its restart
 
-  module _ (sizes : Sizes) (ok : SizesSound sizes) (can : allowed sizes ≡ true) (H : History) (C : Flash) (ram : List ℕ)
-      (I : Holds h sizes H C ram) (reach : Reached (volumeOf sizes H C ram)) where
+  module _ (t : UncutRun) (ok : SizesSound (t .sizes)) (can : allowed (t .sizes) ≡ true) (H : History) (C : Flash) (ram : List ℕ)
+      (I : Holds h (t .sizes) H C ram) (L : Live H (runMap t)) (is : volumeOf (t .sizes) H C ram ≡ runEnd t) where
     abbrev g : Geometry
-    g = geometry sizes
+    g = geometry (t .sizes)
 
     abbrev w : Volume
-    w = volumeOf sizes H C ram
+    w = volumeOf (t .sizes) H C ram
 
-    module _ (c : Call) (words : Words c) (acc : call h (volumeOf sizes H C ram) c .outcome ≡ accepted) (next : HistoryStep)
-        (did : CallDone h sizes H C ram (call h (volumeOf sizes H C ram) c) next) (m : Map) (L : Live (next .next) m) where
-      call-waits : (P : ℕ → Bool) (st : State) (X : Flash)
-          → CutAt (unitOf sizes) (recover.ops h sizes ok can H C ram I c words acc next did) C X
-          → (spareSize g ≤ length (X .spare)) × Says (spareSize g) X P
-          → Met P (record { state = st; flash = X; ram = recover.intended h sizes ok can H C ram I c words acc next did })
-      call-waits P st X cut t = calling sizes ok can H C ram I c words acc next did m L reach P st X cut t
+    -- what the call leaves is the end of the run with it
+    end-is : (c : Call) → call h w c .volume ≡ runEnd (callRun t c)
+    end-is c =
+        ap (λ (x : Volume). call h x c .volume) is
+        ∙ after-append h (format (onPages (t .handed)) (t .sizes) .volume) (t .calls) (c ∷ [])
 
-      flash-is : applyAll (unitOf sizes) (recover.ops h sizes ok can H C ram I c words acc next did) C ≡ call h w c .volume .flash
-      flash-is = ap (λ (r : Result). r .volume .flash) (sym (recover.called h sizes ok can H C ram I c words acc next did))
+    module _ (c : Call) (next : HistoryStep) (did : CallDone h (t .sizes) H C ram (call h (volumeOf (t .sizes) H C ram) c) next)
+        (N : Live (next .next) (runMap (callRun t c))) where
+      call-over : (P : ℕ → Bool)
+          → (spareSize g ≤ length (call h w c .volume .flash .spare)) × Says (spareSize g) (call h w c .volume .flash) P
+          → Met (callRun t c) P (lift (call h w c .volume))
+      call-over P m =
+          moved (callRun t c) P (lift (call h w c .volume)) _ (ap lift (did .volume-is))
+          (idle (callRun t c) ok can (next .next) (call h w c .volume .flash) (call h w c .volume .ram) P (did .holds) N
+          (sym (did .volume-is) ∙ end-is c) m)
 
-      final-is : recover.final h sizes ok can H C ram I c words acc next did
-          ≡ lift (volumeOf sizes (next .next) (call h w c .volume .flash) (call h w c .volume .ram))
-      final-is =
-          ap (λ (r : Result). lift (r .volume)) (sym (recover.called h sizes ok can H C ram I c words acc next did))
-          ∙ ap lift (did .volume-is)
+      -- a lookup or a refusal
+      call-still : (P : ℕ → Bool) → Quiet (call h w c .outcome) → (spareSize g ≤ length (C .spare)) × Says (spareSize g) C P
+          → Met (callRun t c) P (lift w)
+      call-still P q m =
+          let same : call h w c .volume ≡ w = quiet-handed (call h w c .outcome) q w (call h w c .volume) (did .handed-on) in
+          moved (callRun t c) P (lift w) _ (ap lift (sym same)) (call-over P (rw same m))
 
-      call-ends : (P : ℕ → Bool) → (spareSize g ≤ length
-          (applyAll (unitOf sizes) (recover.ops h sizes ok can H C ram I c words acc next did) C .spare))
-          × Says (spareSize g) (applyAll (unitOf sizes) (recover.ops h sizes ok can H C ram I c words acc next did) C) P
-          → Met P (recover.final h sizes ok can H C ram I c words acc next did)
-      call-ends P t =
-          moved P (recover.final h sizes ok can H C ram I c words acc next did) _ final-is
-          (idle sizes ok can (next .next) (call h w c .volume .flash) (call h w c .volume .ram) m P (did .holds) L
-          (reached-as _ (call h w c .volume) (sym (did .volume-is)) (by-call w c reach)) (rw flash-is at t))
+      module _ (words : Words c) (acc : call h (volumeOf (t .sizes) H C ram) c .outcome ≡ accepted) where
+        abbrev ops : List Op
+        ops = recover.ops h (t .sizes) ok can H C ram I c words acc next did
 
-      call-first : (P : ℕ → Bool) → (spareSize g ≤ length (C .spare)) × Says (spareSize g) C P → (b : ℕ)
-          → Next P (callFor h (suc b) (lift w) c)
-      call-first = recover.first-good h sizes ok can H C ram I c words acc next did Met call-waits call-ends
+        abbrev waiting : Flash → Volume
+        waiting X = record {
+          state = volumeOf (t .sizes) H C ram .state;
+          flash = X;
+          ram = recover.intended h (t .sizes) ok can H C ram I c words acc next did;
+        }
 
-      call-again : (P : ℕ → Bool) (st : State) (X : Flash)
-          → CutAt (unitOf sizes) (recover.ops h sizes ok can H C ram I c words acc next did) C X
-          → (spareSize g ≤ length (X .spare)) × Says (spareSize g) X P → (b : ℕ)
-          → Next P (restartFor h b (record { state = st; flash = X; ram = recover.intended h sizes ok can H C ram I c words acc next did }))
-      call-again = recover.again-good h sizes ok can H C ram I c words acc next did Met call-waits call-ends
+        call-waits : (P : ℕ → Bool) (X : Flash) → CutAt (unitOf (t .sizes)) ops C X
+            → (spareSize g ≤ length (X .spare)) × Says (spareSize g) X P → Met (callRun t c) P (waiting X)
+        call-waits P X cut m = calling t ok can H C ram I L is c words acc next did N P X cut m
 
-      call-some : (P : ℕ → Bool) → Met P (lift w) → (spareSize g ≤ length (C .spare)) × Says (spareSize g) C P → (b : ℕ)
-          → Next P (callFor h b (lift w) c)
-      call-some P G t zero =
-          stays P (lift w) (callFor h 0 (lift w) c) (recover.cut-before h sizes ok can H C ram I c words acc next did)
-          (recover.cut-before-ops h sizes ok can H C ram I c words acc next did) G
-      call-some P G t (suc b) = call-first P t b
+        call-ends : (P : ℕ → Bool)
+            → (spareSize g ≤ length (applyAll (unitOf (t .sizes)) ops C .spare)) × Says (spareSize g) (applyAll (unitOf (t .sizes)) ops C) P
+            → Met (callRun t c) P (recover.final h (t .sizes) ok can H C ram I c words acc next did)
+        call-ends P m =
+            let e = recover.called h (t .sizes) ok can H C ram I c words acc next did in
+            rw e at (call-over P (rw e m))
 
-    call-next : (m : Map) → Live H m → (P : ℕ → Bool) → Met P (lift w) → (spareSize g ≤ length (C .spare)) × Says (spareSize g) C P
-        → (b : ℕ) (c : Call) → Numbers c → Next P (callFor h b (lift w) c)
-    call-next m L P G t b c n =
-        let l = less H m L in
-        let did = call-done h sizes ok can H C ram I c (key-word c n) (less H m L) in
-        either (quiet? (call h w c .outcome))
-        (λ a. call-some c (words-of h sizes ok can H C ram I c n (less H m L) a) a (stepHistory (recordCapacity g) (deletionCapacity g) H c)
-        did
-        (mapOf g m c .next) (step-same (recordCapacity g) (deletionCapacity g) H m c L .1) P G t b)
-        (λ q.
-        let e = call-quiet h sizes ok can H C ram I c n (less H m L) q b in
-        stays P (lift w) (callFor h b (lift w) c) (e .0) (e .1) G)
+        call-first : (P : ℕ → Bool) → (spareSize g ≤ length (C .spare)) × Says (spareSize g) C P → (b : ℕ)
+            → Next (callRun t c) P (callFor h (suc b) (lift w) c)
+        call-first = recover.first-good h (t .sizes) ok can H C ram I c words acc next did (Met (callRun t c)) call-waits call-ends
+
+        call-again : (P : ℕ → Bool) (X : Flash) → CutAt (unitOf (t .sizes)) ops C X
+            → (spareSize g ≤ length (X .spare)) × Says (spareSize g) X P → (b : ℕ) → Next (callRun t c) P (restartFor h b (waiting X))
+        call-again = recover.again-good h (t .sizes) ok can H C ram I c words acc next did (Met (callRun t c)) call-waits call-ends
+
+    module _ (P : ℕ → Bool) (m : (spareSize (geometry (t .sizes)) ≤ length (C .spare)) × Says (spareSize (geometry (t .sizes))) C P) where
+      call-begins : (b : ℕ) (c : Call) → Numbers c → Next (callRun t c) P (callFor h (suc b) (lift w) c)
+      call-begins b c n =
+          let next : HistoryStep = stepHistory (recordCapacity g) (deletionCapacity g) H c in
+          let did = call-done h (t .sizes) ok can H C ram I c (key-word c n) (less H (runMap t) L) in
+          let N = rw (sym (map-append g emptyMap (t .calls) (c ∷ []))) at
+          (step-same (recordCapacity g) (deletionCapacity g) H (runMap t) c L .1) in
+          either (quiet? (call h w c .outcome))
+          (λ a. call-first c next did N (words-of h (t .sizes) ok can H C ram I c n (less H (runMap t) L) a) a P m b)
+          (λ q.
+          let e = call-quiet h (t .sizes) ok can H C ram I c n (less H (runMap t) L) q (suc b) in
+          stays (callRun t c) P (lift w) (callFor h (suc b) (lift w) c) (e .0) (e .1) (call-still c next did N P q m))
+
+      call-next : (b : ℕ) (c : Call) → Numbers c → Next (stepRun t (lift w) (ask b c)) P (callFor h b (lift w) c)
+      call-next zero c n =
+          stays t P (lift w) (callFor h 0 (lift w) c) (call-none h (lift w) c .0) (call-none h (lift w) c .1)
+          (idle t ok can H C ram P I L is m)
+      call-next (suc b) c n = rw (idle-kind ram (w .state)) (call-begins b c n)
 
   -- ---- every act
 
-  next-is : (P : ℕ → Bool) (v : Volume) (a : Act) → ActNumbers a → Met P v → Next P (actResult v a)
-  next-is P v (shape b sizes) n G = format-next v sizes P G b
-  next-is P v (ask b c) n (idle sizes ok can H C ram m P₀ I L reach t) =
-      call-next sizes ok can H C ram I reach m L P₀ (idle sizes ok can H C ram m P₀ I L reach t) t b c n
-  next-is P v (ask b c) n (calling sizes ok can H C ram I c₀ words acc next did m L reach P₀ st X cut t) =
-      let e = pending-stops h b (record { state = st; flash = X; ram = recover.intended h sizes ok can H C ram I c₀ words acc next did }) c
-      (kind-stored ram (volumeOf sizes H C ram .state) c₀ words) in
-      stays P₀ v (callFor h b v c) (e .0) (e .1) (calling sizes ok can H C ram I c₀ words acc next did m L reach P₀ st X cut t)
-  next-is P v (ask b c) n (forming v₀ sizes can long P₀ st X cut) =
-      let e = pending-stops h b (record { state = st; flash = X; ram = formats.intended h v₀ sizes can long }) c
-      (formats.format-kind h v₀ sizes can long) in
-      stays P₀ v (callFor h b v c) (e .0) (e .1) (forming v₀ sizes can long P₀ st X cut)
-  next-is P v (again b) n (idle sizes ok can H C ram m P₀ I L reach t) =
-      let e = idle-one h sizes ok can H C ram I b in
-      stays P₀ v (restartFor h b v) (ap (λ (r : Result). r .volume) e) (ap (λ (r : Result). r .ops) e)
-      (idle sizes ok can H C ram m P₀ I L reach t)
-  next-is P v (again b) n (calling sizes ok can H C ram I c₀ words acc next did m L reach P₀ st X cut t) =
-      call-again sizes ok can H C ram I reach c₀ words acc next did m L P₀ st X cut t b
-  next-is P v (again b) n (forming v₀ sizes can long P₀ st X cut) = format-again v₀ sizes can long P₀ st X cut b
+  -- a call that is asked while another or a format is pending
+  pending-next : (t : UncutRun) (P : ℕ → Bool) (v : Volume) (b : ℕ) (c : Call) → eqb (kindIn (v .ram)) 0 ≡ false → Met t P v
+      → Next (stepRun t v (ask b c)) P (callFor h b v c)
+  pending-next t P v zero c k G = let e = pending-stops h 0 v c k in stays t P v (callFor h 0 v c) (e .0) (e .1) G
+  pending-next t P v (suc b) c k G = let e = pending-stops h (suc b) v c k in rw k (stays t P v (callFor h (suc b) v c) (e .0) (e .1) G)
 
-  pub acts-in-order : (P : ℕ → Bool) (v : Volume) (rest : List Act) → ActsNumbers rest → Met P v → ProgramOrder (actsOps v rest) P
-  acts-in-order P v [] n G = tt
-  acts-in-order P v (a ∷ rest) n G =
-      let N = next-is P v a (n .0) G in
+  pub next-is : (t : UncutRun) (P : ℕ → Bool) (v : Volume) (a : Act) → ActNumbers a → Met t P v → Next (stepRun t v a) P (actResult v a)
+  next-is t P v (shape b sizes) n G = format-next v sizes t P G b
+  next-is t P v (ask b c) n (idle t₀ ok can H C ram P₀ I L is m) = call-next t₀ ok can H C ram I L is P₀ m b c n
+  next-is t P v (ask b c) n (calling t₀ ok can H C ram I L is c₀ words acc next did N P₀ X cut m) =
+      pending-next t P₀ v b c (kind-stored ram (volumeOf (t₀ .sizes) H C ram .state) c₀ words)
+      (calling t₀ ok can H C ram I L is c₀ words acc next did N P₀ X cut m)
+  next-is t P v (ask b c) n (forming v₀ sizes can long P₀ st X cut) =
+      pending-next t P₀ v b c (formats.format-kind h v₀ sizes can long) (forming v₀ sizes can long P₀ st X cut)
+  next-is t P v (again b) n (idle t₀ ok can H C ram P₀ I L is m) =
+      let e = idle-one h (t₀ .sizes) ok can H C ram I b in
+      stays t₀ P₀ v (restartFor h b v) (ap (λ (r : Result). r .volume) e) (ap (λ (r : Result). r .ops) e)
+      (idle t₀ ok can H C ram P₀ I L is m)
+  next-is t P v (again b) n (calling t₀ ok can H C ram I L is c₀ words acc next did N P₀ X cut m) =
+      call-again t₀ ok can H C ram I L is c₀ next did N words acc P₀ X cut m b
+  next-is t P v (again b) n (forming v₀ sizes can long P₀ st X cut) = format-again v₀ sizes can long P₀ st X cut b
+
+  acts-in-order : (t : UncutRun) (P : ℕ → Bool) (v : Volume) (rest : List Act) → ActsNumbers rest → Met t P v
+      → ProgramOrder (actsOps v rest) P
+  acts-in-order t P v [] n G = tt
+  acts-in-order t P v (a ∷ rest) n G =
+      let N = next-is t P v a (n .0) G in
       order-append (actResult v a .ops) (actsOps (actResult v a .volume) rest) P (N .0)
-      (acts-in-order (afterOps (actResult v a .ops) P) (actResult v a .volume) rest (n .1) (N .1))
+      (acts-in-order (stepRun t v a) (afterOps (actResult v a .ops) P) (actResult v a .volume) rest (n .1) (N .1))
 
   -- from a format of which a step was done, on any volume, whatever was programmed before
   pub any-runs : (v : Volume) (sizes : Sizes) → allowed sizes ≡ true → tooShort (geometry sizes) (v .flash) (pages (v .ram)) ≡ false
@@ -258,36 +324,30 @@ module _ (h : Family) where
   any-runs v sizes can long b rest n P =
       let N = format-first v sizes can long P b in
       order-append (formatFor (suc b) v sizes .ops) (actsOps (formatFor (suc b) v sizes .volume) rest) P (N .0)
-      (acts-in-order (afterOps (formatFor (suc b) v sizes .ops) P) (formatFor (suc b) v sizes .volume) rest n (N .1))
+      (acts-in-order (formatRun v sizes) (afterOps (formatFor (suc b) v sizes .ops) P) (formatFor (suc b) v sizes .volume) rest n (N .1))
 
-  -- ---- a restart with enough, after any of them, leaves what document 01's calls leave, with a header that has the state and no intent
+  -- ---- a restart with enough, after any of them, leaves the end of the run, with a header that has the state and no intent
 
-  pub record Ends (v : Volume) : Type 0 where
-    pub volume : Volume
-    pub reached : Reached volume
-    pub is : v ≡ lift volume
+  end-so : (t : UncutRun) (P : ℕ → Bool) (v : Volume) → Met t P v → restartWhole h v .volume ≡ lift (runEnd t)
+  end-so t P v (idle t₀ ok can H C ram P₀ I L is m) =
+      ap (λ (r : Result). r .volume) (idle-one h (t₀ .sizes) ok can H C ram I _) ∙ ap lift is
+  end-so t P v (calling t₀ ok can H C ram I L is c words acc next did N P₀ X cut m) =
+      recover.whole-ends h (t₀ .sizes) ok can H C ram I c words acc next did (volumeOf (t₀ .sizes) H C ram .state) X cut
+      ∙ ap (λ (r : Result). lift (r .volume)) (sym (recover.called h (t₀ .sizes) ok can H C ram I c words acc next did))
+      ∙ ap lift (end-is t₀ ok can H C ram I L is c)
+  end-so t P v (forming v₀ sizes can long P₀ st X cut) =
+      formats.whole-ends h v₀ sizes can long st X cut ∙ ap lift (sym (formats.formatted-is h v₀ sizes can long))
 
-  ends-so : (P : ℕ → Bool) (v : Volume) → Met P v → Ends (restartWhole h v .volume)
-  ends-so P v (idle sizes ok can H C ram m P₀ I L reach t) =
-      record { volume = volumeOf sizes H C ram; reached = reach; is = ap (λ (r : Result). r .volume) (idle-one h sizes ok can H C ram I _) }
-  ends-so P v (calling sizes ok can H C ram I c words acc next did m L reach P₀ st X cut t) = record {
-    volume = call h (volumeOf sizes H C ram) c .volume;
-    reached = by-call (volumeOf sizes H C ram) c reach;
-    is = recover.whole-ends h sizes ok can H C ram I c words acc next did st X cut
-        ∙ ap (λ (r : Result). lift (r .volume)) (sym (recover.called h sizes ok can H C ram I c words acc next did));
-  }
-  ends-so P v (forming v₀ sizes can long P₀ st X cut) = record {
-    volume = format (onPages v₀) sizes .volume;
-    reached = by-format (onPages v₀) sizes can long;
-    is = formats.whole-ends h v₀ sizes can long st X cut ∙ ap lift (sym (formats.formatted-is h v₀ sizes can long));
-  }
+  acts-end : (t : UncutRun) (P : ℕ → Bool) (v : Volume) (rest : List Act) → ActsNumbers rest → Met t P v
+      → restartWhole h (actsAfter v rest) .volume ≡ lift (runEnd (runAfter t v rest))
+  acts-end t P v [] n G = end-so t P v G
+  acts-end t P v (a ∷ rest) n G =
+      acts-end (stepRun t v a) (afterOps (actResult v a .ops) P) (actResult v a .volume) rest (n .1) (next-is t P v a (n .0) G .1)
 
-  acts-met : (P : ℕ → Bool) (v : Volume) (rest : List Act) → ActsNumbers rest → Met P v → Ends (restartWhole h (actsAfter v rest) .volume)
-  acts-met P v [] n G = ends-so P v G
-  acts-met P v (a ∷ rest) n G = acts-met (afterOps (actResult v a .ops) P) (actResult v a .volume) rest (n .1) (next-is P v a (n .0) G .1)
-
+  -- whatever run was there before the format
   pub any-end : (v : Volume) (sizes : Sizes) → allowed sizes ≡ true → tooShort (geometry sizes) (v .flash) (pages (v .ram)) ≡ false
-      → (b : ℕ) (rest : List Act) → ActsNumbers rest → Ends (restartWhole h (actsAfter v (shape (suc b) sizes ∷ rest)) .volume)
-  any-end v sizes can long b rest n =
-      acts-met (afterOps (formatFor (suc b) v sizes .ops) (λ x. false)) (formatFor (suc b) v sizes .volume) rest n
-      (format-first v sizes can long (λ x. false) b .1)
+      → (b : ℕ) (rest : List Act) → ActsNumbers rest → (t : UncutRun)
+      → restartWhole h (actsAfter v (shape (suc b) sizes ∷ rest)) .volume ≡ lift (runEnd (runAfter t v (shape (suc b) sizes ∷ rest)))
+  any-end v sizes can long b rest n t =
+      acts-end (stepRun t v (shape (suc b) sizes)) (afterOps (formatFor (suc b) v sizes .ops) (λ x. false))
+      (formatFor (suc b) v sizes .volume) rest n (format-begins v sizes can long t (λ x. false) b .1)

@@ -5,19 +5,19 @@ use mathlib.Core.Bool.{true, false}
 use mathlib.Core.List.{List, [], _∷_}
 use Prim.Native.Nat.{ℕ, zero, suc, zero-le}
 use native.Mathlib.Omega.{arith}
-use Rattle.layout.specs.Geometry.{Geometry, geometry, allowed, Sizes, unitOf}
+use Rattle.layout.specs.Geometry.{Geometry, geometry, allowed, Sizes}
 use Rattle.layout.specs.Hash.{Family}
 use Rattle.layout.specs.Calls.{Volume, Call, Outcome, accepted, hit, miss, refused, Result, tooShort, format, call}
 use Rattle.layout.specs.FiniteMap.{Map, emptyMap, Step, step, mapOf}
-use Rattle.layout.specs.Header.{pages, onPages, intended}
-use Rattle.layout.specs.Budgets.{callSteps, resultOf, callFor, callWhole}
+use Rattle.layout.specs.Header.{pages, onPages}
+use Rattle.layout.specs.Budgets.{callFor, callWhole}
 use Rattle.laws.specs.Sound.{sound}
 use Rattle.history.specs.Reached.{mapAfter, Reached, reach-format}
 use Rattle.history.specs.RunLaws.{run}
 use Rattle.history.specs.Runs.{after, HandedOn, Agrees, ResultAgrees}
 use Rattle.cuts.specs.Events.{lift, Event, whole, cut, idle, madeBy, callsOf, Numbers, EventNumbers, AllNumbers, eventResult}
 use Rattle.cuts.specs.Events.{eventVolume, Format, formatEnd}
-use Rattle.cuts.specs.RestartLaws.{taken-outcome}
+use Rattle.cuts.specs.RestartLaws.{call-outcome}
 use Rattle.cuts.specs.Uncut.{lifted-is, whole-lifted, agrees-lifted}
 use Rattle.cuts.specs.EventLaws.{key-word, event-is, event-reaches}
 use Rattle.cuts.specs.Formats.{format-end}
@@ -47,10 +47,7 @@ EventsAgree h sizes v m (e ∷ es) =
 
 -- a budget changes no answer
 pub lifted-outcome : (h : Family) (b : ℕ) (w : Volume) (c : Call) → callFor h b (lift w) c .outcome ≡ call h w c .outcome
-unfolding callFor
-lifted-outcome h b w c =
-    taken-outcome b (unitOf (w .state .sizes)) (lift w) (callSteps (intended (lift w) c) (resultOf h (lift w) c)) (resultOf h (lift w) c)
-    ∙ ap (λ (r : Result). r .outcome) (lifted-is h w c)
+lifted-outcome h b w c = call-outcome h b (lift w) c ∙ ap (λ (r : Result). r .outcome) (lifted-is h w c)
 
 module _ (h : Family) (sizes : Sizes) where
   abbrev g : Geometry
@@ -60,7 +57,7 @@ module _ (h : Family) (sizes : Sizes) where
       → ResultAgrees sizes w (call h w c) s
   agrees-moved w w′ c s p A = rw p A
 
-  call-agrees : (w : Volume) (m : Map) (c : Call) → Reached h sizes w m → Numbers c → ResultAgrees sizes w (call h w c) (mapOf g m c)
+  pub call-agrees : (w : Volume) (m : Map) (c : Call) → Reached h sizes w m → Numbers c → ResultAgrees sizes w (call h w c) (mapOf g m c)
   call-agrees w m c X n =
       agrees-moved w _ c (mapOf g m c) (X .is)
       (run h sizes (sound sizes (X .can)) (X .can) (X .H) (w .flash) (w .ram) m (c ∷ []) (key-word c n, tt) (X .holds) (X .live)

@@ -60,7 +60,7 @@ quiet-ops (hit place bytes) q b u v ss r = refl
 quiet-ops miss q b u v ss r = refl
 quiet-ops (refused i) q b u v ss r = refl
 
-quiet-handed : (o : Outcome) → Quiet o → (v w : Volume) → HandedOn o v w → w ≡ v
+pub quiet-handed : (o : Outcome) → Quiet o → (v w : Volume) → HandedOn o v w → w ≡ v
 quiet-handed accepted q v w e = absurd q
 quiet-handed (hit place bytes) q v w e = e
 quiet-handed miss q v w e = e

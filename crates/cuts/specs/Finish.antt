@@ -463,32 +463,35 @@ module _ (h : Family) (u N : ℕ) (ops : List Op) (C : Flash) (fit : Fit u ops C
       (tells : (P : ℕ → Bool) (X : Flash) → CutAt u ops C X → T P X → (n : ℕ)
       → ProgramOrder (take n (later (X .spare) ops)) P
       × T (afterOps (take n (later (X .spare) ops)) P) (applyAll u (take n (later (X .spare) ops)) X))
-      (waits : (P : ℕ → Bool) (st : State) (X : Flash) → CutAt u ops C X → T P X → Q P (record { state = st; flash = X; ram = intended }))
       (ends : (P : ℕ → Bool) (X : Flash) → CutAt u ops C X → T P X → Q (afterOps (later (X .spare) ops) P) final) where
-    pub restart-good : (P : ℕ → Bool) (st : State) (X : Flash) → CutAt u ops C X → T P X → (b : ℕ)
+    -- while the call waits, a run that leaves it waiting hands on the state that it was handed
+    abbrev pub Waits : State → Type 0
+    Waits st = (P : ℕ → Bool) (X : Flash) → CutAt u ops C X → T P X → Q P (record { state = st; flash = X; ram = intended })
+
+    pub restart-good : (st : State) → Waits st → (P : ℕ → Bool) (X : Flash) → CutAt u ops C X → T P X → (b : ℕ)
         → ProgramOrder (restartFor h b (record { state = st; flash = X; ram = intended }) .ops) P
         × Q (afterOps (restartFor h b (record { state = st; flash = X; ram = intended }) .ops) P)
         (restartFor h b (record { state = st; flash = X; ram = intended }) .volume)
-    restart-good P st X K t b =
+    restart-good st waits P X K t b =
         either (lt? (length (later (X .spare) ops)) b)
         (λ l. rw (restart-ops st X K b, restart-whole st X K b (l .1))
         (tells P X K t b .0, rw (take-all b (later (X .spare) ops) (omega (arith, l .1))) (ends P X K t)))
         (λ l. rw (restart-ops st X K b, restart-part st X K b (l .1)) (
           tells P X K t b .0,
-          waits (afterOps (take b (later (X .spare) ops)) P) st (applyAll u (take b (later (X .spare) ops)) X)
+          waits (afterOps (take b (later (X .spare) ops)) P) (applyAll u (take b (later (X .spare) ops)) X)
               (resume-cut u ops C X fit K b) (tells P X K t b .1),
         ))
 
     all-later : later (C .spare) ops ≡ ops
     all-later = later-none (C .spare) ops (left-fresh u [] ops C fit)
 
-    pub call-good : (P : ℕ → Bool) → T P C → (b : ℕ) → ProgramOrder (runs (suc b) .ops) P
+    pub call-good : Waits s → (P : ℕ → Bool) → T P C → (b : ℕ) → ProgramOrder (runs (suc b) .ops) P
         × Q (afterOps (runs (suc b) .ops) P) (runs (suc b) .volume)
-    call-good P t b =
+    call-good waits P t b =
         let K : CutAt u ops C C = cut-after u 0 ops C in
         let D = rw all-later at (tells P C (cut-after u 0 ops C) t b) in
         either (lt? (length ops) b)
         (λ l. rw (call-ops b, call-whole b (l .1))
         (D .0, rw (take-all b ops (omega (arith, l .1))) (rw all-later at (ends P C (cut-after u 0 ops C) t))))
         (λ l. rw (call-ops b, call-part b (l .1))
-        (D .0, waits (afterOps (take b ops) P) s (applyAll u (take b ops) C) (cut-after u b ops C) (D .1)))
+        (D .0, waits (afterOps (take b ops) P) (applyAll u (take b ops) C) (cut-after u b ops C) (D .1)))

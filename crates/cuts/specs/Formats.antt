@@ -131,7 +131,7 @@ module _ (h : Family) (v : Volume) (sizes : Sizes) (can : allowed sizes ≡ true
   fits : StateFits s′
   fits = fits-of h sizes ok emptyHistory (applyAll (unitOf sizes) ops (v .flash)) pages′ holds
 
-  pending-is : pendingIn intended ≡ formatting sizes
+  pub pending-is : pendingIn intended ≡ formatting sizes
   unfolding pendingIn
   pending-is =
       let e6 : headerWord intended 6 ≡ 4 = word-at 0 (omega arith) (omega arith) in
@@ -172,7 +172,7 @@ module _ (h : Family) (v : Volume) (sizes : Sizes) (can : allowed sizes ≡ true
         (short-same g X (v .flash) p (rw (cut .is) (apply-main-length (unitOf sizes) (cut .done) (v .flash)))
         (rw (cut .is) (apply-spare-length (unitOf sizes) (cut .done) (v .flash))) ∙ long)
 
-    again : (b : ℕ) → restartFor h b m ≡ ran (unitOf sizes) b st s′ X intended (restOf X ops finished)
+    pub again : (b : ℕ) → restartFor h b m ≡ ran (unitOf sizes) b st s′ X intended (restOf X ops finished)
     unfolding restartFor
     again b =
         cond-neg (ltb (length intended) 64) (refuse m 2) (resumed h b m (pendingIn intended))
@@ -350,11 +350,11 @@ module _ (h : Family) (v : Volume) (sizes : Sizes) (can : allowed sizes ≡ true
     again-good P st X cut b =
         restart-good h (unitOf sizes) (spareSize g) ops (v .flash) fit (below-erases (spareSize g) 0 (blocks g)) (v .state) s′
         (v .ram) intended finished again idle (λ b. formatFor b v sizes) first
-        Any Q tells (λ P st X cut t. waits P st X cut) end P st X cut tt b
+        Any Q tells end st (λ P X cut t. waits P st X cut) P X cut tt b
 
     pub first-good : (P : ℕ → Bool) (b : ℕ) → ProgramOrder (formatFor (suc b) v sizes .ops) P
         × Q (afterOps (formatFor (suc b) v sizes .ops) P) (formatFor (suc b) v sizes .volume)
     first-good P b =
         call-good h (unitOf sizes) (spareSize g) ops (v .flash) fit (below-erases (spareSize g) 0 (blocks g)) (v .state) s′
         (v .ram) intended finished again idle (λ b. formatFor b v sizes) first
-        Any Q tells (λ P st X cut t. waits P st X cut) end P tt b
+        Any Q tells end (λ P X cut t. waits P (v .state) X cut) P tt b

@@ -29,6 +29,7 @@ pub mod AnyRestart
 pub mod Acts
 pub mod Several
 pub mod CutMap
+pub mod ActAnswers
 pub mod EveryCut
 pub mod EveryTurn
 pub mod Waiting

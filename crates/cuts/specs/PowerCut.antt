@@ -33,7 +33,7 @@ pub record EventsAre (u N : ℕ) (h : Family) (w : Volume) (es : List Event) : T
   pub inside : Below N (eventsOps h (lift w) es)
   pub accepts : EventsAccept h (lift w) es
 
-after-append : (h : Family) (w : Volume) (cs ds : List Call) → after h (after h w cs) ds ≡ after h w (cs ++ ds)
+pub after-append : (h : Family) (w : Volume) (cs ds : List Call) → after h (after h w cs) ds ≡ after h w (cs ++ ds)
 after-append h w [] ds = refl
 after-append h w (c ∷ cs) ds = after-append h (call h w c .volume) cs ds
 

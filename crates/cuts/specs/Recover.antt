@@ -142,7 +142,7 @@ module _ (h : Family) (sizes : Sizes) (ok : SizesSound sizes) (can : allowed siz
     spare-length : length (X .spare) ≡ length (C .spare)
     spare-length = rw (cut .is) (apply-spare-length (unitOf sizes) (cut .done) C)
 
-    still-long : tooShort g X ram ≡ false
+    pub still-long : tooShort g X ram ≡ false
     still-long = short-same g X C ram main-length spare-length ∙ volumes.long-enough h sizes ok H C ram I
 
     -- what is later of the plan on this chip are the operations of the call that are left
@@ -350,21 +350,21 @@ module _ (h : Family) (sizes : Sizes) (ok : SizesSound sizes) (can : allowed siz
   Told P X = (spareSize g ≤ length (X .spare)) × Says (spareSize g) X P
 
   module _ (Q : (ℕ → Bool) → Volume → Type 0)
-      (waits : (P : ℕ → Bool) (st : State) (X : Flash) → CutAt (unitOf sizes) ops C X → Told P X
-      → Q P (record { state = st; flash = X; ram = intended }))
+      (waits : (P : ℕ → Bool) (X : Flash) → CutAt (unitOf sizes) ops C X → Told P X
+      → Q P (record { state = s; flash = X; ram = intended }))
       (ends : (P : ℕ → Bool) → Told P (applyAll (unitOf sizes) ops C) → Q P final) where
-    pub again-good : (P : ℕ → Bool) (st : State) (X : Flash) → CutAt (unitOf sizes) ops C X → Told P X → (b : ℕ)
-        → ProgramOrder (restartFor h b (record { state = st; flash = X; ram = intended }) .ops) P
-        × Q (afterOps (restartFor h b (record { state = st; flash = X; ram = intended }) .ops) P)
-        (restartFor h b (record { state = st; flash = X; ram = intended }) .volume)
+    pub again-good : (P : ℕ → Bool) (X : Flash) → CutAt (unitOf sizes) ops C X → Told P X → (b : ℕ)
+        → ProgramOrder (restartFor h b (record { state = s; flash = X; ram = intended }) .ops) P
+        × Q (afterOps (restartFor h b (record { state = s; flash = X; ram = intended }) .ops) P)
+        (restartFor h b (record { state = s; flash = X; ram = intended }) .volume)
     again-good =
         restart-good h (unitOf sizes) (spareSize g) ops C fit inside-ops s s′ (start .ram) intended finished restarted idle
         (λ b. callFor h b start c) called-for Told Q
         (spare-tells h (unitOf sizes) (spareSize g) ops C fit inside-ops s s′ (start .ram) intended finished restarted idle
-        (λ b. callFor h b start c) called-for) waits
+        (λ b. callFor h b start c) called-for)
         (λ P X cut t. ends (afterOps (later (X .spare) ops) P)
         (spare-ends h (unitOf sizes) (spareSize g) ops C fit inside-ops s s′ (start .ram) intended finished restarted idle
-        (λ b. callFor h b start c) called-for P X cut t))
+        (λ b. callFor h b start c) called-for P X cut t)) s waits
 
     pub first-good : (P : ℕ → Bool) → Told P C → (b : ℕ)
         → ProgramOrder (callFor h (suc b) start c .ops) P
@@ -373,7 +373,7 @@ module _ (h : Family) (sizes : Sizes) (ok : SizesSound sizes) (can : allowed siz
         call-good h (unitOf sizes) (spareSize g) ops C fit inside-ops s s′ (start .ram) intended finished restarted idle
         (λ b. callFor h b start c) called-for Told Q
         (spare-tells h (unitOf sizes) (spareSize g) ops C fit inside-ops s s′ (start .ram) intended finished restarted idle
-        (λ b. callFor h b start c) called-for) waits
+        (λ b. callFor h b start c) called-for)
         (λ P X cut t. ends (afterOps (later (X .spare) ops) P)
         (spare-ends h (unitOf sizes) (spareSize g) ops C fit inside-ops s s′ (start .ram) intended finished restarted idle
-        (λ b. callFor h b start c) called-for P X cut t))
+        (λ b. callFor h b start c) called-for P X cut t)) waits

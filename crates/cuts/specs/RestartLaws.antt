@@ -24,8 +24,10 @@ use Rattle.history.specs.FlashLaws.{fresh-erases}
 use Rattle.layout.specs.Calls.{changeBy, insertBy, updateBy, deleteBy, answerBy}
 use Rattle.layout.specs.Later.{commitLater, callAgain}
 use Rattle.cuts.specs.LaterLaws.{later-ops-fresh}
-use Rattle.layout.specs.Header.{pages, finished, stateIn, Pending, nothing, changing, formatting, unknown, pendingIn}
-use Rattle.layout.specs.Budgets.{Step, lastSteps, takenBy, taken, pendingOn, foundNone, resumed, restartFor}
+use Rattle.layout.specs.Header.{pages, onPages, intended, formatIntended, finished, stateIn, Pending, nothing, changing, formatting}
+use Rattle.layout.specs.Header.{unknown, pendingIn}
+use Rattle.layout.specs.Budgets.{Step, lastSteps, callSteps, takenBy, taken, formatFor, pendingOn, resultOf, callFor, foundNone, resumed}
+use Rattle.layout.specs.Budgets.{restartFor}
 use Rattle.cuts.specs.Finish.{ops-cut}
 
 -- ---- "Restart refuses as the pending call would, 7 and 10 aside"
@@ -83,6 +85,15 @@ taken-outcome b u v ss r = by (r .outcome)
     by (hit place bytes) = refl
     by miss = refl
     by (refused i) = refl
+
+pub call-outcome : (h : Family) (b : ℕ) (v : Volume) (c : Call) → callFor h b v c .outcome ≡ resultOf h v c .outcome
+unfolding callFor
+call-outcome h b v c = taken-outcome b (unitOf (v .state .sizes)) v (callSteps (intended v c) (resultOf h v c)) (resultOf h v c)
+
+pub format-outcome : (b : ℕ) (v : Volume) (sizes : Sizes) → formatFor b v sizes .outcome ≡ format (onPages v) sizes .outcome
+unfolding formatFor
+format-outcome b v sizes =
+    taken-outcome b (unitOf sizes) v (callSteps (formatIntended v sizes) (format (onPages v) sizes)) (format (onPages v) sizes)
 
 module _ (h : Family) (b : ℕ) (v : Volume) (long : 64 ≤ length (v .ram)) where
   pub restart-is : restartFor h b v ≡ resumed h b v (pendingIn (v .ram))

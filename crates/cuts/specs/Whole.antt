@@ -1,5 +1,6 @@
 -- Calls on any volume, whatever its bytes: with enough steps each is its result, in one equation; with none it does nothing; refusals.
 use mathlib.Core.Path.{_≡_, refl, ap, _∙_}
+use mathlib.Core.Logic.{_⊎_, inl, inr}
 use mathlib.Core.Bool.{true, false}
 use mathlib.Core.List.{List, []}
 use Prim.Native.Nat.{ℕ, suc, _+_, _≤_, _<_}
@@ -12,6 +13,7 @@ use Rattle.memory.specs.Cases.{either, le?, bool?}
 use Rattle.layout.specs.Geometry.{geometry, Sizes, unitOf}
 use Rattle.layout.specs.Flash.{applyAll}
 use Rattle.layout.specs.Hash.{Family}
+use Rattle.layout.specs.Refusals as refusal
 use Rattle.layout.specs.Calls.{Volume, Call, Outcome, accepted, hit, miss, refused, Result, refuse, badState, tooShort, judgeFirst, format}
 use Rattle.layout.specs.Later.{callAgain}
 use Rattle.layout.specs.Header.{pages, onPages, intended, formatIntended, finished, kindIn, stateIn, changing, formatting}
@@ -149,14 +151,18 @@ module _ (h : Family) (b : ℕ) (v : Volume) (c : Call) where
           cond-neg (badState (v .state)) _ _ good ∙ cond-neg (tooShort (geometry (v .state .sizes)) (v .flash) (pages (v .ram))) _ _ long
           ∙ cond-neg (eqb (kindIn (v .ram)) 0) _ _ kind
 
-  -- while a call is pending no other is done
-  pub pending-stops : eqb (kindIn (v .ram)) 0 ≡ false → (callFor h b v c .volume ≡ v) × (callFor h b v c .ops ≡ [])
-  pending-stops kind =
+  -- while a call is pending no other is done: 1, 2 or 10
+  pub pending-refuses : eqb (kindIn (v .ram)) 0 ≡ false → (callFor h b v c ≡ refuse v refusal.badState)
+      ⊎ (callFor h b v c ≡ refuse v refusal.tooShort) ⊎ (callFor h b v c ≡ refuse v refusal.pending)
+  pending-refuses kind =
       either (bool? (badState (v .state)))
-      (λ p. by 1 (one p))
+      (λ p. inl (one p))
       (λ p. either (bool? (tooShort (geometry (v .state .sizes)) (v .flash) (pages (v .ram))))
-      (λ q. by 2 (two p q))
-      (λ q. by 10 (ten p q kind)))
+      (λ q. inr (inl (two p q)))
+      (λ q. inr (inr (ten p q kind))))
+
+  pub pending-stops : eqb (kindIn (v .ram)) 0 ≡ false → (callFor h b v c .volume ≡ v) × (callFor h b v c .ops ≡ [])
+  pending-stops kind = either (pending-refuses kind) (by refusal.badState) (λ e. either e (by refusal.tooShort) (by refusal.pending))
     where
       by : (i : ℕ) → callFor h b v c ≡ refuse v i → (callFor h b v c .volume ≡ v) × (callFor h b v c .ops ≡ [])
       by i e = (ap (λ (r : Result). r .volume) e, ap (λ (r : Result). r .ops) e)

@@ -1,16 +1,20 @@
 -- Power cuts of the code: every chain of calls, cut or not, and restarts whose results satisfy the contracts, from a format on, ends with
--- what document 01's calls leave, and answers as the map does. Document 02, request 8, with demands 2 and 3, at FNV-1a.
+-- what document 01's calls leave, and answers as the map does; calls that are asked before a restart has finished the one that was cut are
+-- refused. Document 02, request 8, with demands 2 and 3, at FNV-1a.
 use mathlib.Core.Path.{_≡_, refl, sym, ap, _∙_}
-use mathlib.Core.Bool.{Bool, true, false}
+use mathlib.Core.Logic.{_⊎_, inl, inr}
+use mathlib.Core.Bool.{Bool, true, false, true≢false}
 use mathlib.Core.List.{List, [], _∷_, _++_}
 use Prim.Native.Nat.{ℕ, suc}
+use lib.Dec.{eqb}
 use Rattle.layout.specs.Geometry.{State, geometry, allowed, Sizes, unitOf, stateOf}
 use Rattle.layout.specs.Flash.{Op, applyAll}
 use Rattle.layout.specs.Hash.{fnvFamily}
-use Rattle.layout.specs.Calls.{Volume, Call, Outcome, accepted, hit, miss, refused, Result, tooShort, format}
+use Rattle.layout.specs.Refusals as refusal
+use Rattle.layout.specs.Calls.{Volume, Call, Outcome, accepted, hit, miss, refused, Result, refuse, tooShort, format}
 use Rattle.layout.specs.FiniteMap.{Map, emptyMap, mapOf}
-use Rattle.layout.specs.Header.{pages, onPages, formatIntended}
-use Rattle.layout.specs.Budgets.{Step, cutBy, callSteps, callFor, callCut, callWhole, formatFor, formatCut, formatWhole, restartFor, restartCut}
+use Rattle.layout.specs.Header.{pages, onPages, kindIn}
+use Rattle.layout.specs.Budgets.{Step, cutBy, callFor, callCut, callWhole, formatFor, formatCut, formatWhole, restartFor, restartCut}
 use Rattle.layout.specs.Budgets.{restarts, restartsOps, restartWhole}
 use Rattle.layout.specs.Budgets as budgets
 use Rattle.history.specs.Demands.{demand-2, demand-3}
@@ -25,22 +29,25 @@ use Rattle.cuts.specs.Events.{lift, Event, callsOf, made, AllNumbers, finish, e
 use Rattle.cuts.specs.Events.{eventsAfter, EventsAccept, eventsOps, Format, formatResult, formatEnd, formatOps}
 use Rattle.cuts.specs.EventLaws.{all-words}
 use Rattle.cuts.specs.CutMap.{CutAgrees, EventAgrees, EventsAgree, cuts-agree}
-use Rattle.cuts.specs.RestartLaws.{taken-outcome}
+use Rattle.cuts.specs.RestartLaws.{format-outcome}
+use Rattle.cuts.specs.Whole.{pending-refuses, pending-stops}
+use Rattle.cuts.specs.Waiting.{SameLengths, lengths-then, restart-lengths, restart-idle, asked-ten}
 use Rattle.cuts.specs.Uncut.{pages-lifted}
 use Rattle.cuts.specs.PowerCut.{power-cuts, format-accepted, all-accepted, all-flash, all-in-order}
 use Rattle.state.specs.Contract.{Effect, effectOf, CutEffect, cutOf}
 
 -- ---- what the code does
 
--- a restart that may be cut: the state that it is handed, its budget of steps, what it leaves
-pub record Again : Type 0 where
-  pub handed : State
-  pub budget : ℕ
-  pub left : CutEffect
+-- what comes between a cut and the restart that finishes it, with the state that it is handed and what it leaves: a restart with its budget
+-- of steps; a call that is asked while the other is pending, whole or with a budget
+pub data Between : Type 0 where
+  restart : State → ℕ → CutEffect → Between
+  ask : State → Call → Effect → Between
+  askCut : State → ℕ → Call → CutEffect → Between
 
--- what follows a cut: such restarts, the state handed to one with enough, and what that leaves
+-- what follows a cut: some of these, the state handed to a restart with enough, and what that leaves
 pub record Finish : Type 0 where
-  pub again : List Again
+  pub between : List Between
   pub handed : State
   pub last : Effect
 
@@ -58,14 +65,17 @@ pub data CodeFormat : Type 0 where
 
 -- ---- as the events of the definitions
 
-abbrev pub budgetsOf : List Again → List ℕ
+-- the budgets of the restarts; calls that are asked change nothing
+abbrev pub budgetsOf : List Between → List ℕ
 budgetsOf [] = []
-budgetsOf (a ∷ rest) = a .budget ∷ budgetsOf rest
+budgetsOf (restart s b l ∷ rest) = b ∷ budgetsOf rest
+budgetsOf (ask s c l ∷ rest) = budgetsOf rest
+budgetsOf (askCut s b c l ∷ rest) = budgetsOf rest
 
 abbrev pub eventOf : CodeEvent → Event
 eventOf (whole c l) = events.whole c
-eventOf (cut c b l f) = events.cut c b (budgetsOf (f .again))
-eventOf (idle f) = events.idle (budgetsOf (f .again))
+eventOf (cut c b l f) = events.cut c b (budgetsOf (f .between))
+eventOf (idle f) = events.idle (budgetsOf (f .between))
 
 abbrev pub eventsOf : List CodeEvent → List Event
 eventsOf [] = []
@@ -73,23 +83,33 @@ eventsOf (e ∷ es) = eventOf e ∷ eventsOf es
 
 abbrev pub formatOf : CodeFormat → Format
 formatOf (wholeFormat l) = events.wholeFormat
-formatOf (cutFormat b l f) = events.cutFormat b (budgetsOf (f .again))
+formatOf (cutFormat b l f) = events.cutFormat b (budgetsOf (f .between))
 
 -- ---- what the contracts say of it
 
-abbrev pub lastLeft : Volume → List Again → Volume
-lastLeft v [] = v
-lastLeft v (a ∷ rest) = lastLeft (a .left .left) rest
+abbrev pub leftBy : Between → Volume
+leftBy (restart s b l) = l .left
+leftBy (ask s c l) = l .left
+leftBy (askCut s b c l) = l .left
 
--- restarts, each on the bytes that the one before it left: what each leaves is what its contract says
-abbrev pub Restarts : Volume → List Again → Type 0
-Restarts v [] = Unit {0}
-Restarts v (a ∷ rest) =
-    (a .left ≡ cutOf (restartCut fnvFamily (a .budget) (withState (a .handed) v))) × Restarts (a .left .left) rest
+abbrev pub lastLeft : Volume → List Between → Volume
+lastLeft v [] = v
+lastLeft v (a ∷ rest) = lastLeft (leftBy a) rest
+
+-- a call is pending: the kind is not 0
+abbrev pub Waits : Volume → Type 0
+Waits v = eqb (kindIn (v .ram)) 0 ≡ false
+
+-- each on the bytes that the one before it left: what it leaves is what its contract says
+abbrev pub Follows : Volume → List Between → Type 0
+Follows v [] = Unit {0}
+Follows v (restart s b l ∷ rest) = (l ≡ cutOf (restartCut fnvFamily b (withState s v))) × Follows (l .left) rest
+Follows v (ask s c l ∷ rest) = Waits v × (l ≡ effectOf (callWhole fnvFamily (withState s v) c)) × Follows (l .left) rest
+Follows v (askCut s b c l ∷ rest) = Waits v × (l ≡ cutOf (callCut fnvFamily b (withState s v) c)) × Follows (l .left) rest
 
 abbrev pub Finishes : Volume → Finish → Type 0
 Finishes v f =
-    Restarts v (f .again) × (f .last ≡ effectOf (restartWhole fnvFamily (withState (f .handed) (lastLeft v (f .again)))))
+    Follows v (f .between) × (f .last ≡ effectOf (restartWhole fnvFamily (withState (f .handed) (lastLeft v (f .between)))))
 
 -- what the last run leaves
 abbrev pub endOf : CodeEvent → Effect
@@ -149,15 +169,55 @@ CutsAgree sizes v m [] = Unit {0}
 CutsAgree sizes v m (e ∷ es) =
     CodeAgrees sizes v m e × CutsAgree sizes (endOf e .left) (mapAfter (geometry sizes) m (callsOf (eventOf e))) es
 
+-- ---- calls that are asked in between
+
+-- refused by i, and nothing is changed
+abbrev pub RefusedBy : ℕ → Volume → Outcome → Volume → Type 0
+RefusedBy i v o w = (o ≡ refused i) × (w ≡ v)
+
+-- by 1, 2 or 10, as the state that is handed over may be any
+abbrev pub Stopped : Volume → Outcome → Volume → Type 0
+Stopped v o w = RefusedBy refusal.badState v o w ⊎ RefusedBy refusal.tooShort v o w ⊎ RefusedBy refusal.pending v o w
+
+abbrev pub AsksStopped : Volume → List Between → Type 0
+AsksStopped v [] = Unit {0}
+AsksStopped v (restart s b l ∷ rest) = AsksStopped (l .left) rest
+AsksStopped v (ask s c l ∷ rest) = Stopped (withState s v) (l .outcome) (l .left) × AsksStopped (l .left) rest
+AsksStopped v (askCut s b c l ∷ rest) = Stopped (withState s v) (l .outcome) (l .left) × AsksStopped (l .left) rest
+
+-- "10, a call other than format and restart while the kind is not 0": by 10, if it is handed the state t
+abbrev pub AsksTen : State → List Between → Type 0
+AsksTen t [] = Unit {0}
+AsksTen t (restart s b l ∷ rest) = AsksTen t rest
+AsksTen t (ask s c l ∷ rest) = (s ≡ t → l .outcome ≡ refused refusal.pending) × AsksTen t rest
+AsksTen t (askCut s b c l ∷ rest) = (s ≡ t → l .outcome ≡ refused refusal.pending) × AsksTen t rest
+
+-- of a call that is cut: by 10 with the state that it left, if it is accepted
+abbrev pub EventAsks : Volume → CodeEvent → Type 0
+EventAsks v (whole c l) = Unit {0}
+EventAsks v (cut c b l f) = AsksStopped (l .left) (f .between) × (l .outcome ≡ accepted → AsksTen (l .left .state) (f .between))
+EventAsks v (idle f) = AsksStopped v (f .between)
+
+abbrev pub AllAsks : Volume → List CodeEvent → Type 0
+AllAsks v [] = Unit {0}
+AllAsks v (e ∷ es) = EventAsks v e × AllAsks (endOf e .left) es
+
+-- of a format that is cut the state is the one that its caller had
+abbrev pub FormatAsks : CodeFormat → Type 0
+FormatAsks (wholeFormat l) = Unit {0}
+FormatAsks (cutFormat b l f) = AsksStopped (l .left) (f .between)
+
 -- ---- its chip operations, those of all runs in order
 
--- of restarts
-abbrev pub againOps : Volume → List Again → List Op
-againOps v [] = []
-againOps v (a ∷ rest) = restartFor fnvFamily (a .budget) (withState (a .handed) v) .ops ++ againOps (a .left .left) rest
+-- of restarts, and of calls that are asked in between
+abbrev pub betweenOps : Volume → List Between → List Op
+betweenOps v [] = []
+betweenOps v (restart s b l ∷ rest) = restartFor fnvFamily b (withState s v) .ops ++ betweenOps (l .left) rest
+betweenOps v (ask s c l ∷ rest) = callWhole fnvFamily (withState s v) c .ops ++ betweenOps (l .left) rest
+betweenOps v (askCut s b c l ∷ rest) = callFor fnvFamily b (withState s v) c .ops ++ betweenOps (l .left) rest
 
 abbrev pub finishOps : Volume → Finish → List Op
-finishOps v f = againOps v (f .again) ++ restartWhole fnvFamily (withState (f .handed) (lastLeft v (f .again))) .ops
+finishOps v f = betweenOps v (f .between) ++ restartWhole fnvFamily (withState (f .handed) (lastLeft v (f .between))) .ops
 
 -- of an event
 abbrev pub runOps : Volume → CodeEvent → List Op
@@ -194,49 +254,166 @@ left-is l b ss r e = ap (λ (x : CutEffect). x .left) e ∙ ap (λ (x : Result).
 answer-is : (l : CutEffect) (b : ℕ) (ss : List Step) (r : Result) → l ≡ cutOf (budgets.cutOf b ss r) → l .outcome ≡ r .outcome
 answer-is l b ss r e = ap (λ (x : CutEffect). x .outcome) e ∙ ap (λ (x : Result). x .outcome) (by-result (r .outcome) b ss r)
 
-one-same : (x v : Volume) (a : Again) → SameMemory x v → a .left ≡ cutOf (restartCut fnvFamily (a .budget) (withState (a .handed) v))
-    → SameMemory (restartFor fnvFamily (a .budget) x .volume) (a .left .left)
-    × (restartFor fnvFamily (a .budget) (withState (a .handed) v) .ops ≡ restartFor fnvFamily (a .budget) x .ops)
-one-same x v a m e =
-    let is = left-is (a .left) (a .budget) _ (restartFor fnvFamily (a .budget) (withState (a .handed) v)) e in
-    let h = handed-same x v (a .handed) m in
-    let same = any-state fnvFamily (a .budget) x (a .handed) in (
+one-same : (x v : Volume) (s : State) (b : ℕ) (l : CutEffect) → SameMemory x v → l ≡ cutOf (restartCut fnvFamily b (withState s v))
+    → SameMemory (restartFor fnvFamily b x .volume) (l .left)
+    × (restartFor fnvFamily b (withState s v) .ops ≡ restartFor fnvFamily b x .ops)
+one-same x v s b l m e =
+    let is = left-is l b _ (restartFor fnvFamily b (withState s v)) e in
+    let h = handed-same x v s m in
+    let same = any-state fnvFamily b x s in (
       (
-        ap (λ (w : Volume). w .flash) is ∙ ap (λ (w : Volume). restartFor fnvFamily (a .budget) w .volume .flash) h ∙ same .flash,
-        ap (λ (w : Volume). w .ram) is ∙ ap (λ (w : Volume). restartFor fnvFamily (a .budget) w .volume .ram) h ∙ same .ram,
+        ap (λ (w : Volume). w .flash) is ∙ ap (λ (w : Volume). restartFor fnvFamily b w .volume .flash) h ∙ same .flash,
+        ap (λ (w : Volume). w .ram) is ∙ ap (λ (w : Volume). restartFor fnvFamily b w .volume .ram) h ∙ same .ram,
       ),
-      ap (λ (w : Volume). restartFor fnvFamily (a .budget) w .ops) h ∙ same .ops,
+      ap (λ (w : Volume). restartFor fnvFamily b w .ops) h ∙ same .ops,
     )
 
-restarts-same : (x v : Volume) (rest : List Again) → SameMemory x v → Restarts v rest
+-- a call that is asked while another is pending, whatever budget it has
+asked-same : (x v w : Volume) (s : State) (b : ℕ) (c : Call) → SameMemory x v → Waits v
+    → w ≡ callFor fnvFamily b (withState s v) c .volume → SameMemory x w
+asked-same x v w s b c m k e =
+    let is = e ∙ pending-stops fnvFamily b (withState s v) c k .0 in
+    (ap (λ (y : Volume). y .flash) is ∙ m .0, ap (λ (y : Volume). y .ram) is ∙ m .1)
+
+between-same : (x v : Volume) (rest : List Between) → SameMemory x v → Follows v rest
     → SameMemory (restarts fnvFamily (budgetsOf rest) x) (lastLeft v rest)
-    × (againOps v rest ≡ restartsOps fnvFamily (budgetsOf rest) x)
-restarts-same x v [] m k = (m, refl)
-restarts-same x v (a ∷ rest) m k =
-    let one = one-same x v a m (k .0) in
-    let more = restarts-same (restartFor fnvFamily (a .budget) x .volume) (a .left .left) rest (one .0) (k .1) in (
+    × (betweenOps v rest ≡ restartsOps fnvFamily (budgetsOf rest) x)
+between-same x v [] m k = (m, refl)
+between-same x v (restart s b l ∷ rest) m k =
+    let one = one-same x v s b l m (k .0) in
+    let more = between-same (restartFor fnvFamily b x .volume) (l .left) rest (one .0) (k .1) in (
       more .0,
-      ap (λ (l : List Op). l ++ againOps (a .left .left) rest) (one .1)
-          ∙ ap (λ (l : List Op). restartFor fnvFamily (a .budget) x .ops ++ l) (more .1),
+      ap (λ (os : List Op). os ++ betweenOps (l .left) rest) (one .1)
+          ∙ ap (λ (os : List Op). restartFor fnvFamily b x .ops ++ os) (more .1),
     )
+between-same x v (ask s c l ∷ rest) m k =
+    let more = between-same x (l .left) rest (asked-same x v (l .left) s _ c m (k .0) (ap (λ (y : Effect). y .left) (k .1))) (k .2) in (
+      more .0,
+      ap (λ (os : List Op). os ++ betweenOps (l .left) rest) (pending-stops fnvFamily _ (withState s v) c (k .0) .1) ∙ more .1,
+    )
+between-same x v (askCut s b c l ∷ rest) m k =
+    let is = left-is l b _ (callFor fnvFamily b (withState s v) c) (k .1) in
+    let more = between-same x (l .left) rest (asked-same x v (l .left) s b c m (k .0) is) (k .2) in (
+      more .0,
+      ap (λ (os : List Op). os ++ betweenOps (l .left) rest) (pending-stops fnvFamily b (withState s v) c (k .0) .1) ∙ more .1,
+    )
+
+-- ---- what those calls are told
+
+-- by 1, 2 or 10
+stopped : (v w : Volume) (o : Outcome) (b : ℕ) (c : Call) → Waits v → o ≡ callFor fnvFamily b v c .outcome
+    → w ≡ callFor fnvFamily b v c .volume → Stopped v o w
+stopped v w o b c k p q = go (pending-refuses fnvFamily b v c k)
+  where
+    by : (i : ℕ) → callFor fnvFamily b v c ≡ refuse v i → RefusedBy i v o w
+    by i e = (p ∙ ap (λ (r : Result). r .outcome) e, q ∙ ap (λ (r : Result). r .volume) e)
+
+    go : (callFor fnvFamily b v c ≡ refuse v refusal.badState) ⊎ (callFor fnvFamily b v c ≡ refuse v refusal.tooShort)
+        ⊎ (callFor fnvFamily b v c ≡ refuse v refusal.pending) → Stopped v o w
+    go (inl e) = inl (by refusal.badState e)
+    go (inr (inl e)) = inr (inl (by refusal.tooShort e))
+    go (inr (inr e)) = inr (inr (by refusal.pending e))
+
+asks-stopped : (v : Volume) (rest : List Between) → Follows v rest → AsksStopped v rest
+asks-stopped v [] k = tt
+asks-stopped v (restart s b l ∷ rest) k = asks-stopped (l .left) rest (k .1)
+asks-stopped v (ask s c l ∷ rest) k = (
+  stopped (withState s v) (l .left) (l .outcome) _ c (k .0) (ap (λ (x : Effect). x .outcome) (k .1)) (ap (λ (x : Effect). x .left) (k .1)),
+  asks-stopped (l .left) rest (k .2),
+)
+asks-stopped v (askCut s b c l ∷ rest) k = (
+  stopped (withState s v) (l .left) (l .outcome) b c (k .0) (answer-is l b _ (callFor fnvFamily b (withState s v) c) (k .1))
+      (left-is l b _ (callFor fnvFamily b (withState s v) c) (k .1)),
+  asks-stopped (l .left) rest (k .2),
+)
+
+-- where no call is pending none is asked in between
+none-asked : (t : State) (v : Volume) (rest : List Between) → eqb (kindIn (v .ram)) 0 ≡ true → Follows v rest → AsksTen t rest
+none-asked t v [] z k = tt
+none-asked t v (restart s b l ∷ rest) z k =
+    let is : l .left .ram ≡ v .ram
+    = ap (λ (w : Volume). w .ram) (left-is l b _ (restartFor fnvFamily b (withState s v)) (k .0))
+    ∙ restart-idle fnvFamily b (withState s v) z in
+    none-asked t (l .left) rest (rw is z) (k .1)
+none-asked t v (ask s c l ∷ rest) z k = absurd (true≢false (sym z ∙ k .0))
+none-asked t v (askCut s b c l ∷ rest) z k = absurd (true≢false (sym z ∙ k .0))
+
+-- after an accepted call that was cut, while it is pending
+module _ (v : Volume) (b : ℕ) (c : Call) (acc : callFor fnvFamily b v c .outcome ≡ accepted)
+    (pending : eqb (kindIn (callFor fnvFamily b v c .volume .ram)) 0 ≡ false) where
+  abbrev from : Volume
+  from = callFor fnvFamily b v c .volume
+
+  asked : (w : Volume) (s : State) (e : ℕ) (d : Call) → SameLengths from w → Waits w → s ≡ from .state
+      → callFor fnvFamily e (withState s w) d .outcome ≡ refused refusal.pending
+  asked w s e d S k same =
+      ap (λ (r : Result). r .outcome)
+      (asked-ten fnvFamily v c b acc pending (withState s w) S same k e d)
+
+  unchanged : (w x : Volume) (s : State) (e : ℕ) (d : Call) → SameLengths from w → Waits w
+      → x ≡ callFor fnvFamily e (withState s w) d .volume → SameLengths from x
+  unchanged w x s e d S k is = rw (is ∙ pending-stops fnvFamily e (withState s w) d k .0) S
+
+  asks-ten : (w : Volume) (rest : List Between) → SameLengths from w → Follows w rest → AsksTen (from .state) rest
+  asks-ten w [] S k = tt
+  asks-ten w (restart s e l ∷ rest) S k =
+      let T : SameLengths (withState s w) (l .left)
+      = rw (left-is l e _ (restartFor fnvFamily e (withState s w)) (k .0)) (restart-lengths fnvFamily e (withState s w)) in
+      asks-ten (l .left) rest (lengths-then from (withState s w) (l .left) S T) (k .1)
+  asks-ten w (ask s d l ∷ rest) S k = (
+    (λ same. ap (λ (x : Effect). x .outcome) (k .1) ∙ asked w s _ d S (k .0) same),
+    asks-ten (l .left) rest (unchanged w (l .left) s _ d S (k .0) (ap (λ (x : Effect). x .left) (k .1))) (k .2),
+  )
+  asks-ten w (askCut s e d l ∷ rest) S k = (
+    (λ same. answer-is l e _ (callFor fnvFamily e (withState s w) d) (k .1) ∙ asked w s e d S (k .0) same),
+    asks-ten (l .left) rest (unchanged w (l .left) s e d S (k .0) (left-is l e _ (callFor fnvFamily e (withState s w) d) (k .1))) (k .2),
+  )
+
+cut-ten : (v w : Volume) (b : ℕ) (c : Call) (rest : List Between) → w ≡ callFor fnvFamily b v c .volume
+    → callFor fnvFamily b v c .outcome ≡ accepted → Follows w rest → AsksTen (w .state) rest
+cut-ten v w b c rest e acc k = go (eqb (kindIn (w .ram)) 0) refl
+  where
+    go : (t : Bool) → eqb (kindIn (w .ram)) 0 ≡ t → AsksTen (w .state) rest
+    go true z = none-asked (w .state) w rest z k
+    go false z =
+        rw e (asks-ten v b c acc (rw e at z) (callFor fnvFamily b v c .volume) rest (refl, refl, refl) (rw e at k))
+
+event-asks : (v : Volume) (e : CodeEvent) → Done v e → EventAsks v e
+event-asks v (whole c l) d = tt
+event-asks v (cut c b l f) d = (
+  asks-stopped (l .left) (f .between) (d .1 .0),
+  (λ acc. cut-ten v (l .left) b c (f .between) (left-is l b _ (callFor fnvFamily b v c) (d .0))
+      (sym (answer-is l b _ (callFor fnvFamily b v c) (d .0)) ∙ acc) (d .1 .0)),
+)
+event-asks v (idle f) d = asks-stopped v (f .between) (d .0)
+
+all-asks : (v : Volume) (es : List CodeEvent) → CutChain v es → AllAsks v es
+all-asks v [] k = tt
+all-asks v (e ∷ es) k = (event-asks v e (k .0), all-asks (endOf e .left) es (k .1))
+
+format-asks : (v : Volume) (sizes : Sizes) (f : CodeFormat) → FormatDone v sizes f → FormatAsks f
+format-asks v sizes (wholeFormat l) d = tt
+format-asks v sizes (cutFormat b l f) d = asks-stopped (l .left) (f .between) (d .1 .0)
+
+-- ---- the restart with enough
 
 -- the restart with enough ends as one that is handed what the cut left
 record Ended (x v : Volume) (f : Finish) : Type 0 where
-  last : f .last ≡ effectOf (finish fnvFamily (budgetsOf (f .again)) x)
-  ops : finishOps v f ≡ events.finishOps fnvFamily (budgetsOf (f .again)) x
+  last : f .last ≡ effectOf (finish fnvFamily (budgetsOf (f .between)) x)
+  ops : finishOps v f ≡ events.finishOps fnvFamily (budgetsOf (f .between)) x
 
 ends : (x v : Volume) (f : Finish) → SameMemory x v → Finishes v f
-    → finish fnvFamily (budgetsOf (f .again)) x .outcome ≡ accepted → Ended x v f
+    → finish fnvFamily (budgetsOf (f .between)) x .outcome ≡ accepted → Ended x v f
 ends x v f m k acc =
-    let y : Volume = restarts fnvFamily (budgetsOf (f .again)) x in
-    let all = restarts-same x v (f .again) m (k .0) in
-    let same : restartWhole fnvFamily (withState (f .handed) (lastLeft v (f .again))) ≡ finish fnvFamily (budgetsOf (f .again)) x
-    = ap (restartWhole fnvFamily) (handed-same y (lastLeft v (f .again)) (f .handed) (all .0))
+    let y : Volume = restarts fnvFamily (budgetsOf (f .between)) x in
+    let all = between-same x v (f .between) m (k .0) in
+    let same : restartWhole fnvFamily (withState (f .handed) (lastLeft v (f .between))) ≡ finish fnvFamily (budgetsOf (f .between)) x
+    = ap (restartWhole fnvFamily) (handed-same y (lastLeft v (f .between)) (f .handed) (all .0))
     ∙ whole-state fnvFamily y (f .handed) acc in
     record {
       last = k .1 ∙ ap effectOf same;
-      ops = ap (λ (l : List Op). l ++ restartWhole fnvFamily (withState (f .handed) (lastLeft v (f .again))) .ops) (all .1)
-          ∙ ap (λ (r : Result). restartsOps fnvFamily (budgetsOf (f .again)) x ++ r .ops) same;
+      ops = ap (λ (l : List Op). l ++ restartWhole fnvFamily (withState (f .handed) (lastLeft v (f .between))) .ops) (all .1)
+          ∙ ap (λ (r : Result). restartsOps fnvFamily (budgetsOf (f .between)) x ++ r .ops) same;
     }
 
 at-left : (x v : Volume) → v ≡ x → SameMemory x v
@@ -295,11 +472,6 @@ chain-same v (e ∷ es) k a =
 
 -- ---- from a format on
 
-format-outcome : (v : Volume) (sizes : Sizes) (b : ℕ) → formatFor b v sizes .outcome ≡ format (onPages v) sizes .outcome
-unfolding formatFor
-format-outcome v sizes b =
-    taken-outcome b (unitOf sizes) v (callSteps (formatIntended v sizes) (format (onPages v) sizes)) (format (onPages v) sizes)
-
 -- a format of the code is one of the definitions
 record FormatSame (v : Volume) (sizes : Sizes) (f : CodeFormat) : Type 0 where
   end : formatEndOf f ≡ effectOf (formatResult fnvFamily v sizes (formatOf f))
@@ -309,14 +481,14 @@ record FormatSame (v : Volume) (sizes : Sizes) (f : CodeFormat) : Type 0 where
 format-same : (v : Volume) (sizes : Sizes) (f : CodeFormat) → FormatDone v sizes f
     → formatResult fnvFamily v sizes (formatOf f) .outcome ≡ accepted → FormatSame v sizes f
 format-same v sizes (wholeFormat l) d acc =
-    record { end = d; ops = refl; says = ap (λ (x : Effect). x .outcome) d ∙ format-outcome v sizes _ }
+    record { end = d; ops = refl; says = ap (λ (x : Effect). x .outcome) d ∙ format-outcome _ v sizes }
 format-same v sizes (cutFormat b l f) d acc =
     let E = ends (formatFor (suc b) v sizes .volume) (l .left) f
     (at-left _ _ (left-is l (suc b) _ (formatFor (suc b) v sizes) (d .0))) (d .1) acc in
     record {
       end = E .last;
       ops = ap (λ (os : List Op). formatFor (suc b) v sizes .ops ++ os) (E .ops);
-      says = answer-is l (suc b) _ (formatFor (suc b) v sizes) (d .0) ∙ format-outcome v sizes (suc b);
+      says = answer-is l (suc b) _ (formatFor (suc b) v sizes) (d .0) ∙ format-outcome (suc b) v sizes;
     }
 
 -- what request 8 claims, of the code, and demands 2 and 3 with it
@@ -339,6 +511,9 @@ pub record CutRun (v : Volume) (sizes : Sizes) (f : CodeFormat) (es : List CodeE
   pub format-answer : formatSays f ≡ accepted
   pub started : formatEndOf f .left .state ≡ stateOf sizes 0 0
   pub agrees : CutsAgree sizes (formatEndOf f .left) emptyMap es
+  -- a call that is asked before the restart with enough is refused and changes nothing; "10, .. while the kind is not 0"
+  pub format-asked : FormatAsks f
+  pub asked : AllAsks (formatEndOf f .left) es
 
 pub cut-run : (v : Volume) (sizes : Sizes) (f : CodeFormat) (es : List CodeEvent)
     → allowed sizes ≡ true → tooShort (geometry sizes) (v .flash) (pages (v .ram)) ≡ false → AllNumbers (eventsOf es)
@@ -372,4 +547,6 @@ cut-run v sizes f es can long numbers d k =
       started = ap (λ (w : Volume). w .state) (left ∙ power-cuts fnvFamily v sizes can long (formatOf f) [] tt)
           ∙ demand-3 fnvFamily (onPages v) sizes [] can long tt .started;
       agrees = S .agrees sizes emptyMap (rw left (cuts-agree fnvFamily v sizes can long (formatOf f) (eventsOf es) numbers));
+      format-asked = format-asks v sizes f d;
+      asked = all-asks (formatEndOf f .left) es k;
     }
