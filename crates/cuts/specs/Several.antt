@@ -11,16 +11,16 @@ use Rattle.memory.specs.Cases.{either, le?}
 use Rattle.layout.specs.Geometry.{geometry, allowed, Sizes, unitOf}
 use Rattle.layout.specs.Flash.{Op, applyAll}
 use Rattle.layout.specs.Hash.{Family}
-use Rattle.layout.specs.Calls.{Volume, Call, Result, tooShort, format, call}
+use Rattle.layout.specs.Calls.{Volume, Call, accepted, Result, tooShort, format, call}
 use Rattle.layout.specs.FiniteMap.{Map, emptyMap}
 use Rattle.layout.specs.Header.{pages, onPages}
-use Rattle.history.specs.Runs.{after, KeyWords, ProgramOrder}
-use Rattle.history.specs.Reached.{Reached, reach, reach-format}
+use Rattle.history.specs.Runs.{after, ProgramOrder}
+use Rattle.history.specs.Reached.{mapAfter, Reached, reach, reach-call, reach-format}
 use Rattle.layout.specs.Budgets.{stepCount, resultOf, callFor, restarts, restartWhole}
 use Rattle.cuts.specs.Events.{lift, Event, whole, cut, idle, madeBy, callsOf, made, Numbers, AllNumbers, finish, finishOps}
 use Rattle.cuts.specs.Events.{eventVolume, eventOps, eventsAfter, eventsOps, Format, formatEnd, formatOps}
 use Rattle.cuts.specs.Uncut.{lifted-is, enough-lifted, whole-lifted, pages-lifted, wholeAfter, wholeOps}
-use Rattle.cuts.specs.EventLaws.{all-words}
+use Rattle.cuts.specs.EventLaws.{key-word, all-words}
 use Rattle.cuts.specs.Formats.{format-end}
 use Rattle.cuts.specs.PowerCut.{run, all-flash, all-in-order}
 
@@ -161,6 +161,19 @@ module _ (h : Family) where
       → restartWhole h (restarts h bs (severalFor h b (lift w) cs)) .volume ≡ lift (after h w (begun h b w cs))
   several-end sizes w m b bs cs n X = leaves sizes w _ m _ _ _ (several-events w b bs cs n) X
 
+  -- and the last restart is not refused
+  pub several-accepts : (sizes : Sizes) (w : Volume) (m : Map) (b : ℕ) (bs : List ℕ) (cs : List Call) → CallNumbers cs → Reached h sizes w m
+      → restartWhole h (restarts h bs (severalFor h b (lift w) cs)) .outcome ≡ accepted
+  several-accepts sizes w m b bs [] n X = run h sizes w m (idle bs ∷ []) (tt, tt) X .accepts .0
+  several-accepts sizes w m b bs (c ∷ cs) n X =
+      let steps : stepCount (resultOf h (lift w) c) ≡ stepCount (call h w c) = ap stepCount (lifted-is h w c) in
+      let reached = reach-call h sizes w m c X (key-word c (n .0)) in
+      rw steps
+      (either (le? (stepCount (call h w c)) b)
+      (λ l. rw (l .0, enough-lifted h w c b (l .1))
+      (several-accepts sizes (call h w c .volume) _ (b - stepCount (call h w c)) bs cs (n .1) reached))
+      (λ l. rw (l .0) (run h sizes w m (cut c b bs ∷ []) (n .0, tt) X .accepts .0)))
+
 -- so after a format
 pub cut-several : (h : Family) (v : Volume) (sizes : Sizes) → allowed sizes ≡ true → tooShort (geometry sizes) (v .flash) (v .ram) ≡ false
     → (b : ℕ) (bs : List ℕ) (cs : List Call) → CallNumbers cs
@@ -268,16 +281,26 @@ module _ (h : Family) where
       subst (λ (cs : List Call). AsEvents h w (finish h bs (severalFor h b (lift w) cs) .volume) (severalOps h b bs (lift w) cs)
       (begun h b w (f w)) (severalEvents h b bs w (f w))) (ap f (sym (pages-lifted w))) (several-events h w b bs (f w) (n w))
 
+  -- one of them leaves what document 01's calls leave, and so reaches
+  pub turn-end : (sizes : Sizes) (w : Volume) (m : Map) (t : Turn) → OneNumbers t → Reached h sizes w m
+      → turnVolume (lift w) t ≡ lift (after h w (turnBegun w t))
+  turn-end sizes w m t n X = leaves h sizes w _ m _ _ _ (turn-events w t n) X
+
+  pub turn-reaches : (sizes : Sizes) (w : Volume) (m : Map) (t : Turn) → OneNumbers t → Reached h sizes w m
+      → Reached h sizes (after h w (turnBegun w t)) (mapAfter (geometry sizes) m (turnBegun w t))
+  turn-reaches sizes w m t n X =
+      let E = turn-events w t n in
+      reach h sizes w m (turnBegun w t) X (rw (E .calls-are) (all-words (turnEvents w t) (E .numbers)))
+
   turns-events : (sizes : Sizes) (w : Volume) (m : Map) (ts : List Turn) → TurnNumbers ts → Reached h sizes w m
       → AsEvents h w (turnsAfter (lift w) ts) (turnsOps (lift w) ts) (turnsBegun w ts) (turnsEvents w ts)
   turns-events sizes w m [] n X = record { volume-is = refl; ops-are = refl; calls-are = refl; numbers = tt }
   turns-events sizes w m (t ∷ ts) n X =
-      let cs : List Call = turnBegun w t in
-      let E = turn-events w t (n .0) in
-      let ends : turnVolume (lift w) t ≡ lift (after h w cs) = leaves h sizes w _ m _ _ _ E X in
-      let words : KeyWords cs = subst KeyWords (sym (E .calls-are)) (all-words (turnEvents w t) (E .numbers)) in
+      let next : Volume = after h w (turnBegun w t) in
+      let ends : turnVolume (lift w) t ≡ lift next = turn-end sizes w m t (n .0) X in
       rw ends
-      (joined w (after h w cs) _ _ _ _ _ _ _ (rw ends at E) (turns-events sizes (after h w cs) _ ts (n .1) (reach h sizes w m cs X words)))
+      (joined w next _ _ _ _ _ _ _ (rw ends at (turn-events w t (n .0)))
+      (turns-events sizes next _ ts (n .1) (turn-reaches sizes w m t (n .0) X)))
 
 -- from a format on, whole or cut too
 module _ (h : Family) (v : Volume) (sizes : Sizes) (can : allowed sizes ≡ true)

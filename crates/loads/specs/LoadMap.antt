@@ -22,13 +22,14 @@ use Rattle.history.specs.Image.{History}
 use Rattle.history.specs.Live.{findLive, levelAt}
 use Rattle.history.specs.Runs.{replyOf}
 use Rattle.history.specs.Volumes as volumes
-use Rattle.history.specs.Reached.{Reached, reach-call, reach-says, reach-format}
+use Rattle.history.specs.Reached.{mapAfter, Reached, reach-call, reach-says, reach-format}
 use Rattle.tab.specs.Grammar.{Row, Reading}
 use Rattle.tab.specs.Reader.{body, rowsOf}
 use Rattle.tab.specs.Agree.{reading-only}
 use Rattle.load.specs.Load.{rowRecord, endOf, rowCall, loadRowsBy, loadRows, loadLines, load}
 use Rattle.load.specs.LoadLaws.{Judged}
-use Rattle.loads.specs.LoadCalls.{RowWords, row-word, read-words}
+use Rattle.loads.specs.LoadCalls as calls
+use Rattle.loads.specs.LoadCalls.{rowCalls, linesCalls, tabCalls, RowWords, row-word, read-words}
 
 -- ---- a load over the finite map alone
 
@@ -234,3 +235,32 @@ module _ (h : Family) (sizes : Sizes) where
   pub format-load-agrees : (v : Volume) (text : List ℕ) → allowed sizes ≡ true → tooShort g (v .flash) (v .ram) ≡ false
       → LoadAgrees (load h (format v sizes .volume) text) (mapTab g emptyMap text)
   format-load-agrees v text can long = load-agrees (format v sizes .volume) emptyMap text (reach-format h sizes v can long)
+
+  -- ---- the map after a load is the map after its calls
+
+  on-map : (o : Outcome) (m n : Map) (t : MapLoaded) (c : Call) (cs : List Call) → n ≡ mapOf g m c .next → t .map ≡ mapAfter g n cs
+      → mapOn (replyOf o) n t .map ≡ mapAfter g m (calls.accepts o c cs)
+  on-map accepted m n t c cs p q = q ∙ ap (λ (x : Map). mapAfter g x cs) p
+  on-map (hit place bytes) m n t c cs p q = q ∙ ap (λ (x : Map). mapAfter g x cs) p
+  on-map miss m n t c cs p q = q ∙ ap (λ (x : Map). mapAfter g x cs) p
+  on-map (refused i) m n t c cs p q = p
+
+  rows-map : (v : Volume) (m : Map) (rs : List Row) (end : Reply) → Reached h sizes v m → RowWords h rs
+      → mapLoad g m rs end .map ≡ mapAfter g m (rowCalls h v rs)
+  unfolding mapLoad rowCalls mapRow
+  rows-map v m [] end X w = refl
+  rows-map v m (r ∷ rs) end X w =
+      let c : Call = rowCall h v r in
+      let next : Map = mapRow g m r .next in
+      rw (← (row-says v m r X (w .0)))
+      (on-map (call h v c .outcome) m next (mapLoad g next rs end) c (rowCalls h (call h v c .volume) rs)
+      (ap (λ (x : Call). mapOf g m x .next) (sym (row-call-is v m r X)))
+      (rows-map (call h v c .volume) next rs end (row-reached v m r X (w .0)) (w .1)))
+
+  lines-map : (v : Volume) (m : Map) (o : Option (List ℕ)) → Reached h sizes v m → mapLines g m o .map ≡ mapAfter g m (linesCalls h v o)
+  lines-map v m none X = refl
+  lines-map v m (some lines) X =
+      rows-map v m (rowsOf lines .rows) (endSays (rowsOf lines .rest)) X (read-words h (length lines) lines)
+
+  pub tab-map : (v : Volume) (m : Map) (text : List ℕ) → Reached h sizes v m → mapTab g m text .map ≡ mapAfter g m (tabCalls h v text)
+  tab-map v m text X = lines-map v m (body text) X

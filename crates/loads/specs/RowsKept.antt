@@ -1,16 +1,23 @@
--- Of any volume, whatever its state and bytes: a row that is refused changes nothing, and a load leaves what the rows before it left.
--- Document 02, request 1: "that row changes nothing, earlier rows remain".
-use mathlib.Core.Path.{_≡_, refl, sym, ap, _∙_}
+-- Of any volume, whatever its state and bytes: a row that is refused changes nothing, a load leaves what the rows before it left, and
+-- bytes past the volume stay. Document 02, request 1: "that row changes nothing, earlier rows remain".
+use mathlib.Core.Path.{_≡_, refl, sym, ap, subst, _∙_}
+use mathlib.Core.Bool.{Bool, true, false, cond}
+use mathlib.Core.Option.{Option, none, some}
 use mathlib.Core.List.{List, [], _∷_}
-use Prim.Native.Nat.{ℕ}
-use lib.ListN.{take}
+use Prim.Native.Nat.{ℕ, _+_}
+use lib.ListN.{length, take}
+use lib.Dec.{eqb}
+use Rattle.layout.specs.Geometry.{geometry}
 use Rattle.layout.specs.Hash.{Family}
-use Rattle.layout.specs.Calls.{Volume, Outcome, accepted, hit, miss, refused, Result, refuse}
-use Rattle.layout.specs.Header.{onPages}
+use Rattle.layout.specs.Calls.{Volume, Call, Outcome, accepted, hit, miss, refused, Result, refuse, badState, tooShort}
+use Rattle.layout.specs.Header.{pages, onPages, kindIn}
+use Rattle.layout.specs.Budgets.{resultOf}
 use Rattle.layout.specs.Several.{Several}
-use Rattle.cuts.specs.EveryCut.{cut-refusal-keeps}
+use Rattle.cuts.specs.EveryCut.{cut-refusal-keeps, CutBeyond, cut-beyond}
+use Rattle.cuts.specs.EveryTurn.{sizes-stay, beyond-on, calls-beyond}
 use Rattle.tab.specs.Grammar.{Row, Reading}
-use Rattle.load.specs.Load.{endOf, rowCall, loadRowsBy, rowWhole, loadWhole}
+use Rattle.tab.specs.Reader.{body, rowsOf}
+use Rattle.load.specs.Load.{endOf, rowCall, loadRowsBy, loadLinesBy, rowWhole, loadWhole}
 use Rattle.load.specs.LoadLaws.{Idle, load-whole-reading}
 
 module _ (h : Family) where
@@ -45,3 +52,39 @@ module _ (h : Family) where
       let p = load-whole-reading h v text rows rest I R in
       ap (λ (s : Several). s .volume) p ∙ rows-kept v rows (endOf rest)
       ∙ ap (λ (s : Several). rowsAfter v (take (s .done) rows)) (sym p)
+
+  -- ---- "bytes past the volume and past the desk's 20S never change"
+
+  rows-beyond : (v : Volume) (rs : List Row) → CutBeyond (geometry (v .state .sizes)) v (rowsAfter v rs)
+  rows-beyond v [] = calls-beyond h v []
+  rows-beyond v (r ∷ rs) =
+      let c : Call = rowCall h (onPages v) r in
+      let b : ℕ = length (resultOf h v c .ops) + 2 in
+      let w : Volume = rowWhole h v r .volume in
+      let rest : CutBeyond (geometry (v .state .sizes)) w (rowsAfter w rs) = rw (sizes-stay h v c b) at (rows-beyond w rs) in
+      beyond-on (geometry (v .state .sizes)) v w (rowsAfter w rs) (cut-beyond h b v c) rest
+
+  -- what a load leaves has those of v, and all lengths
+  abbrev BeyondKept : Volume → Several → Type 0
+  BeyondKept v s = CutBeyond (geometry (v .state .sizes)) v (s .volume)
+
+  either-beyond : (v : Volume) (t : Bool) (s u : Several) → BeyondKept v s → BeyondKept v u → BeyondKept v (cond t s u)
+  either-beyond v true s u p q = p
+  either-beyond v false s u p q = q
+
+  loaded-beyond : (v : Volume) (rs : List Row) (end : Outcome) → BeyondKept v (loaded v rs end)
+  loaded-beyond v rs end =
+      subst (CutBeyond (geometry (v .state .sizes)) v) (sym (rows-kept v rs end)) (rows-beyond v (take (loaded v rs end .done) rs))
+
+  lines-beyond : (v : Volume) (o : Option (List ℕ)) → BeyondKept v (loadLinesBy (rowWhole h) v o)
+  lines-beyond v none = calls-beyond h v []
+  lines-beyond v (some lines) = loaded-beyond v (rowsOf lines .rows) (endOf (rowsOf lines .rest))
+
+  -- so of main area, spare bytes, and RAM between the pages and the header
+  pub load-beyond : (v : Volume) (text : List ℕ) → CutBeyond (geometry (v .state .sizes)) v (loadWhole h v text .volume)
+  unfolding loadWhole
+  load-beyond v text =
+      let same : CutBeyond (geometry (v .state .sizes)) v v = calls-beyond h v [] in
+      either-beyond v (badState (v .state)) _ _ same
+      (either-beyond v (tooShort (geometry (v .state .sizes)) (v .flash) (pages (v .ram))) _ _ same
+      (either-beyond v (eqb (kindIn (v .ram)) 0) _ _ (lines-beyond v (body text)) same))

@@ -114,7 +114,7 @@ module _ (h : Family) where
     WholeMovesAgree v m (tab text ∷ ms) =
         WholeAgrees (loadWhole h v text) (mapTab g m text) × WholeMovesAgree (loadWhole h v text .volume) (mapTab g m text .map) ms
 
-    loaded-lifted : (s : Several) (t : MapLoaded) → LoadAgrees h sizes s t → WholeAgrees (liftSeveral s) t
+    pub loaded-lifted : (s : Several) (t : MapLoaded) → LoadAgrees h sizes s t → WholeAgrees (liftSeveral s) t
     loaded-lifted s t A = record {
       says = A .says;
       done = A .done;
@@ -285,7 +285,7 @@ module _ (h : Family) where
   turnsOf [] = []
   turnsOf (m ∷ ms) = turnOf m ∷ turnsOf ms
 
-  turn-numbers : (ms : List CutMove) → CutNumbers ms → TurnNumbers (turnsOf ms)
+  pub turn-numbers : (ms : List CutMove) → CutNumbers ms → TurnNumbers (turnsOf ms)
   turn-numbers [] n = tt
   turn-numbers (wholeCall c ∷ ms) n = ((λ w. (n .0, tt)), turn-numbers ms (n .1))
   turn-numbers (wholeLoad text ∷ ms) n = ((λ w. tab-numbers h w text), turn-numbers ms n)
