@@ -1,229 +1,234 @@
--- A restart sees spare bytes only as fresh or programmed: spare areas that decide alike give the same answer, main area, RAM, state and
--- operations, whatever the bytes. So up to three wrong bits in each mark change nothing (document 02, §3).
+-- Calls, formats and restarts with any budget see spare bytes only as fresh or programmed, and only those of the volume: on another spare
+-- area that decides alike there they are the same, whatever the bytes; a format, and a restart of one, on any other. So up to three wrong
+-- bits in each mark change nothing (document 02, §3).
 use mathlib.Core.Path.{_≡_, refl, ap, _∙_}
-use mathlib.Core.Bool.{Bool, true, false, cond, _&&_}
-use mathlib.Core.Option.{Option, none, some}
 use mathlib.Core.List.{List, [], _∷_}
-use Prim.Native.Nat.{ℕ, _≤_}
+use Prim.Native.Nat.{ℕ, _+_, _*_, _<_}
+use native.Mathlib.Omega.{arith}
 use lib.ListN.{length, getD, take}
-use lib.Dec.{ltb}
-use Rattle.layout.specs.Geometry.{Geometry, geometry, Sizes, unitOf}
-use Rattle.layout.specs.Flash.{Flash, flashOf, apply, Planned, known, made, wipe, planOps, fresh}
+use lib.Dec.{eqb, ltb}
+use Rattle.memory.specs.Cases.{either, bool?}
+use Rattle.layout.specs.Geometry.{Geometry, geometry, blocks, spareSize, Sizes, unitOf}
+use Rattle.layout.specs.Flash.{Op, Flash, flashOf, apply, applyAll, Planned, known, made, wipe, fresh}
 use Rattle.layout.specs.Hash.{Family}
-use Rattle.layout.specs.Items.{Record}
-use Rattle.layout.specs.Search.{Stop, found, corrupt}
-use Rattle.layout.specs.Calls.{Volume, Call, insert, update, delete, lookup, Outcome, accepted, hit, miss, refused, Result, refuse}
-use Rattle.layout.specs.Calls.{badState}
-use Rattle.layout.specs.Calls.{tooShort, judgeFirst, one, noRoom, noDeletion, Edit, deletes, inserts, ramDeleted, ramInserted, search}
-use Rattle.layout.specs.Calls.{searchDaPages, lookupAfter, format}
-use Rattle.laws.specs.FreshLaws.{Written, wrongBits, mostWrong, worn-fresh}
-use Rattle.history.specs.Worn.{withSpare}
-use Rattle.history.specs.WornLaws.{plan-same, all-main}
-use Rattle.history.specs.WornCalls.{search-same, short-same, format-done}
-use Rattle.history.specs.WornCalls as worn
-use Rattle.layout.specs.Calls.{changeBy, insertBy, updateBy, deleteBy, answerBy}
-use Rattle.layout.specs.Later.{commitLater, callAgain}
-use Rattle.layout.specs.Later.{freshPlan, laterPlan}
-use Rattle.layout.specs.Header.{pages, stateIn, Pending, nothing, changing, formatting, unknown, pendingIn}
-use Rattle.layout.specs.Budgets.{Step, store, chip, memory, steps, lastSteps, takenBy, taken, pendingOn, resumed, restartFor}
+use Rattle.layout.specs.Calls.{Volume, Call, Outcome, accepted, hit, miss, refused, Result, badState, tooShort, format, commit}
+use Rattle.layout.specs.Later.{freshPlan, laterPlan, commitLater, callAgain}
+use Rattle.layout.specs.Header.{pages, onPages, intended, formatIntended, kindIn, stateIn, Pending, nothing, changing, formatting, unknown}
+use Rattle.layout.specs.Header.{pendingIn}
+use Rattle.layout.specs.Budgets.{Step, store, chip, memory, steps, lastSteps, callSteps, takenBy, taken, pendingOn, resultOf, callFor}
+use Rattle.layout.specs.Budgets.{callWhole, formatFor, formatWhole, resumed, restartFor, pendingOps, restartWhole}
+use Rattle.laws.specs.FreshLaws.{Written}
+use Rattle.laws.specs.Sound.{sound}
+use Rattle.history.specs.Inside.{PlanInside}
+use Rattle.history.specs.Worn.{Worn, withSpare, SameResult, WornResult}
+use Rattle.history.specs.WornLaws.{plan-same, as-fresh}
+use Rattle.history.specs.WornCalls.{redone, short-same, format-alike, AlikeEnd, alike-either, answer-alike, judged-alike, commit-alike}
+use Rattle.history.specs.WornRuns.{redone-same, redone-worn}
+use Rattle.cuts.specs.EveryCut.{sizesNamed, flash-after}
 
--- results of the same call on two chips that differ in their spare areas
-pub record Alike (r r′ : Result) : Type 0 where
-  pub outcome : r′ .outcome ≡ r .outcome
-  pub state : r′ .volume .state ≡ r .volume .state
-  pub main : r′ .volume .flash .main ≡ r .volume .flash .main
-  pub ram : r′ .volume .ram ≡ r .volume .ram
-  pub ops : r′ .ops ≡ r .ops
+-- ---- what is later goes by fresh or not
 
-alike-either : (t : Bool) (r s r′ s′ : Result) → Alike r r′ → Alike s s′ → Alike (cond t r s) (cond t r′ s′)
-alike-either true r s r′ s′ p q = p
-alike-either false r s r′ s′ p q = q
+module _ (u B : ℕ) (s s′ : List ℕ) (same : (x : ℕ) → x < B * 64 → fresh (getD s′ x 0) ≡ fresh (getD s x 0)) where
+  fresh-same : (ps : List Planned) → PlanInside u B ps → freshPlan s′ ps ≡ freshPlan s ps
+  unfolding freshPlan PlanInside
+  fresh-same [] i = refl
+  fresh-same (known x bytes ∷ ps) i = rw (same x (i .0 .0), fresh-same ps (i .1))
+  fresh-same (made x bytes ∷ ps) i = rw (same x (i .0 .0), fresh-same ps (i .1))
+  fresh-same (wipe b ∷ ps) i = fresh-same ps (i .1)
 
--- what is later goes by fresh or not
-module _ (s s′ : List ℕ) (same : (x : ℕ) → fresh (getD s′ x 0) ≡ fresh (getD s x 0)) where
-  fresh-same : (ps : List Planned) → freshPlan s′ ps ≡ freshPlan s ps
-  unfolding freshPlan
-  fresh-same [] = refl
-  fresh-same (known x bytes ∷ ps) = rw (same x, fresh-same ps)
-  fresh-same (made x bytes ∷ ps) = rw (same x, fresh-same ps)
-  fresh-same (wipe b ∷ ps) = fresh-same ps
+  later-same : (ps : List Planned) → PlanInside u B ps → laterPlan s′ ps ≡ laterPlan s ps
+  unfolding laterPlan PlanInside
+  later-same [] i = refl
+  later-same (p ∷ ps) i = rw (fresh-same (p ∷ ps) i, later-same ps (i .1))
 
-  later-same : (ps : List Planned) → laterPlan s′ ps ≡ laterPlan s ps
-  unfolding laterPlan
-  later-same [] = refl
-  later-same (p ∷ ps) = rw (fresh-same (p ∷ ps), later-same ps)
+-- ---- a budget
 
--- steps leave the same main area and RAM
-steps-main : (u : ℕ) (ss : List Step) (c c′ : Flash) (ram : List ℕ) → c′ .main ≡ c .main
-    → (steps u ss (memory c′ ram) .flash .main ≡ steps u ss (memory c ram) .flash .main)
-    × (steps u ss (memory c′ ram) .ram ≡ steps u ss (memory c ram) .ram)
-steps-main u [] c c′ ram e = (e, refl)
-steps-main u (store r ∷ ss) c c′ ram e = steps-main u ss c c′ r e
-steps-main u (chip o ∷ ss) c c′ ram e = steps-main u ss (apply u o c) (apply u o c′) ram (all-main u (o ∷ []) c c′ e)
+-- steps leave the same RAM on any chip
+ram-same : (u : ℕ) (ss : List Step) (c c′ : Flash) (ram : List ℕ) → steps u ss (memory c′ ram) .ram ≡ steps u ss (memory c ram) .ram
+ram-same u [] c c′ ram = refl
+ram-same u (store r ∷ ss) c c′ ram = ram-same u ss c c′ r
+ram-same u (chip o ∷ ss) c c′ ram = ram-same u ss (apply u o c) (apply u o c′) ram
+
+module _ (sizes : Sizes) (b : ℕ) (v : Volume) (ss : List Step) (r : Result) where
+  abbrev u : ℕ
+  u = unitOf sizes
+
+  taken-alike : (spare : List ℕ) → taken b u (withSpare spare v) ss (redone sizes spare v r) ≡ redone sizes spare v (taken b u v ss r)
+  taken-alike spare = by (r .outcome)
+    where
+      by : (o : Outcome) → takenBy o b u (withSpare spare v) ss (redone sizes spare v r) ≡ redone sizes spare v (takenBy o b u v ss r)
+      by accepted =
+          rw (
+            flash-after u b ss (flashOf (v .flash .main) spare) (v .ram),
+            ram-same u (take b ss) (v .flash) (flashOf (v .flash .main) spare) (v .ram),
+          )
+      by (hit place bytes) = refl
+      by miss = refl
+      by (refused i) = refl
+
+  -- its operations give the flash that it leaves
+  taken-done : applyAll u (taken b u v ss r .ops) (v .flash) ≡ taken b u v ss r .volume .flash
+  taken-done = by (r .outcome)
+    where
+      by : (o : Outcome) → applyAll u (takenBy o b u v ss r .ops) (v .flash) ≡ takenBy o b u v ss r .volume .flash
+      by accepted = rw (flash-after u b ss (v .flash) (v .ram))
+      by (hit place bytes) = refl
+      by miss = refl
+      by (refused i) = refl
+
+-- ---- a format, on any other spare bytes
+
+module _ (b : ℕ) (v : Volume) (sizes : Sizes) where
+  pub format-done : applyAll (unitOf sizes) (formatFor b v sizes .ops) (v .flash) ≡ formatFor b v sizes .volume .flash
+  unfolding formatFor
+  format-done = taken-done sizes b v (callSteps (formatIntended v sizes) (format (onPages v) sizes)) (format (onPages v) sizes)
+
+  pub format-redone : (spare : List ℕ) → length spare ≡ length (v .flash .spare)
+      → formatFor b (withSpare spare v) sizes ≡ redone sizes spare v (formatFor b v sizes)
+  unfolding formatFor
+  format-redone spare long =
+      ap (λ (r : Result). taken b (unitOf sizes) (withSpare spare v) (callSteps (formatIntended v sizes) r) r)
+      (format-alike (onPages v) sizes spare long)
+      ∙ taken-alike sizes b v (callSteps (formatIntended v sizes) (format (onPages v) sizes)) (format (onPages v) sizes) spare
+
+pub format-whole-redone : (v : Volume) (sizes : Sizes) (spare : List ℕ) → length spare ≡ length (v .flash .spare)
+    → formatWhole (withSpare spare v) sizes ≡ redone sizes spare v (formatWhole v sizes)
+format-whole-redone v sizes spare long =
+    ap (λ (r : Result). formatFor (length (r .ops) + 2) (withSpare spare v) sizes) (format-alike (onPages v) sizes spare long)
+    ∙ format-redone (length (format (onPages v) sizes .ops) + 2) v sizes spare long
+
+-- ---- a call, by the spare bytes of the volume of the state handed in
+
+module _ (h : Family) (v : Volume) (c : Call) where
+  pub call-done : (b : ℕ) → applyAll (unitOf (v .state .sizes)) (callFor h b v c .ops) (v .flash) ≡ callFor h b v c .volume .flash
+  unfolding callFor
+  call-done b = taken-done (v .state .sizes) b v (callSteps (intended v c) (resultOf h v c)) (resultOf h v c)
+
+  module _ (spare : List ℕ) (long : length spare ≡ length (v .flash .spare))
+      (same : (x : ℕ) → x < spareSize (geometry (v .state .sizes)) → fresh (getD spare x 0) ≡ fresh (getD (v .flash .spare) x 0)) where
+    result-alike : resultOf h (withSpare spare v) c ≡ redone (v .state .sizes) spare (onPages v) (resultOf h v c)
+    result-alike =
+        judged-alike h (onPages v) spare long _ _ (λ a.
+        alike-either h (onPages v) spare (eqb (kindIn (v .ram)) 0) _ _ _ _
+        (λ k. answer-alike h (onPages v) spare (sound _ a) commit (commit-alike h (onPages v) spare same) c) (λ k. refl))
+
+    pub call-redone : (b : ℕ) → callFor h b (withSpare spare v) c ≡ redone (v .state .sizes) spare v (callFor h b v c)
+    unfolding callFor
+    call-redone b =
+        ap (λ (r : Result). taken b (unitOf (v .state .sizes)) (withSpare spare v) (callSteps (intended v c) r) r) result-alike
+        ∙ taken-alike (v .state .sizes) b v (callSteps (intended v c) (resultOf h v c)) (resultOf h v c) spare
+
+    pub call-whole-redone : callWhole h (withSpare spare v) c ≡ redone (v .state .sizes) spare v (callWhole h v c)
+    call-whole-redone =
+        ap (λ (r : Result). callFor h (length (r .ops) + 2) (withSpare spare v) c) result-alike
+        ∙ call-redone (length (resultOf h v c .ops) + 2)
+
+-- ---- a restart, by the spare bytes of the volume of the header's state
 
 module _ (h : Family) (v : Volume) (spare : List ℕ) (long : length spare ≡ length (v .flash .spare))
-    (same : (x : ℕ) → fresh (getD spare x 0) ≡ fresh (getD (v .flash .spare) x 0)) where
+    (same : (x : ℕ) → x < spareSize (geometry (v .state .sizes)) → fresh (getD spare x 0) ≡ fresh (getD (v .flash .spare) x 0)) where
   abbrev g : Geometry
   g = geometry (v .state .sizes)
 
-  abbrev w : Volume
-  w = withSpare spare v
-
-  refuse-alike : (i : ℕ) → Alike (refuse v i) (refuse w i)
-  refuse-alike i = record { outcome = refl; state = refl; main = refl; ram = refl; ops = refl }
-
-  commit-alike : (n d : ℕ) (plan : List Planned) (ram : List ℕ) → Alike (commitLater g v n d plan ram) (commitLater g w n d plan ram)
+  later-alike : AlikeEnd h v spare commitLater
   unfolding commitLater
-  commit-alike n d plan ram =
-      let later : laterPlan spare plan ≡ laterPlan (v .flash .spare) plan = later-same (v .flash .spare) spare same plan in
-      let ops : planOps (g .u) (laterPlan spare plan) (flashOf (v .flash .main) spare)
-      ≡ planOps (g .u) (laterPlan (v .flash .spare) plan) (v .flash)
-      = rw later (plan-same (g .u) (laterPlan (v .flash .spare) plan) (v .flash) (flashOf (v .flash .main) spare) refl) in
-      record {
-        outcome = refl;
-        state = refl;
-        main = rw ops (all-main (g .u) (planOps (g .u) (laterPlan (v .flash .spare) plan) (v .flash)) (v .flash)
-            (flashOf (v .flash .main) spare) refl);
-        ram = refl;
-        ops = ops;
-      }
-
-  -- what a change plans does not look at the chip
-
-  deletes-same : (o : Option ℕ) → deletes h g w o ≡ deletes h g v o
-  deletes-same none = refl
-  deletes-same (some j) = refl
-
-  inserts-same : (o : Option Record) → inserts h g w o ≡ inserts h g v o
-  inserts-same none = refl
-  inserts-same (some r) = refl
-
-  deleted-same : (o : Option ℕ) → ramDeleted h g w o ≡ ramDeleted h g v o
-  deleted-same none = refl
-  deleted-same (some j) = refl
-
-  inserted-same : (o : Option Record) (ram : List ℕ) → ramInserted h g w o ram ≡ ramInserted h g v o ram
-  inserted-same none ram = refl
-  inserted-same (some r) ram = refl
-
-  change-alike : (e : Edit) → Alike (changeBy commitLater h g v e) (changeBy commitLater h g w e)
-  unfolding changeBy
-  change-alike e =
+  later-alike n d plan ram inside =
       rw (
-        deletes-same (e .deletes),
-        inserts-same (e .inserts),
-        deleted-same (e .deletes),
-        inserted-same (e .inserts) (ramDeleted h g v (e .deletes)),
+        later-same (g .u) (blocks g) (v .flash .spare) spare same plan inside,
+        plan-same (g .u) (laterPlan (v .flash .spare) plan) (v .flash) (flashOf (v .flash .main) spare) refl,
       )
-      (alike-either (one (e .inserts) && noRoom g v) _ _ _ _ (refuse-alike 5)
-      (alike-either (one (e .deletes) && noDeletion g v) _ _ _ _ (refuse-alike 6) (commit-alike _ _ _ _)))
 
-  insert-alike : (r : Record) (s : Option Stop) → Alike (insertBy commitLater h g v r s) (insertBy commitLater h g w r s)
-  insert-alike r none = change-alike _
-  insert-alike r (some corrupt) = refuse-alike 8
-  insert-alike r (some (found j)) = refuse-alike 3
+  again-alike : (c : Call) → callAgain h (withSpare spare v) c ≡ redone (v .state .sizes) spare v (callAgain h v c)
+  unfolding callAgain
+  again-alike c = judged-alike h v spare long _ _ (λ a. answer-alike h v spare (sound _ a) commitLater later-alike c)
 
-  update-alike : (r : Record) (s : Option Stop) → Alike (updateBy commitLater h g v r s) (updateBy commitLater h g w r s)
-  update-alike r none = change-alike _
-  update-alike r (some corrupt) = refuse-alike 8
-  update-alike r (some (found j)) = change-alike _
+-- how many spare bytes a restart may read: a pending change those of its volume, for it programs; a pending format none, for it erases
+abbrev pub spareRead : Pending → List ℕ → ℕ
+spareRead nothing ram = 0
+spareRead (changing c) ram = spareSize (geometry (stateIn ram .sizes))
+spareRead (formatting sizes) ram = 0
+spareRead unknown ram = 0
 
-  delete-alike : (s : Option Stop) → Alike (deleteBy commitLater h g v s) (deleteBy commitLater h g w s)
-  delete-alike none = refuse-alike 4
-  delete-alike (some corrupt) = refuse-alike 8
-  delete-alike (some (found j)) = change-alike _
+module _ (h : Family) (v : Volume) where
+  abbrev st : Sizes
+  st = stateIn (v .ram) .sizes
 
-  lookup-alike : (opened daPages daPages′ : ℕ) (s : Option Stop)
-      → Alike (lookupAfter g v opened daPages s) (lookupAfter g w opened daPages′ s)
-  unfolding lookupAfter
-  lookup-alike opened daPages daPages′ none = record { outcome = refl; state = refl; main = refl; ram = refl; ops = refl }
-  lookup-alike opened daPages daPages′ (some corrupt) = refuse-alike 8
-  lookup-alike opened daPages daPages′ (some (found j)) = record { outcome = refl; state = refl; main = refl; ram = refl; ops = refl }
+  abbrev named : Sizes
+  named = sizesNamed (pendingIn (v .ram)) (v .ram)
 
-  answer-alike : (c : Call) → Alike (answerBy commitLater h g v c) (answerBy commitLater h g w c)
-  answer-alike (insert r) = rw (search-same h v spare (r .key)) (insert-alike r (search h g v (r .key) .stop))
-  answer-alike (update r) = rw (search-same h v spare (r .key)) (update-alike r (search h g v (r .key) .stop))
-  answer-alike (delete key) = rw (search-same h v spare key) (delete-alike (search h g v key .stop))
-  answer-alike (lookup key) =
-      rw (search-same h v spare key)
-      (lookup-alike (search h g v key .opened) (searchDaPages h g v key) (searchDaPages h g w key) (search h g v key .stop))
+  resumed-done : (b : ℕ) (p : Pending)
+      → applyAll (unitOf (sizesNamed p (v .ram))) (resumed h b v p .ops) (v .flash) ≡ resumed h b v p .volume .flash
+  resumed-done b nothing =
+      either (bool? (badState (stateIn (v .ram)))) (λ p. rw p)
+      (λ p. either (bool? (tooShort (geometry st) (v .flash) (pages (v .ram)))) (λ q. rw (p, q)) (λ q. rw (p, q)))
+  resumed-done b (changing c) = taken-done st b v (lastSteps (callAgain h (pendingOn v) c)) (callAgain h (pendingOn v) c)
+  resumed-done b (formatting sizes) = taken-done sizes b v (lastSteps (format (pendingOn v) sizes)) (format (pendingOn v) sizes)
+  resumed-done b unknown = refl
 
-  again-alike : (c : Call) → Alike (callAgain h v c) (callAgain h w c)
-  unfolding callAgain judgeFirst
-  again-alike c =
-      rw (short-same g v spare long)
-      (alike-either (badState (v .state)) _ _ _ _ (refuse-alike 1)
-      (alike-either (tooShort g (v .flash) (v .ram)) _ _ _ _ (refuse-alike 2) (answer-alike c)))
-
-  format-alike : (sizes : Sizes) → Alike (format v sizes) (format w sizes)
-  format-alike sizes =
-      rw (worn.format-alike v sizes spare long)
-      (record {
-        outcome = refl;
-        state = refl;
-        main = all-main (unitOf sizes) (format v sizes .ops) (v .flash) (flashOf (v .flash .main) spare) refl
-            ∙ ap (λ (c : Flash). c .main) (format-done v sizes);
-        ram = refl;
-        ops = refl;
-      })
-
--- ---- a budget, and restart
-
--- the steps are the same
-last-same : (r r′ : Result) → Alike r r′ → lastSteps r′ ≡ lastSteps r
-last-same r r′ A = rw (A .ops, A .ram, A .state)
-
-taken-alike : (b u : ℕ) (v : Volume) (spare : List ℕ) (r r′ : Result) → Alike r r′
-    → Alike (taken b u v (lastSteps r) r) (taken b u (withSpare spare v) (lastSteps r′) r′)
-taken-alike b u v spare r r′ A =
-    moved (r .outcome) (r′ .outcome) (A .outcome) (lastSteps r′) (last-same r r′ A) (by (r .outcome))
-  where
-    moved : (o o′ : Outcome) → o′ ≡ o → (ss : List Step) → ss ≡ lastSteps r
-        → Alike (takenBy o b u v (lastSteps r) r) (takenBy o b u (withSpare spare v) (lastSteps r) r′)
-        → Alike (takenBy o b u v (lastSteps r) r) (takenBy o′ b u (withSpare spare v) ss r′)
-    moved o o′ e ss f X = rw (e, f) X
-
-    by : (o : Outcome) → Alike (takenBy o b u v (lastSteps r) r) (takenBy o b u (withSpare spare v) (lastSteps r) r′)
-    by accepted =
-        let S = steps-main u (take b (lastSteps r)) (v .flash) (flashOf (v .flash .main) spare) (v .ram) refl in
-        record {
-          outcome = refl;
-          state = rw (A .state);
-          main = S .0;
-          ram = S .1;
-          ops = refl;
-        }
-    by (hit place bytes) = record { outcome = refl; state = refl; main = refl; ram = refl; ops = refl }
-    by miss = record { outcome = refl; state = refl; main = refl; ram = refl; ops = refl }
-    by (refused i) = record { outcome = refl; state = refl; main = refl; ram = refl; ops = refl }
-
-module _ (h : Family) (b : ℕ) (v : Volume) (spare : List ℕ) (long : length spare ≡ length (v .flash .spare))
-    (same : (x : ℕ) → fresh (getD spare x 0) ≡ fresh (getD (v .flash .spare) x 0)) where
-  resumed-alike : (p : Pending) → Alike (resumed h b v p) (resumed h b (withSpare spare v) p)
-  resumed-alike nothing =
-      rw (short-same (geometry (stateIn (v .ram) .sizes)) (pendingOn v) spare long)
-      (alike-either (badState (stateIn (v .ram))) _ _ _ _ (record { outcome = refl; state = refl; main = refl; ram = refl; ops = refl })
-      (alike-either (tooShort (geometry (stateIn (v .ram) .sizes)) (v .flash) (pages (v .ram))) _ _ _ _
-      (record { outcome = refl; state = refl; main = refl; ram = refl; ops = refl })
-      (record { outcome = refl; state = refl; main = refl; ram = refl; ops = refl })))
-  resumed-alike (changing c) =
-      taken-alike b (unitOf (stateIn (v .ram) .sizes)) v spare (callAgain h (pendingOn v) c)
-      (callAgain h (withSpare spare (pendingOn v)) c) (again-alike h (pendingOn v) spare long same c)
-  resumed-alike (formatting sizes) =
-      taken-alike b (unitOf sizes) v spare (format (pendingOn v) sizes) (format (withSpare spare (pendingOn v)) sizes)
-      (format-alike h (pendingOn v) spare long same sizes)
-  resumed-alike unknown = record { outcome = refl; state = refl; main = refl; ram = refl; ops = refl }
-
-  pub by-fresh : Alike (restartFor h b v) (restartFor h b (withSpare spare v))
+  pub restart-done : (b : ℕ) → applyAll (unitOf (sizesNamed (pendingIn (v .ram)) (v .ram))) (restartFor h b v .ops) (v .flash)
+      ≡ restartFor h b v .volume .flash
   unfolding restartFor
-  by-fresh =
-      alike-either (ltb (length (v .ram)) 64) _ _ _ _ (record { outcome = refl; state = refl; main = refl; ram = refl; ops = refl })
-      (resumed-alike (pendingIn (v .ram)))
+  restart-done b = either (bool? (ltb (length (v .ram)) 64)) (λ q. rw q) (λ q. rw q (resumed-done b (pendingIn (v .ram))))
 
--- up to three wrong bits in each byte of a spare area of FF and 00
-pub worn-restart : (h : Family) (b : ℕ) (v : Volume) (spare : List ℕ) → length spare ≡ length (v .flash .spare)
-    → ((x : ℕ) → Written (getD (v .flash .spare) x 0))
-    → ((x : ℕ) → wrongBits (getD spare x 0) (getD (v .flash .spare) x 0) ≤ mostWrong)
-    → Alike (restartFor h b v) (restartFor h b (withSpare spare v))
-worn-restart h b v spare long written few =
-    by-fresh h b v spare long (λ x. worn-fresh (getD spare x 0) (getD (v .flash .spare) x 0) (written x) (few x))
+  module _ (spare : List ℕ) (long : length spare ≡ length (v .flash .spare)) where
+    abbrev AsFresh : Pending → Type 0
+    AsFresh p = (x : ℕ) → x < spareRead p (v .ram) → fresh (getD spare x 0) ≡ fresh (getD (v .flash .spare) x 0)
+
+    resumed-alike : (b : ℕ) (p : Pending) → AsFresh p
+        → resumed h b (withSpare spare v) p ≡ redone (sizesNamed p (v .ram)) spare v (resumed h b v p)
+    resumed-alike b nothing same =
+        rw (short-same (geometry st) (pendingOn v) spare long)
+        (either (bool? (badState (stateIn (v .ram)))) (λ p. rw p)
+        (λ p. either (bool? (tooShort (geometry st) (v .flash) (pages (v .ram)))) (λ q. rw (p, q)) (λ q. rw (p, q))))
+    resumed-alike b (changing c) same =
+        ap (λ (r : Result). taken b (unitOf st) (withSpare spare v) (lastSteps r) r) (again-alike h (pendingOn v) spare long same c)
+        ∙ taken-alike st b v (lastSteps (callAgain h (pendingOn v) c)) (callAgain h (pendingOn v) c) spare
+    resumed-alike b (formatting sizes) same =
+        ap (λ (r : Result). taken b (unitOf sizes) (withSpare spare v) (lastSteps r) r) (format-alike (pendingOn v) sizes spare long)
+        ∙ taken-alike sizes b v (lastSteps (format (pendingOn v) sizes)) (format (pendingOn v) sizes) spare
+    resumed-alike b unknown same = refl
+
+    pending-same : (p : Pending) → AsFresh p → pendingOps h (withSpare spare v) p ≡ pendingOps h v p
+    pending-same nothing same = refl
+    pending-same (changing c) same = ap (λ (r : Result). r .ops) (again-alike h (pendingOn v) spare long same c)
+    pending-same (formatting sizes) same = ap (λ (r : Result). r .ops) (format-alike (pendingOn v) sizes spare long)
+    pending-same unknown same = refl
+
+    module _ (same : AsFresh (pendingIn (v .ram))) where
+      pub restart-redone : (b : ℕ) → restartFor h b (withSpare spare v)
+          ≡ redone (sizesNamed (pendingIn (v .ram)) (v .ram)) spare v (restartFor h b v)
+      unfolding restartFor
+      restart-redone b = either (bool? (ltb (length (v .ram)) 64)) (λ q. rw q) (λ q. rw q (resumed-alike b (pendingIn (v .ram)) same))
+
+      pub restart-whole-redone : restartWhole h (withSpare spare v)
+          ≡ redone (sizesNamed (pendingIn (v .ram)) (v .ram)) spare v (restartWhole h v)
+      restart-whole-redone =
+          ap (λ (os : List Op). restartFor h (length os + 1) (withSpare spare v)) (pending-same (pendingIn (v .ram)) same)
+          ∙ restart-redone (length (pendingOps h v (pendingIn (v .ram))) + 1)
+
+-- ---- the claims of restart
+
+-- spare bytes that decide alike, as far as it may read them
+pub by-fresh : (h : Family) (b : ℕ) (v : Volume) (spare : List ℕ) → length spare ≡ length (v .flash .spare)
+    → ((x : ℕ) → x < spareRead (pendingIn (v .ram)) (v .ram) → fresh (getD spare x 0) ≡ fresh (getD (v .flash .spare) x 0))
+    → SameResult (sizesNamed (pendingIn (v .ram)) (v .ram)) v (withSpare spare v) (restartFor h b v) (restartFor h b (withSpare spare v))
+by-fresh h b v spare long same =
+    rw (restart-redone h v spare long same b)
+    (redone-same (sizesNamed (pendingIn (v .ram)) (v .ram)) v spare (restartFor h b v) long (restart-done h v b))
+
+-- it reads none past the volume that the header names
+pub read-inside : (p : Pending) (ram : List ℕ) (x : ℕ) → x < spareRead p ram → x < spareSize (geometry (sizesNamed p ram))
+read-inside nothing ram x l = absurd (omega arith)
+read-inside (changing c) ram x l = l
+read-inside (formatting sizes) ram x l = absurd (omega arith)
+read-inside unknown ram x l = absurd (omega arith)
+
+-- up to three wrong bits in each spare byte of a volume whose spare bytes are FF and 00; past it any bytes
+pub worn-restart : (h : Family) (b : ℕ) (v : Volume) (spare : List ℕ)
+    → ((x : ℕ) → x < spareSize (geometry (sizesNamed (pendingIn (v .ram)) (v .ram))) → Written (getD (v .flash .spare) x 0))
+    → Worn (spareSize (geometry (sizesNamed (pendingIn (v .ram)) (v .ram)))) (v .flash .spare) spare
+    → WornResult (sizesNamed (pendingIn (v .ram)) (v .ram)) v (withSpare spare v) (restartFor h b v) (restartFor h b (withSpare spare v))
+worn-restart h b v spare written W =
+    rw (restart-redone h v spare (W .long)
+    (λ x l. as-fresh _ (v .flash .spare) spare written W x (read-inside (pendingIn (v .ram)) (v .ram) x l)) b)
+    (redone-worn (sizesNamed (pendingIn (v .ram)) (v .ram)) v spare (restartFor h b v) (W .long) (restart-done h v b) W)

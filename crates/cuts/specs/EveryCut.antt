@@ -231,20 +231,20 @@ joined-kept N ram p x long size pl e =
 
 -- some of the steps: what they store, and their operations
 
-abbrev Stores : (List ℕ → Type 0) → List Step → Type 0
+abbrev pub Stores : (List ℕ → Type 0) → List Step → Type 0
 Stores P [] = Unit {0}
 Stores P (store ram ∷ ss) = P ram × Stores P ss
 Stores P (chip o ∷ ss) = Stores P ss
 
 module _ (u : ℕ) where
-  ram-after : (P : List ℕ → Type 0) (b : ℕ) (ss : List Step) (c : Flash) (ram : List ℕ) → Stores P ss → P ram
+  pub ram-after : (P : List ℕ → Type 0) (b : ℕ) (ss : List Step) (c : Flash) (ram : List ℕ) → Stores P ss → P ram
       → P (steps u (take b ss) (memory c ram) .ram)
   ram-after P zero ss c ram s p = p
   ram-after P (suc b) [] c ram s p = p
   ram-after P (suc b) (store r ∷ ss) c ram s p = ram-after P b ss c r (s .1) (s .0)
   ram-after P (suc b) (chip o ∷ ss) c ram s p = ram-after P b ss (apply u o c) ram s p
 
-  flash-after : (b : ℕ) (ss : List Step) (c : Flash) (ram : List ℕ)
+  pub flash-after : (b : ℕ) (ss : List Step) (c : Flash) (ram : List ℕ)
       → steps u (take b ss) (memory c ram) .flash ≡ applyAll u (opsIn (take b ss)) c
   flash-after zero ss c ram = refl
   flash-after (suc b) [] c ram = refl
@@ -263,7 +263,7 @@ last-ops : (os : List Op) (d : List ℕ) → opsIn (chips os ++ (store d ∷ [])
 last-ops [] d = refl
 last-ops (o ∷ os) d = ap (λ (l : List Op). o ∷ l) (last-ops os d)
 
-last-stores : (P : List ℕ → Type 0) (os : List Op) (d : List ℕ) → P d → Stores P (chips os ++ (store d ∷ []))
+pub last-stores : (P : List ℕ → Type 0) (os : List Op) (d : List ℕ) → P d → Stores P (chips os ++ (store d ∷ []))
 last-stores P [] d p = (p, tt)
 last-stores P (o ∷ os) d p = last-stores P os d p
 
@@ -291,7 +291,7 @@ module _ (sizes : Sizes) (b : ℕ) (v : Volume) (ss : List Step) (r : Result) wh
       by (refused k) = same-beyond g′ v
 
 -- a RAM that is long enough has a header
-header-fits : (g : Geometry) (c : Flash) (ram : List ℕ) → 0 < g .u → tooShort g c (pages ram) ≡ false → 64 ≤ length ram
+pub header-fits : (g : Geometry) (c : Flash) (ram : List ℕ) → 0 < g .u → tooShort g c (pages ram) ≡ false → 64 ≤ length ram
 unfolding tooShort
 header-fits g c ram pu long =
     let p = or-eq-false-iff (ltb (length (c .main)) (mainSize g)) _ .0 long in

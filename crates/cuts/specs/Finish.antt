@@ -28,7 +28,7 @@ use Rattle.layout.specs.Budgets.{Step, store, Memory, memory, steps, chips, ops
 -- ---- steps by their number
 
 module _ (u : ℕ) (d : List ℕ) where
-  steps-cut : (os : List Op) (b : ℕ) (x : Flash) (ram : List ℕ) → b ≤ length os
+  pub steps-cut : (os : List Op) (b : ℕ) (x : Flash) (ram : List ℕ) → b ≤ length os
       → steps u (take b (chips os ++ (store d ∷ []))) (memory x ram) ≡ memory (applyAll u (take b os) x) ram
   steps-cut os zero x ram l = refl
   steps-cut [] (suc b) x ram l = absurd (not-suc-le-zero l)

@@ -104,7 +104,7 @@ module _ (h : Family) (v : Volume) (sizes : Sizes) (can : allowed sizes ≡ true
       let a = length-append (take 24 (header (v .ram))) (wordsBytes (formatWords sizes)) in let b
       = length-words (formatWords sizes) in omega (arith, a, b, kept-length)
 
-  pages-back : pages intended ≡ p
+  pub pages-back : pages intended ≡ p
   pages-back = pages-of p words words-length
 
   word-at : (i : ℕ) → i < 10 → getD (formatWords sizes) i 0 < 2 ^ 32 → headerWord intended (6 + i) ≡ getD (formatWords sizes) i 0
@@ -146,7 +146,7 @@ module _ (h : Family) (v : Volume) (sizes : Sizes) (can : allowed sizes ≡ true
 
   -- ---- the format, and the format again
 
-  abbrev result : Flash → Result
+  abbrev pub result : Flash → Result
   result X =
       record {
         outcome = accepted;
@@ -157,7 +157,7 @@ module _ (h : Family) (v : Volume) (sizes : Sizes) (can : allowed sizes ≡ true
         ops = ops;
       }
 
-  format-on : (w : Volume) → w .ram ≡ p → tooShort g (w .flash) p ≡ false → format w sizes ≡ result (w .flash)
+  pub format-on : (w : Volume) → w .ram ≡ p → tooShort g (w .flash) p ≡ false → format w sizes ≡ result (w .flash)
   unfolding format formatted
   format-on w e l =
       cond-pos (allowed sizes) _ _ can ∙ cond-neg (tooShort g (w .flash) (w .ram)) _ _ (rw e l) ∙ rw e

@@ -73,15 +73,22 @@ module _ (p : List ℕ) (s : State) (intent : List ℕ) (ten : length intent ≡
       ap (λ (b : List ℕ). word b (i * 4)) (header-of p (headerBytes s intent) header-size)
       ∙ word-of (stateWords s ++ intent) i (omega (arith, e, ten, l)) fits
 
+  -- the sizes, whatever the counts
+  pub sizes-stored : s .sizes .sectorSize < 2 ^ 32 → s .sizes .raBlocks < 2 ^ 32 → s .sizes .daBlocks < 2 ^ 32
+      → s .sizes .hashCount < 2 ^ 32 → stateIn (p ++ headerBytes s intent) .sizes ≡ s .sizes
+  sizes-stored S R D K =
+      let e0 : headerWord (p ++ headerBytes s intent) 0 ≡ s .sizes .sectorSize = word-stored 0 (omega arith) S in
+      let e1 : headerWord (p ++ headerBytes s intent) 1 ≡ s .sizes .raBlocks = word-stored 1 (omega arith) R in
+      let e2 : headerWord (p ++ headerBytes s intent) 2 ≡ s .sizes .daBlocks = word-stored 2 (omega arith) D in
+      let e3 : headerWord (p ++ headerBytes s intent) 3 ≡ s .sizes .hashCount = word-stored 3 (omega arith) K in
+      rw (e0, e1, e2, e3)
+
   pub state-stored : StateFits s → stateIn (p ++ headerBytes s intent) ≡ s
   state-stored f =
-      let e0 : headerWord (p ++ headerBytes s intent) 0 ≡ s .sizes .sectorSize = word-stored 0 (omega arith) (f .S-fits) in
-      let e1 : headerWord (p ++ headerBytes s intent) 1 ≡ s .sizes .raBlocks = word-stored 1 (omega arith) (f .R-fits) in
-      let e2 : headerWord (p ++ headerBytes s intent) 2 ≡ s .sizes .daBlocks = word-stored 2 (omega arith) (f .D-fits) in
-      let e3 : headerWord (p ++ headerBytes s intent) 3 ≡ s .sizes .hashCount = word-stored 3 (omega arith) (f .K-fits) in
+      let e : stateIn (p ++ headerBytes s intent) .sizes ≡ s .sizes = sizes-stored (f .S-fits) (f .R-fits) (f .D-fits) (f .K-fits) in
       let e4 : headerWord (p ++ headerBytes s intent) 4 ≡ s .records = word-stored 4 (omega arith) (f .n-fits) in
       let e5 : headerWord (p ++ headerBytes s intent) 5 ≡ s .deletions = word-stored 5 (omega arith) (f .d-fits) in
-      rw (e0, e1, e2, e3, e4, e5)
+      rw (e, e4, e5)
 
 module _ (p : List ℕ) (s : State) where
   pub idle-kind : headerWord (p ++ headerBytes s noIntent) 6 ≡ 0

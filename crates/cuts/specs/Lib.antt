@@ -17,7 +17,6 @@ pub mod Work
 pub mod Finish
 pub mod RestartLaws
 pub mod AnyState
-pub mod ByFresh
 pub mod Recover
 pub mod Events
 pub mod Whole
@@ -31,6 +30,10 @@ pub mod Several
 pub mod CutMap
 pub mod ActAnswers
 pub mod EveryCut
+pub mod ByFresh
 pub mod EveryTurn
 pub mod Waiting
-pub mod WornWhole
+pub mod WornEvents
+pub mod WornSteady
+pub mod WornForming
+pub mod WornCuts

@@ -3,7 +3,7 @@
 use mathlib.Core.Path.{_≡_, refl, sym, ap, _∙_}
 use mathlib.Core.Bool.{Bool, true, false, _&&_, cond, true≢false}
 use mathlib.Core.Option.{Option, none, some}
-use mathlib.Core.List.{List, _++_, append-nil}
+use mathlib.Core.List.{List}
 use Prim.Native.Nat.{ℕ, _+_, _*_, _/_, _%_, _≤_, _<_, zero-le}
 use native.Mathlib.Nat.{mul-le-mul-right}
 use native.Mathlib.Omega.{arith}
@@ -25,6 +25,7 @@ use Rattle.layout.specs.Calls.{Volume, Call, insert, update, delete, lookup, Ou
 use Rattle.layout.specs.Calls.{badState, tooShort, judgeFirst, format, formatted, keyIndex, keyFilters, keyPositions, tryAt, maybeIn}
 use Rattle.layout.specs.Calls.{searchAt, search, deletionPlan, deletionRam, newFilter, insertionPlan, insertionRam, Commit, performed, commit}
 use Rattle.layout.specs.Calls.{noRoom, noDeletion, insertAfter, updateAfter, deleteAfter, lookupAfter, answer, call, Edit, one, changeBy, change}
+use Rattle.layout.specs.Calls.{deletes, ramDeleted, inserts, ramInserted, changePlan, changeRam}
 use Rattle.layout.specs.Calls.{insertBy, updateBy, deleteBy, answerBy, deletionIndex, deletionFilters, newHalf}
 use Rattle.layout.specs.Later.{laterPlan, commitLater, callAgain}
 use Rattle.history.specs.Operations.{recordRam, entryRam, numberRam, oneHalf}
@@ -319,23 +320,45 @@ module _ (h : Family) (sizes : Sizes) (ok : SizesSound sizes) where
         (past-filter u pu (keyIndex g) (keyFilters g n) (ramSize g) (newFilter h g n key (recordRam g n bytes ram)) _
         (omega arith))) entry-past)
 
-    insertion-bounded : Bounded g ram (insertionPlan h g n key bytes ram) (insertionRam h g n key bytes ram)
-    insertion-bounded = record { inside = insertion-planned (blocks g) (omega arith); past = insertion-past }
-
   -- its operations on any chip do
   pub insertion-inside : (n : ℕ) (key : Key) (bytes ram : List ℕ) (C : Flash) → n < recordCapacity g → length bytes ≡ 16 → (B : ℕ)
       → deletionIndexBlock g ≤ B → Inside u B (planOps u (insertionPlan h g n key bytes ram) C)
   insertion-inside n key bytes ram C room size B end =
       inside-ops u B (insertionPlan h g n key bytes ram) C (insertion-planned n key bytes ram room size B end)
 
-  update-bounded : (n d j : ℕ) (key : Key) (bytes ram : List ℕ) → n < recordCapacity g → d < deletionCapacity g → length bytes ≡ 16
-      → Bounded g ram (deletionPlan h g d j ram ++ insertionPlan h g n key bytes ram) (insertionRam h g n key bytes (deletionRam h g d j ram))
-  update-bounded n d j key bytes ram room less size =
-      let D₁ = deletion-bounded d j ram less in
-      record {
-        inside = inside-append u (blocks g) _ _ (D₁ .inside) (insertion-bounded n key bytes ram room size .inside);
-        past = past-then (ramSize g) ram _ _ (D₁ .past) (insertion-past n key bytes (deletionRam h g d j ram) room size);
-      }
+  -- a change, where there is room for it
+
+  module _ (v : Volume) where
+    deletes-bounded : (o : Option ℕ) → (one o && noDeletion g v) ≡ false → Bounded g (v .ram) (deletes h g v o) (ramDeleted h g v o)
+    unfolding PlanInside
+    deletes-bounded none room = record { inside = tt; past = record { same = λ x l. refl; long = refl } }
+    deletes-bounded (some j) room =
+        deletion-bounded (v .state .deletions) j (v .ram) (leb-false (deletionCapacity g) (v .state .deletions) room)
+
+    inserts-bounded : (o : Option Record) (ram : List ℕ) → (one o && noRoom g v) ≡ false
+        → PlanInside u (blocks g) (inserts h g v o) × Past (ramSize g) ram (ramInserted h g v o ram)
+    unfolding PlanInside
+    inserts-bounded none ram room = (tt, record { same = λ x l. refl; long = refl })
+    inserts-bounded (some r) ram room =
+        let less : v .state .records < recordCapacity g = leb-false (recordCapacity g) (v .state .records) room in (
+          insertion-planned (v .state .records) (r .key) (recordBytes r) (v .ram) less (length-record r) (blocks g) (omega arith),
+          insertion-past (v .state .records) (r .key) (recordBytes r) ram less (length-record r),
+        )
+
+    change-bounded : (e : Edit) → (one (e .inserts) && noRoom g v) ≡ false → (one (e .deletes) && noDeletion g v) ≡ false
+        → Bounded g (v .ram) (changePlan h g v e) (changeRam h g v e)
+    change-bounded e room less =
+        let D = deletes-bounded (e .deletes) less in
+        let I = inserts-bounded (e .inserts) (ramDeleted h g v (e .deletes)) room in
+        record {
+          inside = inside-append u (blocks g) (deletes h g v (e .deletes)) (inserts h g v (e .inserts)) (D .inside) (I .0);
+          past = past-then (ramSize g) (v .ram) (ramDeleted h g v (e .deletes)) _ (D .past) (I .1);
+        }
+
+    -- what it plans lies inside the volume
+    pub change-inside : (e : Edit) → (one (e .inserts) && noRoom g v) ≡ false → (one (e .deletes) && noDeletion g v) ≡ false
+        → PlanInside u (blocks g) (changePlan h g v e)
+    change-inside e room less = change-bounded e room less .inside
 
   -- what is kept of a volume, and where the operations lie
   abbrev Kept : Volume → Result → Type 0
@@ -380,34 +403,27 @@ module _ (h : Family) (sizes : Sizes) (ok : SizesSound sizes) where
       (record { inside = inside-later u (blocks g) (v .flash .spare) plan (b .inside); past = b .past })
 
   module _ (end : Commit) (keeping : Keeping end) (v : Volume) where
-    insert-kept : (r : Record) (s : Option Stop) → Kept v (insertBy end h g v r s)
+    change-kept : (e : Edit) → Kept v (changeBy end h g v e)
     unfolding changeBy
+    change-kept e =
+        kept-either v (one (e .inserts) && noRoom g v) _ _ (λ a. refuse-kept v refusal.full)
+        (λ a. kept-either v (one (e .deletes) && noDeletion g v) _ _ (λ b. refuse-kept v refusal.deletionsFull)
+        (λ b. keeping v _ _ _ _ (change-bounded v e a b)))
+
+    insert-kept : (r : Record) (s : Option Stop) → Kept v (insertBy end h g v r s)
     insert-kept r (some corrupt) = refuse-kept v refusal.corruptEntry
     insert-kept r (some (found j)) = refuse-kept v refusal.present
-    insert-kept r none =
-        kept-either v (noRoom g v) _ _ (λ a. refuse-kept v refusal.full)
-        (λ a. keeping v _ _ _ _ (insertion-bounded (v .state .records) (r .key) (recordBytes r) (v .ram)
-        (leb-false (recordCapacity g) (v .state .records) a) (length-record r)))
+    insert-kept r none = change-kept _
 
     update-kept : (r : Record) (s : Option Stop) → Kept v (updateBy end h g v r s)
-    unfolding changeBy
     update-kept r (some corrupt) = refuse-kept v refusal.corruptEntry
-    update-kept r none = insert-kept r none
-    update-kept r (some (found j)) =
-        kept-either v (noRoom g v) _ _ (λ a. refuse-kept v refusal.full)
-        (λ a. kept-either v (noDeletion g v) _ _ (λ b. refuse-kept v refusal.deletionsFull)
-        (λ b. keeping v _ _ _ _
-        (update-bounded (v .state .records) (v .state .deletions) j (r .key) (recordBytes r) (v .ram)
-        (leb-false (recordCapacity g) (v .state .records) a) (leb-false (deletionCapacity g) (v .state .deletions) b) (length-record r))))
+    update-kept r none = change-kept _
+    update-kept r (some (found j)) = change-kept _
 
     delete-kept : (s : Option Stop) → Kept v (deleteBy end h g v s)
-    unfolding changeBy
     delete-kept (some corrupt) = refuse-kept v refusal.corruptEntry
     delete-kept none = refuse-kept v refusal.absent
-    delete-kept (some (found j)) =
-        kept-either v (noDeletion g v) _ _ (λ b. refuse-kept v refusal.deletionsFull)
-        (λ b. keeping v _ _ _ _ (rw (append-nil (deletionPlan h g (v .state .deletions) j (v .ram)))
-        (deletion-bounded (v .state .deletions) j (v .ram) (leb-false (deletionCapacity g) (v .state .deletions) b))))
+    delete-kept (some (found j)) = change-kept _
 
     lookup-kept : (opened daPages : ℕ) (s : Option Stop) → Kept v (lookupAfter g v opened daPages s)
     unfolding lookupAfter

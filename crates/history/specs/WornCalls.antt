@@ -1,26 +1,29 @@
--- A call on a volume with other marks: where those are as fresh and the call is not refused by 7, it is the same call. A format on
+-- A call on a volume with other marks, whatever the bytes: where those inside the volume are as fresh, it is the same call. A format on
 -- any other marks is the same format.
-use mathlib.Core.Path.{_≡_, refl, _∙_}
+use mathlib.Core.Path.{_≡_, refl}
 use mathlib.Core.Bool.{Bool, true, false, _&&_, cond}
 use mathlib.Core.Option.{Option, none, some}
 use mathlib.Core.List.{List}
 use Prim.Native.Nat.{ℕ, _<_}
 use lib.ListN.{length, getD}
 use Rattle.memory.specs.Cases.{either, bool?}
-use Rattle.layout.specs.Geometry.{Geometry, geometry, allowed, spareSize, Sizes, unitOf}
-use Rattle.layout.specs.Flash.{flashOf, Op, fresh, applyAll, Planned, planOps, allFresh}
+use Rattle.layout.specs.Geometry.{Geometry, geometry, allowed, blocks, spareSize, Sizes, unitOf}
+use Rattle.layout.specs.Flash.{flashOf, fresh, applyAll, Planned, planOps, allFresh}
 use Rattle.layout.specs.Hash.{Family}
 use Rattle.layout.specs.Items.{Record}
 use Rattle.layout.specs.Keys.{Key}
 use Rattle.layout.specs.Refusals as refusal
 use Rattle.layout.specs.Search.{Stop, found, corrupt}
-use Rattle.layout.specs.Calls.{Volume, Call, insert, update, delete, lookup, refused, Result, refuse, badState, tooShort, judgeFirst}
-use Rattle.layout.specs.Calls.{tryAt, maybeIn, searchAt, search, commit, noRoom, noDeletion, lookupAfter, Edit, one, changeBy, change}
+use Rattle.layout.specs.Calls.{Volume, Call, insert, update, delete, lookup, Result, refuse, badState, tooShort, judgeFirst}
+use Rattle.layout.specs.Calls.{tryAt, maybeIn, searchAt, search, Commit, commit, noRoom, noDeletion, lookupAfter, Edit, one, changeBy}
 use Rattle.layout.specs.Calls.{tryDeletion, maybeDeleted, testDeletion, tryCost, daPagesAt, searchDaPages}
 use Rattle.layout.specs.Calls.{deletes, ramDeleted, inserts, ramInserted}
-use Rattle.layout.specs.Calls.{formatted, format, insertAfter, updateAfter, deleteAfter, answer, call}
-use Rattle.history.specs.Runs.{Possible}
+use Rattle.layout.specs.Calls.{formatted, format, insertBy, updateBy, deleteBy, answerBy, call}
+use Rattle.laws.specs.Sound.{SizesSound, sound}
 use Rattle.history.specs.ProgramOrder.{Below}
+use Rattle.history.specs.EraseOrder.{inside-below}
+use Rattle.history.specs.Inside.{PlanInside, inside-ops}
+use Rattle.history.specs.Every.{state-allowed, change-inside}
 use Rattle.history.specs.Worn.{withSpare}
 use Rattle.history.specs.WornLaws.{plan-same, fresh-worn}
 
@@ -63,10 +66,6 @@ format-done v sizes =
 
 -- ---- a call
 
--- results of a call on v and on v with another spare area
-record Alike (v : Volume) (spare : List ℕ) (r s : Result) : Type 0 where
-  is : Possible (r .outcome) → Below (spareSize (geometry (v .state .sizes))) (r .ops) → s ≡ redone (v .state .sizes) spare v r
-
 module _ (h : Family) (v : Volume) (spare : List ℕ) where
   abbrev g : Geometry
   g = geometry (v .state .sizes)
@@ -74,19 +73,23 @@ module _ (h : Family) (v : Volume) (spare : List ℕ) where
   abbrev w : Volume
   w = withSpare spare v
 
-  alike-either : (t : Bool) (r s r′ s′ : Result) → Alike v spare r r′ → Alike v spare s s′ → Alike v spare (cond t r s) (cond t r′ s′)
-  alike-either true r s r′ s′ a b = a
-  alike-either false r s r′ s′ a b = b
+  -- a result on v, and the same on v with the other spare area
+  abbrev Alike : Result → Result → Type 0
+  Alike r s = s ≡ redone (v .state .sizes) spare v r
 
-  refuse-alike : (i : ℕ) → Alike v spare (refuse v i) (refuse w i)
-  refuse-alike i = record { is = λ p l. refl }
+  pub alike-either : (t : Bool) (r s r′ s′ : Result) → (t ≡ true → Alike r r′) → (t ≡ false → Alike s s′)
+      → Alike (cond t r s) (cond t r′ s′)
+  alike-either true r s r′ s′ a b = a refl
+  alike-either false r s r′ s′ a b = b refl
 
-  lookup-alike : (opened daPages : ℕ) (s : Option Stop)
-      → Alike v spare (lookupAfter g v opened daPages s) (lookupAfter g w opened daPages s)
+  refuse-alike : (i : ℕ) → Alike (refuse v i) (refuse w i)
+  refuse-alike i = refl
+
+  lookup-alike : (opened daPages : ℕ) (s : Option Stop) → Alike (lookupAfter g v opened daPages s) (lookupAfter g w opened daPages s)
   unfolding lookupAfter
   lookup-alike opened daPages (some corrupt) = refuse-alike refusal.corruptEntry
-  lookup-alike opened daPages none = record { is = λ p l. refl }
-  lookup-alike opened daPages (some (found j)) = record { is = λ p l. refl }
+  lookup-alike opened daPages none = refl
+  lookup-alike opened daPages (some (found j)) = refl
 
   -- the search does not look at marks
   pub search-same : (key : Key) → search h g w key ≡ search h g v key
@@ -107,57 +110,67 @@ module _ (h : Family) (v : Volume) (spare : List ℕ) where
   inserted-same none ram = (refl, refl)
   inserted-same (some r) ram = (refl, refl)
 
-  module _ (same : (x : ℕ) → x < spareSize g → fresh (getD spare x 0) ≡ fresh (getD (v .flash .spare) x 0)) where
-    commit-alike : (n d : ℕ) (plan : List Planned) (ram : List ℕ) → Alike v spare (commit g v n d plan ram) (commit g w n d plan ram)
-    unfolding commit
-    commit-alike n d plan ram = record {
-      is = λ possible low.
-          let ops : List Op = planOps (g .u) plan (v .flash) in
-          either (bool? (allFresh (v .flash .spare) ops))
-          (λ a.
-          let inside : Below (spareSize g) ops = rw a at low in
-          let also : allFresh spare ops ≡ true = fresh-worn (spareSize g) (v .flash .spare) spare same ops inside ∙ a in
-          rw (plan-same (g .u) plan (v .flash) (w .flash) refl, a, also))
-          (λ a. let not-7 : Possible (refused refusal.notFresh) = rw a at possible in absurd (not-7 .2 refl));
-    }
+  -- a way to end a change that is the same where the plan lies inside the volume
+  abbrev pub AlikeEnd : Commit → Type 0
+  AlikeEnd end =
+      (n d : ℕ) (plan : List Planned) (ram : List ℕ) → PlanInside (g .u) (blocks g) plan
+      → Alike (end g v n d plan ram) (end g w n d plan ram)
 
-    change-alike : (e : Edit) → Alike v spare (change h g v e) (change h g w e)
+  module _ (ok : SizesSound (v .state .sizes)) (end : Commit) (ends : AlikeEnd end) where
+    change-alike : (e : Edit) → Alike (changeBy end h g v e) (changeBy end h g w e)
     unfolding changeBy
     change-alike e =
         let D = deleted-same (e .deletes) in
         let I = inserted-same (e .inserts) (ramDeleted h g v (e .deletes)) in
         rw (D .0, D .1, I .0, I .1)
-        (alike-either (one (e .inserts) && noRoom g v) _ _ _ _ (refuse-alike refusal.full)
-        (alike-either (one (e .deletes) && noDeletion g v) _ _ _ _ (refuse-alike refusal.deletionsFull) (commit-alike _ _ _ _)))
+        (alike-either (one (e .inserts) && noRoom g v) _ _ _ _ (λ a. refuse-alike refusal.full)
+        (λ a. alike-either (one (e .deletes) && noDeletion g v) _ _ _ _ (λ b. refuse-alike refusal.deletionsFull)
+        (λ b. ends _ _ _ _ (change-inside h (v .state .sizes) ok v e a b))))
 
-    insert-alike : (r : Record) (s : Option Stop) → Alike v spare (insertAfter h g v r s) (insertAfter h g w r s)
+    insert-alike : (r : Record) (s : Option Stop) → Alike (insertBy end h g v r s) (insertBy end h g w r s)
     insert-alike r (some corrupt) = refuse-alike refusal.corruptEntry
     insert-alike r (some (found j)) = refuse-alike refusal.present
     insert-alike r none = change-alike _
 
-    update-alike : (r : Record) (s : Option Stop) → Alike v spare (updateAfter h g v r s) (updateAfter h g w r s)
+    update-alike : (r : Record) (s : Option Stop) → Alike (updateBy end h g v r s) (updateBy end h g w r s)
     update-alike r (some corrupt) = refuse-alike refusal.corruptEntry
     update-alike r none = change-alike _
     update-alike r (some (found j)) = change-alike _
 
-    delete-alike : (s : Option Stop) → Alike v spare (deleteAfter h g v s) (deleteAfter h g w s)
+    delete-alike : (s : Option Stop) → Alike (deleteBy end h g v s) (deleteBy end h g w s)
     delete-alike (some corrupt) = refuse-alike refusal.corruptEntry
     delete-alike none = refuse-alike refusal.absent
     delete-alike (some (found j)) = change-alike _
 
-    answer-alike : (c : Call) → Alike v spare (answer h g v c) (answer h g w c)
+    pub answer-alike : (c : Call) → Alike (answerBy end h g v c) (answerBy end h g w c)
     answer-alike (insert r) = rw (search-same (r .key)) (insert-alike r (search h g v (r .key) .stop))
     answer-alike (update r) = rw (search-same (r .key)) (update-alike r (search h g v (r .key) .stop))
     answer-alike (delete key) = rw (search-same key) (delete-alike (search h g v key .stop))
     answer-alike (lookup key) = rw (search-same key, pages-same key) (lookup-alike (search h g v key .opened) _ (search h g v key .stop))
 
-    all-alike : (c : Call) → length spare ≡ length (v .flash .spare) → Alike v spare (call h v c) (call h w c)
-    unfolding call judgeFirst
-    all-alike c long =
-        rw (short-same g v spare long)
-        (alike-either (badState (v .state)) _ _ _ _ (refuse-alike refusal.badState)
-        (alike-either (tooShort g (v .flash) (v .ram)) _ _ _ _ (refuse-alike refusal.tooShort) (answer-alike c)))
+  -- 1 and 2 first
+  pub judged-alike : length spare ≡ length (v .flash .spare) → (r s : Result) → (allowed (v .state .sizes) ≡ true → Alike r s)
+      → Alike (judgeFirst v r) (judgeFirst w s)
+  unfolding judgeFirst
+  judged-alike long r s f =
+      rw (short-same g v spare long)
+      (alike-either (badState (v .state)) _ _ _ _ (λ a. refuse-alike refusal.badState)
+      (λ a. alike-either (tooShort g (v .flash) (v .ram)) _ _ _ _ (λ b. refuse-alike refusal.tooShort) (λ b. f (state-allowed v a))))
 
-    pub call-alike : (c : Call) → length spare ≡ length (v .flash .spare) → Possible (call h v c .outcome)
-        → Below (spareSize g) (call h v c .ops) → call h w c ≡ redone (v .state .sizes) spare v (call h v c)
-    call-alike c long possible low = all-alike c long .is possible low
+  module _ (same : (x : ℕ) → x < spareSize g → fresh (getD spare x 0) ≡ fresh (getD (v .flash .spare) x 0)) where
+    -- 7 goes by the marks of the plan's sectors
+    pub commit-alike : AlikeEnd commit
+    unfolding commit
+    commit-alike n d plan ram inside =
+        let low : Below (spareSize g) (planOps (g .u) plan (v .flash))
+        = inside-below (g .u) (blocks g) (planOps (g .u) plan (v .flash)) (inside-ops (g .u) (blocks g) plan (v .flash) inside) in
+        rw (
+          plan-same (g .u) plan (v .flash) (w .flash) refl,
+          fresh-worn (spareSize g) (v .flash .spare) spare same (planOps (g .u) plan (v .flash)) low,
+        )
+        (alike-either (allFresh (v .flash .spare) (planOps (g .u) plan (v .flash))) _ _ _ _ (λ a. refl)
+        (λ a. refuse-alike refusal.notFresh))
+
+    pub call-alike : (c : Call) → length spare ≡ length (v .flash .spare) → call h w c ≡ redone (v .state .sizes) spare v (call h v c)
+    unfolding call
+    call-alike c long = judged-alike long _ _ (λ a. answer-alike (sound _ a) commit commit-alike c)

@@ -16,11 +16,11 @@ use Rattle.layout.specs.Flash.{Flash, Op, program, erase, fresh, apply, applyAl
 use Rattle.layout.specs.Flash.{allFresh}
 use Rattle.layout.specs.Items.{Area, RA, KA, DA}
 use Rattle.layout.specs.Index.{flushesPerRound, inL1, inSet, inFull, setBlocks}
-use Rattle.laws.specs.FreshLaws.{Written, wrongBits, mostWrong, none-wrong}
+use Rattle.laws.specs.FreshLaws.{Written, wrongBits, none-wrong, worn-fresh}
 use Rattle.history.specs.Image.{History, recordsIn, deletionsIn, filtersIn, deletionFiltersIn, areaSpareByte, indexSpareByte}
 use Rattle.history.specs.Image.{spareImage}
 use Rattle.history.specs.ProgramOrder.{Below}
-use Rattle.history.specs.Worn.{ByteKept}
+use Rattle.history.specs.Worn.{Worn, ByteKept}
 
 -- ---- the marks of a history are 00 and FF
 
@@ -150,11 +150,16 @@ module _ (u : ℕ) where
       kept-then x c (apply u o c) (applyAll u os (apply u o c)) c′ (apply u o c′) (applyAll u os (apply u o c′))
       (one-kept o c c′ x e) (all-kept os (apply u o c) (apply u o c′) x (one-length o c′ ∙ e ∙ sym (one-length o c)))
 
--- marks that are kept stay within three wrong bits
-pub kept-worn : (before after worn-before worn-after : ℕ) → ByteKept before after worn-before worn-after
-    → wrongBits worn-before before ≤ mostWrong → wrongBits worn-after after ≤ mostWrong
-kept-worn a b c d (inl p) few = rw (p .0, p .1) few
-kept-worn a b c d (inr p) few = rw (p .0, none-wrong b) (omega arith)
+-- marks that are kept get no more wrong bits
+pub kept-worn : (k before after worn-before worn-after : ℕ) → ByteKept before after worn-before worn-after
+    → wrongBits worn-before before ≤ k → wrongBits worn-after after ≤ k
+kept-worn k a b c d (inl p) few = rw (p .0, p .1) few
+kept-worn k a b c d (inr p) few = rw (p .0, none-wrong b) (omega arith)
+
+-- worn marks of a volume whose own are 00 and FF are as fresh as these
+pub as-fresh : (N : ℕ) (sound worn : List ℕ) → ((x : ℕ) → x < N → Written (getD sound x 0)) → Worn N sound worn
+    → (x : ℕ) → x < N → fresh (getD worn x 0) ≡ fresh (getD sound x 0)
+as-fresh N sound worn written W x l = worn-fresh (getD worn x 0) (getD sound x 0) (written x l) (omega (arith, W .wrong x l))
 
 -- ---- refusal 7
 

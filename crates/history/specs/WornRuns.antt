@@ -7,11 +7,11 @@ use mathlib.Core.List.{List, [], _∷_}
 use Prim.Native.Nat.{ℕ, _<_}
 use lib.ListN.{length, getD}
 use Rattle.layout.specs.Geometry.{Geometry, geometry, allowed, spareSize, Sizes, unitOf}
-use Rattle.layout.specs.Flash.{Flash, flashOf, fresh, applyAll}
+use Rattle.layout.specs.Flash.{Flash, flashOf, applyAll}
 use Rattle.layout.specs.Hash.{Family}
 use Rattle.layout.specs.Calls.{Volume, Call, Result, tooShort, format, call}
 use Rattle.layout.specs.FiniteMap.{Map, emptyMap, mapOf}
-use Rattle.laws.specs.FreshLaws.{worn-fresh}
+use Rattle.laws.specs.FreshLaws.{Written}
 use Rattle.laws.specs.Sound.{sound}
 use Rattle.laws.specs.Sound as units
 use Rattle.history.specs.FlashLaws.{apply-append, apply-spare-length}
@@ -24,7 +24,7 @@ use Rattle.history.specs.Steps.{call-done}
 use Rattle.history.specs.RunLaws.{less}
 use Rattle.history.specs.Reached.{Reached, mapAfter, reach, reach-call, reach-format}
 use Rattle.history.specs.Worn.{Worn, withSpare, SameResult, WornResult, EachSame, SameRun}
-use Rattle.history.specs.WornLaws.{image-written, all-main, all-kept, kept-worn, kept-then}
+use Rattle.history.specs.WornLaws.{image-written, all-main, all-kept, kept-worn, kept-then, as-fresh}
 use Rattle.history.specs.WornCalls.{redone, format-alike, format-done, call-alike}
 
 -- ---- one result
@@ -39,7 +39,7 @@ module _ (sizes : Sizes) (v : Volume) (spare : List ℕ) (r : Result) (long : le
   abbrev worn : Flash
   worn = applyAll u (r .ops) (flashOf (v .flash .main) spare)
 
-  redone-same : SameResult sizes v (withSpare spare v) r (redone sizes spare v r)
+  pub redone-same : SameResult sizes v (withSpare spare v) r (redone sizes spare v r)
   redone-same = record {
     outcome = refl;
     count = refl;
@@ -52,7 +52,7 @@ module _ (sizes : Sizes) (v : Volume) (spare : List ℕ) (r : Result) (long : le
     spare-kept = λ x. rw done at (all-kept u (r .ops) (v .flash) (flashOf (v .flash .main) spare) x long);
   }
 
-  redone-worn : Worn (spareSize (geometry sizes)) (v .flash .spare) spare
+  pub redone-worn : Worn (spareSize (geometry sizes)) (v .flash .spare) spare
       → WornResult sizes v (withSpare spare v) r (redone sizes spare v r)
   redone-worn W = record {
     same = redone-same;
@@ -60,7 +60,7 @@ module _ (sizes : Sizes) (v : Volume) (spare : List ℕ) (r : Result) (long : le
       long =
           apply-spare-length u (r .ops) (flashOf (v .flash .main) spare) ∙ long ∙ sym (apply-spare-length u (r .ops) (v .flash))
           ∙ ap (λ (c : Flash). length (c .spare)) done;
-      wrong = λ x l. kept-worn _ _ _ _ (redone-same .spare-kept x) (W .wrong x l);
+      wrong = λ x l. kept-worn _ _ _ _ _ (redone-same .spare-kept x) (W .wrong x l);
     };
   }
 
@@ -70,21 +70,26 @@ module _ (h : Family) (sizes : Sizes) where
   abbrev g : Geometry
   g = geometry sizes
 
+  -- the marks of a history are 00 and FF
+  holds-written : (can : allowed sizes ≡ true) (H : History) (C : Flash) (ram : List ℕ) → Holds h sizes H C ram → (x : ℕ) → x < spareSize g
+      → Written (getD (C .spare) x 0)
+  holds-written can H C ram I x l =
+      let is : getD (C .spare) x 0 ≡ spareImage g H x
+      = spare-by-address h g (sound sizes can .e) (units.unit sizes (sound sizes can)) H C ram (I .parts) (I .work) x l in
+      rw is (image-written g H x)
+
+  pub reached-written : (v : Volume) (m : Map) → Reached h sizes v m → (x : ℕ) → x < spareSize g → Written (getD (v .flash .spare) x 0)
+  reached-written v m X x l = holds-written (X .can) (X .H) (v .flash) (v .ram) (X .holds) x l
+
   module _ (can : allowed sizes ≡ true) (H : History) (C : Flash) (ram : List ℕ) (m : Map) (c : Call) (I : Holds h sizes H C ram)
       (L : Live H m) (k : KeyWord c) (spare : List ℕ) (W : Worn (spareSize g) (C .spare) spare) where
     abbrev v : Volume
     v = volumeOf sizes H C ram
 
-    as-fresh : (x : ℕ) → x < spareSize g → fresh (getD spare x 0) ≡ fresh (getD (C .spare) x 0)
-    as-fresh x l =
-        let is : getD (C .spare) x 0 ≡ spareImage g H x
-        = spare-by-address h g (sound sizes can .e) (units.unit sizes (sound sizes can)) H C ram (I .parts) (I .work) x l in
-        worn-fresh (getD spare x 0) (getD (C .spare) x 0) (rw is (image-written g H x)) (W .wrong x l)
-
     one-same : WornResult sizes v (withSpare spare v) (call h v c) (call h (withSpare spare v) c)
     one-same =
         let X = call-done h sizes (sound sizes can) can H C ram I c k (less H m L) in
-        rw (call-alike h v spare as-fresh c (W .long) (X .possible) (X .inside))
+        rw (call-alike h v spare (as-fresh (spareSize g) (C .spare) spare (holds-written can H C ram I) W) c (W .long))
         (redone-worn sizes v spare (call h v c) (W .long) (X .flash-is) W)
 
   moved : (v v′ : Volume) (spare : List ℕ) (c : Call) → v ≡ v′
