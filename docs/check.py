@@ -2,8 +2,9 @@
 """check.py: holds the documents to the tree; prints what is wrong, and ends with status 1 if anything is.
 
 Of README files and docs/*.md: lines of 140 characters at most, links that lead somewhere. Of these and of the landings: no
-placeholder, a word of capitals on a line of its own. Of ARCHITECTURE.md: every name stands in the file that it is said to be in,
-every edit is there, and the contract of every function in a column "code" cites what its row says.
+placeholder, a word of capitals on a line of its own. Of README.md: its lines of C stand as they are in an example. Of
+ARCHITECTURE.md: every name stands in the file that it is said to be in, every edit is there, and the contract of every function in a
+column "code" cites what its row says.
 """
 
 import pathlib
@@ -58,6 +59,14 @@ def check_document(path):
         wrong.append(f"{path.relative_to(ROOT)}: nothing uses the reference [{label}]")
     for label in sorted(used - set(known)) if known else []:
         wrong.append(f"{path.relative_to(ROOT)}: no reference [{label}]")
+
+
+def check_quotes(path):
+    """Lines of C, between ```c and ```, are those of a file of examples."""
+    sources = [source.read_text(encoding="utf-8") for source in sorted((ROOT / "examples").glob("*.c"))]
+    for quote in re.findall(r"^```c\n(.*?)^```$", path.read_text(encoding="utf-8"), re.M | re.S):
+        if not any("\n" + quote in source for source in sources):
+            wrong.append(f"{path.relative_to(ROOT)}: no example has the lines from {quote.splitlines()[0]!r} on")
 
 
 def check_placeholders(path):
@@ -126,6 +135,7 @@ for document in READMES + sorted((ROOT / "docs").glob("*.md")):
     check_document(document)
 for document in READMES + sorted((ROOT / "docs").glob("**/*.md")):
     check_placeholders(document)
+check_quotes(ROOT / "README.md")
 check_names(ROOT / "docs" / "ARCHITECTURE.md")
 print("\n".join(wrong) or "the documents agree with the tree")
 sys.exit(1 if wrong else 0)

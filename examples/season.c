@@ -23,7 +23,8 @@ static level_store_state report(const char *what, level_store_change c)
 /* A tab as the spreadsheet exports it: the rows before a malformed one are loaded. */
 static level_store_state load(level_store_state s, const char *tab)
 {
-    level_store_load_result r = level_store_load(s, (const uint8_t *)tab, strlen(tab), data, sizeof data, spare, sizeof spare, ram, sizeof ram);
+    level_store_load_result r =
+        level_store_load(s, (const uint8_t *)tab, strlen(tab), data, sizeof data, spare, sizeof spare, ram, sizeof ram);
     printf("load     %u rows", r.rows);
     if (r.refusal != LEVEL_STORE_OK)
         printf(", then refused: %s", level_store_refusal_text(r.refusal));

@@ -31,20 +31,21 @@
  * steps: it stores its intent in the header, does its operations on the chip, each a sector programmed or a block erased, and stores the
  * finished ram with the new state and without the intent. The hardware has to see to it that each step happens wholly or not at all,
  * and that they happen in this order: here a step is many plain stores, so the arrays are a copy, out of which a driver commits step
- * after step. Power may then be lost between any two steps, during a restart too: restart finishes the call,
- * and all bytes and the state are those of the call never cut. Before the intent is stored nothing has changed, and the call is not
- * made. Which of the two it was is seen by the state: every accepted insert, update and delete raises n or d, or both. Each row of a
- * load is such a call, and the rows behind the one that was cut are not loaded. While a call is pending, all calls but restart and
- * format are refused by 10. A format may be cut like the others, and makes a volume whatever was there. If ram is lost, only a format
- * helps: the pages that are not full yet and the counts are nowhere else. Calls stay safe then, but what they answer is no longer what
- * was stored.
+ * after step (how, is said at level_store_format_cut). Power may then be lost between any two steps, during a restart too: restart
+ * finishes the call, and all bytes and the state are those of the call never cut. Before the intent is stored nothing has changed, and
+ * the call is not made. Which of the two it was is seen by the state: every accepted insert, update and delete raises n or d, or both.
+ * Each row of a load is such a call, and the rows behind the one that was cut are not loaded. While a call is pending, all calls but
+ * restart and format are refused by 10. A format may be cut like the others, and makes a volume whatever was there. If ram is lost,
+ * only a format helps: the pages that are not full yet and the counts are nowhere else. Calls stay safe then, but what they answer is
+ * no longer what was stored.
  *
  * Several callers. There is no static data, so calls on different volumes may run at the same time. Two calls on the same volume
  * must not, unless both are lookups.
  *
  * Time. Every call ends, within a time that the size of the volume bounds, not that of the answer: a search tries the records of
  * its level, from the newest on, against the deletions, by their filters, until one is live. A level that was updated often and
- * then deleted takes longest. A load takes the time of reading its tab and of its rows' calls.
+ * then deleted takes longest: 0.06 to 0.12 ms after 1,000 updates, 0.09 to 0.18 s after 100,000 (docs/PERFORMANCE.md). A load takes the
+ * time of reading its tab and of its rows' calls.
  *
  * Needs. The library is x86-64 code, 70 KB with its constants, and has no other data. Of C it calls memcpy and memset alone. It
  * takes at most 7.7 KB of stack, arguments included (measured: format 0.6, lookup 2.2, restart 7.5, load 7.6, insert, update and
@@ -233,16 +234,23 @@ level_store_load_result level_store_load(level_store_state state, const uint8_t 
  * that is programmed; no sector is programmed again, an erase behind that sector perhaps made again. Refused by 2 first if ram is
  * under 64 bytes, and by 1 if the kind is unknown; then as the pending call would be, a format by its four arguments and any other by the
  * header's state, but never by 7 and 10; with none pending by 1, 2. On a volume that was formatted and not altered it is never refused.
- * If it is refused, the pending call cannot be finished, and only a format helps. */
+ * Refused by 2, it may have been lent less than the volume that the header names needs, which a format would destroy: lend more. Refused by
+ * another number, there is no volume, or the pending call cannot be finished, and only a format helps. S, R, D and k of the state
+ * that it gives are the volume's: compare them with your own. examples/power_up.c does all this. */
 level_store_change level_store_restart(level_store_state state,
     uint8_t *data, size_t data_len, uint8_t *spare, size_t spare_len, uint8_t *ram, size_t ram_len);
 
 /* The same calls with a budget: they do the first `budget` of their steps, as if power was lost then, and leave the bytes of that moment.
- * For tests and benches; harmless in firmware, since a restart finishes a call that was stopped, if it has enough steps: one with a small
- * budget may erase the same blocks again each time. A budget of 0 changes nothing; one of all steps or more is the call without a budget.
- * A restart that finds nothing pending has finished 1, steps 0 and the header's state. What budgets b and b + 1 leave differs by one step,
- * though erasing a block of all FF changes no byte: so a driver that works on a copy can learn the steps and their order. A load has no
- * budget of its own: its rows are inserts and updates. */
+ * A budget of 0 changes nothing; one of all steps or more is the call without a budget. A restart that finds nothing pending has
+ * finished 1, steps 0 and the header's state. A load has no budget of its own: its rows are inserts and updates.
+ *
+ * So a driver that works on a copy learns the steps of a call in their order, one at a time (examples/driver.c). The call with budget 1
+ * stores the intent in ram. Then level_store_restart_cut with budget 1, on the same bytes, does the next step: the spare bytes show a
+ * sector programmed or a block erased, and with finished 1 it is the last one, the finished ram. Restarts count as done all up to the last
+ * programmed sector, but no erase behind it, and with budget 1 alone would make the same erase for ever: as long as there are only
+ * erases, the budget has to grow by one for each, and is 1 again behind a programmed sector. Erasing a block of all FF changes no byte.
+ * Measured, an update takes 5.1 us so at S = 16 and 1.4 at S = 512, the call alone 0.8 and 0.5. What budgets b and b + 1 of the call
+ * leave differs by one step as well, but each needs the bytes before the call, a copy of the volume a step: 42 us and 5.1 ms. */
 level_store_cut_result level_store_format_cut(uint64_t budget, level_store_state old,
     uint32_t sector_size, uint32_t ra_blocks, uint32_t da_blocks, uint32_t hash_count,
     uint8_t *data, size_t data_len, uint8_t *spare, size_t spare_len, uint8_t *ram, size_t ram_len);
