@@ -24,7 +24,9 @@
  * random keys 4 opens the fewest; document 01's 3 opens 1.6 to 2.5 times as many (misses among 10^5 records).
  *
  * Spare bytes. A sector is fresh if five or more of the eight bits of its spare byte are one, else it is programmed. Erasing writes FF,
- * programming writes 00; otherwise a spare byte is left as it is. So up to three wrong bits in each change no answer and no other byte.
+ * programming writes 00; otherwise a spare byte is left as it is. So up to three wrong bits in each spare byte of a formatted volume change
+ * no answer and no other byte, of calls and of loads, of calls that are cut and of restarts, though more bits wear between any two of them;
+ * spare bytes past the volume may be any. A format, and a restart that finishes one, read none.
  *
  * Power. At power-up call level_store_restart before anything else, with any state, zeros too, and go on with the state that it gives
  * back: the header has the state of the last finished call, so it need not be kept elsewhere. An accepted changing call is a list of
