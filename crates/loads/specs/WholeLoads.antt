@@ -9,7 +9,7 @@ use native.Mathlib.Omega.{arith}
 use lib.ListN.{length}
 use lib.Dec.{eqb}
 use Rattle.memory.specs.Cases.{either, bool?}
-use Rattle.layout.specs.Geometry.{Sizes, Geometry, geometry, allowed, unitOf}
+use Rattle.layout.specs.Geometry.{Sizes, Geometry, geometry, allowed, spareSize, unitOf}
 use Rattle.layout.specs.Flash.{applyAll}
 use Rattle.layout.specs.Hash.{Family}
 use Rattle.layout.specs.Keys.{KeyOk}
@@ -22,6 +22,7 @@ use Rattle.layout.specs.Several.{Several, goOn, isLive, putCall}
 use Rattle.history.specs.Every.{can-accepted}
 use Rattle.history.specs.Live.{emptyHistory}
 use Rattle.history.specs.Reached.{Reached}
+use Rattle.history.specs.Worn.{Worn, withSpare}
 use Rattle.history.specs.Runs.{after, opsOf, ProgramOrder, ResultAgrees, historyOf, ImageOf, replyOf}
 use Rattle.cuts.specs.Events.{lift, Finished, Numbers, Format, formatEnd, formatOps}
 use Rattle.cuts.specs.Headers.{pages-stored, idle-kind}
@@ -37,6 +38,7 @@ use Rattle.loads.specs.LoadCalls.{accepts, rowCalls, linesCalls, tabCall
 use Rattle.loads.specs.LoadMap.{MapLoaded, mapTab, LoadAgrees}
 use Rattle.loads.specs.Moves.{Move, one, tab, MoveWords, afterMoves, callsOf, MovesAgree, calls-leave, demand-3-answers}
 use Rattle.loads.specs.Moves.{load-is, demand-3-loads, demand-2-loads}
+use Rattle.loads.specs.WornLoads.{load-same}
 
 -- ---- a load is document 01's, whatever the bytes
 
@@ -309,3 +311,20 @@ module _ (h : Family) where
     -- "The rule against programming twice counts both runs as one history": these operations keep the chip's program order
     pub loads-in-order : (P : ℕ → Bool) → ProgramOrder (formatOps h v sizes f ++ turnsOps h (formatEnd h v sizes f) (turnsOf ms)) P
     loads-in-order P = turns-in-order h v sizes can long f (turnsOf ms) (turn-numbers ms n) P
+
+-- ---- a load on worn spare bytes (document 02, §3)
+
+-- what a caller sees of it on a sound chip (s) and on a worn one (t): all is the same but the spare bytes, which stay worn
+pub record LoadWorn (N : ℕ) (s t : Several) : Type 0 where
+  pub outcome : t .outcome ≡ s .outcome
+  pub done : t .done ≡ s .done
+  pub volume-is : t .volume ≡ withSpare (t .volume .flash .spare) (s .volume)
+  pub worn : Worn N (s .volume .flash .spare) (t .volume .flash .spare)
+
+pub worn-load : (h : Family) (sizes : Sizes) (w : Volume) (m : Map) (text spare : List ℕ) → Reached h sizes w m
+    → Worn (spareSize (geometry sizes)) (w .flash .spare) spare
+    → LoadWorn (spareSize (geometry sizes)) (loadWhole h (lift w) text) (loadWhole h (withSpare spare (lift w)) text)
+worn-load h sizes w m text spare X W =
+    let L = load-same h sizes w m text spare X W in
+    rw (load-lifted h w text, load-lifted h (withSpare spare w) text)
+    (record { outcome = L .outcome; done = L .done; volume-is = ap lift (L .volume-is); worn = L .worn })
