@@ -109,7 +109,8 @@ static enum answer ram_store(const uint8_t *bytes)
 static unsigned questions; /* restarts that were asked for a step */
 
 /* Does on the chip what the copy shows and the chip does not, one operation at most. The spare bytes tell where it is: a volume that was
- * formatted has no block whose spare bytes are all ones and whose other bytes are not. */
+ * formatted has no block whose spare bytes are all ones and whose other bytes are not. This chip shows no wrong bits; on one that does,
+ * compare with a second copy of the spare bytes in memory. */
 static enum answer carry_over(int *programmed)
 {
     size_t block, sector;

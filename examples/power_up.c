@@ -16,7 +16,7 @@ enum power {
     POWER_READY,     /* the volume as it was left; a call that was cut is finished */
     POWER_FORMATTED, /* an empty volume, because there was none or its pending call cannot be finished: load the levels again */
     POWER_OTHER,     /* a sound volume, but the S, R, D or k of its state are not this firmware's */
-    POWER_LARGER,    /* nothing is touched: the header names a volume that needs more bytes than are lent */
+    POWER_LARGER,    /* nothing is touched: the header names a volume that needs more than is lent; a format if there is no more */
     POWER_SHORT      /* nothing is touched: the program lends less than its own volume needs, and has to be mended */
 };
 

@@ -33,7 +33,7 @@
  * steps: it stores its intent in the header, does its operations on the chip, each a sector programmed or a block erased, and stores the
  * finished ram with the new state and without the intent. The hardware has to see to it that each step happens wholly or not at all,
  * and that they happen in this order: here a step is many plain stores, so the arrays are a copy, out of which a driver commits step
- * after step (how, is said at level_store_format_cut). Power may then be lost between any two steps, during a restart too: restart
+ * after step (level_store_format_cut says how). Power may then be lost between any two steps, during a restart too: restart
  * finishes the call, and all bytes and the state are those of the call never cut. Before the intent is stored nothing has changed, and
  * the call is not made. Which of the two it was is seen by the state: every accepted insert, update and delete raises n or d, or both.
  * Each row of a load is such a call, and the rows behind the one that was cut are not loaded. While a call is pending, all calls but
@@ -236,8 +236,8 @@ level_store_load_result level_store_load(level_store_state state, const uint8_t 
  * that is programmed; no sector is programmed again, an erase behind that sector perhaps made again. Refused by 2 first if ram is
  * under 64 bytes, and by 1 if the kind is unknown; then as the pending call would be, a format by its four arguments and any other by the
  * header's state, but never by 7 and 10; with none pending by 1, 2. On a volume that was formatted and not altered it is never refused.
- * Refused by 2, it may have been lent less than the volume that the header names needs, which a format would destroy: lend more. Refused by
- * another number, there is no volume, or the pending call cannot be finished, and only a format helps. S, R, D and k of the state
+ * Refused by 2: the header names a volume that needs more than is lent. It may be sound, and a format would destroy it: lend more. Refused
+ * by another number, there is no volume, or the pending call cannot be finished, and only a format helps. S, R, D and k of the state
  * that it gives are the volume's: compare them with your own. examples/power_up.c does all this. */
 level_store_change level_store_restart(level_store_state state,
     uint8_t *data, size_t data_len, uint8_t *spare, size_t spare_len, uint8_t *ram, size_t ram_len);

@@ -1,5 +1,6 @@
--- What calls, formats and restarts in any order, each with any budget, are told from a format on: a call what the map says that has made
--- the calls begun, a call asked while another is pending 10, a format what document 01's is told; no restart is refused.
+-- What calls, formats and restarts in any order, each with any budget, are told from a format on: a call is told what the map says after
+-- the calls begun, or 10 while another call is pending (1, 2 or 10 while a format is), a format what document 01's is told; no restart is
+-- refused.
 use mathlib.Core.Path.{_≡_, refl, ap, _∙_}
 use mathlib.Core.Logic.{_⊎_}
 use mathlib.Core.Bool.{Bool, true, false}

@@ -19,7 +19,7 @@ use Rattle.layout.specs.Flash.{flashOf, Op, program, erase, fresh, allFr
 use Rattle.layout.specs.Hash.{fnvFamily, fnvFrom, positions}
 use Rattle.layout.specs.Index.{rowBit, rowByte, bitAt, setByte, filterRam}
 use Rattle.layout.specs.Items.{RA, recordOf, entryBytes, put, Place, itemRam}
-use Rattle.layout.specs.Search.{Stop, found, corrupt, tryEntry, scan, scanCost, pagesCost}
+use Rattle.layout.specs.Search.{Stop, found, corrupt, tryEntry, scan, scanCost, pagesCost, costFrom}
 use Rattle.layout.specs.Calls.{Volume, Outcome, accepted, hit, miss, refused, Result, tooShort, changeBy, formatted, format}
 use Rattle.layout.specs.Calls.{keyIndex, performed, lookupAfter, recordPlace, insertAfter, deleteAfter, pageFilter, newFilter}
 
@@ -85,11 +85,12 @@ unfolding allFresh fresh onesIn
 fresh-each = refl
 
 -- ---- pages of deletions opened: what comes behind the end of a search costs nothing. Two pages of four entries, each try at one page; the
--- search ends at entry 5, in the newer page
+-- search ends at entry 5, in the newer page, nowhere, nowhere with the newer page shut, and at entry 9, the last of two in RAM
 
 pub ends-cost : pagesCost (λ p. true) (λ j. cond (eqb j 5) (some (found 5)) none) (λ j. 1) 4 2
-    ∷ pagesCost (λ p. true) (λ j. none) (λ j. 1) 4 2 ∷ pagesCost (λ p. eqb p 0) (λ j. none) (λ j. 1) 4 2 ∷ []
-    ≡ 3 ∷ 8 ∷ 4 ∷ []
+    ∷ pagesCost (λ p. true) (λ j. none) (λ j. 1) 4 2 ∷ pagesCost (λ p. eqb p 0) (λ j. none) (λ j. 1) 4 2
+    ∷ costFrom (λ p. true) (λ j. cond (eqb j 9) (some (found 9)) none) (λ j. 1) 4 10 ∷ []
+    ≡ 3 ∷ 8 ∷ 4 ∷ 1 ∷ []
 unfolding pagesCost scanCost scan
 ends-cost = refl
 

@@ -23,7 +23,7 @@ use Rattle.layout.specs.Search.{costFrom}
 use Rattle.layout.specs.Calls.{Volume, Call, insert, update, delete, lookup, keyIndex, badState, tooShort, tryAt, searchAt}
 use Rattle.layout.specs.Calls.{halfFilter, tryDeletion, maybeDeleted, testDeletion, tryCost, daPagesAt, deletionRam, deletionFilters}
 use Rattle.layout.specs.Calls.{pageFilter, Outcome, accepted, hit, miss, refused, Result, deletionPlan, insertionPlan, commit, changeBy, change}
-use Rattle.layout.specs.Calls.{updateAfter}
+use Rattle.layout.specs.Calls.{updateAfter, maybeIn, lookupAfter, answer}
 use Rattle.layout.specs.FiniteMap.{Map, emptyMap, Reply, accepts, hits, misses, refuses, stepMap, find, without}
 use Rattle.layout.specs.Examples.{sectorsOf, blocksOf}
 
@@ -232,6 +232,31 @@ pub da-pages : daPagesAt fnvFamily (geometry (sizesOf 16 1 1 3)) tested 20 17 7 
 unfolding write wordsBytes sameKey itemWord scan scanCost searchPages tryDeletion maybeDeleted testDeletion tryAt tryCost daPagesAt allOf
     filterBit bitAt bit positions tab tabFrom fnvFrom
 da-pages = refl
+
+-- a lookup tells both counts, that of key 7 those of its search in RAM alone; with all bits set in the SKA page, one of key 9 opens both
+-- pages of entries in vain
+abbrev bothCounts : ℕ → List ℕ
+bothCounts key =
+    let v : Volume = record { state = tested .state; flash = tested .flash; ram = write (tested .ram) 192 (replicate 64 255) } in
+    let r : Result = answer fnvFamily (geometry (sizesOf 16 1 1 3)) v (lookup key) in
+    r .count ∷ r .daPages ∷ []
+
+pub lookup-counts : bothCounts 7 ∷ bothCounts 9 ∷ [] ≡ (0 ∷ 2 ∷ []) ∷ (2 ∷ 0 ∷ []) ∷ []
+unfolding write wordsBytes sameKey itemWord scan scanCost searchPages pagesCost tryDeletion maybeDeleted testDeletion tryAt tryCost maybeIn
+    searchAt daPagesAt lookupAfter allOf filterBit bitAt bit positions tab tabFrom fnvFrom
+lookup-counts = refl
+
+-- "opening a page only if its filter, .. has all three bits": filter 0 of one, in RAM, has bits 2, 5 and 11
+pub filter-asked :
+    let v : Volume = record {
+      state = stateOf (sizesOf 16 1 1 3) 8 0;
+      flash = flashOf [] [];
+      ram = write (replicate 384 0) 192 (36 ∷ 8 ∷ []);
+    } in
+    num (maybeIn (geometry (sizesOf 16 1 1 3)) v (11 ∷ 2 ∷ 5 ∷ []) 0) ∷ num (maybeIn (geometry (sizesOf 16 1 1 3)) v (11 ∷ 2 ∷ 3 ∷ []) 0) ∷ []
+    ≡ 1 ∷ 0 ∷ []
+unfolding write maybeIn allOf filterBit bitAt bit
+filter-asked = refl
 
 -- the call that fills the DA page leaves them so, "first half first", and the DA page, bytes 128 to 191, zeroed
 abbrev filled : List ℕ

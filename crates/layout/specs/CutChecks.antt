@@ -16,12 +16,12 @@ use Rattle.layout.specs.Flash.{flashOf, Op, program, erase, Planned, kno
 use Rattle.layout.specs.Hash.{fnvFamily}
 use Rattle.layout.specs.Search.{searchPages, scan}
 use Rattle.layout.specs.Calls.{Volume, insert, update, delete, lookup, Outcome, accepted, hit, miss, refused, Result, refuse}
-use Rattle.layout.specs.Calls.{badState, tooShort, judgeFirst, format, searchAt, tryAt, lookupAfter, changeBy, insertionPlan}
+use Rattle.layout.specs.Calls.{badState, tooShort, judgeFirst, formatted, format, searchAt, tryAt, lookupAfter, changeBy, insertionPlan}
 use Rattle.layout.specs.Calls.{insertionRam, commit, deletionPlan, call}
 use Rattle.layout.specs.Later.{freshPlan, laterPlan, commitLater, callAgain}
 use Rattle.layout.specs.Header.{pages, header, intentWords, noIntent, formatWords, headerBytes, headerWord, changing, formatting}
 use Rattle.layout.specs.Header.{pendingOf, pendingIn, kindIn, intended, formatIntended}
-use Rattle.layout.specs.Budgets.{Step, store, callSteps, taken, Cut, cutBy, callFor, restartFor}
+use Rattle.layout.specs.Budgets.{Step, store, callSteps, taken, Cut, cutBy, formatFor, formatCut, callFor, callCut, restartFor, restartCut}
 
 abbrev s : State
 s = stateOf (sizesOf 16 1 1 3) 2 1
@@ -285,3 +285,26 @@ unfolding restartFor callAgain judgeFirst badState allowed memb tooShort pages p
     searchPages scan tryAt itemWord
     sameKey recordBytes entryBytes put pieces tab tabFrom
 goes-on = refl
+
+-- what is told of it with b steps: whether all were done, and how many; a restart stores no intent
+abbrev toldOf : Cut → List ℕ
+toldOf c = num (c .complete) ∷ c .steps ∷ []
+
+-- a format's are its intent, its erases and the finished RAM
+abbrev formatTold : ℕ → List ℕ
+formatTold b =
+    toldOf (formatCut b
+    (record {
+      state = s;
+      flash = flashOf (replicate 21504 255) (replicate 1344 255);
+      ram = replicate 448 0;
+    })
+    (sizesOf 16 1 1 3))
+
+pub cut-steps : toldOf (restartCut fnvFamily 1 waiting) ∷ toldOf (restartCut fnvFamily 3 waiting) ∷ toldOf (callCut fnvFamily 1 waiting (delete 7))
+    ∷ formatTold 2 ∷ formatTold 99 ∷ []
+    ≡ (0 ∷ 1 ∷ []) ∷ (1 ∷ 3 ∷ []) ∷ (0 ∷ 0 ∷ []) ∷ (0 ∷ 2 ∷ []) ∷ (1 ∷ 23 ∷ []) ∷ []
+unfolding restartFor callFor formatFor callAgain judgeFirst badState allowed memb tooShort pages pendingIn headerWord header headerBytes
+    wordsBytes write call format formatted changeBy commit allFresh commitLater laterPlan freshPlan fresh onesIn insertionPlan insertionRam
+    deletionPlan searchAt searchPages scan tryAt itemWord sameKey recordBytes entryBytes put pieces tab tabFrom
+cut-steps = refl

@@ -7,7 +7,7 @@ use Rattle.memory.specs.Bits.{num}
 use Rattle.memory.specs.Power.{log2up}
 use Rattle.layout.specs.Geometry.{Geometry, sizesOf, geometry, blocks, indexBlock, recordCapacity, sectorSizes, sector, page}
 use Rattle.layout.specs.Geometry.{recordsPerPage, entriesPerPage, filterBits, block, deletionsPerPage, deletionsPerFilter}
-use Rattle.layout.specs.Geometry.{fourthSize, sideBlocks, fullSets, deletionSets, ramSize}
+use Rattle.layout.specs.Geometry.{fourthSize, sideBlocks, fullSets, deletionSets, ramSize, deletionCapacity}
 use Rattle.layout.specs.Flash.{Planned, known, made, wipe, plannedFrom}
 use Rattle.layout.specs.Hash.{Family, fnvFrom, fnv1a}
 use Rattle.layout.specs.Index.{Index, BitPlace, inSka, inL1, setPages, setWidth, setPlace, l1Place, flushSector, flushAndBuild}
@@ -131,7 +131,7 @@ examples-hold h key bytes = refl
 
 -- ---- the table of sector sizes: "records a page (S/4)", "entries a page (S/2)", "filter bits m (4S)"; and every other size in bytes or
 -- items that the documents name by S: a page 4S, a block 64S, deletions a page S and a filter S/2, bytes of a filter's fourth S/8, blocks of
--- a side S/4, the RAM 24S; and floor(R/(4S)) and floor(D/S) places for full sets
+-- a side S/4, the RAM 24S, capacities 4RS and 16DS; and floor(R/(4S)) and floor(D/S) places for full sets
 
 abbrev sets : ℕ → ℕ → ℕ → List ℕ
 sets S R D = let g : Geometry = geometry (sizesOf S R D 3) in fullSets g ∷ deletionSets g ∷ []
@@ -141,11 +141,11 @@ units S =
     let u : ℕ = S / 16 in
     sector u ∷ recordsPerPage u ∷ entriesPerPage u ∷ filterBits u ∷ page u ∷ block u ∷ deletionsPerPage u ∷ deletionsPerFilter u
     ∷ fourthSize u ∷ sideBlocks u ∷ ramSize (geometry (sizesOf S 1 1 3))
-    ∷ sets S (4 * S - 1) (S - 1) ++ (sets S (4 * S) S ++ sets S (8 * S - 1) (2 * S - 1))
+    ∷ recordCapacity (geometry (sizesOf S 3 5 3)) ∷ deletionCapacity (geometry (sizesOf S 3 5 3)) ∷ sets S (4 * S - 1) (S - 1) ++ (sets S (4 * S) S ++ sets S (8 * S - 1) (2 * S - 1))
 
 abbrev row : ℕ → List ℕ
 row S =
-    S ∷ S / 4 ∷ S / 2 ∷ (4 * S) ∷ (4 * S) ∷ (64 * S) ∷ S ∷ S / 2 ∷ S / 8 ∷ S / 4 ∷ (24 * S) ∷ 0 ∷ 0 ∷ 1 ∷ 1 ∷ 1 ∷ 1 ∷ []
+    S ∷ S / 4 ∷ S / 2 ∷ (4 * S) ∷ (4 * S) ∷ (64 * S) ∷ S ∷ S / 2 ∷ S / 8 ∷ S / 4 ∷ (24 * S) ∷ (4 * 3 * S) ∷ (16 * 5 * S) ∷ 0 ∷ 0 ∷ 1 ∷ 1 ∷ 1 ∷ 1 ∷ []
 
 -- each of them for each sector size
 abbrev each : (ℕ → List ℕ) → List ℕ → List (List ℕ)
