@@ -77,7 +77,7 @@ extern "C" {
  * deletions, and with them more blocks and a page of ram more: no earlier volume fits it. Version 4 has the header: a volume of version 3
  * fits it once 64 bytes stand behind its ram, the six numbers of its state and then zeros. */
 #define LEVEL_STORE_VERSION_MAJOR 4
-#define LEVEL_STORE_VERSION_MINOR 0
+#define LEVEL_STORE_VERSION_MINOR 1
 #define LEVEL_STORE_VERSION (LEVEL_STORE_VERSION_MAJOR * 1000 + LEVEL_STORE_VERSION_MINOR)
 
 /* Sizes, as constant expressions where the arguments are constants. An argument may be evaluated more than once. */
@@ -199,28 +199,146 @@ LEVEL_STORE_INLINE uint32_t level_store_record_moves(const uint8_t *record) { re
 LEVEL_STORE_INLINE uint32_t level_store_record_goal(const uint8_t *record) { return level_store_read32(record + 8); }
 LEVEL_STORE_INLINE uint32_t level_store_record_word(const uint8_t *record) { return level_store_read32(record + 12); }
 
+/* ---- the library's functions, the same on every processor and from every language
+ *
+ * They take pointers and numbers of 32 and 64 bits and return nothing, which all processors pass alike. A length has 64 bits, also where
+ * size_t has 32. A state is its six numbers S, R, D, k, n, d. An answer is the fields of the call's result in their order, but for those
+ * of 64 bits, which have a pointer of their own. No two arrays may overlap. C programs need not call these: the calls below do, with
+ * structs. */
+void level_store_format_numbers(uint32_t answer[7], const uint32_t old[6],
+    uint32_t sector_size, uint32_t ra_blocks, uint32_t da_blocks, uint32_t hash_count,
+    uint8_t *data, uint64_t data_len, uint8_t *spare, uint64_t spare_len, uint8_t *ram, uint64_t ram_len);
+void level_store_insert_numbers(uint32_t answer[7], const uint32_t state[6],
+    uint32_t key, uint32_t moves, uint32_t goal, uint32_t word,
+    uint8_t *data, uint64_t data_len, uint8_t *spare, uint64_t spare_len, uint8_t *ram, uint64_t ram_len);
+void level_store_update_numbers(uint32_t answer[7], const uint32_t state[6],
+    uint32_t key, uint32_t moves, uint32_t goal, uint32_t word,
+    uint8_t *data, uint64_t data_len, uint8_t *spare, uint64_t spare_len, uint8_t *ram, uint64_t ram_len);
+void level_store_delete_numbers(uint32_t answer[7], const uint32_t state[6], uint32_t key,
+    uint8_t *data, uint64_t data_len, uint8_t *spare, uint64_t spare_len, uint8_t *ram, uint64_t ram_len);
+void level_store_lookup_numbers(uint32_t answer[5], uint64_t *deletion_count, const uint32_t state[6], uint32_t key,
+    const uint8_t *data, uint64_t data_len, const uint8_t *spare, uint64_t spare_len, const uint8_t *ram, uint64_t ram_len);
+void level_store_load_numbers(uint32_t answer[8], const uint32_t state[6], const uint8_t *tab, uint64_t tab_len,
+    uint8_t *data, uint64_t data_len, uint8_t *spare, uint64_t spare_len, uint8_t *ram, uint64_t ram_len);
+void level_store_restart_numbers(uint32_t answer[7], const uint32_t state[6],
+    uint8_t *data, uint64_t data_len, uint8_t *spare, uint64_t spare_len, uint8_t *ram, uint64_t ram_len);
+void level_store_format_cut_numbers(uint32_t answer[8], uint64_t *steps, uint64_t budget, const uint32_t old[6],
+    uint32_t sector_size, uint32_t ra_blocks, uint32_t da_blocks, uint32_t hash_count,
+    uint8_t *data, uint64_t data_len, uint8_t *spare, uint64_t spare_len, uint8_t *ram, uint64_t ram_len);
+void level_store_insert_cut_numbers(uint32_t answer[8], uint64_t *steps, uint64_t budget, const uint32_t state[6],
+    uint32_t key, uint32_t moves, uint32_t goal, uint32_t word,
+    uint8_t *data, uint64_t data_len, uint8_t *spare, uint64_t spare_len, uint8_t *ram, uint64_t ram_len);
+void level_store_update_cut_numbers(uint32_t answer[8], uint64_t *steps, uint64_t budget, const uint32_t state[6],
+    uint32_t key, uint32_t moves, uint32_t goal, uint32_t word,
+    uint8_t *data, uint64_t data_len, uint8_t *spare, uint64_t spare_len, uint8_t *ram, uint64_t ram_len);
+void level_store_delete_cut_numbers(uint32_t answer[8], uint64_t *steps, uint64_t budget, const uint32_t state[6], uint32_t key,
+    uint8_t *data, uint64_t data_len, uint8_t *spare, uint64_t spare_len, uint8_t *ram, uint64_t ram_len);
+void level_store_restart_cut_numbers(uint32_t answer[8], uint64_t *steps, uint64_t budget, const uint32_t state[6],
+    uint8_t *data, uint64_t data_len, uint8_t *spare, uint64_t spare_len, uint8_t *ram, uint64_t ram_len);
+
+/* A state as its six numbers, and back. */
+LEVEL_STORE_INLINE void level_store_state_to(uint32_t numbers[6], level_store_state state)
+{
+    numbers[0] = state.sector_size;
+    numbers[1] = state.ra_blocks;
+    numbers[2] = state.da_blocks;
+    numbers[3] = state.hash_count;
+    numbers[4] = state.records;
+    numbers[5] = state.deletions;
+}
+LEVEL_STORE_INLINE level_store_state level_store_state_from(const uint32_t numbers[6])
+{
+    level_store_state state;
+    state.sector_size = numbers[0];
+    state.ra_blocks = numbers[1];
+    state.da_blocks = numbers[2];
+    state.hash_count = numbers[3];
+    state.records = numbers[4];
+    state.deletions = numbers[5];
+    return state;
+}
+
+/* The results of changing calls, without and with a budget, out of their numbers. */
+LEVEL_STORE_INLINE level_store_change level_store_change_from(const uint32_t answer[7])
+{
+    level_store_change change;
+    change.refusal = answer[0];
+    change.state = level_store_state_from(answer + 1);
+    return change;
+}
+LEVEL_STORE_INLINE level_store_cut_result level_store_cut_from(const uint32_t answer[8], uint64_t steps)
+{
+    level_store_cut_result result;
+    result.refusal = answer[0];
+    result.finished = answer[1];
+    result.steps = steps;
+    result.state = level_store_state_from(answer + 2);
+    return result;
+}
+
+/* ---- the calls */
+
 /* Starts an empty volume of S, R, D and k: erases its blocks, zeroes ram's pages and stores the header. `old` is not judged; it comes
  * back on a refusal. A pending call is forgotten. Refused by 1, 2. */
-level_store_change level_store_format(level_store_state old,
+LEVEL_STORE_INLINE level_store_change level_store_format(level_store_state old,
     uint32_t sector_size, uint32_t ra_blocks, uint32_t da_blocks, uint32_t hash_count,
-    uint8_t *data, size_t data_len, uint8_t *spare, size_t spare_len, uint8_t *ram, size_t ram_len);
+    uint8_t *data, size_t data_len, uint8_t *spare, size_t spare_len, uint8_t *ram, size_t ram_len)
+{
+    uint32_t numbers[6], answer[7];
+    level_store_state_to(numbers, old);
+    level_store_format_numbers(answer, numbers, sector_size, ra_blocks, da_blocks, hash_count,
+        data, data_len, spare, spare_len, ram, ram_len);
+    return level_store_change_from(answer);
+}
 
 /* A new level. Refused by 1, 2, 10, 8, 3, 5, 7. */
-level_store_change level_store_insert(level_store_state state, uint32_t key, uint32_t moves, uint32_t goal, uint32_t word,
-    uint8_t *data, size_t data_len, uint8_t *spare, size_t spare_len, uint8_t *ram, size_t ram_len);
+LEVEL_STORE_INLINE level_store_change level_store_insert(level_store_state state,
+    uint32_t key, uint32_t moves, uint32_t goal, uint32_t word,
+    uint8_t *data, size_t data_len, uint8_t *spare, size_t spare_len, uint8_t *ram, size_t ram_len)
+{
+    uint32_t numbers[6], answer[7];
+    level_store_state_to(numbers, state);
+    level_store_insert_numbers(answer, numbers, key, moves, goal, word, data, data_len, spare, spare_len, ram, ram_len);
+    return level_store_change_from(answer);
+}
 
 /* Values for a level, there or not: its record, if there is one, is deleted, and another inserted. n rises by one, and d if the level was
  * there. Refused by 1, 2, 10, 8, 5, 6, 7; of a level that is not there never by 6. */
-level_store_change level_store_update(level_store_state state, uint32_t key, uint32_t moves, uint32_t goal, uint32_t word,
-    uint8_t *data, size_t data_len, uint8_t *spare, size_t spare_len, uint8_t *ram, size_t ram_len);
+LEVEL_STORE_INLINE level_store_change level_store_update(level_store_state state,
+    uint32_t key, uint32_t moves, uint32_t goal, uint32_t word,
+    uint8_t *data, size_t data_len, uint8_t *spare, size_t spare_len, uint8_t *ram, size_t ram_len)
+{
+    uint32_t numbers[6], answer[7];
+    level_store_state_to(numbers, state);
+    level_store_update_numbers(answer, numbers, key, moves, goal, word, data, data_len, spare, spare_len, ram, ram_len);
+    return level_store_change_from(answer);
+}
 
 /* Takes a level out. Refused by 1, 2, 10, 8, 4, 6, 7. */
-level_store_change level_store_delete(level_store_state state, uint32_t key,
-    uint8_t *data, size_t data_len, uint8_t *spare, size_t spare_len, uint8_t *ram, size_t ram_len);
+LEVEL_STORE_INLINE level_store_change level_store_delete(level_store_state state, uint32_t key,
+    uint8_t *data, size_t data_len, uint8_t *spare, size_t spare_len, uint8_t *ram, size_t ram_len)
+{
+    uint32_t numbers[6], answer[7];
+    level_store_state_to(numbers, state);
+    level_store_delete_numbers(answer, numbers, key, data, data_len, spare, spare_len, ram, ram_len);
+    return level_store_change_from(answer);
+}
 
 /* Finds a level's newest record. Changes nothing. Refused by 1, 2, 10, 8. */
-level_store_lookup_result level_store_lookup(level_store_state state, uint32_t key,
-    const uint8_t *data, size_t data_len, const uint8_t *spare, size_t spare_len, const uint8_t *ram, size_t ram_len);
+LEVEL_STORE_INLINE level_store_lookup_result level_store_lookup(level_store_state state, uint32_t key,
+    const uint8_t *data, size_t data_len, const uint8_t *spare, size_t spare_len, const uint8_t *ram, size_t ram_len)
+{
+    uint32_t numbers[6], answer[5];
+    level_store_lookup_result result;
+    level_store_state_to(numbers, state);
+    level_store_lookup_numbers(answer, &result.deletion_count, numbers, key, data, data_len, spare, spare_len, ram, ram_len);
+    result.refusal = answer[0];
+    result.found = answer[1];
+    result.count = answer[2];
+    result.in_ram = answer[3];
+    result.offset = answer[4];
+    return result;
+}
 
 /* Loads a comma-separated tab (RFC 4180), whose bytes are only read and must not overlap the other arrays: a header
  * level,moves,goal, then rows, if any, of three decimal numbers below 2^32. Leading zeros are allowed; each field, the header's
@@ -228,8 +346,18 @@ level_store_lookup_result level_store_lookup(level_store_state state, uint32_t k
  * is there, with word 0. The load ends at the first row that is malformed or refused; that row changes nothing, the rows before
  * it remain. Refused by 1, 2, 10 and, without the tab's header, 9, all with rows 0; at a row by 9, 8, 5, 6, 7. A tab of no bytes needs
  * no header: it has no rows, is refused by 1, 2 and 10 alone, and nothing is read at tab. One with only a line end is malformed. */
-level_store_load_result level_store_load(level_store_state state, const uint8_t *tab, size_t tab_len,
-    uint8_t *data, size_t data_len, uint8_t *spare, size_t spare_len, uint8_t *ram, size_t ram_len);
+LEVEL_STORE_INLINE level_store_load_result level_store_load(level_store_state state, const uint8_t *tab, size_t tab_len,
+    uint8_t *data, size_t data_len, uint8_t *spare, size_t spare_len, uint8_t *ram, size_t ram_len)
+{
+    uint32_t numbers[6], answer[8];
+    level_store_load_result result;
+    level_store_state_to(numbers, state);
+    level_store_load_numbers(answer, numbers, tab, tab_len, data, data_len, spare, spare_len, ram, ram_len);
+    result.refusal = answer[0];
+    result.rows = answer[1];
+    result.state = level_store_state_from(answer + 2);
+    return result;
+}
 
 /* To be called first at power-up. Finishes the pending call, or finds none and changes nothing; gives the state to go on with. It goes by
  * the header; `state` is not judged, and comes back on a refusal. What counts as done is all up to the last sector of the call's list
@@ -239,8 +367,14 @@ level_store_load_result level_store_load(level_store_state state, const uint8_t 
  * Refused by 2: the header names a volume that needs more than is lent. It may be sound, and a format would destroy it: lend more. Refused
  * by another number, there is no volume, or the pending call cannot be finished, and only a format helps. S, R, D and k of the state
  * that it gives are the volume's: compare them with your own. examples/power_up.c does all this. */
-level_store_change level_store_restart(level_store_state state,
-    uint8_t *data, size_t data_len, uint8_t *spare, size_t spare_len, uint8_t *ram, size_t ram_len);
+LEVEL_STORE_INLINE level_store_change level_store_restart(level_store_state state,
+    uint8_t *data, size_t data_len, uint8_t *spare, size_t spare_len, uint8_t *ram, size_t ram_len)
+{
+    uint32_t numbers[6], answer[7];
+    level_store_state_to(numbers, state);
+    level_store_restart_numbers(answer, numbers, data, data_len, spare, spare_len, ram, ram_len);
+    return level_store_change_from(answer);
+}
 
 /* The same calls with a budget: they do the first `budget` of their steps, as if power was lost then, and leave the bytes of that moment.
  * A budget of 0 changes nothing; one of all steps or more is the call without a budget. A restart that finds nothing pending has
@@ -253,19 +387,57 @@ level_store_change level_store_restart(level_store_state state,
  * erases, the budget has to grow by one for each, and is 1 again behind a programmed sector. Erasing a block of all FF changes no byte.
  * Measured, an update takes 5.1 us so at S = 16 and 1.4 at S = 512, the call alone 0.8 and 0.5. What budgets b and b + 1 of the call
  * leave differs by one step as well, but each needs the bytes before the call, a copy of the volume a step: 42 us and 5.1 ms. */
-level_store_cut_result level_store_format_cut(uint64_t budget, level_store_state old,
+LEVEL_STORE_INLINE level_store_cut_result level_store_format_cut(uint64_t budget, level_store_state old,
     uint32_t sector_size, uint32_t ra_blocks, uint32_t da_blocks, uint32_t hash_count,
-    uint8_t *data, size_t data_len, uint8_t *spare, size_t spare_len, uint8_t *ram, size_t ram_len);
-level_store_cut_result level_store_insert_cut(uint64_t budget, level_store_state state,
+    uint8_t *data, size_t data_len, uint8_t *spare, size_t spare_len, uint8_t *ram, size_t ram_len)
+{
+    uint32_t numbers[6], answer[8];
+    uint64_t steps;
+    level_store_state_to(numbers, old);
+    level_store_format_cut_numbers(answer, &steps, budget, numbers, sector_size, ra_blocks, da_blocks, hash_count,
+        data, data_len, spare, spare_len, ram, ram_len);
+    return level_store_cut_from(answer, steps);
+}
+LEVEL_STORE_INLINE level_store_cut_result level_store_insert_cut(uint64_t budget, level_store_state state,
     uint32_t key, uint32_t moves, uint32_t goal, uint32_t word,
-    uint8_t *data, size_t data_len, uint8_t *spare, size_t spare_len, uint8_t *ram, size_t ram_len);
-level_store_cut_result level_store_update_cut(uint64_t budget, level_store_state state,
+    uint8_t *data, size_t data_len, uint8_t *spare, size_t spare_len, uint8_t *ram, size_t ram_len)
+{
+    uint32_t numbers[6], answer[8];
+    uint64_t steps;
+    level_store_state_to(numbers, state);
+    level_store_insert_cut_numbers(answer, &steps, budget, numbers, key, moves, goal, word,
+        data, data_len, spare, spare_len, ram, ram_len);
+    return level_store_cut_from(answer, steps);
+}
+LEVEL_STORE_INLINE level_store_cut_result level_store_update_cut(uint64_t budget, level_store_state state,
     uint32_t key, uint32_t moves, uint32_t goal, uint32_t word,
-    uint8_t *data, size_t data_len, uint8_t *spare, size_t spare_len, uint8_t *ram, size_t ram_len);
-level_store_cut_result level_store_delete_cut(uint64_t budget, level_store_state state, uint32_t key,
-    uint8_t *data, size_t data_len, uint8_t *spare, size_t spare_len, uint8_t *ram, size_t ram_len);
-level_store_cut_result level_store_restart_cut(uint64_t budget, level_store_state state,
-    uint8_t *data, size_t data_len, uint8_t *spare, size_t spare_len, uint8_t *ram, size_t ram_len);
+    uint8_t *data, size_t data_len, uint8_t *spare, size_t spare_len, uint8_t *ram, size_t ram_len)
+{
+    uint32_t numbers[6], answer[8];
+    uint64_t steps;
+    level_store_state_to(numbers, state);
+    level_store_update_cut_numbers(answer, &steps, budget, numbers, key, moves, goal, word,
+        data, data_len, spare, spare_len, ram, ram_len);
+    return level_store_cut_from(answer, steps);
+}
+LEVEL_STORE_INLINE level_store_cut_result level_store_delete_cut(uint64_t budget, level_store_state state, uint32_t key,
+    uint8_t *data, size_t data_len, uint8_t *spare, size_t spare_len, uint8_t *ram, size_t ram_len)
+{
+    uint32_t numbers[6], answer[8];
+    uint64_t steps;
+    level_store_state_to(numbers, state);
+    level_store_delete_cut_numbers(answer, &steps, budget, numbers, key, data, data_len, spare, spare_len, ram, ram_len);
+    return level_store_cut_from(answer, steps);
+}
+LEVEL_STORE_INLINE level_store_cut_result level_store_restart_cut(uint64_t budget, level_store_state state,
+    uint8_t *data, size_t data_len, uint8_t *spare, size_t spare_len, uint8_t *ram, size_t ram_len)
+{
+    uint32_t numbers[6], answer[8];
+    uint64_t steps;
+    level_store_state_to(numbers, state);
+    level_store_restart_cut_numbers(answer, &steps, budget, numbers, data, data_len, spare, spare_len, ram, ram_len);
+    return level_store_cut_from(answer, steps);
+}
 
 #ifdef __cplusplus
 }

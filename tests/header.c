@@ -1,5 +1,5 @@
-/* The sizes, refusals and accessors of include/level_store.h, held to the library. Plain C89, also C++, so that it can be compiled
- * as each of them:
+/* The sizes, refusals, calls and accessors of include/level_store.h, held to the library. Plain C89, also C++, so that it can be compiled
+ * as each of them, and for every processor (tests/processors/run):
  *   gcc -std=c11 -Wall -Wextra -Werror -O2 -Iinclude tests/header.c target/staticlib/libcapi.a -o target/examples/header
  */
 #include <stdio.h>
@@ -29,11 +29,16 @@ HOLDS(cut_words, offsetof(level_store_cut_result, finished) == 4 && offsetof(lev
 HOLDS(pending, LEVEL_STORE_PENDING == 10);
 HOLDS(state_words, offsetof(level_store_state, da_blocks) == 8 && offsetof(level_store_state, hash_count) == 12
     && offsetof(level_store_state, records) == 16 && offsetof(level_store_state, deletions) == 20);
-#if LEVEL_STORE_VERSION != LEVEL_STORE_VERSION_MAJOR * 1000 + LEVEL_STORE_VERSION_MINOR || LEVEL_STORE_VERSION < 4000
+#if LEVEL_STORE_VERSION != LEVEL_STORE_VERSION_MAJOR * 1000 + LEVEL_STORE_VERSION_MINOR || LEVEL_STORE_VERSION < 4001
 #error "version"
 #endif
 
-static unsigned checks, failures;
+/* Bytes of a chip that there is memory for: a small board cannot lend the largest volumes, which are left out and told. */
+#ifndef MOST_DATA
+#define MOST_DATA 0x40000000
+#endif
+
+static unsigned checks, failures, left_out;
 
 static void hold(int condition, int line, const char *what)
 {
@@ -114,6 +119,10 @@ static void check_blocks(void)
 /* The sizes are enough, and none of them is too large. */
 static void check_sizes(uint32_t S, uint32_t R, uint32_t D)
 {
+    if (LEVEL_STORE_DATA_SIZE(S, R, D) > MOST_DATA) {
+        left_out++;
+        return;
+    }
     lend(S, R, D);
     data_len--;
     CHECK(format(S, R, D) == LEVEL_STORE_TOO_SHORT);
@@ -460,6 +469,9 @@ int main(void)
     check_texts();
     check_power_loss();
     check_accessors();
-    printf("header: %u checks, %u failed\n", checks, failures);
+    printf("header: %u checks, %u failed", checks, failures);
+    if (left_out > 0)
+        printf(", %u volumes left out for their size", left_out);
+    printf("\n");
     return failures != 0;
 }

@@ -1,7 +1,10 @@
-// The level store for firmware in C: include/level_store.h. Each function is the store's call; any state and
-// any bytes may be handed in. Those with a budget of steps are for tests of power cuts.
+// The level store as a C library: what include/level_store.h and the Rust tests call. Each function is the store's call; any state and any
+// bytes may be handed in. Those with a budget of steps are for tests of power cuts.
+// A caller passes pointers and numbers of 32 and 64 bits, and nothing is returned: every processor passes these alike, but not structs,
+// `bool` and narrow results. Which number is which, specs/Numbers.antt says. A number of 64 bits has a reference of its own, so that no
+// halves are put together.
 ghost use mathlib.Core.Path.{_≡_};
-ghost use Rattle.memory.specs.Lent.{before};
+ghost use Rattle.memory.specs.Lent.{before, after};
 ghost use Rattle.layout.specs.Geometry.{sizesOf};
 ghost use Rattle.layout.specs.Hash.{fnvFamily};
 ghost use Rattle.layout.specs.Items.{recordOf};
@@ -11,11 +14,8 @@ ghost use Rattle.state.specs.Contract.{effectOf, given, effectBy, cutOf, cutBy}
 ghost use Rattle.load.specs.Load.{loadWhole};
 ghost use Rattle.load.specs.Contract.{loadedBy};
 ghost use Rattle.lookup.specs.Results.{lookupOf};
+ghost use Rattle.capi.specs.Numbers as numbers;
 use geometry::Sizes;
-use load::Loaded;
-use lookup::LookupResult;
-use state::Change;
-use state::Cut;
 use state::Record;
 use state::Request;
 use state::State;
@@ -23,8 +23,9 @@ use state::State;
 // ---- the calls
 
 #[no_mangle]
-pub extern "C" fn level_store_format(
-    old: State,
+pub extern "C" fn level_store_format_numbers(
+    answer: &mut [u32; 7],
+    old: &[u32; 6],
     sector_size: u32,
     ra_blocks: u32,
     da_blocks: u32,
@@ -32,22 +33,46 @@ pub extern "C" fn level_store_format(
     data: &mut [u8],
     spare: &mut [u8],
     ram: &mut [u8],
-) -> Change
-    ensures { λ r. ⌜ effectBy r «data» spare ram
-        ≡ effectOf (formatWhole (given old «data» spare ram) (sizesOf «sector_size» «ra_blocks» «da_blocks» «hash_count»)) ⌝ }
+)
+    ensures { λ _. ⌜ effectBy (numbers.changeOf (after answer)) «data» spare ram
+        ≡ effectOf (formatWhole (given (numbers.stateOf (before old)) «data» spare ram)
+        (sizesOf «sector_size» «ra_blocks» «da_blocks» «hash_count»)) ⌝ }
 {
     let sizes = Sizes {
+        sector_size: old[0],
+        ra_blocks: old[1],
+        da_blocks: old[2],
+        hash_count: old[3],
+    };
+    let handed = State {
+        sizes,
+        records: old[4],
+        deletions: old[5],
+    };
+    let new = Sizes {
         sector_size,
         ra_blocks,
         da_blocks,
         hash_count,
     };
-    format::format(old, sizes, data, spare, ram)
+    let formatted = format::format(handed, new, data, spare, ram);
+    let s = formatted.state;
+    let z = s.sizes;
+    *answer = [
+        formatted.refusal,
+        z.sector_size,
+        z.ra_blocks,
+        z.da_blocks,
+        z.hash_count,
+        s.records,
+        s.deletions,
+    ];
 }
 
 #[no_mangle]
-pub extern "C" fn level_store_insert(
-    state: State,
+pub extern "C" fn level_store_insert_numbers(
+    answer: &mut [u32; 7],
+    state: &[u32; 6],
     key: u32,
     moves: u32,
     goal: u32,
@@ -55,22 +80,46 @@ pub extern "C" fn level_store_insert(
     data: &mut [u8],
     spare: &mut [u8],
     ram: &mut [u8],
-) -> Change
-    ensures { λ r. ⌜ effectBy r «data» spare ram
-        ≡ effectOf (callWhole fnvFamily (given state «data» spare ram) (insert (recordOf key moves goal word))) ⌝ }
+)
+    ensures { λ _. ⌜ effectBy (numbers.changeOf (after answer)) «data» spare ram
+        ≡ effectOf (callWhole fnvFamily (given (numbers.stateOf (before state)) «data» spare ram)
+        (insert (recordOf key moves goal word))) ⌝ }
 {
+    let sizes = Sizes {
+        sector_size: state[0],
+        ra_blocks: state[1],
+        da_blocks: state[2],
+        hash_count: state[3],
+    };
+    let handed = State {
+        sizes,
+        records: state[4],
+        deletions: state[5],
+    };
     let record = Record {
         key,
         moves,
         goal,
         free: word,
     };
-    calls::insert(state, record, data, spare, ram)
+    let inserted = calls::insert(handed, record, data, spare, ram);
+    let s = inserted.state;
+    let z = s.sizes;
+    *answer = [
+        inserted.refusal,
+        z.sector_size,
+        z.ra_blocks,
+        z.da_blocks,
+        z.hash_count,
+        s.records,
+        s.deletions,
+    ];
 }
 
 #[no_mangle]
-pub extern "C" fn level_store_update(
-    state: State,
+pub extern "C" fn level_store_update_numbers(
+    answer: &mut [u32; 7],
+    state: &[u32; 6],
     key: u32,
     moves: u32,
     goal: u32,
@@ -78,77 +127,197 @@ pub extern "C" fn level_store_update(
     data: &mut [u8],
     spare: &mut [u8],
     ram: &mut [u8],
-) -> Change
-    ensures { λ r. ⌜ effectBy r «data» spare ram
-        ≡ effectOf (callWhole fnvFamily (given state «data» spare ram) (update (recordOf key moves goal word))) ⌝ }
+)
+    ensures { λ _. ⌜ effectBy (numbers.changeOf (after answer)) «data» spare ram
+        ≡ effectOf (callWhole fnvFamily (given (numbers.stateOf (before state)) «data» spare ram)
+        (update (recordOf key moves goal word))) ⌝ }
 {
+    let sizes = Sizes {
+        sector_size: state[0],
+        ra_blocks: state[1],
+        da_blocks: state[2],
+        hash_count: state[3],
+    };
+    let handed = State {
+        sizes,
+        records: state[4],
+        deletions: state[5],
+    };
     let record = Record {
         key,
         moves,
         goal,
         free: word,
     };
-    calls::update(state, record, data, spare, ram)
+    let updated = calls::update(handed, record, data, spare, ram);
+    let s = updated.state;
+    let z = s.sizes;
+    *answer = [
+        updated.refusal,
+        z.sector_size,
+        z.ra_blocks,
+        z.da_blocks,
+        z.hash_count,
+        s.records,
+        s.deletions,
+    ];
 }
 
 #[no_mangle]
-pub extern "C" fn level_store_delete(
-    state: State,
+pub extern "C" fn level_store_delete_numbers(
+    answer: &mut [u32; 7],
+    state: &[u32; 6],
     key: u32,
     data: &mut [u8],
     spare: &mut [u8],
     ram: &mut [u8],
-) -> Change
-    ensures { λ r. ⌜ effectBy r «data» spare ram ≡ effectOf (callWhole fnvFamily (given state «data» spare ram) (delete key)) ⌝ }
+)
+    ensures { λ _. ⌜ effectBy (numbers.changeOf (after answer)) «data» spare ram
+        ≡ effectOf (callWhole fnvFamily (given (numbers.stateOf (before state)) «data» spare ram) (delete key)) ⌝ }
 {
-    calls::delete(state, key, data, spare, ram)
+    let sizes = Sizes {
+        sector_size: state[0],
+        ra_blocks: state[1],
+        da_blocks: state[2],
+        hash_count: state[3],
+    };
+    let handed = State {
+        sizes,
+        records: state[4],
+        deletions: state[5],
+    };
+    let deleted = calls::delete(handed, key, data, spare, ram);
+    let s = deleted.state;
+    let z = s.sizes;
+    *answer = [
+        deleted.refusal,
+        z.sector_size,
+        z.ra_blocks,
+        z.da_blocks,
+        z.hash_count,
+        s.records,
+        s.deletions,
+    ];
 }
 
 #[no_mangle]
-pub extern "C" fn level_store_lookup(
-    state: State,
+pub extern "C" fn level_store_lookup_numbers(
+    answer: &mut [u32; 5],
+    deletion_count: &mut u64,
+    state: &[u32; 6],
     key: u32,
     data: &[u8],
     spare: &[u8],
     ram: &[u8],
-) -> LookupResult
-    ensures { λ r. ⌜ r ≡ lookupOf (callWhole fnvFamily (given state «data» spare ram) (lookup key)) ⌝ }
+)
+    ensures { λ _. ⌜ numbers.lookupResultOf (after answer) (now («deletion_count» .exit))
+        ≡ lookupOf (callWhole fnvFamily (given (numbers.stateOf (before state)) «data» spare ram) (lookup key)) ⌝ }
 {
-    lookup::find(state, key, data, spare, ram)
+    let sizes = Sizes {
+        sector_size: state[0],
+        ra_blocks: state[1],
+        da_blocks: state[2],
+        hash_count: state[3],
+    };
+    let handed = State {
+        sizes,
+        records: state[4],
+        deletions: state[5],
+    };
+    let found = lookup::find(handed, key, data, spare, ram);
+    *answer = [
+        found.refusal,
+        found.found,
+        found.count,
+        found.in_ram,
+        found.offset,
+    ];
+    *deletion_count = found.deletion_count;
 }
 
 #[no_mangle]
-pub extern "C" fn level_store_load(
-    state: State,
+pub extern "C" fn level_store_load_numbers(
+    answer: &mut [u32; 8],
+    state: &[u32; 6],
     tab: &[u8],
     data: &mut [u8],
     spare: &mut [u8],
     ram: &mut [u8],
-) -> Loaded
-    ensures { λ r. ⌜ loadedBy r «data» spare ram ≡ loadWhole fnvFamily (given state «data» spare ram) (before tab) ⌝ }
+)
+    ensures { λ _. ⌜ loadedBy (numbers.loadedOf (after answer)) «data» spare ram
+        ≡ loadWhole fnvFamily (given (numbers.stateOf (before state)) «data» spare ram) (before tab) ⌝ }
 {
-    load::load(state, tab, data, spare, ram)
+    let sizes = Sizes {
+        sector_size: state[0],
+        ra_blocks: state[1],
+        da_blocks: state[2],
+        hash_count: state[3],
+    };
+    let handed = State {
+        sizes,
+        records: state[4],
+        deletions: state[5],
+    };
+    let loaded = load::load(handed, tab, data, spare, ram);
+    let s = loaded.state;
+    let z = s.sizes;
+    *answer = [
+        loaded.refusal,
+        loaded.rows,
+        z.sector_size,
+        z.ra_blocks,
+        z.da_blocks,
+        z.hash_count,
+        s.records,
+        s.deletions,
+    ];
 }
 
 // Finishes a pending call.
 #[no_mangle]
-pub extern "C" fn level_store_restart(
-    state: State,
+pub extern "C" fn level_store_restart_numbers(
+    answer: &mut [u32; 7],
+    state: &[u32; 6],
     data: &mut [u8],
     spare: &mut [u8],
     ram: &mut [u8],
-) -> Change
-    ensures { λ r. ⌜ effectBy r «data» spare ram ≡ effectOf (restartWhole fnvFamily (given state «data» spare ram)) ⌝ }
+)
+    ensures { λ _. ⌜ effectBy (numbers.changeOf (after answer)) «data» spare ram
+        ≡ effectOf (restartWhole fnvFamily (given (numbers.stateOf (before state)) «data» spare ram)) ⌝ }
 {
-    restart::restart(state, data, spare, ram)
+    let sizes = Sizes {
+        sector_size: state[0],
+        ra_blocks: state[1],
+        da_blocks: state[2],
+        hash_count: state[3],
+    };
+    let handed = State {
+        sizes,
+        records: state[4],
+        deletions: state[5],
+    };
+    let restarted = restart::restart(handed, data, spare, ram);
+    let s = restarted.state;
+    let z = s.sizes;
+    *answer = [
+        restarted.refusal,
+        z.sector_size,
+        z.ra_blocks,
+        z.da_blocks,
+        z.hash_count,
+        s.records,
+        s.deletions,
+    ];
 }
 
 // ---- the same with a budget of steps
 
 #[no_mangle]
-pub extern "C" fn level_store_format_cut(
+pub extern "C" fn level_store_format_cut_numbers(
+    answer: &mut [u32; 8],
+    steps: &mut u64,
     budget: u64,
-    old: State,
+    old: &[u32; 6],
     sector_size: u32,
     ra_blocks: u32,
     da_blocks: u32,
@@ -156,23 +325,50 @@ pub extern "C" fn level_store_format_cut(
     data: &mut [u8],
     spare: &mut [u8],
     ram: &mut [u8],
-) -> Cut
-    ensures { λ r. ⌜ cutBy r «data» spare ram
-        ≡ cutOf (formatCut budget (given old «data» spare ram) (sizesOf «sector_size» «ra_blocks» «da_blocks» «hash_count»)) ⌝ }
+)
+    ensures { λ _. ⌜ cutBy (numbers.cutOf (after answer) (now (steps .exit))) «data» spare ram
+        ≡ cutOf (formatCut budget (given (numbers.stateOf (before old)) «data» spare ram)
+        (sizesOf «sector_size» «ra_blocks» «da_blocks» «hash_count»)) ⌝ }
 {
     let sizes = Sizes {
+        sector_size: old[0],
+        ra_blocks: old[1],
+        da_blocks: old[2],
+        hash_count: old[3],
+    };
+    let handed = State {
+        sizes,
+        records: old[4],
+        deletions: old[5],
+    };
+    let new = Sizes {
         sector_size,
         ra_blocks,
         da_blocks,
         hash_count,
     };
-    format::format_for(budget as usize, old, sizes, data, spare, ram)
+    let formatted = format::format_for(budget as usize, handed, new, data, spare, ram);
+    let s = formatted.state;
+    let z = s.sizes;
+    *answer = [
+        formatted.refusal,
+        formatted.finished,
+        z.sector_size,
+        z.ra_blocks,
+        z.da_blocks,
+        z.hash_count,
+        s.records,
+        s.deletions,
+    ];
+    *steps = formatted.steps;
 }
 
 #[no_mangle]
-pub extern "C" fn level_store_insert_cut(
+pub extern "C" fn level_store_insert_cut_numbers(
+    answer: &mut [u32; 8],
+    steps: &mut u64,
     budget: u64,
-    state: State,
+    state: &[u32; 6],
     key: u32,
     moves: u32,
     goal: u32,
@@ -180,30 +376,57 @@ pub extern "C" fn level_store_insert_cut(
     data: &mut [u8],
     spare: &mut [u8],
     ram: &mut [u8],
-) -> Cut
-    ensures { λ r. ⌜ cutBy r «data» spare ram
-        ≡ cutOf (callCut fnvFamily budget (given state «data» spare ram) (insert (recordOf key moves goal word))) ⌝ }
+)
+    ensures { λ _. ⌜ cutBy (numbers.cutOf (after answer) (now (steps .exit))) «data» spare ram
+        ≡ cutOf (callCut fnvFamily budget (given (numbers.stateOf (before state)) «data» spare ram)
+        (insert (recordOf key moves goal word))) ⌝ }
 {
+    let sizes = Sizes {
+        sector_size: state[0],
+        ra_blocks: state[1],
+        da_blocks: state[2],
+        hash_count: state[3],
+    };
+    let handed = State {
+        sizes,
+        records: state[4],
+        deletions: state[5],
+    };
     let record = Record {
         key,
         moves,
         goal,
         free: word,
     };
-    calls::perform_for(
+    let inserted = calls::perform_for(
         budget as usize,
-        state,
+        handed,
         Request::Insert(record),
         data,
         spare,
         ram,
-    )
+    );
+    let s = inserted.state;
+    let z = s.sizes;
+    *answer = [
+        inserted.refusal,
+        inserted.finished,
+        z.sector_size,
+        z.ra_blocks,
+        z.da_blocks,
+        z.hash_count,
+        s.records,
+        s.deletions,
+    ];
+    *steps = inserted.steps;
 }
 
 #[no_mangle]
-pub extern "C" fn level_store_update_cut(
+pub extern "C" fn level_store_update_cut_numbers(
+    answer: &mut [u32; 8],
+    steps: &mut u64,
     budget: u64,
-    state: State,
+    state: &[u32; 6],
     key: u32,
     moves: u32,
     goal: u32,
@@ -211,56 +434,135 @@ pub extern "C" fn level_store_update_cut(
     data: &mut [u8],
     spare: &mut [u8],
     ram: &mut [u8],
-) -> Cut
-    ensures { λ r. ⌜ cutBy r «data» spare ram
-        ≡ cutOf (callCut fnvFamily budget (given state «data» spare ram) (update (recordOf key moves goal word))) ⌝ }
+)
+    ensures { λ _. ⌜ cutBy (numbers.cutOf (after answer) (now (steps .exit))) «data» spare ram
+        ≡ cutOf (callCut fnvFamily budget (given (numbers.stateOf (before state)) «data» spare ram)
+        (update (recordOf key moves goal word))) ⌝ }
 {
+    let sizes = Sizes {
+        sector_size: state[0],
+        ra_blocks: state[1],
+        da_blocks: state[2],
+        hash_count: state[3],
+    };
+    let handed = State {
+        sizes,
+        records: state[4],
+        deletions: state[5],
+    };
     let record = Record {
         key,
         moves,
         goal,
         free: word,
     };
-    calls::perform_for(
+    let updated = calls::perform_for(
         budget as usize,
-        state,
+        handed,
         Request::Update(record),
         data,
         spare,
         ram,
-    )
+    );
+    let s = updated.state;
+    let z = s.sizes;
+    *answer = [
+        updated.refusal,
+        updated.finished,
+        z.sector_size,
+        z.ra_blocks,
+        z.da_blocks,
+        z.hash_count,
+        s.records,
+        s.deletions,
+    ];
+    *steps = updated.steps;
 }
 
 #[no_mangle]
-pub extern "C" fn level_store_delete_cut(
+pub extern "C" fn level_store_delete_cut_numbers(
+    answer: &mut [u32; 8],
+    steps: &mut u64,
     budget: u64,
-    state: State,
+    state: &[u32; 6],
     key: u32,
     data: &mut [u8],
     spare: &mut [u8],
     ram: &mut [u8],
-) -> Cut
-    ensures { λ r. ⌜ cutBy r «data» spare ram ≡ cutOf (callCut fnvFamily budget (given state «data» spare ram) (delete key)) ⌝ }
+)
+    ensures { λ _. ⌜ cutBy (numbers.cutOf (after answer) (now (steps .exit))) «data» spare ram
+        ≡ cutOf (callCut fnvFamily budget (given (numbers.stateOf (before state)) «data» spare ram) (delete key)) ⌝ }
 {
-    calls::perform_for(
+    let sizes = Sizes {
+        sector_size: state[0],
+        ra_blocks: state[1],
+        da_blocks: state[2],
+        hash_count: state[3],
+    };
+    let handed = State {
+        sizes,
+        records: state[4],
+        deletions: state[5],
+    };
+    let deleted = calls::perform_for(
         budget as usize,
-        state,
+        handed,
         Request::Delete(key),
         data,
         spare,
         ram,
-    )
+    );
+    let s = deleted.state;
+    let z = s.sizes;
+    *answer = [
+        deleted.refusal,
+        deleted.finished,
+        z.sector_size,
+        z.ra_blocks,
+        z.da_blocks,
+        z.hash_count,
+        s.records,
+        s.deletions,
+    ];
+    *steps = deleted.steps;
 }
 
 #[no_mangle]
-pub extern "C" fn level_store_restart_cut(
+pub extern "C" fn level_store_restart_cut_numbers(
+    answer: &mut [u32; 8],
+    steps: &mut u64,
     budget: u64,
-    state: State,
+    state: &[u32; 6],
     data: &mut [u8],
     spare: &mut [u8],
     ram: &mut [u8],
-) -> Cut
-    ensures { λ r. ⌜ cutBy r «data» spare ram ≡ cutOf (restartCut fnvFamily budget (given state «data» spare ram)) ⌝ }
+)
+    ensures { λ _. ⌜ cutBy (numbers.cutOf (after answer) (now (steps .exit))) «data» spare ram
+        ≡ cutOf (restartCut fnvFamily budget (given (numbers.stateOf (before state)) «data» spare ram)) ⌝ }
 {
-    restart::restart_for(budget as usize, state, data, spare, ram)
+    let sizes = Sizes {
+        sector_size: state[0],
+        ra_blocks: state[1],
+        da_blocks: state[2],
+        hash_count: state[3],
+    };
+    let handed = State {
+        sizes,
+        records: state[4],
+        deletions: state[5],
+    };
+    let restarted = restart::restart_for(budget as usize, handed, data, spare, ram);
+    let s = restarted.state;
+    let z = s.sizes;
+    *answer = [
+        restarted.refusal,
+        restarted.finished,
+        z.sector_size,
+        z.ra_blocks,
+        z.da_blocks,
+        z.hash_count,
+        s.records,
+        s.deletions,
+    ];
+    *steps = restarted.steps;
 }

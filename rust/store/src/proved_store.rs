@@ -1,164 +1,219 @@
 use crate::Store;
 use model::{Change, CutResult, LoadResult, LookupResult, State};
 
-/// The C interface of the static library. The structs are `#[repr(C)]`; a slice is a pointer and a length.
+/// The functions of the static library, which take pointers and numbers alone: a state is its six numbers, an answer the numbers of a
+/// result in their order but for those of 64 bits, and a slice a pointer and a length of 64 bits.
 mod c {
-    use model::{Change, CutResult, LoadResult, LookupResult, State};
-
     extern "C" {
-        pub fn level_store_format(
-            old: State,
+        pub fn level_store_format_numbers(
+            answer: &mut [u32; 7],
+            old: &[u32; 6],
             sector_size: u32,
             ra_blocks: u32,
             da_blocks: u32,
             hash_count: u32,
             data: *mut u8,
-            data_len: usize,
+            data_len: u64,
             spare: *mut u8,
-            spare_len: usize,
+            spare_len: u64,
             ram: *mut u8,
-            ram_len: usize,
-        ) -> Change;
+            ram_len: u64,
+        );
 
-        pub fn level_store_insert(
-            state: State,
+        pub fn level_store_insert_numbers(
+            answer: &mut [u32; 7],
+            state: &[u32; 6],
             key: u32,
             moves: u32,
             goal: u32,
             word: u32,
             data: *mut u8,
-            data_len: usize,
+            data_len: u64,
             spare: *mut u8,
-            spare_len: usize,
+            spare_len: u64,
             ram: *mut u8,
-            ram_len: usize,
-        ) -> Change;
+            ram_len: u64,
+        );
 
-        pub fn level_store_update(
-            state: State,
+        pub fn level_store_update_numbers(
+            answer: &mut [u32; 7],
+            state: &[u32; 6],
             key: u32,
             moves: u32,
             goal: u32,
             word: u32,
             data: *mut u8,
-            data_len: usize,
+            data_len: u64,
             spare: *mut u8,
-            spare_len: usize,
+            spare_len: u64,
             ram: *mut u8,
-            ram_len: usize,
-        ) -> Change;
+            ram_len: u64,
+        );
 
-        pub fn level_store_delete(
-            state: State,
+        pub fn level_store_delete_numbers(
+            answer: &mut [u32; 7],
+            state: &[u32; 6],
             key: u32,
             data: *mut u8,
-            data_len: usize,
+            data_len: u64,
             spare: *mut u8,
-            spare_len: usize,
+            spare_len: u64,
             ram: *mut u8,
-            ram_len: usize,
-        ) -> Change;
+            ram_len: u64,
+        );
 
-        pub fn level_store_lookup(
-            state: State,
+        pub fn level_store_lookup_numbers(
+            answer: &mut [u32; 5],
+            deletion_count: &mut u64,
+            state: &[u32; 6],
             key: u32,
             data: *const u8,
-            data_len: usize,
+            data_len: u64,
             spare: *const u8,
-            spare_len: usize,
+            spare_len: u64,
             ram: *const u8,
-            ram_len: usize,
-        ) -> LookupResult;
+            ram_len: u64,
+        );
 
-        pub fn level_store_load(
-            state: State,
+        pub fn level_store_load_numbers(
+            answer: &mut [u32; 8],
+            state: &[u32; 6],
             tab: *const u8,
-            tab_len: usize,
+            tab_len: u64,
             data: *mut u8,
-            data_len: usize,
+            data_len: u64,
             spare: *mut u8,
-            spare_len: usize,
+            spare_len: u64,
             ram: *mut u8,
-            ram_len: usize,
-        ) -> LoadResult;
+            ram_len: u64,
+        );
 
-        pub fn level_store_restart(
-            state: State,
+        pub fn level_store_restart_numbers(
+            answer: &mut [u32; 7],
+            state: &[u32; 6],
             data: *mut u8,
-            data_len: usize,
+            data_len: u64,
             spare: *mut u8,
-            spare_len: usize,
+            spare_len: u64,
             ram: *mut u8,
-            ram_len: usize,
-        ) -> Change;
+            ram_len: u64,
+        );
 
-        pub fn level_store_format_cut(
+        pub fn level_store_format_cut_numbers(
+            answer: &mut [u32; 8],
+            steps: &mut u64,
             budget: u64,
-            old: State,
+            old: &[u32; 6],
             sector_size: u32,
             ra_blocks: u32,
             da_blocks: u32,
             hash_count: u32,
             data: *mut u8,
-            data_len: usize,
+            data_len: u64,
             spare: *mut u8,
-            spare_len: usize,
+            spare_len: u64,
             ram: *mut u8,
-            ram_len: usize,
-        ) -> CutResult;
+            ram_len: u64,
+        );
 
-        pub fn level_store_insert_cut(
+        pub fn level_store_insert_cut_numbers(
+            answer: &mut [u32; 8],
+            steps: &mut u64,
             budget: u64,
-            state: State,
+            state: &[u32; 6],
             key: u32,
             moves: u32,
             goal: u32,
             word: u32,
             data: *mut u8,
-            data_len: usize,
+            data_len: u64,
             spare: *mut u8,
-            spare_len: usize,
+            spare_len: u64,
             ram: *mut u8,
-            ram_len: usize,
-        ) -> CutResult;
+            ram_len: u64,
+        );
 
-        pub fn level_store_update_cut(
+        pub fn level_store_update_cut_numbers(
+            answer: &mut [u32; 8],
+            steps: &mut u64,
             budget: u64,
-            state: State,
+            state: &[u32; 6],
             key: u32,
             moves: u32,
             goal: u32,
             word: u32,
             data: *mut u8,
-            data_len: usize,
+            data_len: u64,
             spare: *mut u8,
-            spare_len: usize,
+            spare_len: u64,
             ram: *mut u8,
-            ram_len: usize,
-        ) -> CutResult;
+            ram_len: u64,
+        );
 
-        pub fn level_store_delete_cut(
+        pub fn level_store_delete_cut_numbers(
+            answer: &mut [u32; 8],
+            steps: &mut u64,
             budget: u64,
-            state: State,
+            state: &[u32; 6],
             key: u32,
             data: *mut u8,
-            data_len: usize,
+            data_len: u64,
             spare: *mut u8,
-            spare_len: usize,
+            spare_len: u64,
             ram: *mut u8,
-            ram_len: usize,
-        ) -> CutResult;
+            ram_len: u64,
+        );
 
-        pub fn level_store_restart_cut(
+        pub fn level_store_restart_cut_numbers(
+            answer: &mut [u32; 8],
+            steps: &mut u64,
             budget: u64,
-            state: State,
+            state: &[u32; 6],
             data: *mut u8,
-            data_len: usize,
+            data_len: u64,
             spare: *mut u8,
-            spare_len: usize,
+            spare_len: u64,
             ram: *mut u8,
-            ram_len: usize,
-        ) -> CutResult;
+            ram_len: u64,
+        );
+    }
+}
+
+fn numbers_of(state: State) -> [u32; 6] {
+    [
+        state.sector_size,
+        state.ra_blocks,
+        state.da_blocks,
+        state.hash_count,
+        state.records,
+        state.deletions,
+    ]
+}
+
+fn state_of(numbers: &[u32]) -> State {
+    State {
+        sector_size: numbers[0],
+        ra_blocks: numbers[1],
+        da_blocks: numbers[2],
+        hash_count: numbers[3],
+        records: numbers[4],
+        deletions: numbers[5],
+    }
+}
+
+fn change_of(answer: [u32; 7]) -> Change {
+    Change {
+        refusal: answer[0],
+        state: state_of(&answer[1..]),
+    }
+}
+
+fn cut_of(answer: [u32; 8], steps: u64) -> CutResult {
+    CutResult {
+        refusal: answer[0],
+        finished: answer[1],
+        steps,
+        state: state_of(&answer[2..]),
     }
 }
 
@@ -183,21 +238,24 @@ impl Store for ProvedStore {
         spare: &mut [u8],
         ram: &mut [u8],
     ) -> Change {
+        let mut answer = [0; 7];
         unsafe {
-            c::level_store_format(
-                old,
+            c::level_store_format_numbers(
+                &mut answer,
+                &numbers_of(old),
                 sector_size,
                 ra_blocks,
                 da_blocks,
                 hash_count,
                 data.as_mut_ptr(),
-                data.len(),
+                data.len() as u64,
                 spare.as_mut_ptr(),
-                spare.len(),
+                spare.len() as u64,
                 ram.as_mut_ptr(),
-                ram.len(),
-            )
+                ram.len() as u64,
+            );
         }
+        change_of(answer)
     }
 
     fn insert(
@@ -211,21 +269,24 @@ impl Store for ProvedStore {
         spare: &mut [u8],
         ram: &mut [u8],
     ) -> Change {
+        let mut answer = [0; 7];
         unsafe {
-            c::level_store_insert(
-                state,
+            c::level_store_insert_numbers(
+                &mut answer,
+                &numbers_of(state),
                 key,
                 moves,
                 goal,
                 word,
                 data.as_mut_ptr(),
-                data.len(),
+                data.len() as u64,
                 spare.as_mut_ptr(),
-                spare.len(),
+                spare.len() as u64,
                 ram.as_mut_ptr(),
-                ram.len(),
-            )
+                ram.len() as u64,
+            );
         }
+        change_of(answer)
     }
 
     fn update(
@@ -239,50 +300,68 @@ impl Store for ProvedStore {
         spare: &mut [u8],
         ram: &mut [u8],
     ) -> Change {
+        let mut answer = [0; 7];
         unsafe {
-            c::level_store_update(
-                state,
+            c::level_store_update_numbers(
+                &mut answer,
+                &numbers_of(state),
                 key,
                 moves,
                 goal,
                 word,
                 data.as_mut_ptr(),
-                data.len(),
+                data.len() as u64,
                 spare.as_mut_ptr(),
-                spare.len(),
+                spare.len() as u64,
                 ram.as_mut_ptr(),
-                ram.len(),
-            )
+                ram.len() as u64,
+            );
         }
+        change_of(answer)
     }
 
     fn delete(&self, state: State, key: u32, data: &mut [u8], spare: &mut [u8], ram: &mut [u8]) -> Change {
+        let mut answer = [0; 7];
         unsafe {
-            c::level_store_delete(
-                state,
+            c::level_store_delete_numbers(
+                &mut answer,
+                &numbers_of(state),
                 key,
                 data.as_mut_ptr(),
-                data.len(),
+                data.len() as u64,
                 spare.as_mut_ptr(),
-                spare.len(),
+                spare.len() as u64,
                 ram.as_mut_ptr(),
-                ram.len(),
-            )
+                ram.len() as u64,
+            );
         }
+        change_of(answer)
     }
 
     fn lookup(&self, state: State, key: u32, data: &[u8], spare: &[u8], ram: &[u8]) -> LookupResult {
+        let mut answer = [0; 5];
+        let mut deletion_count = 0;
         unsafe {
-            c::level_store_lookup(
-                state,
+            c::level_store_lookup_numbers(
+                &mut answer,
+                &mut deletion_count,
+                &numbers_of(state),
                 key,
                 data.as_ptr(),
-                data.len(),
+                data.len() as u64,
                 spare.as_ptr(),
-                spare.len(),
+                spare.len() as u64,
                 ram.as_ptr(),
-                ram.len(),
-            )
+                ram.len() as u64,
+            );
+        }
+        LookupResult {
+            refusal: answer[0],
+            found: answer[1],
+            count: answer[2],
+            in_ram: answer[3],
+            offset: answer[4],
+            deletion_count,
         }
     }
 
@@ -294,33 +373,43 @@ impl Store for ProvedStore {
         spare: &mut [u8],
         ram: &mut [u8],
     ) -> LoadResult {
+        let mut answer = [0; 8];
         unsafe {
-            c::level_store_load(
-                state,
+            c::level_store_load_numbers(
+                &mut answer,
+                &numbers_of(state),
                 tab.as_ptr(),
-                tab.len(),
+                tab.len() as u64,
                 data.as_mut_ptr(),
-                data.len(),
+                data.len() as u64,
                 spare.as_mut_ptr(),
-                spare.len(),
+                spare.len() as u64,
                 ram.as_mut_ptr(),
-                ram.len(),
-            )
+                ram.len() as u64,
+            );
+        }
+        LoadResult {
+            refusal: answer[0],
+            rows: answer[1],
+            state: state_of(&answer[2..]),
         }
     }
 
     fn restart(&self, state: State, data: &mut [u8], spare: &mut [u8], ram: &mut [u8]) -> Change {
+        let mut answer = [0; 7];
         unsafe {
-            c::level_store_restart(
-                state,
+            c::level_store_restart_numbers(
+                &mut answer,
+                &numbers_of(state),
                 data.as_mut_ptr(),
-                data.len(),
+                data.len() as u64,
                 spare.as_mut_ptr(),
-                spare.len(),
+                spare.len() as u64,
                 ram.as_mut_ptr(),
-                ram.len(),
-            )
+                ram.len() as u64,
+            );
         }
+        change_of(answer)
     }
 
     fn format_cut(
@@ -335,22 +424,27 @@ impl Store for ProvedStore {
         spare: &mut [u8],
         ram: &mut [u8],
     ) -> CutResult {
+        let mut answer = [0; 8];
+        let mut steps = 0;
         unsafe {
-            c::level_store_format_cut(
+            c::level_store_format_cut_numbers(
+                &mut answer,
+                &mut steps,
                 budget,
-                old,
+                &numbers_of(old),
                 sector_size,
                 ra_blocks,
                 da_blocks,
                 hash_count,
                 data.as_mut_ptr(),
-                data.len(),
+                data.len() as u64,
                 spare.as_mut_ptr(),
-                spare.len(),
+                spare.len() as u64,
                 ram.as_mut_ptr(),
-                ram.len(),
-            )
+                ram.len() as u64,
+            );
         }
+        cut_of(answer, steps)
     }
 
     fn insert_cut(
@@ -365,22 +459,27 @@ impl Store for ProvedStore {
         spare: &mut [u8],
         ram: &mut [u8],
     ) -> CutResult {
+        let mut answer = [0; 8];
+        let mut steps = 0;
         unsafe {
-            c::level_store_insert_cut(
+            c::level_store_insert_cut_numbers(
+                &mut answer,
+                &mut steps,
                 budget,
-                state,
+                &numbers_of(state),
                 key,
                 moves,
                 goal,
                 word,
                 data.as_mut_ptr(),
-                data.len(),
+                data.len() as u64,
                 spare.as_mut_ptr(),
-                spare.len(),
+                spare.len() as u64,
                 ram.as_mut_ptr(),
-                ram.len(),
-            )
+                ram.len() as u64,
+            );
         }
+        cut_of(answer, steps)
     }
 
     fn update_cut(
@@ -395,22 +494,27 @@ impl Store for ProvedStore {
         spare: &mut [u8],
         ram: &mut [u8],
     ) -> CutResult {
+        let mut answer = [0; 8];
+        let mut steps = 0;
         unsafe {
-            c::level_store_update_cut(
+            c::level_store_update_cut_numbers(
+                &mut answer,
+                &mut steps,
                 budget,
-                state,
+                &numbers_of(state),
                 key,
                 moves,
                 goal,
                 word,
                 data.as_mut_ptr(),
-                data.len(),
+                data.len() as u64,
                 spare.as_mut_ptr(),
-                spare.len(),
+                spare.len() as u64,
                 ram.as_mut_ptr(),
-                ram.len(),
-            )
+                ram.len() as u64,
+            );
         }
+        cut_of(answer, steps)
     }
 
     fn delete_cut(
@@ -422,19 +526,24 @@ impl Store for ProvedStore {
         spare: &mut [u8],
         ram: &mut [u8],
     ) -> CutResult {
+        let mut answer = [0; 8];
+        let mut steps = 0;
         unsafe {
-            c::level_store_delete_cut(
+            c::level_store_delete_cut_numbers(
+                &mut answer,
+                &mut steps,
                 budget,
-                state,
+                &numbers_of(state),
                 key,
                 data.as_mut_ptr(),
-                data.len(),
+                data.len() as u64,
                 spare.as_mut_ptr(),
-                spare.len(),
+                spare.len() as u64,
                 ram.as_mut_ptr(),
-                ram.len(),
-            )
+                ram.len() as u64,
+            );
         }
+        cut_of(answer, steps)
     }
 
     fn restart_cut(
@@ -445,17 +554,22 @@ impl Store for ProvedStore {
         spare: &mut [u8],
         ram: &mut [u8],
     ) -> CutResult {
+        let mut answer = [0; 8];
+        let mut steps = 0;
         unsafe {
-            c::level_store_restart_cut(
+            c::level_store_restart_cut_numbers(
+                &mut answer,
+                &mut steps,
                 budget,
-                state,
+                &numbers_of(state),
                 data.as_mut_ptr(),
-                data.len(),
+                data.len() as u64,
                 spare.as_mut_ptr(),
-                spare.len(),
+                spare.len() as u64,
                 ram.as_mut_ptr(),
-                ram.len(),
-            )
+                ram.len() as u64,
+            );
         }
+        cut_of(answer, steps)
     }
 }
