@@ -11,7 +11,8 @@
  *                                       survive a loss of power, as the chip does
  * S is the sector size in bytes: 16, 32, 64, 128, 256 or 512. A page is four sectors, a block sixteen pages. R blocks hold the
  * records, D blocks the deletions; both are 1 to 4096. Longer arrays are allowed: of data and spare the bytes past these sizes never
- * change; of ram the last 64 bytes lent are the header, and the bytes between 24S and it never change. All lengths are in bytes.
+ * change; of ram the last 64 bytes lent are the header, and the bytes between 24S and it never change. All lengths are in bytes; an array
+ * of length 0 may be NULL.
  * Multi-byte numbers in the arrays are little-endian.
  *
  * Header. The last 64 bytes of ram, wherever it ends, are the header, sixteen numbers of 4 bytes: S, R, D, k, n and d, as the state
@@ -204,8 +205,8 @@ LEVEL_STORE_INLINE uint32_t level_store_record_word(const uint8_t *record) { ret
  *
  * They take pointers and numbers of 32 and 64 bits and return nothing, which all processors pass alike. A length has 64 bits, also where
  * size_t has 32. A state is its six numbers S, R, D, k, n, d. An answer is the fields of the call's result in their order, but for those
- * of 64 bits, which have a pointer of their own. No two arrays may overlap. C programs need not call these: the calls below do, with
- * structs. */
+ * of 64 bits, which have a pointer of their own. No two arrays may overlap; numbers are aligned as C aligns uint32_t and uint64_t. These
+ * functions are what is proved. C programs need not call them: the calls below do, with structs, and copy fields only. */
 void level_store_format_numbers(uint32_t answer[7], const uint32_t old[6],
     uint32_t sector_size, uint32_t ra_blocks, uint32_t da_blocks, uint32_t hash_count,
     uint8_t *data, uint64_t data_len, uint8_t *spare, uint64_t spare_len, uint8_t *ram, uint64_t ram_len);

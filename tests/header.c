@@ -21,14 +21,7 @@ HOLDS(ram_of_terms, LEVEL_STORE_RAM_SIZE(8 + 8) == 448 && LEVEL_STORE_RAM_SIZE(5
 HOLDS(largest, LEVEL_STORE_DATA_SIZE(512, 4096, 4096) == 394330112 && LEVEL_STORE_SPARE_SIZE(512, 4096, 4096) == 770176);
 HOLDS(largest_counts, LEVEL_STORE_RECORD_CAPACITY(512, 4096) == 8388608 && LEVEL_STORE_DELETION_CAPACITY(512, 4096) == 33554432);
 HOLDS(sizes_are_size_t, sizeof LEVEL_STORE_BLOCKS(16, 1, 1) == sizeof(size_t) && sizeof LEVEL_STORE_RAM_SIZE(16) == sizeof(size_t));
-HOLDS(layouts, sizeof(level_store_state) == 24 && sizeof(level_store_change) == 28 && sizeof(level_store_lookup_result) == 32
-    && sizeof(level_store_load_result) == 32 && sizeof(level_store_cut_result) == 40);
-HOLDS(lookup_words, offsetof(level_store_lookup_result, offset) == 16 && offsetof(level_store_lookup_result, deletion_count) == 24);
-HOLDS(cut_words, offsetof(level_store_cut_result, finished) == 4 && offsetof(level_store_cut_result, steps) == 8
-    && offsetof(level_store_cut_result, state) == 16);
 HOLDS(pending, LEVEL_STORE_PENDING == 10);
-HOLDS(state_words, offsetof(level_store_state, da_blocks) == 8 && offsetof(level_store_state, hash_count) == 12
-    && offsetof(level_store_state, records) == 16 && offsetof(level_store_state, deletions) == 20);
 #if LEVEL_STORE_VERSION != LEVEL_STORE_VERSION_MAJOR * 1000 + LEVEL_STORE_VERSION_MINOR || LEVEL_STORE_VERSION < 4001
 #error "version"
 #endif
@@ -271,6 +264,9 @@ static void check_load(void)
     CHECK(load("") == LEVEL_STORE_TOO_SHORT && rows == 0);
     ram_len++;
     CHECK(load("") == LEVEL_STORE_OK && rows == 0 && state.records == 0);
+    CHECK(level_store_load(state, NULL, 0, LENT).refusal == LEVEL_STORE_OK);
+    CHECK(level_store_restart(state, NULL, 0, NULL, 0, NULL, 0).refusal == LEVEL_STORE_TOO_SHORT);
+    CHECK(level_store_lookup(state, 1, NULL, 0, NULL, 0, NULL, 0).refusal == LEVEL_STORE_TOO_SHORT);
     CHECK(load("\n") == LEVEL_STORE_MALFORMED && rows == 0);
     CHECK(load("\r\n") == LEVEL_STORE_MALFORMED && rows == 0);
     CHECK(load("level,moves\n1,2\n") == LEVEL_STORE_MALFORMED && rows == 0);

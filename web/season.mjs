@@ -1,5 +1,5 @@
 // A season in JavaScript, through the module that web/build makes:   web/build && node web/season.mjs [MODULE]
-// A volume is formatted, filled, searched, tuned, loses power in mid-call and restarts; every answer is held to a map. Any language that
+// A volume is formatted, filled, searched, tuned, loses power in mid-call and restarts; every record and state is held to a map. Any language that
 // runs WebAssembly calls it so: offsets into the module's memory, a length as a number of 64 bits (in JavaScript a BigInt).
 import assert from 'node:assert/strict';
 import { readFileSync } from 'node:fs';
@@ -143,5 +143,5 @@ n += 2, d++;
 holds();
 [0, 6301].forEach(isThere);
 
-console.log(`season: ${levels.size} levels, n ${n}, d ${d}; a lookup opened ${(opened / 6300).toFixed(2)} pages; every answer is right`);
+console.log(`season: ${levels.size} levels, n ${n}, d ${d}; a lookup opened ${(opened / 6300).toFixed(2)} pages; every record and state is right`);
 console.log(`season: the module has ${bytes.length} bytes, ${gzipSync(bytes, { level: 9 }).length} by gzip`);

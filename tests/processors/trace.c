@@ -52,7 +52,8 @@ static void end_line(void)
     fprintf(out, " | %" PRIu32 " %" PRIu32 " %" PRIu32 " %" PRIu32 " %" PRIu32 " %" PRIu32, state.sector_size, state.ra_blocks,
         state.da_blocks, state.hash_count, state.records, state.deletions);
     if (digests)
-        fprintf(out, " | %016" PRIx64 " %016" PRIx64 " %016" PRIx64, digest(data, data_len), digest(spare, spare_len), digest(ram, ram_len));
+        fprintf(out, " | %016" PRIx64 " %016" PRIx64 " %016" PRIx64, digest(data, data_len), digest(spare, spare_len),
+            digest(ram, ram_len));
     fputc('\n', out);
 }
 

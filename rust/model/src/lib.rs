@@ -35,7 +35,6 @@ pub use tab::{read_tab, Reading, Row};
 pub const HASH_COUNT_01: u32 = 3;
 
 /// The state S, R, D, k, n, d: "k joins S, R and D in the state".
-#[repr(C)]
 #[derive(Clone, Copy, Debug, Default, PartialEq, Eq)]
 pub struct State {
     /// S: sector size in bytes.
@@ -53,7 +52,6 @@ pub struct State {
 }
 
 /// The answer of format, insert, update, delete and restart. Refusal 0: accepted.
-#[repr(C)]
 #[derive(Clone, Copy, Debug, Default, PartialEq, Eq)]
 pub struct Change {
     pub refusal: u32,
@@ -62,7 +60,6 @@ pub struct Change {
 
 /// The answer of a changing call or a restart with a budget of steps. Finished 1: all its steps are done, `steps` of them, and
 /// the state is the new one. Finished 0: it was cut after `steps` of them, or refused; the state is the one handed in.
-#[repr(C)]
 #[derive(Clone, Copy, Debug, Default, PartialEq, Eq)]
 pub struct CutResult {
     pub refusal: u32,
@@ -74,7 +71,6 @@ pub struct CutResult {
 /// The answer of lookup. Found 1: the 16 record bytes start at `offset` of ram
 /// (`in_ram` 1) or of data (`in_ram` 0). Found 0: a miss or a refusal. `count` and
 /// `deletion_count` are the pages of KA and of DA opened.
-#[repr(C)]
 #[derive(Clone, Copy, Debug, Default, PartialEq, Eq)]
 pub struct LookupResult {
     pub refusal: u32,
@@ -87,7 +83,6 @@ pub struct LookupResult {
 
 /// The answer of load: the refusal that ended it (0: none, all rows are loaded), the rows loaded, and the
 /// state after them.
-#[repr(C)]
 #[derive(Clone, Copy, Debug, Default, PartialEq, Eq)]
 pub struct LoadResult {
     pub refusal: u32,
