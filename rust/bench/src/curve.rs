@@ -1,6 +1,6 @@
 //! Lookups against n, for a plot.
 
-use crate::measure::{lookups, Call, Effort, STORES};
+use crate::measure::{lookups, Effort, Measured, STORES};
 use crate::volume::{Keys, Kind, Volume, ROOM};
 use std::fs::File;
 use std::io::{self, BufWriter, Write};
@@ -14,7 +14,7 @@ pub fn write(file: &str, most: usize) -> io::Result<()> {
     let names = STORES.map(|store| format!("{}_us", store.name())).join(",");
     writeln!(out, "S,call,n,{names},pages_opened")?;
     for sector_size in SECTOR_SIZES {
-        for call in [Call::Hit, Call::Miss] {
+        for call in [Measured::Hit, Measured::Miss] {
             for n in RECORDS.into_iter().filter(|&n| n <= most) {
                 // No line where no volume has room for so many.
                 let Some(volume) = Volume::filled(Kind::of(sector_size), n, ROOM, Keys::Random) else {

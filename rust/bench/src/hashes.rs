@@ -1,6 +1,6 @@
 //! The choice of k: pages opened by a lookup for every k, and what a miss takes at two of them.
 
-use crate::measure::{self, look_up, lookups, Call, Effort, FAST};
+use crate::measure::{self, lookups, Effort, Measured, FAST};
 use crate::tables::{digits, head, row, times_and_ratios, times_head};
 use crate::volume::{Keys, Kind, Volume, ROOM};
 use std::fs::File;
@@ -31,7 +31,7 @@ pub fn pages(file: &str) -> io::Result<()> {
     for sector_size in SECTOR_SIZES {
         for (keys, name) in [(Keys::Random, "random"), (Keys::InOrder, "in order")] {
             let volumes: Vec<Volume> = HASH_COUNTS.map(|k| volume(sector_size, k, keys)).collect();
-            for call in [Call::Hit, Call::Miss] {
+            for call in [Measured::Hit, Measured::Miss] {
                 let opened: Vec<f64> = volumes.iter().map(|volume| opened(volume, call)).collect();
                 let first = [sector_size.to_string(), name.to_string(), call.name().to_string()];
                 row(first.into_iter().chain(opened.iter().copied().map(digits)));
@@ -54,7 +54,7 @@ pub fn misses() {
     for sector_size in SECTOR_SIZES {
         for hash_count in [3, 4] {
             let volume = volume(sector_size, hash_count, Keys::Random);
-            let (micros, opened) = lookups(&volume, Call::Miss, EFFORT);
+            let (micros, opened) = lookups(&volume, Measured::Miss, EFFORT);
             let opened = opened.pages;
             let first = [sector_size, hash_count].map(|number| number.to_string());
             row(first
@@ -74,10 +74,11 @@ fn volume(sector_size: u32, hash_count: u32, keys: Keys) -> Volume {
 }
 
 /// Pages that a lookup opens on the average. All stores give the same count, so one is enough.
-fn opened(volume: &Volume, call: Call) -> f64 {
+fn opened(volume: &Volume, call: Measured) -> f64 {
     let mut answers = Vec::with_capacity(LOOKUPS);
-    look_up(FAST, volume, &measure::keys(volume, call, LOOKUPS), &mut answers);
-    let found = u32::from(call == Call::Hit);
+    let keys = measure::keys(volume, call, LOOKUPS);
+    FAST.look_up(&mut volume.copy(), &keys, &mut answers);
+    let found = u32::from(call == Measured::Hit);
     assert!(answers.iter().all(|one| one.refusal == 0 && one.found == found));
     answers.iter().map(|one| f64::from(one.count)).sum::<f64>() / LOOKUPS as f64
 }

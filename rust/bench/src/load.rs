@@ -1,15 +1,11 @@
 //! A tab loaded into an empty volume, beside the same inserts by the call.
 
-use crate::measure::{Effort, FAST, SUBJECT};
+use crate::measure::{Effort, Measured, Rounds, FAST, SUBJECT};
 use crate::volume::{Keys, Kind, Volume};
 use std::time::{Duration, Instant};
-use store::Store;
 
-/// Of every row, in digits that a designer would write.
-const MOVES: u32 = 40;
-const GOAL: u32 = 1200;
-/// A load writes this free word.
-const WORD: u32 = 0;
+/// Moves and goal of every row, in digits that a designer would write, and the free word that a load writes.
+const RECORD: [u32; 3] = [40, 1200, 0];
 
 const EFFORT: Effort = Effort {
     rounds: 3,
@@ -29,8 +25,9 @@ impl Load {
         let volume = Volume::formatted(kind, rows, 0, Keys::Random)?;
         let keys: Vec<u32> = (0..rows).map(|i| volume.keys.key(i)).collect();
         let mut tab = "level,moves,goal\n".to_string();
+        let [moves, goal, _] = RECORD;
         for key in &keys {
-            tab += &format!("{key},{MOVES},{GOAL}\n");
+            tab += &format!("{key},{moves},{goal}\n");
         }
         Some(Load {
             volume,
@@ -44,33 +41,14 @@ impl Load {
     }
 
     /// The tab in one load.
-    pub fn load(&self, store: &dyn Store, volume: &mut Volume) {
-        let Volume {
-            state,
-            data,
-            spare,
-            ram,
-            ..
-        } = volume;
-        let result = store.load(*state, &self.tab, data, spare, ram);
+    pub fn load(&self, store: &dyn Rounds, volume: &mut Volume) {
+        let result = store.load(volume, &self.tab);
         assert_eq!((result.refusal, result.rows as usize), (0, self.rows()));
-        *state = result.state;
     }
 
     /// Its rows, an insert each.
-    pub fn inserts(&self, store: &dyn Store, volume: &mut Volume) {
-        let Volume {
-            state,
-            data,
-            spare,
-            ram,
-            ..
-        } = volume;
-        for &key in &self.keys {
-            let change = store.insert(*state, key, MOVES, GOAL, WORD, data, spare, ram);
-            assert_eq!(change.refusal, 0, "key {key}");
-            *state = change.state;
-        }
+    pub fn inserts(&self, store: &dyn Rounds, volume: &mut Volume) {
+        store.change(volume, &self.keys, RECORD, Measured::Insert);
     }
 
     /// Microseconds a row of the load and of the inserts, by the proved store and by the store for speed.

@@ -3,16 +3,80 @@
 use crate::volume::{Volume, ROOM};
 use difftest::random::Random;
 use std::time::{Duration, Instant};
-use store::{FastStore, LookupResult, ModelStore, Store};
+use store::{Call, FastStore, LoadResult, LookupResult, ModelStore, Store};
 
 #[cfg(feature = "proved")]
-pub const SUBJECT: &dyn Store = &store::ProvedStore;
+pub const SUBJECT: &dyn Rounds = &store::ProvedStore;
 #[cfg(not(feature = "proved"))]
-pub const SUBJECT: &dyn Store = &ModelStore;
-pub const FAST: &dyn Store = &FastStore;
+pub const SUBJECT: &dyn Rounds = &ModelStore;
+pub const FAST: &dyn Rounds = &FastStore;
 
 /// The stores, in the order of all columns.
-pub const STORES: [&dyn Store; 3] = [SUBJECT, &ModelStore, FAST];
+pub const STORES: [&dyn Rounds; 3] = [SUBJECT, &ModelStore, FAST];
+
+/// Rounds of calls of one kind, compiled for each store: there the call is known, so that the store's function for it is called
+/// directly, and no choice of a call is measured.
+pub trait Rounds: Store {
+    fn look_up(&self, volume: &mut Volume, keys: &[u32], answers: &mut Vec<LookupResult>);
+
+    /// Inserts or updates, all with this record behind the key.
+    fn change(&self, volume: &mut Volume, keys: &[u32], record: [u32; 3], measured: Measured);
+
+    fn load(&self, volume: &mut Volume, tab: &[u8]) -> LoadResult;
+}
+
+impl<S: Store> Rounds for S {
+    fn look_up(&self, volume: &mut Volume, keys: &[u32], answers: &mut Vec<LookupResult>) {
+        let Volume { state, memory, .. } = volume;
+        let mut lent = memory.lent();
+        for &key in keys {
+            let call = Call::Lookup { key };
+            answers.push(self.call(None, *state, &call, &mut lent).lookup());
+        }
+    }
+
+    fn change(&self, volume: &mut Volume, keys: &[u32], record: [u32; 3], measured: Measured) {
+        let Volume { state, memory, .. } = volume;
+        let mut lent = memory.lent();
+        let [moves, goal, word] = record;
+        for &key in keys {
+            let change = match measured {
+                Measured::Update => {
+                    let call = Call::Update {
+                        key,
+                        moves,
+                        goal,
+                        word,
+                    };
+                    self.call(None, *state, &call, &mut lent).change()
+                }
+                _ => {
+                    let call = Call::Insert {
+                        key,
+                        moves,
+                        goal,
+                        word,
+                    };
+                    self.call(None, *state, &call, &mut lent).change()
+                }
+            };
+            assert_eq!(change.refusal, 0, "key {key}");
+            *state = change.state;
+        }
+    }
+
+    fn load(&self, volume: &mut Volume, tab: &[u8]) -> LoadResult {
+        let Volume { state, memory, .. } = volume;
+        let result = self
+            .call(None, *state, &Call::Load { tab }, &mut memory.lent())
+            .load();
+        *state = result.state;
+        result
+    }
+}
+
+/// Moves, goal and word of every change.
+pub const RECORD: [u32; 3] = [7, 8, 9];
 
 /// How many rounds at least, and how long: short rounds are repeated, so that one of them is undisturbed.
 #[derive(Clone, Copy)]
@@ -44,23 +108,24 @@ impl Effort {
     }
 }
 
+/// What a row of the tables measures.
 #[derive(Clone, Copy, PartialEq, Eq)]
-pub enum Call {
+pub enum Measured {
     Hit,
     Miss,
     Insert,
     Update,
 }
 
-impl Call {
-    pub const ALL: [Call; 4] = [Call::Hit, Call::Miss, Call::Insert, Call::Update];
+impl Measured {
+    pub const ALL: [Measured; 4] = [Measured::Hit, Measured::Miss, Measured::Insert, Measured::Update];
 
     pub fn name(self) -> &'static str {
         match self {
-            Call::Hit => "lookup hit",
-            Call::Miss => "lookup miss",
-            Call::Insert => "insert",
-            Call::Update => "update",
+            Measured::Hit => "lookup hit",
+            Measured::Miss => "lookup miss",
+            Measured::Insert => "insert",
+            Measured::Update => "update",
         }
     }
 }
@@ -99,10 +164,10 @@ impl Best {
 }
 
 /// Microseconds a call of each store.
-pub fn measure(volume: &Volume, call: Call) -> [f64; 3] {
+pub fn measure(volume: &Volume, call: Measured) -> [f64; 3] {
     match call {
-        Call::Hit | Call::Miss => lookups(volume, call, Effort::TIMED).0,
-        Call::Insert | Call::Update => changes(volume, call, ROOM, Effort::TIMED),
+        Measured::Hit | Measured::Miss => lookups(volume, call, Effort::TIMED).0,
+        Measured::Insert | Measured::Update => changes(volume, call, ROOM, Effort::TIMED),
     }
 }
 
@@ -115,22 +180,23 @@ pub struct Opened {
 }
 
 /// Microseconds a lookup of each store, and pages opened by one. All stores read the same bytes.
-pub fn lookups(volume: &Volume, call: Call, effort: Effort) -> ([f64; 3], Opened) {
+pub fn lookups(volume: &Volume, call: Measured, effort: Effort) -> ([f64; 3], Opened) {
     // Short ones need many calls to be timed.
     let count = ROOM * (100_000 / volume.state.records as usize).max(1);
     let keys = keys(volume, call, count);
     let mut best = Best::new(count);
     let mut answers = STORES.map(|_| Vec::with_capacity(count));
+    let mut copy = volume.copy();
     effort.run(|| {
         for (which, store) in STORES.into_iter().enumerate() {
             answers[which].clear();
             best.time(which, &keys, |keys| {
-                look_up(store, volume, keys, &mut answers[which])
+                store.look_up(&mut copy, keys, &mut answers[which])
             });
         }
         let [first, others @ ..] = &answers;
         assert!(others.iter().all(|other| first == other), "the answers differ");
-        let found = u32::from(call == Call::Hit);
+        let found = u32::from(call == Measured::Hit);
         assert!(first.iter().all(|one| one.refusal == 0 && one.found == found));
     });
     let average = |opened: fn(&LookupResult) -> u64| {
@@ -145,7 +211,7 @@ pub fn lookups(volume: &Volume, call: Call, effort: Effort) -> ([f64; 3], Opened
 }
 
 /// Microseconds a change of each store, each on its own copy of the bytes.
-pub fn changes(volume: &Volume, call: Call, count: usize, effort: Effort) -> [f64; 3] {
+pub fn changes(volume: &Volume, call: Measured, count: usize, effort: Effort) -> [f64; 3] {
     let keys = keys(volume, call, count);
     let mut best = Best::new(count);
     let mut copies = STORES.map(|_| volume.copy());
@@ -153,7 +219,7 @@ pub fn changes(volume: &Volume, call: Call, count: usize, effort: Effort) -> [f6
         for (which, store) in STORES.into_iter().enumerate() {
             let copy = &mut copies[which];
             copy.restore(volume);
-            best.time(which, &keys, |keys| change(store, copy, keys, call));
+            best.time(which, &keys, |keys| store.change(copy, keys, RECORD, call));
         }
         let [first, others @ ..] = &copies;
         assert!(others.iter().all(|other| first.same(other)), "the bytes differ");
@@ -162,46 +228,15 @@ pub fn changes(volume: &Volume, call: Call, count: usize, effort: Effort) -> [f6
 }
 
 /// A key for each call, other ones all the time, lest the processor learns them.
-pub fn keys(volume: &Volume, call: Call, count: usize) -> Vec<u32> {
+pub fn keys(volume: &Volume, call: Measured, count: usize) -> Vec<u32> {
     let mut random = Random::new(0xBE9C);
     let live = volume.live();
     (0..count)
         .map(|i| match call {
-            Call::Hit => volume.keys.key(random.below(live)),
+            Measured::Hit => volume.keys.key(random.below(live)),
             // None twice.
-            Call::Update => volume.keys.key(random.below(live / count) * count + i),
-            Call::Miss | Call::Insert => volume.keys.key(live + i),
+            Measured::Update => volume.keys.key(random.below(live / count) * count + i),
+            Measured::Miss | Measured::Insert => volume.keys.key(live + i),
         })
         .collect()
-}
-
-pub fn look_up(store: &dyn Store, volume: &Volume, keys: &[u32], answers: &mut Vec<LookupResult>) {
-    let Volume {
-        state,
-        data,
-        spare,
-        ram,
-        ..
-    } = volume;
-    for &key in keys {
-        answers.push(store.lookup(*state, key, data, spare, ram));
-    }
-}
-
-pub fn change(store: &dyn Store, volume: &mut Volume, keys: &[u32], call: Call) {
-    let Volume {
-        state,
-        data,
-        spare,
-        ram,
-        ..
-    } = volume;
-    for &key in keys {
-        let change = match call {
-            Call::Update => store.update(*state, key, 7, 8, 9, data, spare, ram),
-            _ => store.insert(*state, key, 7, 8, 9, data, spare, ram),
-        };
-        assert_eq!(change.refusal, 0, "key {key}");
-        *state = change.state;
-    }
 }

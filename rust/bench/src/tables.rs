@@ -1,7 +1,7 @@
 //! The tables of a run, in Markdown.
 
 use crate::load::Load;
-use crate::measure::{changes, lookups, measure, Call, Effort, FAST, STORES, SUBJECT};
+use crate::measure::{changes, lookups, measure, Effort, Measured, FAST, STORES, SUBJECT};
 use crate::volume::{geometry, Deletions, Keys, Kind, Volume, ROOM};
 use model::Operation;
 use store::{Geometry, State, HASH_COUNT_01};
@@ -54,7 +54,7 @@ pub fn calls(most: usize) {
             .filter(|&n| n <= most)
             .filter_map(|n| Volume::filled(Kind::of(sector_size), n, ROOM, Keys::Random))
             .collect();
-        for call in Call::ALL {
+        for call in Measured::ALL {
             let mut before: Option<[f64; 3]> = None;
             for volume in &volumes {
                 let micros = measure(volume, call);
@@ -83,17 +83,17 @@ pub fn deletions(most: usize) {
                     ..Kind::of(sector_size)
                 };
                 let volume = Volume::filled(kind, n, ROOM, Keys::Random).expect("the sizes are allowed");
-                let (micros, opened) = lookups(&volume, Call::Hit, Effort::TIMED);
+                let (micros, opened) = lookups(&volume, Measured::Hit, Effort::TIMED);
                 let opened = [opened.pages, opened.deletion_pages].map(|pages| format!("{pages:.2}"));
-                deletions_row(&volume, Call::Hit, micros, opened);
-                let micros = measure(&volume, Call::Update);
-                deletions_row(&volume, Call::Update, micros, [String::new(), String::new()]);
+                deletions_row(&volume, Measured::Hit, micros, opened);
+                let micros = measure(&volume, Measured::Update);
+                deletions_row(&volume, Measured::Update, micros, [String::new(), String::new()]);
             }
         }
     }
 }
 
-fn deletions_row(volume: &Volume, call: Call, micros: [f64; 3], opened: [String; 2]) {
+fn deletions_row(volume: &Volume, call: Measured, micros: [f64; 3], opened: [String; 2]) {
     let State {
         sector_size,
         records,
@@ -134,10 +134,10 @@ pub fn pages(most: usize) {
                 sector_size.to_string(),
                 n.to_string(),
                 (2 * n / sector_size as usize).to_string(),
-                opened(0, Call::Hit),
-                opened(1, Call::Hit),
-                opened(0, Call::Miss),
-                opened(1, Call::Miss),
+                opened(0, Measured::Hit),
+                opened(1, Measured::Hit),
+                opened(0, Measured::Miss),
+                opened(1, Measured::Miss),
             ]);
         }
     }
@@ -242,7 +242,7 @@ fn longest_row(sector_size: u32, number: usize, n: usize) {
     let width = 4 * sector_size as usize / pages;
     let first = [sector_size as usize, number, pages, width, n].map(|number| number.to_string());
     let cells = first.into_iter().chain([earlier.to_string()]);
-    row(cells.chain(times_and_ratios(changes(&volume, Call::Insert, 1, effort))));
+    row(cells.chain(times_and_ratios(changes(&volume, Measured::Insert, 1, effort))));
 }
 
 /// A row of a tab that is loaded into an empty volume, beside the same insert by the call.

@@ -1,7 +1,7 @@
 //! Volumes with a known history: inserts, with updates evenly among them; where nothing else is said, d = n/10.
 
 use difftest::random::Random;
-use store::{FastStore, Geometry, State, Store, HASH_COUNT_01};
+use store::{Call, FastStore, Geometry, Memory, State, Store, HASH_COUNT_01};
 
 /// Changes in a round, and room for them in a volume.
 pub const ROOM: usize = 64;
@@ -74,9 +74,7 @@ fn mixed(i: u32) -> u32 {
 /// A state with the bytes that it needs, and the keys in it.
 pub struct Volume {
     pub state: State,
-    pub data: Vec<u8>,
-    pub spare: Vec<u8>,
-    pub ram: Vec<u8>,
+    pub memory: Memory,
     pub keys: Keys,
     /// Record number of each key; key number i is live if i is below the length.
     newest: Vec<u32>,
@@ -98,40 +96,36 @@ impl Volume {
         for number in 0..n {
             let (i, deleted) = volume.next_record(kind, number, n, &mut random);
             let record = [keys.key(i), number as u32, 1, 0];
-            let Volume {
-                state,
-                data,
-                spare,
-                ram,
-                ..
-            } = &mut volume;
-            let change = fast::append(*state, deleted, record, data, spare, ram);
+            let Memory { data, spare, ram } = &mut volume.memory;
+            let change = fast::append(volume.state, deleted, record, data, spare, ram);
             assert_eq!(change.refusal, 0, "record {number}");
-            *state = change.state;
+            volume.state = change.state;
         }
         Some(volume)
     }
 
     /// An empty volume with room for `n` records and so many changes more.
     pub fn formatted(kind: Kind, n: usize, room: usize, keys: Keys) -> Option<Volume> {
-        let Kind {
-            sector_size: s,
-            hash_count: k,
-            ..
-        } = kind;
-        let (r, d) = geometry(kind, n, room)?;
-        let geometry = Geometry::new(s, r, d, k)?;
-        let mut data = vec![0; geometry.data_bytes()];
-        let mut spare = vec![0; geometry.spare_bytes()];
-        let mut ram = vec![0; geometry.ram_bytes()];
-        let old = State::default();
-        let change = FastStore.format(old, s, r, d, k, &mut data, &mut spare, &mut ram);
+        let (ra_blocks, da_blocks) = geometry(kind, n, room)?;
+        let geometry = Geometry::new(kind.sector_size, ra_blocks, da_blocks, kind.hash_count)?;
+        let lengths = [
+            geometry.data_bytes(),
+            geometry.spare_bytes(),
+            geometry.ram_bytes(),
+        ];
+        let mut memory = Memory::filled(0, lengths);
+        let format = Call::Format {
+            sector_size: kind.sector_size,
+            ra_blocks,
+            da_blocks,
+            hash_count: kind.hash_count,
+        };
+        let answer = FastStore.call(None, State::default(), &format, &mut memory.lent());
+        let change = answer.change();
         assert_eq!(change.refusal, 0, "format");
         Some(Volume {
             state: change.state,
-            data,
-            spare,
-            ram,
+            memory,
             keys,
             newest: Vec::new(),
         })
@@ -163,27 +157,22 @@ impl Volume {
     /// Takes over state and bytes of another volume of the same size, in the memory that is there.
     pub fn restore(&mut self, from: &Volume) {
         self.state = from.state;
-        self.data.copy_from_slice(&from.data);
-        self.spare.copy_from_slice(&from.spare);
-        self.ram.copy_from_slice(&from.ram);
+        self.memory.data.copy_from_slice(&from.memory.data);
+        self.memory.spare.copy_from_slice(&from.memory.spare);
+        self.memory.ram.copy_from_slice(&from.memory.ram);
     }
 
     pub fn copy(&self) -> Volume {
         Volume {
             state: self.state,
-            data: self.data.clone(),
-            spare: self.spare.clone(),
-            ram: self.ram.clone(),
+            memory: self.memory.clone(),
             keys: self.keys,
             newest: Vec::new(),
         }
     }
 
     pub fn same(&self, other: &Volume) -> bool {
-        self.state == other.state
-            && self.data == other.data
-            && self.spare == other.spare
-            && self.ram == other.ram
+        self.state == other.state && self.memory == other.memory
     }
 }
 
@@ -198,13 +187,24 @@ mod tests {
         let mut random = Random::new(0xF111);
         for number in 0..n {
             let (i, deleted) = volume.next_record(kind, number, n, &mut random);
-            let (key, state) = (keys.key(i), volume.state);
-            let Volume { data, spare, ram, .. } = &mut volume;
-            let moves = number as u32;
-            let change = match deleted {
-                None => ModelStore.insert(state, key, moves, 1, 0, data, spare, ram),
-                Some(_) => ModelStore.update(state, key, moves, 1, 0, data, spare, ram),
+            let (key, moves) = (keys.key(i), number as u32);
+            let [goal, word] = [1, 0];
+            let call = match deleted {
+                None => Call::Insert {
+                    key,
+                    moves,
+                    goal,
+                    word,
+                },
+                Some(_) => Call::Update {
+                    key,
+                    moves,
+                    goal,
+                    word,
+                },
             };
+            let lent = &mut volume.memory.lent();
+            let change = ModelStore.call(None, volume.state, &call, lent).change();
             assert_eq!(change.refusal, 0, "record {number}");
             volume.state = change.state;
         }

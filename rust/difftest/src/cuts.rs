@@ -1,11 +1,13 @@
 //! Cuts and restarts, request 8: now and then in the histories of other scenarios, and each cut of chosen calls.
 
+use crate::damage::damage;
 use crate::loads;
-use crate::pair::{Answer, Call, Difference, Moment};
+use crate::pair::{Difference, Moment};
 use crate::random::Random;
-use crate::scenarios::{damage, format, wild_number, wild_state, Scenario, Test};
+use crate::scenarios::{format, Scenario, Test};
 use crate::tabs::Row;
-use store::State;
+use crate::wild::{wild_number, wild_state};
+use store::{Answer, Call, State};
 
 /// Of the header: the pending call's kind, and the first of its arguments.
 const KIND: usize = 6;
@@ -92,14 +94,7 @@ fn any_state(random: &mut Random, state: State) -> State {
 
 /// A restart of a header with this state and any pending call, or none; the intent is cleared after it.
 pub(crate) fn restart_of(test: &mut Test, state: State) -> Result<(), Difference> {
-    let numbers = [
-        state.sector_size,
-        state.ra_blocks,
-        state.da_blocks,
-        state.hash_count,
-        state.records,
-        state.deletions,
-    ];
+    let numbers = state.numbers();
     for (i, number) in numbers.into_iter().enumerate() {
         test.pair.write_header(i, number);
     }

@@ -3,10 +3,16 @@
 
 #![forbid(unsafe_code)]
 
+pub mod boundaries;
+pub mod counts;
 pub mod cuts;
+pub mod damage;
+pub mod histories;
 pub mod loads;
+mod mixes;
 pub mod pair;
 pub mod random;
 pub mod scenarios;
 pub mod tabs;
 pub mod updates;
+pub mod wild;

@@ -1,8 +1,9 @@
 //! Scenarios of load: tabs of every form, and rows that the store refuses.
 
-use crate::pair::{Answer, Call, Difference};
+use crate::pair::Difference;
 use crate::scenarios::{format, geometry, Scenario, Test};
 use crate::tabs::{self, Row};
+use store::{Answer, Call};
 
 const MALFORMED: u32 = 9;
 const HEADER: &str = "level,moves,goal\n";

@@ -1,6 +1,6 @@
 //! `difftest [--store NAME] [--long] [--seconds N] [--only NAME] [--round N]`: a store against the model.
 
-use difftest::pair::Counts;
+use difftest::counts::Counts;
 use difftest::scenarios;
 use std::env;
 use std::process::ExitCode;

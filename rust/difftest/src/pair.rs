@@ -1,100 +1,8 @@
 //! Two stores side by side: each call is made on both, and everything is compared.
 
+use crate::counts::Counts;
 use std::fmt;
-use store::{Change, CutResult, Geometry, LoadResult, LookupResult, State, Store, HEADER_BYTES};
-
-#[derive(Clone, Copy, Debug, PartialEq, Eq)]
-pub enum Call<'t> {
-    Format {
-        sector_size: u32,
-        ra_blocks: u32,
-        da_blocks: u32,
-        hash_count: u32,
-    },
-    Insert {
-        key: u32,
-        moves: u32,
-        goal: u32,
-        word: u32,
-    },
-    Update {
-        key: u32,
-        moves: u32,
-        goal: u32,
-        word: u32,
-    },
-    Delete {
-        key: u32,
-    },
-    Lookup {
-        key: u32,
-    },
-    Load {
-        tab: &'t [u8],
-    },
-    Restart,
-}
-
-impl Call<'_> {
-    /// Those that change a volume by themselves, and a restart, are made of steps.
-    pub fn has_steps(self) -> bool {
-        !matches!(self, Call::Lookup { .. } | Call::Load { .. })
-    }
-}
-
-impl fmt::Display for Call<'_> {
-    fn fmt(&self, f: &mut fmt::Formatter) -> fmt::Result {
-        match self {
-            Call::Load { tab } => write!(f, "Load \"{}\"", tab.escape_ascii()),
-            other => write!(f, "{other:?}"),
-        }
-    }
-}
-
-#[derive(Clone, Copy, Debug, PartialEq, Eq)]
-pub enum Answer {
-    Change(Change),
-    Lookup(LookupResult),
-    Load(LoadResult),
-    Cut(CutResult),
-}
-
-impl Answer {
-    /// And, with a budget, finished.
-    pub fn accepted(self) -> bool {
-        self.refusal() == 0 && !self.is_cut()
-    }
-
-    pub fn is_cut(self) -> bool {
-        matches!(
-            self,
-            Answer::Cut(CutResult {
-                refusal: 0,
-                finished: 0,
-                ..
-            })
-        )
-    }
-
-    pub fn refusal(self) -> u32 {
-        match self {
-            Answer::Change(change) => change.refusal,
-            Answer::Lookup(result) => result.refusal,
-            Answer::Load(result) => result.refusal,
-            Answer::Cut(result) => result.refusal,
-        }
-    }
-
-    /// The state that it hands out; a lookup hands out none.
-    fn state(self) -> Option<State> {
-        match self {
-            Answer::Change(change) => Some(change.state),
-            Answer::Lookup(_) => None,
-            Answer::Load(result) => Some(result.state),
-            Answer::Cut(result) => Some(result.state),
-        }
-    }
-}
+use store::{Answer, Call, Geometry, Lent, State, Store, HEADER_BYTES};
 
 /// What differs, after which call.
 #[derive(Clone, Debug)]
@@ -115,118 +23,6 @@ impl fmt::Display for Difference {
         writeln!(f, "  on {:?}", self.state)?;
         writeln!(f, "  lent {data} data, {spare} spare, {ram} ram bytes")?;
         write!(f, "  {}", self.what)
-    }
-}
-
-/// How many calls got which answer.
-#[derive(Clone, Debug, Default)]
-pub struct Counts {
-    pub calls: u64,
-    pub accepted: u64,
-    pub hits: u64,
-    pub misses: u64,
-    /// Rows loaded, also by loads that were refused at a later row.
-    pub rows: u64,
-    /// By refusal number, from 1 at index 1.
-    pub refusals: [u64; 11],
-    /// Calls and restarts cut, and restarts that finished a call or found none.
-    pub cuts: u64,
-    pub restarts: u64,
-    /// Changes accepted and lookups answered on a volume of k hash functions, at index k.
-    pub hash_counts: [u64; 9],
-    /// Sets built over entries, and over deletions.
-    pub sets: u64,
-    pub full_sets: u64,
-    pub deletion_sets: u64,
-    pub full_deletion_sets: u64,
-    /// Pages of deletions opened by lookups.
-    pub deletion_pages: u64,
-}
-
-impl Counts {
-    pub fn add(&mut self, other: &Counts) {
-        self.calls += other.calls;
-        self.accepted += other.accepted;
-        self.hits += other.hits;
-        self.misses += other.misses;
-        self.rows += other.rows;
-        for (sum, count) in self.refusals.iter_mut().zip(other.refusals) {
-            *sum += count;
-        }
-        for (sum, count) in self.hash_counts.iter_mut().zip(other.hash_counts) {
-            *sum += count;
-        }
-        self.cuts += other.cuts;
-        self.restarts += other.restarts;
-        self.sets += other.sets;
-        self.full_sets += other.full_sets;
-        self.deletion_sets += other.deletion_sets;
-        self.full_deletion_sets += other.full_deletion_sets;
-        self.deletion_pages += other.deletion_pages;
-    }
-
-    fn count(&mut self, call: Call, before: State, answer: Answer) {
-        self.calls += 1;
-        self.restarts += u64::from(call == Call::Restart && answer.accepted());
-        match answer {
-            Answer::Lookup(result) if result.refusal == 0 && result.found == 1 => self.hits += 1,
-            Answer::Lookup(result) if result.refusal == 0 => self.misses += 1,
-            _ if answer.is_cut() => self.cuts += 1,
-            _ if answer.accepted() => self.accepted += 1,
-            _ => self.refusals[answer.refusal().min(10) as usize] += 1,
-        }
-        if answer.accepted() {
-            let state = answer.state().unwrap_or(before);
-            self.hash_counts[state.hash_count.min(8) as usize] += 1;
-        }
-        if let Answer::Load(result) = answer {
-            self.rows += u64::from(result.rows);
-        }
-        if let Answer::Lookup(result) = answer {
-            self.deletion_pages += result.deletion_count;
-        }
-        // A set is built when 128 filters more are there, the last one of S/4 is full: pages of S/2 entries have one, of S deletions two.
-        let built = |sector_size: u32, from: u32, to: u32| {
-            // A restart may be handed any state.
-            if to <= from || sector_size != before.sector_size {
-                return [0, 0];
-            }
-            // Something was accepted, so that the products are small.
-            let round = 64 * sector_size;
-            [round, round * (sector_size / 4)].map(|step| u64::from(to / step - from / step))
-        };
-        if let Some(state) = answer.state() {
-            let built = |from, to| built(state.sector_size, from, to);
-            let [sets, full_sets] = built(before.records, state.records);
-            self.sets += sets;
-            self.full_sets += full_sets;
-            let [sets, full_sets] = built(before.deletions, state.deletions);
-            self.deletion_sets += sets;
-            self.full_deletion_sets += full_sets;
-        }
-    }
-}
-
-impl fmt::Display for Counts {
-    fn fmt(&self, f: &mut fmt::Formatter) -> fmt::Result {
-        write!(
-            f,
-            "{} calls: {} accepted, {} hits, {} misses, {} rows loaded",
-            self.calls, self.accepted, self.hits, self.misses, self.rows
-        )?;
-        write!(f, ", {} cut, {} restarts", self.cuts, self.restarts)?;
-        for number in 1..=10 {
-            write!(f, ", {} refused by {number}", self.refusals[number])?;
-        }
-        for k in 1..=8 {
-            write!(f, ", {} done with k = {k}", self.hash_counts[k])?;
-        }
-        write!(f, "; {} sets built, {} of them full", self.sets, self.full_sets)?;
-        write!(
-            f,
-            "; over deletions {} sets, {} of them full, {} pages opened",
-            self.deletion_sets, self.full_deletion_sets, self.deletion_pages
-        )
     }
 }
 
@@ -281,83 +77,12 @@ impl Volume {
         }
     }
 
-    fn call(&mut self, store: &dyn Store, state: State, call: Call) -> Answer {
-        let data = self.data.slice_mut();
-        let spare = self.spare.slice_mut();
-        let ram = self.ram.slice_mut();
-        match call {
-            Call::Format {
-                sector_size,
-                ra_blocks,
-                da_blocks,
-                hash_count,
-            } => Answer::Change(store.format(
-                state,
-                sector_size,
-                ra_blocks,
-                da_blocks,
-                hash_count,
-                data,
-                spare,
-                ram,
-            )),
-            Call::Insert {
-                key,
-                moves,
-                goal,
-                word,
-            } => Answer::Change(store.insert(state, key, moves, goal, word, data, spare, ram)),
-            Call::Update {
-                key,
-                moves,
-                goal,
-                word,
-            } => Answer::Change(store.update(state, key, moves, goal, word, data, spare, ram)),
-            Call::Delete { key } => Answer::Change(store.delete(state, key, data, spare, ram)),
-            Call::Lookup { key } => Answer::Lookup(store.lookup(state, key, data, spare, ram)),
-            Call::Load { tab } => Answer::Load(store.load(state, tab, data, spare, ram)),
-            Call::Restart => Answer::Change(store.restart(state, data, spare, ram)),
+    fn lent(&mut self) -> Lent<'_> {
+        Lent {
+            data: self.data.slice_mut(),
+            spare: self.spare.slice_mut(),
+            ram: self.ram.slice_mut(),
         }
-    }
-
-    /// The first steps of a call.
-    fn call_cut(&mut self, store: &dyn Store, state: State, budget: u64, call: Call) -> Answer {
-        let data = self.data.slice_mut();
-        let spare = self.spare.slice_mut();
-        let ram = self.ram.slice_mut();
-        Answer::Cut(match call {
-            Call::Format {
-                sector_size,
-                ra_blocks,
-                da_blocks,
-                hash_count,
-            } => store.format_cut(
-                budget,
-                state,
-                sector_size,
-                ra_blocks,
-                da_blocks,
-                hash_count,
-                data,
-                spare,
-                ram,
-            ),
-            Call::Insert {
-                key,
-                moves,
-                goal,
-                word,
-            } => store.insert_cut(budget, state, key, moves, goal, word, data, spare, ram),
-            Call::Update {
-                key,
-                moves,
-                goal,
-                word,
-            } => store.update_cut(budget, state, key, moves, goal, word, data, spare, ram),
-            Call::Delete { key } => store.delete_cut(budget, state, key, data, spare, ram),
-            Call::Restart => store.restart_cut(budget, state, data, spare, ram),
-            Call::Lookup { .. } | Call::Load { .. } => unreachable!("{call} has no budget"),
-        })
     }
 
     /// The bytes of another volume of the same lengths.
@@ -499,28 +224,20 @@ impl<'a> Pair<'a> {
 
     /// The call on both sides; then answer (result and state), all bytes and the guards are compared.
     pub fn call(&mut self, call: Call) -> Result<Answer, Difference> {
-        let state = self.state;
-        let expected = self.expected.call(self.reference, state, call);
-        let got = self.got.call(self.subject, state, call);
-        self.compare(call, None, expected, got)
+        self.call_with(None, call)
     }
 
     /// The same with a budget of steps.
     pub fn call_cut(&mut self, budget: u64, call: Call) -> Result<Answer, Difference> {
-        let state = self.state;
-        let expected = self.expected.call_cut(self.reference, state, budget, call);
-        let got = self.got.call_cut(self.subject, state, budget, call);
-        self.compare(call, Some(budget), expected, got)
+        self.call_with(Some(budget), call)
     }
 
-    fn compare(
-        &mut self,
-        call: Call,
-        budget: Option<u64>,
-        expected: Answer,
-        got: Answer,
-    ) -> Result<Answer, Difference> {
+    fn call_with(&mut self, budget: Option<u64>, call: Call) -> Result<Answer, Difference> {
         let state = self.state;
+        let expected = self
+            .reference
+            .call(budget, state, &call, &mut self.expected.lent());
+        let got = self.subject.call(budget, state, &call, &mut self.got.lent());
         self.counts.count(call, state, expected);
         let what = if expected == got {
             byte_difference(&self.expected, &self.got)

@@ -1,8 +1,9 @@
 //! Scenarios of updates of levels that are not there, request 4: "n rises by one, d stays", "5 and 7 apply, and 6
 //! does not".
 
-use crate::pair::{Call, Difference};
+use crate::pair::Difference;
 use crate::scenarios::{format, Scenario, Test};
+use store::Call;
 
 /// All of them, at S = 16: pages of 4 records, 8 entries and 16 deletions.
 pub fn all() -> Vec<Scenario> {

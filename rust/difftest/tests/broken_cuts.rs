@@ -1,9 +1,13 @@
 //! The test sees broken cuts and restarts: the model with one fault each.
 
-use difftest::pair::{Call, Counts, Difference};
+use difftest::counts::Counts;
+use difftest::pair::Difference;
 use difftest::scenarios;
 use model::Operation;
-use store::{Change, CutResult, Geometry, LoadResult, LookupResult, ModelStore, State, Store, HEADER_BYTES};
+use store::{
+    Answer, Call, Change, CutResult, Geometry, Lent, LoadResult, Memory, ModelStore, State, Store,
+    HEADER_BYTES,
+};
 
 #[derive(Clone, Copy, Debug, PartialEq)]
 enum Fault {
@@ -60,47 +64,8 @@ enum Fault {
 struct Broken(Fault);
 
 /// A call with a budget on the model.
-fn model_cut(
-    budget: u64,
-    call: Call,
-    state: State,
-    data: &mut [u8],
-    spare: &mut [u8],
-    ram: &mut [u8],
-) -> CutResult {
-    match call {
-        Call::Format {
-            sector_size,
-            ra_blocks,
-            da_blocks,
-            hash_count,
-        } => ModelStore.format_cut(
-            budget,
-            state,
-            sector_size,
-            ra_blocks,
-            da_blocks,
-            hash_count,
-            data,
-            spare,
-            ram,
-        ),
-        Call::Insert {
-            key,
-            moves,
-            goal,
-            word,
-        } => ModelStore.insert_cut(budget, state, key, moves, goal, word, data, spare, ram),
-        Call::Update {
-            key,
-            moves,
-            goal,
-            word,
-        } => ModelStore.update_cut(budget, state, key, moves, goal, word, data, spare, ram),
-        Call::Delete { key } => ModelStore.delete_cut(budget, state, key, data, spare, ram),
-        Call::Restart => ModelStore.restart_cut(budget, state, data, spare, ram),
-        Call::Lookup { .. } | Call::Load { .. } => unreachable!("no budget"),
-    }
+fn model_cut(budget: u64, call: Call, state: State, lent: &mut Lent) -> CutResult {
+    ModelStore.call(Some(budget), state, &call, lent).cut()
 }
 
 /// The numbers of a header, if there is one.
@@ -118,33 +83,15 @@ fn write_header(ram: &mut [u8], first: usize, numbers: &[u32]) {
     }
 }
 
-fn numbers_of(state: State) -> [u32; 6] {
-    [
-        state.sector_size,
-        state.ra_blocks,
-        state.da_blocks,
-        state.hash_count,
-        state.records,
-        state.deletions,
-    ]
-}
-
 fn state_of(header: [u32; 16]) -> State {
-    State {
-        sector_size: header[0],
-        ra_blocks: header[1],
-        da_blocks: header[2],
-        hash_count: header[3],
-        records: header[4],
-        deletions: header[5],
-    }
+    State::of_numbers(std::array::from_fn(|i| header[i]))
 }
 
 /// The chip operations of a pending insert, update or delete that a restart does not refuse.
-fn pending_list(data: &[u8], spare: &[u8], ram: &[u8]) -> Option<Vec<Operation>> {
-    let header = header_of(ram)?;
+fn pending_list(lent: &Lent) -> Option<Vec<Operation>> {
+    let header = header_of(lent.ram)?;
     let state = state_of(header);
-    let level = ModelStore.lookup(state, header[7], data, spare, &cleared(ram));
+    let level = model::lookup(state, header[7], lent.data, lent.spare, &cleared(lent.ram));
     let (deletes, inserts) = match (level.refusal, header[6], level.found) {
         (0, 1, 0) | (0, 2, 0) => (false, true),
         (0, 2, 1) => (true, true),
@@ -164,15 +111,7 @@ fn is_programmed(operation: &Operation, spare: &[u8]) -> bool {
 }
 
 impl Broken {
-    fn call(
-        &self,
-        budget: u64,
-        call: Call,
-        state: State,
-        data: &mut [u8],
-        spare: &mut [u8],
-        ram: &mut [u8],
-    ) -> CutResult {
+    fn steps(&self, budget: u64, call: Call, state: State, lent: &mut Lent) -> CutResult {
         let budget = match self.0 {
             Fault::BudgetOf32Bits if budget < u64::MAX => budget & 0xFFFF_FFFF,
             _ => budget,
@@ -182,16 +121,18 @@ impl Broken {
                 Call::Format { sector_size, .. } => sector_size,
                 _ => state.sector_size,
             };
-            if let Some(ram) = ram.get_mut(..24 * sector_size.min(1 << 20) as usize + HEADER_BYTES) {
-                return model_cut(budget, call, state, data, spare, ram);
+            let end = 24 * sector_size.min(1 << 20) as usize + HEADER_BYTES;
+            let Lent { data, spare, ram } = lent;
+            if let Some(ram) = ram.get_mut(..end) {
+                return model_cut(budget, call, state, &mut Lent { data, spare, ram });
             }
         }
         if call == Call::Restart {
-            return self.restart_with(budget, state, data, spare, ram);
+            return self.restart(budget, state, lent);
         }
-        let before = (data.to_vec(), spare.to_vec(), ram.to_vec());
-        let result = model_cut(budget, call, state, data, spare, ram);
-        self.after_call(budget, call, state, before, result, ram)
+        let before = lent.copy();
+        let result = model_cut(budget, call, state, lent);
+        self.after_call(budget, call, state, before, result, lent.ram)
     }
 
     fn after_call(
@@ -199,7 +140,7 @@ impl Broken {
         budget: u64,
         call: Call,
         state: State,
-        (mut data, mut spare, mut before): (Vec<u8>, Vec<u8>, Vec<u8>),
+        mut before: Memory,
         result: CutResult,
         ram: &mut [u8],
     ) -> CutResult {
@@ -207,15 +148,15 @@ impl Broken {
         let is_format = matches!(call, Call::Format { .. });
         match self.0 {
             Fault::IntentLeft if result.finished == 1 => {
-                model_cut(1, call, state, &mut data, &mut spare, &mut before);
-                let intent = header_of(&before).expect("a header");
+                model_cut(1, call, state, &mut before.lent());
+                let intent = header_of(&before.ram).expect("a header");
                 write_header(ram, 6, &intent[6..]);
             }
             Fault::ArgumentsLeft if result.finished == 1 => write_header(ram, 7, &[1]),
             Fault::RamTouched if is_cut && budget > 0 => {
-                model_cut(u64::MAX, call, state, &mut data, &mut spare, &mut before);
+                model_cut(u64::MAX, call, state, &mut before.lent());
                 let pages = ram.len() - HEADER_BYTES;
-                ram[..pages].copy_from_slice(&before[..pages]);
+                ram[..pages].copy_from_slice(&before.ram[..pages]);
             }
             Fault::TenFirst
                 if result.refusal == 2
@@ -228,13 +169,13 @@ impl Broken {
                 };
             }
             Fault::FormatStoresState if is_cut && is_format && budget > 0 => {
-                write_header(ram, 0, &numbers_of(state));
+                write_header(ram, 0, &state.numbers());
             }
             Fault::UpdateAsInsert if is_cut && matches!(call, Call::Update { .. }) && budget > 0 => {
                 write_header(ram, 6, &[1]);
             }
             Fault::CutGivesNewState if is_cut => {
-                let whole = model_cut(u64::MAX, call, state, &mut data, &mut spare, &mut before);
+                let whole = model_cut(u64::MAX, call, state, &mut before.lent());
                 return CutResult {
                     state: whole.state,
                     ..result
@@ -251,41 +192,34 @@ impl Broken {
         result
     }
 
-    fn restart_with(
-        &self,
-        budget: u64,
-        state: State,
-        data: &mut [u8],
-        spare: &mut [u8],
-        ram: &mut [u8],
-    ) -> CutResult {
+    fn restart(&self, budget: u64, state: State, lent: &mut Lent) -> CutResult {
         let refused = |refusal: u32| CutResult {
             refusal,
             state,
             ..CutResult::default()
         };
-        let Some(header) = header_of(ram) else {
+        let Some(header) = header_of(lent.ram) else {
             return refused(if self.0 == Fault::NoHeaderByOne { 1 } else { 2 });
         };
-        let list = pending_list(data, spare, ram).unwrap_or_default();
-        let programmed = list.iter().any(|operation| is_programmed(operation, spare));
+        let list = pending_list(lent).unwrap_or_default();
+        let programmed = list.iter().any(|operation| is_programmed(operation, lent.spare));
         let judged = || {
-            ModelStore
-                .restart(state, &mut data.to_vec(), &mut spare.to_vec(), &mut cleared(ram))
-                .refusal
+            let mut idle = idle(lent);
+            let answer = ModelStore.call(None, state, &Call::Restart, &mut idle.lent());
+            answer.refusal()
         };
         match self.0 {
             Fault::FirstFresh | Fault::AllAgain | Fault::FreshOnes(_) => {
-                let taken = self.taken(&list, spare);
-                return on_taken(budget, state, data, spare, ram, taken);
+                let taken = self.taken(&list, lent.spare);
+                return on_taken(budget, state, lent, taken);
             }
-            Fault::ErasesLeftOut => return without_erases(budget, state, data, spare, ram, &list),
-            Fault::ErasesRepeated => return with_erases(budget, state, data, spare, ram, &list),
+            Fault::ErasesLeftOut => return without_erases(budget, state, lent, &list),
+            Fault::ErasesRepeated => return with_erases(budget, state, lent, &list),
             Fault::StateHandedIn if (1..=3).contains(&header[6]) => {
-                write_header(ram, 0, &numbers_of(state));
-                let result = model_cut(budget, Call::Restart, state, data, spare, ram);
+                write_header(lent.ram, 0, &state.numbers());
+                let result = model_cut(budget, Call::Restart, state, lent);
                 if result.finished == 0 {
-                    write_header(ram, 0, &header[..6]);
+                    write_header(lent.ram, 0, &header[..6]);
                 }
                 return result;
             }
@@ -294,7 +228,7 @@ impl Broken {
             Fault::FormatByHeader if header[6] == 4 && judged() != 0 => return refused(judged()),
             _ => {}
         }
-        let result = model_cut(budget, Call::Restart, state, data, spare, ram);
+        let result = model_cut(budget, Call::Restart, state, lent);
         match self.0 {
             Fault::RefusedGivesHeader if result.refusal != 0 => CutResult {
                 state: state_of(header),
@@ -302,11 +236,23 @@ impl Broken {
             },
             Fault::NothingGivesHandedIn if header[6] == 0 => CutResult { state, ..result },
             Fault::IntentLeft if result.finished == 1 => {
-                write_header(ram, 6, &header[6..]);
+                write_header(lent.ram, 6, &header[6..]);
                 result
             }
             _ => result,
         }
+    }
+
+    fn load(&self, state: State, tab: &[u8], lent: &mut Lent) -> LoadResult {
+        let load = |lent: &mut Lent| ModelStore.call(None, state, &Call::Load { tab }, lent).load();
+        let result = load(lent);
+        if self.0 == Fault::LoadWhilePending && result.refusal == 10 {
+            let idle = load(&mut idle(lent).lent());
+            if idle.rows == 0 && [0, 9].contains(&idle.refusal) {
+                return idle;
+            }
+        }
+        result
     }
 
     /// The spare bytes as a restart with this fault takes them.
@@ -336,16 +282,15 @@ impl Broken {
 }
 
 /// A restart on spare bytes as they are taken; those that it does not write stay as they were.
-fn on_taken(
-    budget: u64,
-    state: State,
-    data: &mut [u8],
-    spare: &mut [u8],
-    ram: &mut [u8],
-    taken: Vec<u8>,
-) -> CutResult {
+fn on_taken(budget: u64, state: State, lent: &mut Lent, taken: Vec<u8>) -> CutResult {
     let mut after = taken.clone();
-    let result = model_cut(budget, Call::Restart, state, data, &mut after, ram);
+    let Lent { data, spare, ram } = lent;
+    let on_taken = &mut Lent {
+        data,
+        spare: &mut after,
+        ram,
+    };
+    let result = model_cut(budget, Call::Restart, state, on_taken);
     for (sector, byte) in spare.iter_mut().enumerate() {
         if after[sector] != taken[sector] {
             *byte = after[sector];
@@ -355,41 +300,30 @@ fn on_taken(
 }
 
 /// A restart that leaves out the erases behind the last programmed sector, if sectors are to be programmed behind them.
-fn without_erases(
-    budget: u64,
-    state: State,
-    data: &mut [u8],
-    spare: &mut [u8],
-    ram: &mut [u8],
-    list: &[Operation],
-) -> CutResult {
-    let last = list.iter().rposition(|operation| is_programmed(operation, spare));
+fn without_erases(budget: u64, state: State, lent: &mut Lent, list: &[Operation]) -> CutResult {
+    let last = list
+        .iter()
+        .rposition(|operation| is_programmed(operation, lent.spare));
     let rest = &list[last.map_or(0, |last| last + 1)..];
     let erases = rest
         .iter()
         .take_while(|operation| matches!(operation, Operation::Erase { .. }))
         .count();
     if erases == rest.len() {
-        return model_cut(budget, Call::Restart, state, data, spare, ram);
+        return model_cut(budget, Call::Restart, state, lent);
     }
-    let before = (data.to_vec(), spare.to_vec());
-    let sector_size = header_of(ram).expect("a list")[0] as usize;
-    let result = model_cut(
-        budget.saturating_add(erases as u64),
-        Call::Restart,
-        state,
-        data,
-        spare,
-        ram,
-    );
+    let before = lent.copy();
+    let sector_size = header_of(lent.ram).expect("a list")[0] as usize;
+    let more = budget.saturating_add(erases as u64);
+    let result = model_cut(more, Call::Restart, state, lent);
     for operation in &rest[..erases] {
         if let Operation::Erase { block } = *operation {
             let (main, bytes) = (
                 block * 64 * sector_size..(block + 1) * 64 * sector_size,
                 block * 64..(block + 1) * 64,
             );
-            data[main.clone()].copy_from_slice(&before.0[main]);
-            spare[bytes.clone()].copy_from_slice(&before.1[bytes]);
+            lent.data[main.clone()].copy_from_slice(&before.data[main]);
+            lent.spare[bytes.clone()].copy_from_slice(&before.spare[bytes]);
         }
     }
     CutResult {
@@ -399,15 +333,10 @@ fn without_erases(
 }
 
 /// A restart whose first steps are the erases before the last programmed sector.
-fn with_erases(
-    budget: u64,
-    state: State,
-    data: &mut [u8],
-    spare: &mut [u8],
-    ram: &mut [u8],
-    list: &[Operation],
-) -> CutResult {
-    let last = list.iter().rposition(|operation| is_programmed(operation, spare));
+fn with_erases(budget: u64, state: State, lent: &mut Lent, list: &[Operation]) -> CutResult {
+    let last = list
+        .iter()
+        .rposition(|operation| is_programmed(operation, lent.spare));
     let erases: Vec<usize> = list[..last.unwrap_or(0)]
         .iter()
         .filter_map(|operation| match operation {
@@ -417,14 +346,14 @@ fn with_erases(
         .take(budget as usize)
         .collect();
     let steps = erases.len() as u64;
-    let sector_size = header_of(ram).map_or(0, |header| header[0] as usize);
-    let result = model_cut(budget - steps, Call::Restart, state, data, spare, ram);
+    let sector_size = header_of(lent.ram).map_or(0, |header| header[0] as usize);
+    let result = model_cut(budget - steps, Call::Restart, state, lent);
     if result.refusal != 0 {
         return result;
     }
     for block in erases {
-        data[block * 64 * sector_size..(block + 1) * 64 * sector_size].fill(0xFF);
-        spare[block * 64..(block + 1) * 64].fill(0xFF);
+        lent.data[block * 64 * sector_size..(block + 1) * 64 * sector_size].fill(0xFF);
+        lent.spare[block * 64..(block + 1) * 64].fill(0xFF);
     }
     CutResult {
         steps: result.steps + steps,
@@ -441,11 +370,11 @@ fn cleared(ram: &[u8]) -> Vec<u8> {
     ram
 }
 
-fn whole(result: CutResult) -> Change {
-    Change {
-        refusal: result.refusal,
-        state: result.state,
-    }
+/// A copy of the bytes without their pending call.
+fn idle(lent: &Lent) -> Memory {
+    let mut copy = lent.copy();
+    copy.ram = cleared(&copy.ram);
+    copy
 }
 
 impl Store for Broken {
@@ -453,171 +382,19 @@ impl Store for Broken {
         "broken"
     }
 
-    fn format(
-        &self,
-        old: State,
-        s: u32,
-        r: u32,
-        d: u32,
-        k: u32,
-        data: &mut [u8],
-        spare: &mut [u8],
-        ram: &mut [u8],
-    ) -> Change {
-        whole(self.format_cut(u64::MAX, old, s, r, d, k, data, spare, ram))
-    }
-
-    fn insert(
-        &self,
-        state: State,
-        key: u32,
-        moves: u32,
-        goal: u32,
-        word: u32,
-        data: &mut [u8],
-        spare: &mut [u8],
-        ram: &mut [u8],
-    ) -> Change {
-        whole(self.insert_cut(u64::MAX, state, key, moves, goal, word, data, spare, ram))
-    }
-
-    fn update(
-        &self,
-        state: State,
-        key: u32,
-        moves: u32,
-        goal: u32,
-        word: u32,
-        data: &mut [u8],
-        spare: &mut [u8],
-        ram: &mut [u8],
-    ) -> Change {
-        whole(self.update_cut(u64::MAX, state, key, moves, goal, word, data, spare, ram))
-    }
-
-    fn delete(&self, state: State, key: u32, data: &mut [u8], spare: &mut [u8], ram: &mut [u8]) -> Change {
-        whole(self.delete_cut(u64::MAX, state, key, data, spare, ram))
-    }
-
-    fn lookup(&self, state: State, key: u32, data: &[u8], spare: &[u8], ram: &[u8]) -> LookupResult {
-        match self.0 {
-            Fault::LookupWhilePending => ModelStore.lookup(state, key, data, spare, &cleared(ram)),
-            _ => ModelStore.lookup(state, key, data, spare, ram),
-        }
-    }
-
-    fn load(
-        &self,
-        state: State,
-        tab: &[u8],
-        data: &mut [u8],
-        spare: &mut [u8],
-        ram: &mut [u8],
-    ) -> LoadResult {
-        let result = ModelStore.load(state, tab, data, spare, ram);
-        if self.0 == Fault::LoadWhilePending && result.refusal == 10 {
-            let idle = ModelStore.load(
-                state,
-                tab,
-                &mut data.to_vec(),
-                &mut spare.to_vec(),
-                &mut cleared(ram),
-            );
-            if idle.rows == 0 && [0, 9].contains(&idle.refusal) {
-                return idle;
+    fn call(&self, budget: Option<u64>, state: State, call: &Call, lent: &mut Lent) -> Answer {
+        match (*call, budget) {
+            (Call::Lookup { .. }, None) if self.0 == Fault::LookupWhilePending => {
+                ModelStore.call(None, state, call, &mut idle(lent).lent())
             }
+            (Call::Load { tab }, None) => Answer::Load(self.load(state, tab, lent)),
+            (call, Some(budget)) => Answer::Cut(self.steps(budget, call, state, lent)),
+            (call, None) if call.has_steps() => {
+                let CutResult { refusal, state, .. } = self.steps(u64::MAX, call, state, lent);
+                Answer::Change(Change { refusal, state })
+            }
+            _ => ModelStore.call(budget, state, call, lent),
         }
-        result
-    }
-
-    fn restart(&self, state: State, data: &mut [u8], spare: &mut [u8], ram: &mut [u8]) -> Change {
-        whole(self.restart_cut(u64::MAX, state, data, spare, ram))
-    }
-
-    fn format_cut(
-        &self,
-        budget: u64,
-        old: State,
-        sector_size: u32,
-        ra_blocks: u32,
-        da_blocks: u32,
-        hash_count: u32,
-        data: &mut [u8],
-        spare: &mut [u8],
-        ram: &mut [u8],
-    ) -> CutResult {
-        let call = Call::Format {
-            sector_size,
-            ra_blocks,
-            da_blocks,
-            hash_count,
-        };
-        self.call(budget, call, old, data, spare, ram)
-    }
-
-    fn insert_cut(
-        &self,
-        budget: u64,
-        state: State,
-        key: u32,
-        moves: u32,
-        goal: u32,
-        word: u32,
-        data: &mut [u8],
-        spare: &mut [u8],
-        ram: &mut [u8],
-    ) -> CutResult {
-        let call = Call::Insert {
-            key,
-            moves,
-            goal,
-            word,
-        };
-        self.call(budget, call, state, data, spare, ram)
-    }
-
-    fn update_cut(
-        &self,
-        budget: u64,
-        state: State,
-        key: u32,
-        moves: u32,
-        goal: u32,
-        word: u32,
-        data: &mut [u8],
-        spare: &mut [u8],
-        ram: &mut [u8],
-    ) -> CutResult {
-        let call = Call::Update {
-            key,
-            moves,
-            goal,
-            word,
-        };
-        self.call(budget, call, state, data, spare, ram)
-    }
-
-    fn delete_cut(
-        &self,
-        budget: u64,
-        state: State,
-        key: u32,
-        data: &mut [u8],
-        spare: &mut [u8],
-        ram: &mut [u8],
-    ) -> CutResult {
-        self.call(budget, Call::Delete { key }, state, data, spare, ram)
-    }
-
-    fn restart_cut(
-        &self,
-        budget: u64,
-        state: State,
-        data: &mut [u8],
-        spare: &mut [u8],
-        ram: &mut [u8],
-    ) -> CutResult {
-        self.call(budget, Call::Restart, state, data, spare, ram)
     }
 }
 

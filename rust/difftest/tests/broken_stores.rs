@@ -1,10 +1,11 @@
 //! The test sees broken stores: the model with one fault each, the likeliest to slip through among them.
 
-use difftest::pair::{Counts, Difference};
+use difftest::counts::Counts;
+use difftest::pair::Difference;
 use difftest::{loads, scenarios};
 use model::{positions, Set};
 use store::{
-    Change, CutResult, Geometry, LoadResult, LookupResult, ModelStore, State, Store, HASH_COUNT_01,
+    Answer, Call, Change, Geometry, Lent, LoadResult, LookupResult, ModelStore, State, Store, HASH_COUNT_01,
     HEADER_BYTES,
 };
 
@@ -237,27 +238,27 @@ impl Broken {
         taken
     }
 
-    /// A change on the marks as they are taken; those that it does not write stay as they were.
-    fn on_taken(&self, state: State, spare: &mut [u8], change: impl FnOnce(&mut [u8]) -> Change) -> Change {
+    /// A change by the model with the k that is used, on the marks as they are taken; those that it does not write stay as they were.
+    fn on_taken(&self, state: State, call: &Call, lent: &mut Lent) -> Change {
+        let Lent { data, spare, ram } = lent;
         let before = self.taken(64 * state.ra_blocks as usize, spare);
         let mut after = before.clone();
-        let result = change(&mut after);
+        let on_taken = &mut Lent {
+            data,
+            spare: &mut after,
+            ram,
+        };
+        let answer = ModelStore.call(None, self.used(state), call, on_taken);
         for (sector, mark) in spare.iter_mut().enumerate() {
             if after[sector] != before[sector] {
                 *mark = after[sector];
             }
         }
-        result
+        answer.change()
     }
 
-    fn after_change(
-        &self,
-        before: State,
-        change: Change,
-        data: &mut [u8],
-        spare: &mut [u8],
-        ram: &mut [u8],
-    ) -> Change {
+    fn after_change(&self, before: State, change: Change, lent: &mut Lent) -> Change {
+        let Lent { data, spare, ram } = lent;
         let mut change = change;
         change.state.hash_count = before.hash_count;
         if change.refusal == 0 {
@@ -350,14 +351,7 @@ impl Broken {
         change
     }
 
-    fn update_absent(
-        &self,
-        state: State,
-        [key, moves, goal, word]: [u32; 4],
-        data: &mut [u8],
-        spare: &mut [u8],
-        ram: &mut [u8],
-    ) -> Change {
+    fn update_absent(&self, state: State, call: &Call, lent: &mut Lent) -> Change {
         // The level is looked up by now, so that the state is allowed.
         let geometry = Geometry::new(
             state.sector_size,
@@ -375,134 +369,76 @@ impl Broken {
             }
             _ => {}
         }
-        let mut change = self.on_taken(state, spare, |spare| {
-            ModelStore.update(self.used(state), key, moves, goal, word, data, spare, ram)
-        });
+        let mut change = self.on_taken(state, call, lent);
         let place = deletions % geometry.deletions_per_page();
         let page = geometry.page_size();
         match self.fault {
             Fault::AbsentCounted if change.refusal == 0 => change.state.deletions += 1,
             Fault::AbsentDeleted if change.refusal == 0 => {
-                ram[2 * page + 4 * place..][..4].copy_from_slice(&state.records.to_le_bytes());
+                lent.ram[2 * page + 4 * place..][..4].copy_from_slice(&state.records.to_le_bytes());
             }
             Fault::AbsentFillsPage if change.refusal == 0 && place + 1 == geometry.deletions_per_page() => {
-                spare[4 * geometry.da_page(deletions / geometry.deletions_per_page())] = 0x00;
+                lent.spare[4 * geometry.da_page(deletions / geometry.deletions_per_page())] = 0x00;
             }
             _ => {}
         }
-        self.after_change(state, change, data, spare, ram)
+        self.after_change(state, change, lent)
     }
 
-    /// The load of the lines behind those loaded and the malformed one.
-    fn go_on(
-        &self,
-        first: LoadResult,
-        tab: &[u8],
-        data: &mut [u8],
-        spare: &mut [u8],
-        ram: &mut [u8],
-    ) -> LoadResult {
-        let mut lines = tab.split_inclusive(|&byte| byte == b'\n');
-        let header = lines.next().unwrap_or(b"");
-        let rest: Vec<&[u8]> = lines.skip(first.rows as usize + 1).collect();
-        let shorter = [header, &rest.concat()].concat();
-        let second = ModelStore.load(first.state, &shorter, data, spare, ram);
-        LoadResult {
-            rows: first.rows + second.rows,
-            ..second
-        }
-    }
-}
-
-impl Store for Broken {
-    fn name(&self) -> &'static str {
-        "broken"
-    }
-
-    fn format(
-        &self,
-        old: State,
-        s: u32,
-        r: u32,
-        d: u32,
-        k: u32,
-        data: &mut [u8],
-        spare: &mut [u8],
-        ram: &mut [u8],
-    ) -> Change {
-        let named = State { hash_count: k, ..old };
-        let used = self.used(named).hash_count;
-        let mut change = ModelStore.format(old, s, r, d, used, data, spare, ram);
+    fn format(&self, old: State, named: State, lent: &mut Lent) -> Change {
+        let call = Call::Format {
+            sector_size: named.sector_size,
+            ra_blocks: named.ra_blocks,
+            da_blocks: named.da_blocks,
+            hash_count: self.used(named).hash_count,
+        };
+        let mut change = ModelStore.call(None, old, &call, lent).change();
         if change.refusal == 0 {
-            change.state.hash_count = k;
-            self.name_hash_count(k, ram);
+            change.state.hash_count = named.hash_count;
+            self.name_hash_count(named.hash_count, lent.ram);
         }
         match self.fault {
             Fault::FormatTooLong if change.refusal == 0 => {
                 if let Some(geometry) = Geometry::of_state(change.state) {
-                    if let Some(byte) = data.get_mut(geometry.data_bytes()) {
+                    if let Some(byte) = lent.data.get_mut(geometry.data_bytes()) {
                         *byte = 0xFF;
                     }
                 }
             }
             Fault::RefusedFormatState if change.refusal != 0 => {
-                change.state.sector_size = s;
+                change.state.sector_size = named.sector_size;
             }
             _ => {}
         }
         change
     }
 
-    fn insert(
-        &self,
-        state: State,
-        key: u32,
-        moves: u32,
-        goal: u32,
-        word: u32,
-        data: &mut [u8],
-        spare: &mut [u8],
-        ram: &mut [u8],
-    ) -> Change {
+    fn insert(&self, state: State, call: &Call, lent: &mut Lent) -> Change {
         match self.fault {
             Fault::RefuseAlways => return Change { refusal: 1, state },
             Fault::WritesNothing => {
-                let (mut d, mut s, mut r) = (data.to_vec(), spare.to_vec(), ram.to_vec());
-                return ModelStore.insert(state, key, moves, goal, word, &mut d, &mut s, &mut r);
+                return ModelStore
+                    .call(None, state, call, &mut lent.copy().lent())
+                    .change();
             }
             _ => {}
         }
-        let change = self.on_taken(state, spare, |spare| {
-            ModelStore.insert(self.used(state), key, moves, goal, word, data, spare, ram)
-        });
+        let change = self.on_taken(state, call, lent);
         if let (Fault::FullTooEarly, 0) = (self.fault, change.refusal) {
             // Accepted, so that the product is small.
             if change.state.records == 4 * state.sector_size * state.ra_blocks {
                 return Change { refusal: 5, state };
             }
         }
-        self.after_change(state, change, data, spare, ram)
+        self.after_change(state, change, lent)
     }
 
-    fn update(
-        &self,
-        state: State,
-        key: u32,
-        moves: u32,
-        goal: u32,
-        word: u32,
-        data: &mut [u8],
-        spare: &mut [u8],
-        ram: &mut [u8],
-    ) -> Change {
-        let level = ModelStore.lookup(state, key, data, spare, ram);
+    fn update(&self, state: State, key: u32, call: &Call, lent: &mut Lent) -> Change {
+        let level = model::lookup(state, key, lent.data, lent.spare, lent.ram);
         let mut change = if level.refusal == 0 && level.found == 0 {
-            self.update_absent(state, [key, moves, goal, word], data, spare, ram)
+            self.update_absent(state, call, lent)
         } else {
-            let change = self.on_taken(state, spare, |spare| {
-                ModelStore.update(self.used(state), key, moves, goal, word, data, spare, ram)
-            });
-            self.after_change(state, change, data, spare, ram)
+            self.delete(state, call, lent)
         };
         if let (Fault::HashCountLost, 0) = (self.fault, change.refusal) {
             change.state.hash_count = HASH_COUNT_01;
@@ -510,15 +446,15 @@ impl Store for Broken {
         change
     }
 
-    fn delete(&self, state: State, key: u32, data: &mut [u8], spare: &mut [u8], ram: &mut [u8]) -> Change {
-        let change = self.on_taken(state, spare, |spare| {
-            ModelStore.delete(self.used(state), key, data, spare, ram)
-        });
-        self.after_change(state, change, data, spare, ram)
+    /// Or an update of a live level.
+    fn delete(&self, state: State, call: &Call, lent: &mut Lent) -> Change {
+        let change = self.on_taken(state, call, lent);
+        self.after_change(state, change, lent)
     }
 
-    fn lookup(&self, state: State, key: u32, data: &[u8], spare: &[u8], ram: &[u8]) -> LookupResult {
-        let result = ModelStore.lookup(self.used(state), key, data, spare, ram);
+    fn lookup(&self, state: State, key: u32, lent: &Lent) -> LookupResult {
+        let (data, spare, ram) = (&*lent.data, &*lent.spare, &*lent.ram);
+        let result = model::lookup(self.used(state), key, data, spare, ram);
         match self.fault {
             Fault::CountZero => LookupResult { count: 0, ..result },
             Fault::MissAlways => LookupResult {
@@ -543,12 +479,12 @@ impl Store for Broken {
                 open_ram[20 * geometry.sector_size()..geometry.ram_page_bytes()].fill(0xFF);
                 LookupResult {
                     deletion_count: result.deletion_count,
-                    ..ModelStore.lookup(state, key, &open, spare, &open_ram)
+                    ..model::lookup(state, key, &open, spare, &open_ram)
                 }
             }
             Fault::BothHalvesNeeded { answers, counts } if result.refusal == 0 => {
                 let (joined, joined_ram) = halves_joined(state, data, ram);
-                let wrong = ModelStore.lookup(state, key, &joined, spare, &joined_ram);
+                let wrong = model::lookup(state, key, &joined, spare, &joined_ram);
                 let deletion_count = [result.deletion_count, wrong.deletion_count][usize::from(counts)];
                 LookupResult {
                     deletion_count,
@@ -562,7 +498,7 @@ impl Store for Broken {
                 let mut longer = pages.to_vec();
                 longer.resize(24 * state.sector_size as usize, 0);
                 longer.extend_from_slice(header);
-                ModelStore.lookup(state, key, data, spare, &longer)
+                model::lookup(state, key, data, spare, &longer)
             }
             Fault::WrongOffset if result.found == 1 => LookupResult {
                 offset: result.offset ^ 16,
@@ -576,39 +512,41 @@ impl Store for Broken {
             }
             Fault::OneByteShort if result.refusal == 2 => {
                 let longer = [&[0], ram].concat();
-                ModelStore.lookup(state, key, data, spare, &longer)
+                model::lookup(state, key, data, spare, &longer)
             }
             _ => result,
         }
     }
 
-    fn load(
-        &self,
-        state: State,
-        tab: &[u8],
-        data: &mut [u8],
-        spare: &mut [u8],
-        ram: &mut [u8],
-    ) -> LoadResult {
+    fn load(&self, state: State, tab: &[u8], lent: &mut Lent) -> LoadResult {
+        let load = |state, tab: &[u8], lent: &mut Lent| {
+            ModelStore.call(None, state, &Call::Load { tab }, lent).load()
+        };
         if let Fault::LoadReads(read) = self.fault {
-            return ModelStore.load(state, &read(tab), data, spare, ram);
+            return load(state, &read(tab), lent);
         }
-        let before = (data.to_vec(), spare.to_vec(), ram.to_vec());
-        let mut result = ModelStore.load(self.used(state), tab, data, spare, ram);
+        let before = lent.copy();
+        let mut result = load(self.used(state), tab, lent);
         result.state.hash_count = state.hash_count;
         if result.rows > 0 {
-            self.name_hash_count(state.hash_count, ram);
+            self.name_hash_count(state.hash_count, lent.ram);
         }
         let refused = result.refusal != 0;
         match self.fault {
             Fault::LoadInserts if result.state.deletions > state.deletions => {
                 LoadResult { refusal: 3, ..result }
             }
-            Fault::LoadGoesOn if result.refusal == 9 => self.go_on(result, tab, data, spare, ram),
+            Fault::LoadGoesOn if result.refusal == 9 => {
+                let second = load(result.state, &behind(tab, result.rows), lent);
+                LoadResult {
+                    rows: result.rows + second.rows,
+                    ..second
+                }
+            }
             Fault::LoadReadsFirst if result.refusal == 9 => {
-                data.copy_from_slice(&before.0);
-                spare.copy_from_slice(&before.1);
-                ram.copy_from_slice(&before.2);
+                lent.data.copy_from_slice(&before.data);
+                lent.spare.copy_from_slice(&before.spare);
+                lent.ram.copy_from_slice(&before.ram);
                 LoadResult {
                     rows: 0,
                     state,
@@ -623,79 +561,41 @@ impl Store for Broken {
             _ => result,
         }
     }
+}
 
-    // Faults of these are in `broken_cuts`.
+/// The tab without its first rows and the malformed one behind them.
+fn behind(tab: &[u8], rows: u32) -> Vec<u8> {
+    let mut lines = tab.split_inclusive(|&byte| byte == b'\n');
+    let header = lines.next().unwrap_or(b"");
+    let rest: Vec<&[u8]> = lines.skip(rows as usize + 1).collect();
+    [header, &rest.concat()].concat()
+}
 
-    fn restart(&self, state: State, data: &mut [u8], spare: &mut [u8], ram: &mut [u8]) -> Change {
-        ModelStore.restart(state, data, spare, ram)
+impl Store for Broken {
+    fn name(&self) -> &'static str {
+        "broken"
     }
 
-    fn format_cut(
-        &self,
-        budget: u64,
-        old: State,
-        s: u32,
-        r: u32,
-        d: u32,
-        k: u32,
-        data: &mut [u8],
-        spare: &mut [u8],
-        ram: &mut [u8],
-    ) -> CutResult {
-        ModelStore.format_cut(budget, old, s, r, d, k, data, spare, ram)
-    }
-
-    fn insert_cut(
-        &self,
-        budget: u64,
-        state: State,
-        key: u32,
-        moves: u32,
-        goal: u32,
-        word: u32,
-        data: &mut [u8],
-        spare: &mut [u8],
-        ram: &mut [u8],
-    ) -> CutResult {
-        ModelStore.insert_cut(budget, state, key, moves, goal, word, data, spare, ram)
-    }
-
-    fn update_cut(
-        &self,
-        budget: u64,
-        state: State,
-        key: u32,
-        moves: u32,
-        goal: u32,
-        word: u32,
-        data: &mut [u8],
-        spare: &mut [u8],
-        ram: &mut [u8],
-    ) -> CutResult {
-        ModelStore.update_cut(budget, state, key, moves, goal, word, data, spare, ram)
-    }
-
-    fn delete_cut(
-        &self,
-        budget: u64,
-        state: State,
-        key: u32,
-        data: &mut [u8],
-        spare: &mut [u8],
-        ram: &mut [u8],
-    ) -> CutResult {
-        ModelStore.delete_cut(budget, state, key, data, spare, ram)
-    }
-
-    fn restart_cut(
-        &self,
-        budget: u64,
-        state: State,
-        data: &mut [u8],
-        spare: &mut [u8],
-        ram: &mut [u8],
-    ) -> CutResult {
-        ModelStore.restart_cut(budget, state, data, spare, ram)
+    fn call(&self, budget: Option<u64>, state: State, call: &Call, lent: &mut Lent) -> Answer {
+        match *call {
+            // Faults of these are in `broken_cuts`.
+            _ if budget.is_some() => ModelStore.call(budget, state, call, lent),
+            Call::Restart => ModelStore.call(budget, state, call, lent),
+            Call::Format {
+                sector_size,
+                ra_blocks,
+                da_blocks,
+                hash_count,
+            } => {
+                let named = State::of_numbers([sector_size, ra_blocks, da_blocks, hash_count, 0, 0]);
+                Answer::Change(self.format(state, named, lent))
+            }
+            Call::Insert { .. } => Answer::Change(self.insert(state, call, lent)),
+            Call::Update { key, .. } => Answer::Change(self.update(state, key, call, lent)),
+            Call::Delete { .. } => Answer::Change(self.delete(state, call, lent)),
+            Call::Lookup { key } => Answer::Lookup(self.lookup(state, key, lent)),
+            Call::Load { tab } => Answer::Load(self.load(state, tab, lent)),
+        }
     }
 }
 

@@ -1,9 +1,9 @@
 //! The store for speed against the model.
 
-use difftest::pair::{Call, Difference, Pair};
+use difftest::pair::{Difference, Pair};
 use difftest::random::Random;
 use difftest::{loads, scenarios};
-use store::{FastStore, Geometry, ModelStore, State, HASH_COUNT_01, HEADER_BYTES};
+use store::{Call, FastStore, Geometry, ModelStore, State, HASH_COUNT_01, HEADER_BYTES};
 
 /// The scenarios but those whose volumes take long to compare; the next test has their sets.
 #[test]

@@ -37,14 +37,7 @@ impl Header {
         let (words, _) = header.as_chunks();
         let word = |at: usize| u32::from_le_bytes(words[at]);
         Some(Header {
-            state: State {
-                sector_size: word(0),
-                ra_blocks: word(1),
-                da_blocks: word(2),
-                hash_count: word(3),
-                records: word(4),
-                deletions: word(5),
-            },
+            state: State::of_numbers(std::array::from_fn(word)),
             intent: Intent {
                 kind: word(KIND),
                 arguments: std::array::from_fn(|i| word(KIND + 1 + i)),
@@ -94,14 +87,7 @@ pub fn store_state(state: State, ram: &mut [u8]) {
 #[inline(always)]
 fn words_of(state: State) -> [u32; WORDS] {
     let mut words = [0; WORDS];
-    words[..STATE_WORDS].copy_from_slice(&[
-        state.sector_size,
-        state.ra_blocks,
-        state.da_blocks,
-        state.hash_count,
-        state.records,
-        state.deletions,
-    ]);
+    words[..STATE_WORDS].copy_from_slice(&state.numbers());
     words
 }
 

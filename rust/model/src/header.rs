@@ -73,14 +73,7 @@ pub fn read_header(ram: &[u8]) -> Option<Header> {
         })),
         _ => Pending::UnknownKind,
     };
-    let state = State {
-        sector_size: number(0),
-        ra_blocks: number(1),
-        da_blocks: number(2),
-        hash_count: number(3),
-        records: number(4),
-        deletions: number(5),
-    };
+    let state = State::of_numbers(std::array::from_fn(number));
     Some(Header { state, pending })
 }
 
@@ -111,15 +104,7 @@ pub fn store_finished(mut ram: Vec<u8>, state: State) -> Step {
 }
 
 fn header_bytes(state: State, intent: &[u32]) -> Vec<u8> {
-    let state = [
-        state.sector_size,
-        state.ra_blocks,
-        state.da_blocks,
-        state.hash_count,
-        state.records,
-        state.deletions,
-    ];
-    bytes_of(&[&state, intent].concat(), HEADER_BYTES)
+    bytes_of(&[&state.numbers(), intent].concat(), HEADER_BYTES)
 }
 
 /// The numbers, "4 bytes each, zeros after".

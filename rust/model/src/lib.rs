@@ -51,6 +51,34 @@ pub struct State {
     pub deletions: u32,
 }
 
+impl State {
+    /// Its numbers in their order.
+    #[inline]
+    pub fn numbers(self) -> [u32; 6] {
+        [
+            self.sector_size,
+            self.ra_blocks,
+            self.da_blocks,
+            self.hash_count,
+            self.records,
+            self.deletions,
+        ]
+    }
+
+    #[inline]
+    pub fn of_numbers(numbers: [u32; 6]) -> State {
+        let [sector_size, ra_blocks, da_blocks, hash_count, records, deletions] = numbers;
+        State {
+            sector_size,
+            ra_blocks,
+            da_blocks,
+            hash_count,
+            records,
+            deletions,
+        }
+    }
+}
+
 /// The answer of format, insert, update, delete and restart. Refusal 0: accepted.
 #[derive(Clone, Copy, Debug, Default, PartialEq, Eq)]
 pub struct Change {

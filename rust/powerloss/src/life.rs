@@ -1,11 +1,11 @@
 //! One life of the unit: from power-up to the loss of power, or to the end of the season.
 
-use crate::season::{Season, Volume};
+use crate::season::{self, Season};
 use crate::system::{die, map};
 use difftest::random::Random;
 use std::fs::OpenOptions;
 use std::path::Path;
-use store::{CutResult, State, Store};
+use store::{Call, CutResult, Lent, State, Store};
 
 /// Levels looked up after power-up.
 const LOOKUPS: usize = 3;
@@ -19,29 +19,32 @@ const NO_VOLUME: u32 = 1;
 pub fn live(store: &dyn Store, file: &Path, seed: u64, steps: u64) -> Result<(), String> {
     let season = Season::new(seed);
     let file = OpenOptions::new().read(true).write(true).open(file);
-    let bytes = file.and_then(|file| map(&file, Volume::unused().len()));
+    let bytes = file.and_then(|file| map(&file, season::unused().len()));
     let bytes = bytes.map_err(|error| error.to_string())?;
-    let mut volume = Volume::new(bytes);
+    let mut volume = season::lent(bytes);
     let mut left = steps;
 
-    let result = volume.restart_cut(store, left);
-    let result = match result.refusal {
-        NO_VOLUME if volume.is_unused() => volume.format_cut(store, &season, left),
-        _ => result,
-    };
+    let unknown = State::default();
+    let mut result = store.call(Some(left), unknown, &Call::Restart, &mut volume).cut();
+    if result.refusal == NO_VOLUME && season::is_unused(&volume) {
+        result = store
+            .call(Some(left), unknown, &season.format(), &mut volume)
+            .cut();
+    }
     let mut state = finished(result, &mut left)?;
     let done = season
         .done(state)
         .ok_or_else(|| format!("no call of the season leaves {state:?}"))?;
-    look_up(store, &season, &volume, done, steps)?;
+    look_up(store, &season, &mut volume, done, steps)?;
 
     for (i, event) in season.events.iter().enumerate().skip(done) {
         if season.builds_set(i) {
             // Few steps are between the erase of L1 and the end, and most mistakes show there.
-            let all = volume.steps(store, state, event.call);
+            let all = season::steps(store, state, &event.call, &volume);
             left = all.saturating_sub(1 + steps % LAST_STEPS);
         }
-        state = finished(volume.call_cut(store, state, event.call, left), &mut left)?;
+        let result = store.call(Some(left), state, &event.call, &mut volume).cut();
+        state = finished(result, &mut left)?;
         if state != season.state_after(i + 1) {
             return Err(format!("call {i} leaves {state:?}"));
         }
@@ -68,14 +71,14 @@ fn finished(result: CutResult, left: &mut u64) -> Result<State, String> {
 fn look_up(
     store: &dyn Store,
     season: &Season,
-    volume: &Volume,
+    volume: &mut Lent,
     done: usize,
     steps: u64,
 ) -> Result<(), String> {
     let mut random = Random::new(steps ^ done as u64);
     for _ in 0..LOOKUPS {
         let key = random.pick(&season.keys);
-        let values = volume.values(store, season.state_after(done), key);
+        let values = season::values(store, season.state_after(done), key, volume);
         if values != Ok(season.values(done, key)) {
             return Err(format!("level {key} after {done} calls: {values:?}"));
         }

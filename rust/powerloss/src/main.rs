@@ -10,12 +10,12 @@ mod season;
 mod system;
 
 use difftest::random::Random;
-use season::{pending_header, Season, Volume};
+use season::{pending_header, unused, Season};
 use std::os::unix::process::ExitStatusExt;
 use std::path::Path;
 use std::process::{Command, ExitCode};
 use std::{env, fs, process};
-use store::Store;
+use store::{State, Store};
 
 const USAGE: &str = "usage: powerloss [--store NAME] [--seasons N]
 The store is proved with the feature proved, otherwise the model; --store names another (fast).";
@@ -99,7 +99,7 @@ fn one_life(name: &str, file: &Path, seed: &str, steps: &str) -> ExitCode {
 fn play(store: &dyn Store, seed: u64, tally: &mut Tally) -> Result<(), String> {
     let file = env::temp_dir().join(format!("powerloss-{}-{seed}", process::id()));
     let told = |error: std::io::Error| format!("{}: {error}", file.display());
-    fs::write(&file, Volume::unused()).map_err(told)?;
+    fs::write(&file, unused()).map_err(told)?;
     let end = lives(store.name(), &file, seed, tally).and_then(|()| fs::read(&file).map_err(told));
     fs::remove_file(&file).map_err(told)?;
     let season = Season::new(seed);
@@ -143,14 +143,16 @@ fn lives(name: &str, file: &Path, seed: u64, tally: &mut Tally) -> Result<(), St
 
 /// The bytes of a season in memory.
 fn uncut(store: &dyn Store, season: &Season) -> Result<Vec<u8>, String> {
-    let mut bytes = Volume::unused();
-    let mut volume = Volume::new(&mut bytes);
-    let mut change = volume.format(store, season);
+    let mut bytes = unused();
+    let mut volume = season::lent(&mut bytes);
+    let mut change = store
+        .call(None, State::default(), &season.format(), &mut volume)
+        .change();
     for event in &season.events {
         if change.refusal != 0 {
             break;
         }
-        change = volume.call(store, change.state, event.call);
+        change = store.call(None, change.state, &event.call, &mut volume).change();
     }
     match change.refusal {
         0 => Ok(bytes),

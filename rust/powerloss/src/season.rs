@@ -1,7 +1,7 @@
 //! A season: a list of calls that the seed gives, each accepted, and what a volume has after each of them.
 
 use difftest::random::Random;
-use store::{Change, CutResult, Geometry, State, Store, HEADER_BYTES};
+use store::{Call, Geometry, Lent, State, Store, HEADER_BYTES};
 
 const SECTOR_SIZE: u32 = 16;
 const RA_BLOCKS: u32 = 40;
@@ -16,16 +16,9 @@ const BEYOND: [usize; 3] = [5, 3, 7];
 /// What lies in the memory before the format.
 const UNUSED: u8 = 0x5A;
 
-#[derive(Clone, Copy)]
-pub enum Call {
-    Insert { key: u32, values: [u32; 3] },
-    Update { key: u32, values: [u32; 3] },
-    Delete { key: u32 },
-}
-
 /// A call, and the counts after it.
 pub struct Event {
-    pub call: Call,
+    pub call: Call<'static>,
     pub records: u32,
     pub deletions: u32,
 }
@@ -46,11 +39,21 @@ impl Season {
         while records < LAST || deletions < LAST {
             let level = random.below(LEVELS);
             let key = keys[level];
-            let values = [random.next_u32(), random.next_u32(), random.next_u32()];
+            let [moves, goal, word] = [random.next_u32(), random.next_u32(), random.next_u32()];
             let call = match (live[level], random.chance(1, 8)) {
                 (true, true) => Call::Delete { key },
-                (false, true) => Call::Insert { key, values },
-                (_, false) => Call::Update { key, values },
+                (false, true) => Call::Insert {
+                    key,
+                    moves,
+                    goal,
+                    word,
+                },
+                (_, false) => Call::Update {
+                    key,
+                    moves,
+                    goal,
+                    word,
+                },
             };
             deletions += u32::from(live[level]);
             live[level] = !matches!(call, Call::Delete { .. });
@@ -65,6 +68,16 @@ impl Season {
             hash_count: 1 + (seed % 8) as u32,
             keys,
             events,
+        }
+    }
+
+    /// Before the calls.
+    pub fn format(&self) -> Call<'static> {
+        Call::Format {
+            sector_size: SECTOR_SIZE,
+            ra_blocks: RA_BLOCKS,
+            da_blocks: DA_BLOCKS,
+            hash_count: self.hash_count,
         }
     }
 
@@ -102,141 +115,77 @@ impl Season {
             .iter()
             .rev()
             .find_map(|event| match event.call {
-                Call::Insert { key, values } | Call::Update { key, values } if key == level => {
-                    Some(Some(values))
+                Call::Insert {
+                    key,
+                    moves,
+                    goal,
+                    word,
                 }
+                | Call::Update {
+                    key,
+                    moves,
+                    goal,
+                    word,
+                } if key == level => Some(Some([moves, goal, word])),
                 Call::Delete { key } if key == level => Some(None),
                 _ => None,
             })?
     }
 }
 
-/// The bytes of a volume, one slice behind the other.
-pub struct Volume<'a> {
-    pub data: &'a mut [u8],
-    pub spare: &'a mut [u8],
-    pub ram: &'a mut [u8],
+fn lengths() -> [usize; 3] {
+    let geometry = Geometry::new(SECTOR_SIZE, RA_BLOCKS, DA_BLOCKS, 1).expect("allowed");
+    [
+        geometry.data_bytes() + BEYOND[0],
+        geometry.spare_bytes() + BEYOND[1],
+        geometry.ram_bytes() + BEYOND[2],
+    ]
 }
 
-impl<'a> Volume<'a> {
-    /// Memory in which nothing was stored yet.
-    pub fn unused() -> Vec<u8> {
-        vec![UNUSED; Volume::lengths().iter().sum()]
-    }
+/// Memory in which nothing was stored yet.
+pub fn unused() -> Vec<u8> {
+    vec![UNUSED; lengths().iter().sum()]
+}
 
-    fn lengths() -> [usize; 3] {
-        let geometry = Geometry::new(SECTOR_SIZE, RA_BLOCKS, DA_BLOCKS, 1).expect("allowed");
-        [
-            geometry.data_bytes() + BEYOND[0],
-            geometry.spare_bytes() + BEYOND[1],
-            geometry.ram_bytes() + BEYOND[2],
-        ]
-    }
+/// Was no call begun yet?
+pub fn is_unused(volume: &Lent) -> bool {
+    volume.ram.iter().all(|&byte| byte == UNUSED)
+}
 
-    pub fn new(bytes: &'a mut [u8]) -> Volume<'a> {
-        let [data_len, spare_len, _] = Volume::lengths();
-        let (data, rest) = bytes.split_at_mut(data_len);
-        let (spare, ram) = rest.split_at_mut(spare_len);
-        Volume { data, spare, ram }
-    }
+/// The bytes of a volume, one slice behind the other.
+pub fn lent(bytes: &mut [u8]) -> Lent<'_> {
+    let [data_len, spare_len, _] = lengths();
+    let (data, rest) = bytes.split_at_mut(data_len);
+    let (spare, ram) = rest.split_at_mut(spare_len);
+    Lent { data, spare, ram }
+}
 
-    /// Was no call begun yet?
-    pub fn is_unused(&self) -> bool {
-        self.ram.iter().all(|&byte| byte == UNUSED)
-    }
+/// How many steps a call has: tried on copies.
+pub fn steps(store: &dyn Store, state: State, call: &Call, volume: &Lent) -> u64 {
+    let enough = Some(u64::MAX);
+    store
+        .call(enough, state, call, &mut volume.copy().lent())
+        .cut()
+        .steps
+}
 
-    pub fn restart_cut(&mut self, store: &dyn Store, budget: u64) -> CutResult {
-        store.restart_cut(budget, State::default(), self.data, self.spare, self.ram)
+/// A level's moves, goal and word; a refusal is an error.
+pub fn values(store: &dyn Store, state: State, key: u32, volume: &mut Lent) -> Result<Option<[u32; 3]>, u32> {
+    let result = store.call(None, state, &Call::Lookup { key }, volume).lookup();
+    if result.refusal != 0 {
+        return Err(result.refusal);
     }
-
-    pub fn format_cut(&mut self, store: &dyn Store, season: &Season, budget: u64) -> CutResult {
-        store.format_cut(
-            budget,
-            State::default(),
-            SECTOR_SIZE,
-            RA_BLOCKS,
-            DA_BLOCKS,
-            season.hash_count,
-            self.data,
-            self.spare,
-            self.ram,
-        )
+    if result.found == 0 {
+        return Ok(None);
     }
-
-    pub fn call_cut(&mut self, store: &dyn Store, state: State, call: Call, budget: u64) -> CutResult {
-        let Volume { data, spare, ram } = self;
-        match call {
-            Call::Insert {
-                key,
-                values: [moves, goal, word],
-            } => store.insert_cut(budget, state, key, moves, goal, word, data, spare, ram),
-            Call::Update {
-                key,
-                values: [moves, goal, word],
-            } => store.update_cut(budget, state, key, moves, goal, word, data, spare, ram),
-            Call::Delete { key } => store.delete_cut(budget, state, key, data, spare, ram),
-        }
-    }
-
-    /// How many steps a call has: tried on copies.
-    pub fn steps(&self, store: &dyn Store, state: State, call: Call) -> u64 {
-        let (mut data, mut spare, mut ram) = (self.data.to_vec(), self.spare.to_vec(), self.ram.to_vec());
-        let mut copy = Volume {
-            data: &mut data,
-            spare: &mut spare,
-            ram: &mut ram,
-        };
-        copy.call_cut(store, state, call, u64::MAX).steps
-    }
-
-    /// The calls without a budget: a season that is never cut.
-    pub fn format(&mut self, store: &dyn Store, season: &Season) -> Change {
-        store.format(
-            State::default(),
-            SECTOR_SIZE,
-            RA_BLOCKS,
-            DA_BLOCKS,
-            season.hash_count,
-            self.data,
-            self.spare,
-            self.ram,
-        )
-    }
-
-    pub fn call(&mut self, store: &dyn Store, state: State, call: Call) -> Change {
-        let Volume { data, spare, ram } = self;
-        match call {
-            Call::Insert {
-                key,
-                values: [moves, goal, word],
-            } => store.insert(state, key, moves, goal, word, data, spare, ram),
-            Call::Update {
-                key,
-                values: [moves, goal, word],
-            } => store.update(state, key, moves, goal, word, data, spare, ram),
-            Call::Delete { key } => store.delete(state, key, data, spare, ram),
-        }
-    }
-
-    /// A level's moves, goal and word; a refusal is an error.
-    pub fn values(&self, store: &dyn Store, state: State, key: u32) -> Result<Option<[u32; 3]>, u32> {
-        let result = store.lookup(state, key, self.data, self.spare, self.ram);
-        if result.refusal != 0 {
-            return Err(result.refusal);
-        }
-        if result.found == 0 {
-            return Ok(None);
-        }
-        let bytes = if result.in_ram == 1 {
-            &*self.ram
-        } else {
-            &*self.data
-        };
-        let record = &bytes[result.offset as usize..];
-        let number =
-            |at: usize| u32::from_le_bytes([record[at], record[at + 1], record[at + 2], record[at + 3]]);
-        Ok(Some([number(4), number(8), number(12)]))
-    }
+    let bytes = if result.in_ram == 1 {
+        &*volume.ram
+    } else {
+        &*volume.data
+    };
+    let record = &bytes[result.offset as usize..];
+    let number = |at: usize| u32::from_le_bytes([record[at], record[at + 1], record[at + 2], record[at + 3]]);
+    Ok(Some([number(4), number(8), number(12)]))
 }
 
 /// The header, the last of a volume's bytes, if a call is pending.

@@ -1,6 +1,18 @@
 //! The stores in Rust: each call is the function of that name of a crate.
 
-use crate::{Change, CutResult, LoadResult, LookupResult, State, Store};
+use crate::{Answer, Call, Lent, State, Store};
+
+/// A call of steps: the function without a budget, or the one with it.
+macro_rules! steps_of {
+    ($calls:ident::{$whole:ident, $cut:ident}, $budget:ident, $state:ident, ($($argument:ident),*), $lent:ident) => {
+        match $budget {
+            None => Answer::Change($calls::$whole($state, $($argument,)* $lent.data, $lent.spare, $lent.ram)),
+            Some(budget) => Answer::Cut($calls::$cut(
+                budget, $state, $($argument,)* $lent.data, $lent.spare, $lent.ram,
+            )),
+        }
+    };
+}
 
 macro_rules! store_over {
     ($(#[$about:meta])* $store:ident, $calls:ident) => {
@@ -12,156 +24,26 @@ macro_rules! store_over {
                 stringify!($calls)
             }
 
-            fn format(
-                &self,
-                old: State,
-                sector_size: u32,
-                ra_blocks: u32,
-                da_blocks: u32,
-                hash_count: u32,
-                data: &mut [u8],
-                spare: &mut [u8],
-                ram: &mut [u8],
-            ) -> Change {
-                $calls::format(
-                    old,
-                    sector_size,
-                    ra_blocks,
-                    da_blocks,
-                    hash_count,
-                    data,
-                    spare,
-                    ram,
-                )
-            }
-
-            fn insert(
-                &self,
-                state: State,
-                key: u32,
-                moves: u32,
-                goal: u32,
-                word: u32,
-                data: &mut [u8],
-                spare: &mut [u8],
-                ram: &mut [u8],
-            ) -> Change {
-                $calls::insert(state, key, moves, goal, word, data, spare, ram)
-            }
-
-            fn update(
-                &self,
-                state: State,
-                key: u32,
-                moves: u32,
-                goal: u32,
-                word: u32,
-                data: &mut [u8],
-                spare: &mut [u8],
-                ram: &mut [u8],
-            ) -> Change {
-                $calls::update(state, key, moves, goal, word, data, spare, ram)
-            }
-
-            fn delete(&self, state: State, key: u32, data: &mut [u8], spare: &mut [u8], ram: &mut [u8]) -> Change {
-                $calls::delete(state, key, data, spare, ram)
-            }
-
-            fn lookup(&self, state: State, key: u32, data: &[u8], spare: &[u8], ram: &[u8]) -> LookupResult {
-                $calls::lookup(state, key, data, spare, ram)
-            }
-
-            fn load(
-                &self,
-                state: State,
-                tab: &[u8],
-                data: &mut [u8],
-                spare: &mut [u8],
-                ram: &mut [u8],
-            ) -> LoadResult {
-                $calls::load(state, tab, data, spare, ram)
-            }
-
-            fn restart(&self, state: State, data: &mut [u8], spare: &mut [u8], ram: &mut [u8]) -> Change {
-                $calls::restart(state, data, spare, ram)
-            }
-
-            fn format_cut(
-                &self,
-                budget: u64,
-                old: State,
-                sector_size: u32,
-                ra_blocks: u32,
-                da_blocks: u32,
-                hash_count: u32,
-                data: &mut [u8],
-                spare: &mut [u8],
-                ram: &mut [u8],
-            ) -> CutResult {
-                $calls::format_cut(
-                    budget,
-                    old,
-                    sector_size,
-                    ra_blocks,
-                    da_blocks,
-                    hash_count,
-                    data,
-                    spare,
-                    ram,
-                )
-            }
-
-            fn insert_cut(
-                &self,
-                budget: u64,
-                state: State,
-                key: u32,
-                moves: u32,
-                goal: u32,
-                word: u32,
-                data: &mut [u8],
-                spare: &mut [u8],
-                ram: &mut [u8],
-            ) -> CutResult {
-                $calls::insert_cut(budget, state, key, moves, goal, word, data, spare, ram)
-            }
-
-            fn update_cut(
-                &self,
-                budget: u64,
-                state: State,
-                key: u32,
-                moves: u32,
-                goal: u32,
-                word: u32,
-                data: &mut [u8],
-                spare: &mut [u8],
-                ram: &mut [u8],
-            ) -> CutResult {
-                $calls::update_cut(budget, state, key, moves, goal, word, data, spare, ram)
-            }
-
-            fn delete_cut(
-                &self,
-                budget: u64,
-                state: State,
-                key: u32,
-                data: &mut [u8],
-                spare: &mut [u8],
-                ram: &mut [u8],
-            ) -> CutResult {
-                $calls::delete_cut(budget, state, key, data, spare, ram)
-            }
-
-            fn restart_cut(
-                &self,
-                budget: u64,
-                state: State,
-                data: &mut [u8],
-                spare: &mut [u8],
-                ram: &mut [u8],
-            ) -> CutResult {
-                $calls::restart_cut(budget, state, data, spare, ram)
+            // Always inlined: where the call is known, which the benchmark sees to, its function is called directly.
+            #[inline(always)]
+            fn call(&self, budget: Option<u64>, state: State, call: &Call, lent: &mut Lent) -> Answer {
+                match *call {
+                    Call::Format { sector_size, ra_blocks, da_blocks, hash_count } => {
+                        let [s, r, d, k] = [sector_size, ra_blocks, da_blocks, hash_count];
+                        steps_of!($calls::{format, format_cut}, budget, state, (s, r, d, k), lent)
+                    }
+                    Call::Insert { key, moves, goal, word } => {
+                        steps_of!($calls::{insert, insert_cut}, budget, state, (key, moves, goal, word), lent)
+                    }
+                    Call::Update { key, moves, goal, word } => {
+                        steps_of!($calls::{update, update_cut}, budget, state, (key, moves, goal, word), lent)
+                    }
+                    Call::Delete { key } => steps_of!($calls::{delete, delete_cut}, budget, state, (key), lent),
+                    Call::Restart => steps_of!($calls::{restart, restart_cut}, budget, state, (), lent),
+                    Call::Lookup { .. } | Call::Load { .. } if budget.is_some() => unreachable!("{call} has no budget"),
+                    Call::Lookup { key } => Answer::Lookup($calls::lookup(state, key, lent.data, lent.spare, lent.ram)),
+                    Call::Load { tab } => Answer::Load($calls::load(state, tab, lent.data, lent.spare, lent.ram)),
+                }
             }
         }
     };

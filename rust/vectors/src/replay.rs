@@ -1,6 +1,6 @@
 //! The replay program of document 01 over a store.
 
-use store::{State, Store, HASH_COUNT_01};
+use store::{Answer, Call, Memory, State, Store, HASH_COUNT_01};
 
 /// "It lends 59,392 cells, 3,712 marks and a desk of 640 bytes."
 pub const LENT: [usize; 3] = [59_392, 3_712, 640];
@@ -11,14 +11,11 @@ pub const LENT_LARGE: [usize; 3] = [487_424, 12_224, 1_600];
 /// The output for a whole input: an answer a line, each ended by a line feed. So many bytes of cells, marks
 /// and desk are lent.
 pub fn replay(store: &dyn Store, input: &[u8], lent: [usize; 3]) -> Vec<u8> {
-    let [data, spare, ram] = lent;
     let mut volume = Volume {
         store,
         // "Before any format the state is all zero."
         state: State::default(),
-        data: vec![0; data],
-        spare: vec![0; spare],
-        ram: vec![0; ram],
+        memory: Memory::filled(0, lent),
     };
     let mut output = Vec::new();
     // The last line feed may be missing; a line feed opens no line.
@@ -30,27 +27,34 @@ pub fn replay(store: &dyn Store, input: &[u8], lent: [usize; 3]) -> Vec<u8> {
     output
 }
 
-#[derive(Clone, Copy, Debug, PartialEq, Eq)]
-enum Command {
-    Format { s: u32, r: u32, d: u32 },
-    Insert { key: u32, moves: u32 },
-    Update { key: u32, moves: u32 },
-    Delete { key: u32 },
-    Lookup { key: u32 },
-}
-
 /// "`f S R D`, `i key moves`, `u key moves`, `d key`, `l key`, in decimal below 2^32
-/// without leading zeros, single spaces."
-fn parse(line: &[u8]) -> Option<Command> {
+/// without leading zeros, single spaces." "Goal and free word are 0"; "replays of document 01 have k = 3".
+fn parse(line: &[u8]) -> Option<Call<'static>> {
     let mut words = line.split(|&byte| byte == b' ');
     let name = words.next()?;
     let numbers = words.map(number).collect::<Option<Vec<u32>>>()?;
+    let [goal, word] = [0; 2];
     match (name, numbers.as_slice()) {
-        (b"f", &[s, r, d]) => Some(Command::Format { s, r, d }),
-        (b"i", &[key, moves]) => Some(Command::Insert { key, moves }),
-        (b"u", &[key, moves]) => Some(Command::Update { key, moves }),
-        (b"d", &[key]) => Some(Command::Delete { key }),
-        (b"l", &[key]) => Some(Command::Lookup { key }),
+        (b"f", &[sector_size, ra_blocks, da_blocks]) => Some(Call::Format {
+            sector_size,
+            ra_blocks,
+            da_blocks,
+            hash_count: HASH_COUNT_01,
+        }),
+        (b"i", &[key, moves]) => Some(Call::Insert {
+            key,
+            moves,
+            goal,
+            word,
+        }),
+        (b"u", &[key, moves]) => Some(Call::Update {
+            key,
+            moves,
+            goal,
+            word,
+        }),
+        (b"d", &[key]) => Some(Call::Delete { key }),
+        (b"l", &[key]) => Some(Call::Lookup { key }),
         _ => None,
     }
 }
@@ -73,47 +77,32 @@ fn number(word: &[u8]) -> Option<u32> {
 struct Volume<'a> {
     store: &'a dyn Store,
     state: State,
-    data: Vec<u8>,
-    spare: Vec<u8>,
-    ram: Vec<u8>,
+    memory: Memory,
 }
 
 impl Volume<'_> {
     /// "`ok n d`, `hit moves count`, `miss count` or `no number` answers each; other lines answer `bad`."
     fn answer(&mut self, line: &[u8]) -> String {
-        let Some(command) = parse(line) else {
+        let Some(call) = parse(line) else {
             return "bad".to_string();
         };
-        let (store, state) = (self.store, self.state);
-        let (data, spare, ram) = (&mut self.data, &mut self.spare, &mut self.ram);
-        // "Goal and free word are 0"; "replays of document 01 have k = 3".
-        let change = match command {
-            Command::Format { s, r, d } => store.format(state, s, r, d, HASH_COUNT_01, data, spare, ram),
-            Command::Insert { key, moves } => store.insert(state, key, moves, 0, 0, data, spare, ram),
-            Command::Update { key, moves } => store.update(state, key, moves, 0, 0, data, spare, ram),
-            Command::Delete { key } => store.delete(state, key, data, spare, ram),
-            Command::Lookup { key } => {
-                let result = store.lookup(state, key, data, spare, ram);
-                if result.refusal != 0 {
-                    return format!("no {}", result.refusal);
-                }
-                if result.found == 0 {
-                    return format!("miss {}", result.count);
-                }
+        let answer = self.store.call(None, self.state, &call, &mut self.memory.lent());
+        self.state = answer.state().unwrap_or(self.state);
+        match (answer.refusal(), answer) {
+            (0, Answer::Lookup(result)) if result.found == 0 => format!("miss {}", result.count),
+            (0, Answer::Lookup(result)) => {
+                let Memory { data, ram, .. } = &self.memory;
                 let slice = if result.in_ram == 1 { ram } else { data };
                 let start = result.offset as usize + 4;
-                return match slice.get(start..start + 4) {
+                match slice.get(start..start + 4) {
                     Some(&[a, b, c, d]) => {
                         format!("hit {} {}", u32::from_le_bytes([a, b, c, d]), result.count)
                     }
                     _ => format!("hit outside the slice: {result:?}"),
-                };
+                }
             }
-        };
-        self.state = change.state;
-        match change.refusal {
-            0 => format!("ok {} {}", change.state.records, change.state.deletions),
-            refusal => format!("no {refusal}"),
+            (0, _) => format!("ok {} {}", self.state.records, self.state.deletions),
+            (refusal, _) => format!("no {refusal}"),
         }
     }
 }
@@ -193,8 +182,8 @@ mod tests {
         ] {
             assert_eq!(parse(line.as_bytes()), None, "{line:?}");
         }
-        assert_eq!(parse(b"l 0"), Some(Command::Lookup { key: 0 }));
-        assert_eq!(parse(b"l 4294967295"), Some(Command::Lookup { key: u32::MAX }));
+        assert_eq!(parse(b"l 0"), Some(Call::Lookup { key: 0 }));
+        assert_eq!(parse(b"l 4294967295"), Some(Call::Lookup { key: u32::MAX }));
         assert_eq!(run(b"\n\n"), "bad\nbad\n");
     }
 }

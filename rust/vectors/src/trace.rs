@@ -1,6 +1,6 @@
 //! The commands of a trace (the README of the vectors has the format).
 
-use store::{Change, CutResult, LoadResult, LookupResult, State, Store, HASH_COUNT_01, HEADER_BYTES};
+use store::{Answer, Call, CutResult, LookupResult, Memory, State, Store, HASH_COUNT_01, HEADER_BYTES};
 
 /// From this request on a trace names k.
 const NAMES_HASH_COUNT: u32 = 2;
@@ -17,9 +17,7 @@ pub struct Runner<'a> {
     /// The trace is of the store after the requests up to this one; 0 for document 01's.
     request: u32,
     state: State,
-    data: Vec<u8>,
-    spare: Vec<u8>,
-    ram: Vec<u8>,
+    memory: Memory,
     fill: u8,
     /// The steps of the next changing call or restart, if it is to be cut.
     budget: Option<u64>,
@@ -34,9 +32,7 @@ impl<'a> Runner<'a> {
             store,
             request,
             state: State::default(),
-            data: Vec::new(),
-            spare: Vec::new(),
-            ram: Vec::new(),
+            memory: Memory::default(),
             fill: 0,
             budget: None,
             digests: true,
@@ -59,18 +55,17 @@ impl<'a> Runner<'a> {
         if self.request < NAMES_HASH_COUNT {
             add_hash_count(name, &mut numbers)?;
         }
-        let (data, spare, ram) = (&mut self.data, &mut self.spare, &mut self.ram);
+        let Memory { data, spare, ram } = &mut self.memory;
         match (name, numbers.as_slice()) {
             ("FILL", &[byte]) => self.fill = as_byte(byte)?,
             ("LEND", &[data_len, spare_len, ram_len]) => {
-                *data = vec![self.fill; data_len as usize];
-                *spare = vec![self.fill; spare_len as usize];
                 let more = if self.request < LENDS_HEADER {
                     HEADER_BYTES
                 } else {
                     0
                 };
-                *ram = vec![self.fill; ram_len as usize + more];
+                let lengths = [data_len as usize, spare_len as usize, ram_len as usize + more];
+                self.memory = Memory::filled(self.fill, lengths);
             }
             ("PC", &[offset, value]) => alter(data, offset, value)?,
             ("PM", &[offset, value]) => alter(spare, offset, value)?,
@@ -79,106 +74,54 @@ impl<'a> Runner<'a> {
                 alter(&mut ram[..known], offset, value)?;
             }
             ("PH", &[number, value]) => alter_header(ram, number, value)?,
-            ("PS", &[sector_size, ra_blocks, da_blocks, hash_count, records, deletions]) => {
-                self.state = State {
-                    sector_size,
-                    ra_blocks,
-                    da_blocks,
-                    hash_count,
-                    records,
-                    deletions,
-                };
+            ("PS", &[s, r, d, k, records, deletions]) => {
+                self.state = State::of_numbers([s, r, d, k, records, deletions]);
             }
             ("DIG", &[on]) => self.digests = on != 0,
             ("CUT", &[budget]) => self.budget = Some(u64::from(budget)),
-            ("L", &[key]) => {
-                let result = self.store.lookup(self.state, key, data, spare, ram);
-                let answer = lookup_answer(self.request, result, data, ram);
-                return Ok(Some(self.output_line(&answer)));
-            }
             (name, numbers) => {
-                let answer = match self.budget.take() {
-                    None => self.change(name, numbers)?,
-                    Some(budget) => self.change_cut(budget, name, numbers)?,
-                };
-                return Ok(Some(self.output_line(&answer)));
+                let call = call_of(name, numbers).ok_or("not a command")?;
+                return Ok(Some(self.call(call)));
             }
         }
         Ok(None)
     }
 
-    /// A changing call or a restart.
-    fn change(&mut self, name: &str, numbers: &[u32]) -> Result<String, String> {
-        let (store, state) = (self.store, self.state);
-        let (data, spare, ram) = (&mut self.data, &mut self.spare, &mut self.ram);
-        let change = match (name, numbers) {
-            ("F", &[s, r, d, k]) => store.format(state, s, r, d, k, data, spare, ram),
-            ("I", &[key, moves, goal, word]) => store.insert(state, key, moves, goal, word, data, spare, ram),
-            ("U", &[key, moves, goal, word]) => store.update(state, key, moves, goal, word, data, spare, ram),
-            ("D", &[key]) => store.delete(state, key, data, spare, ram),
-            ("RESTART", []) => store.restart(state, data, spare, ram),
-            _ => return Err("not a command".to_string()),
-        };
-        Ok(self.take(change))
-    }
-
-    /// The same with a budget of steps.
-    fn change_cut(&mut self, budget: u64, name: &str, numbers: &[u32]) -> Result<String, String> {
-        let (store, state) = (self.store, self.state);
-        let (data, spare, ram) = (&mut self.data, &mut self.spare, &mut self.ram);
-        let result = match (name, numbers) {
-            ("F", &[s, r, d, k]) => store.format_cut(budget, state, s, r, d, k, data, spare, ram),
-            ("I", &[key, moves, goal, word]) => {
-                store.insert_cut(budget, state, key, moves, goal, word, data, spare, ram)
-            }
-            ("U", &[key, moves, goal, word]) => {
-                store.update_cut(budget, state, key, moves, goal, word, data, spare, ram)
-            }
-            ("D", &[key]) => store.delete_cut(budget, state, key, data, spare, ram),
-            ("RESTART", []) => store.restart_cut(budget, state, data, spare, ram),
-            _ => return Err("not a command".to_string()),
-        };
-        self.state = result.state;
-        Ok(cut_answer(budget, result))
-    }
-
     /// `LOAD hexbytes`, `-` for no bytes.
     fn load(&mut self, hex: &str) -> Result<String, String> {
         let tab = bytes_of(hex)?;
-        let (data, spare, ram) = (&mut self.data, &mut self.spare, &mut self.ram);
-        let LoadResult { refusal, rows, state } = self.store.load(self.state, &tab, data, spare, ram);
-        let ending = self.take(Change { refusal, state });
-        Ok(self.output_line(&format!("rows {rows} {ending}")))
+        Ok(self.call(Call::Load { tab: &tab }))
     }
 
-    /// The new state is handed in from here on.
-    fn take(&mut self, change: Change) -> String {
-        self.state = change.state;
-        match change.refusal {
-            0 => "ok".to_string(),
-            number => format!("no {number}"),
-        }
+    /// A call, with the budget that is set if it takes one. A state that is handed out is handed in from here on.
+    fn call(&mut self, call: Call) -> String {
+        let budget = self.budget.take_if(|_| call.has_steps());
+        let answer = self
+            .store
+            .call(budget, self.state, &call, &mut self.memory.lent());
+        self.state = answer.state().unwrap_or(self.state);
+        let answer = match answer {
+            Answer::Change(change) => ending(change.refusal),
+            Answer::Cut(result) => cut_answer(budget.unwrap_or_default(), result),
+            Answer::Lookup(result) => lookup_answer(self.request, result, &self.memory),
+            Answer::Load(result) => format!("rows {} {}", result.rows, ending(result.refusal)),
+        };
+        self.output_line(&answer)
     }
 
     fn output_line(&mut self, answer: &str) -> String {
-        let State {
-            sector_size,
-            ra_blocks,
-            da_blocks,
-            hash_count,
-            records,
-            deletions,
-        } = self.state;
-        let mut line = format!("{answer} | {sector_size} {ra_blocks} {da_blocks}");
+        let [s, r, d, k, records, deletions] = self.state.numbers();
+        let mut line = format!("{answer} | {s} {r} {d}");
         if self.request >= NAMES_HASH_COUNT {
-            line += &format!(" {hash_count}");
+            line += &format!(" {k}");
         }
         line += &format!(" {records} {deletions}");
         if self.digests {
             let [data, spare, ram] = &mut self.last_digests;
-            let data = data.of(&self.data);
-            let spare = spare.of(&self.spare);
-            let ram = ram.of(&self.ram[..known_len(self.request, &self.ram)]);
+            let memory = &self.memory;
+            let data = data.of(&memory.data);
+            let spare = spare.of(&memory.spare);
+            let ram = ram.of(&memory.ram[..known_len(self.request, &memory.ram)]);
             line += &format!(" | {data:016x} {spare:016x} {ram:016x}");
         }
         line
@@ -196,7 +139,42 @@ fn add_hash_count(name: &str, numbers: &mut Vec<u32>) -> Result<(), String> {
     Ok(())
 }
 
-fn lookup_answer(request: u32, result: LookupResult, data: &[u8], ram: &[u8]) -> String {
+/// The call of a line but a load's.
+fn call_of(name: &str, numbers: &[u32]) -> Option<Call<'static>> {
+    match (name, numbers) {
+        ("F", &[sector_size, ra_blocks, da_blocks, hash_count]) => Some(Call::Format {
+            sector_size,
+            ra_blocks,
+            da_blocks,
+            hash_count,
+        }),
+        ("I", &[key, moves, goal, word]) => Some(Call::Insert {
+            key,
+            moves,
+            goal,
+            word,
+        }),
+        ("U", &[key, moves, goal, word]) => Some(Call::Update {
+            key,
+            moves,
+            goal,
+            word,
+        }),
+        ("D", &[key]) => Some(Call::Delete { key }),
+        ("L", &[key]) => Some(Call::Lookup { key }),
+        ("RESTART", []) => Some(Call::Restart),
+        _ => None,
+    }
+}
+
+fn ending(refusal: u32) -> String {
+    match refusal {
+        0 => "ok".to_string(),
+        number => format!("no {number}"),
+    }
+}
+
+fn lookup_answer(request: u32, result: LookupResult, memory: &Memory) -> String {
     let mut counts = result.count.to_string();
     if request >= GIVES_DELETION_COUNT {
         counts += &format!(" {}", result.deletion_count);
@@ -217,9 +195,9 @@ fn lookup_answer(request: u32, result: LookupResult, data: &[u8], ram: &[u8]) ->
             ..
         } => {
             let (name, slice) = if in_ram == 1 {
-                ("desk", ram)
+                ("desk", &memory.ram)
             } else {
-                ("cells", data)
+                ("cells", &memory.data)
             };
             let start = offset as usize;
             match start.checked_add(16).and_then(|end| slice.get(start..end)) {
