@@ -10,7 +10,7 @@ use Rattle.layout.specs.Geometry as layout
 use Rattle.layout.specs.Hash.{fnvFamily}
 use Rattle.layout.specs.Refusals as refusal
 use Rattle.layout.specs.Search.{Stop, found, corrupt}
-use Rattle.layout.specs.Calls.{Volume, Call, Result, Commit, refuse, badState, tooShort, judgeFirst, search}
+use Rattle.layout.specs.Calls.{keyOf, Volume, Call, Result, Commit, refuse, badState, tooShort, judgeFirst, search}
 use Rattle.layout.specs.Calls.{insertBy, updateBy, deleteBy, answerBy, changeBy, commit}
 use Rattle.layout.specs.Header.{headerSize, pages, onPages, kindIn}
 use Rattle.laws.specs.HeaderLaws.{length-pages}
@@ -18,7 +18,7 @@ use Rattle.layout.specs.Budgets.{resultOf}
 use Rattle.geometry.specs.Shape.{shape, geometryFor}
 use Rattle.geometry.specs.declared.Geometry.{Geometry}
 use Rattle.state.specs.Contract.{recordIs, callOf}
-use Rattle.state.specs.Judge.{VolumeFits}
+use Rattle.state.specs.Judge.{judgementOf, VolumeFits}
 use Rattle.state.specs.declared.Judgement.{Judgement}
 use Rattle.state.specs.declared.Judgement.the-variants as judges
 use Rattle.state.specs.declared.Request.{Request}
@@ -29,7 +29,7 @@ use Rattle.changes.specs.Edits.{editIs}
 use Rattle.changes.specs.declared.Edit.{Edit}
 use Rattle.changes.specs.declared.Edit.the-variants as edits
 use Rattle.calls.specs.Resolve.{stopped, resolvedBy, ResolvedFits}
-use Rattle.calls.specs.Request.{keyOf, decisionOf}
+use Rattle.calls.specs.Request.{decisionOf}
 use Rattle.calls.specs.declared.Decision.{Decision}
 use Rattle.calls.specs.declared.Decision.the-variants.{Refused, Change}
 
@@ -73,6 +73,29 @@ module _ (v : Volume) where
       by false false true = refl
       by false false false = refl
 
+-- the same of a call that is not asked whether one is pending
+module _ (w : Volume) where
+  pub first-judged : (x : Result) → judgeFirst w x ≡ judgedBy (judgementOf w) w x
+  unfolding judgeFirst
+  first-judged x = by (badState (w .state)) (tooShort (layout.geometry (w .state .sizes)) (w .flash) (w .ram)) (geometryFor (w .state .sizes))
+    where
+      by : (a b : Bool) (g : Geometry)
+          → cond a (refuse w refusal.badState) (cond b (refuse w refusal.tooShort) x)
+          ≡ judgedBy (cond a (judges.Refused refusal.badState) (cond b (judges.Refused refusal.tooShort) (judges.Good g))) w x
+      by true b g = refl
+      by false true g = refl
+      by false false g = refl
+
+  pub first-told : Told w (judgementOf w)
+  first-told = by (badState (w .state)) (tooShort (layout.geometry (w .state .sizes)) (w .flash) (w .ram))
+    where
+      by : (a b : Bool)
+          → Told w (cond a (judges.Refused refusal.badState)
+          (cond b (judges.Refused refusal.tooShort) (judges.Good (geometryFor (w .state .sizes)))))
+      by true b = refl
+      by false true = refl
+      by false false = refl
+
 -- ---- what is decided, over any end of a change
 
 -- which of the two, and the number in it
@@ -100,7 +123,7 @@ module _ (end : Commit) (w : Volume) where
   after G (Update r) o = updateBy end fnvFamily G w (recordIs r) o
   after G (Delete key) o = deleteBy end fnvFamily G w o
 
-  after-is : (G : layout.Geometry) (q : Request) → answerBy end fnvFamily G w (callOf q) ≡ after G q (search fnvFamily G w (keyOf q) .stop)
+  after-is : (G : layout.Geometry) (q : Request) → answerBy end fnvFamily G w (callOf q) ≡ after G q (search fnvFamily G w (keyOf (callOf q)) .stop)
   after-is G (Insert r) = refl
   after-is G (Update r) = refl
   after-is G (Delete key) = refl
@@ -121,12 +144,12 @@ module _ (end : Commit) (w : Volume) where
   stop-refused G g i (Delete key) none d = refusal-of w refusal.absent i (ap number d) refl
   stop-refused G g i (Delete key) (some (found j)) d = absurd (omega (arith, ap kind d))
 
-  pub decided-refused : (j : Judgement) → Told w j → (q : Request) (i : ℕ) → decisionOf q (resolvedBy j w (keyOf q)) ≡ Refused i
+  pub decided-refused : (j : Judgement) → Told w j → (q : Request) (i : ℕ) → decisionOf q (resolvedBy j w (keyOf (callOf q))) ≡ Refused i
       → Refusal w i (judgedBy j w (answered q))
   decided-refused (judges.Refused k) t q i d = refusal-of w k i (ap number d) t
   decided-refused (judges.Good g) t q i d =
-      let a : Refusal w i (after (shape g) q (search fnvFamily (shape g) w (keyOf q) .stop))
-      = stop-refused (shape g) g i q (search fnvFamily (shape g) w (keyOf q) .stop) d in
+      let a : Refusal w i (after (shape g) q (search fnvFamily (shape g) w (keyOf (callOf q)) .stop))
+      = stop-refused (shape g) g i q (search fnvFamily (shape g) w (keyOf (callOf q)) .stop) d in
       rw (after-is (layout.geometry (w .state .sizes)) q) (rw t at a)
 
   -- a change
@@ -149,13 +172,13 @@ module _ (end : Commit) (w : Volume) where
   stop-changes G g g′ e (Delete key) none f d = absurd (omega (arith, ap kind d))
   stop-changes G g g′ e (Delete key) (some (found j)) f d = same G g g′ e (edits.Delete j) f d
 
-  pub decided-changes : (j : Judgement) → Told w j → (q : Request) → ResolvedFits w (resolvedBy j w (keyOf q)) → (g : Geometry) (e : Edit)
-      → decisionOf q (resolvedBy j w (keyOf q)) ≡ Change g e
+  pub decided-changes : (j : Judgement) → Told w j → (q : Request) → ResolvedFits w (resolvedBy j w (keyOf (callOf q))) → (g : Geometry) (e : Edit)
+      → decisionOf q (resolvedBy j w (keyOf (callOf q))) ≡ Change g e
       → VolumeFits w g × (judgedBy j w (answered q) ≡ changeBy end fnvFamily (shape g) w (editIs e))
   decided-changes (judges.Refused k) t q f g e d = absurd (omega (arith, ap kind d))
   decided-changes (judges.Good h) t q f g e d =
-      let s : Changes (shape h) h g e (after (shape h) q (search fnvFamily (shape h) w (keyOf q) .stop))
-      = stop-changes (shape h) h g e q (search fnvFamily (shape h) w (keyOf q) .stop) f d in
+      let s : Changes (shape h) h g e (after (shape h) q (search fnvFamily (shape h) w (keyOf (callOf q)) .stop))
+      = stop-changes (shape h) h g e q (search fnvFamily (shape h) w (keyOf (callOf q)) .stop) f d in
       let fits : VolumeFits w g = rw (s .1) at (s .0) in (
         fits,
         after-is (layout.geometry (w .state .sizes)) q ∙ (rw t at (s .2))

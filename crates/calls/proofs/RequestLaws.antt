@@ -6,14 +6,14 @@ use Prim.Native.Nat.{ℕ, suc, _+_, _≤_}
 use native.Mathlib.Omega.{arith}
 use lib.Dec.{leb}
 use lib.ListN.{length, length-take, length-append}
-use borrow.Author.Tests.{le-leb, lt-leb, leb-false}
+use borrow.Author.Tests.{le-leb, lt-leb}
 use Rattle.memory.specs.Bits.{num}
 use Rattle.memory.specs.Cases.{either, le?}
 use Rattle.layout.specs.Geometry as layout
 use Rattle.layout.specs.Flash.{flashOf, planOps, allFresh}
 use Rattle.layout.specs.Hash.{fnvFamily}
 use Rattle.layout.specs.Refusals as refusal
-use Rattle.layout.specs.Calls.{Volume, Call, Result, accepted, refuse, one, noRoom, noDeletion, changePlan, changeBy, commit}
+use Rattle.layout.specs.Calls.{keyOf, Volume, Call, Result, accepted, refuse, one, noRoom, noDeletion, changePlan, changeBy, commit}
 use Rattle.layout.specs.Header.{headerSize, pages, onPages, intended}
 use Rattle.layout.specs.Budgets as budgets
 use Rattle.layout.specs.Budgets.{Step, Memory, memory, lastSteps, callSteps, taken, resultOf, callFor, callCut}
@@ -26,15 +26,13 @@ use Rattle.state.specs.declared.Progress.{Progress}
 use Rattle.state.specs.declared.State.{State}
 use Rattle.state.specs.declared.Request.{Request}
 use Rattle.state.proofs.Refusals.{Refusal, refusal-of}
-use Rattle.planning.specs.Edits.{Room}
 use Rattle.header.specs.Header.{idleJudgement}
-use Rattle.changes.specs.Edits.{editIs, slotsOf}
+use Rattle.changes.specs.Edits.{editIs}
 use Rattle.changes.specs.Tasks.{changeRefusal, changed, taskResult}
 use Rattle.changes.specs.declared.Task.{Task}
 use Rattle.changes.specs.declared.Edit.{Edit}
-use Rattle.changes.specs.declared.Edit.the-variants.{Insert, Delete, Replace}
 use Rattle.calls.specs.Resolve.{resolvedOf, ResolvedFits}
-use Rattle.calls.specs.Request.{keyOf, decisionOf}
+use Rattle.calls.specs.Request.{decisionOf}
 use Rattle.calls.specs.declared.Resolved.{Resolved}
 use Rattle.calls.specs.declared.Decision.the-variants.{Refused, Change}
 use Rattle.calls.proofs.CallsLaws.{result-judged, idle-told, decided-refused, decided-changes}
@@ -49,13 +47,6 @@ none-full false false true e = (refl, refl, refl)
 none-full false false false e = absurd (omega (arith, e))
 
 module _ (g : layout.Geometry) (w : Volume) where
-  room-of : (e : Edit) → (one (editIs e .inserts) && noRoom g w) ≡ false → (one (editIs e .deletes) && noDeletion g w) ≡ false
-      → Room g (slotsOf (w .state .records) (w .state .deletions) e)
-  room-of (Insert r) a b = leb-false (layout.recordCapacity g) (w .state .records) a
-  room-of (Delete j) a b = leb-false (layout.deletionCapacity g) (w .state .deletions) b
-  room-of (Replace j r) a b =
-      (leb-false (layout.deletionCapacity g) (w .state .deletions) b, leb-false (layout.recordCapacity g) (w .state .records) a)
-
   module _ (e : Edit) (i : ℕ) (is : i ≡ changeRefusal g w (editIs e)) where
     -- is there no room for its record, or its deletion; is all fresh that it programs
     abbrev full : Bool
@@ -86,12 +77,9 @@ module _ (g : layout.Geometry) (w : Volume) where
       unfolding changeBy commit
       change-accepted = rw (tests .0, tests .1, tests .2)
 
-      pub change-room : Room g (slotsOf (w .state .records) (w .state .deletions) e)
-      change-room = room-of e (tests .0) (tests .1)
-
 -- ---- a call by what is decided
 
-module _ (v : Volume) (q : Request) (r : Resolved) (is : r ≡ resolvedOf v (keyOf q)) where
+module _ (v : Volume) (q : Request) (r : Resolved) (is : r ≡ resolvedOf v (keyOf (callOf q))) where
   pub call-refused : (i : ℕ) → decisionOf q r ≡ Refused i → Refusal (onPages v) i (resultOf fnvFamily v (callOf q))
   call-refused i d =
       subst (Refusal (onPages v) i) (sym (result-judged v (callOf q)))

@@ -3,16 +3,15 @@
 use mathlib.Core.Path.{_≡_, refl}
 use mathlib.Core.Bool.{Bool, true, false, not, _&&_, cond}
 use mathlib.Core.Option.{Option, none, some}
-use mathlib.Core.List.{List, [], _∷_}
+use mathlib.Core.List.{List}
 use Prim.Native.Nat.{ℕ, _+_, _^_, _≤_, _<_}
 use native.Mathlib.Omega.{arith}
 use lib.ListN.{length, length-drop}
 use lib.Dec.{eqb}
-use borrow.Author.Tests.{leb-false}
 use Rattle.memory.specs.Cases.{either, bool?}
 use Rattle.memory.specs.Booleans.{or-eq-false-iff}
 use Rattle.layout.specs.Geometry as layout
-use Rattle.layout.specs.Flash.{Flash, apply, Planned, opOn, planOps, allFresh}
+use Rattle.layout.specs.Flash.{Planned, planOps, allFresh}
 use Rattle.layout.specs.Hash.{fnvFamily}
 use Rattle.layout.specs.Search.{Stop, found, corrupt}
 use Rattle.layout.specs.Calls.{Volume, Result, badState, tooShort, judgeFirst, one, noRoom, noDeletion, changePlan, search}
@@ -21,16 +20,17 @@ use Rattle.layout.specs.Later.{laterPlan, commitLater, callAgain}
 use Rattle.layout.specs.Header.{onPages, kindIn}
 use Rattle.layout.specs.Budgets.{resultOf, pendingOn}
 use Rattle.laws.specs.Lengths.{long-of}
-use Rattle.laws.specs.Done.{doneCount, later-drop}
+use Rattle.laws.specs.Done.{ops-length, doneCount, later-drop}
 use Rattle.geometry.specs.Shape.{shape, geometryFor, Sound}
 use Rattle.geometry.specs.Allowed.{allowed-sound}
 use Rattle.geometry.specs.declared.Geometry.{Geometry}
+use Rattle.keys.specs.Key.{keyIs}
 use Rattle.state.specs.Contract.{recordIs, callOf}
 use Rattle.state.specs.declared.Record.{Record}
 use Rattle.state.specs.declared.Request.{Request}
 use Rattle.state.specs.declared.Request.the-variants as request
-use Rattle.planning.specs.Edits.{Room}
-use Rattle.changes.specs.Edits.{editIs, slotsOf}
+use Rattle.changes.specs.Edits.{editIs}
+use Rattle.changes.specs.Room.{room-of}
 use Rattle.changes.specs.declared.Edit.{Edit}
 use Rattle.changes.specs.declared.Edit.the-variants.{Insert, Delete, Replace}
 use Rattle.changes.specs.Few.{few-changes}
@@ -50,10 +50,6 @@ abbrev FewEnd : Commit → Type 0
 FewEnd end = (g : layout.Geometry) (v : Volume) (n d : ℕ) (plan : List Planned) (ram : List ℕ) → length plan < 2 ^ 32
     → Few (end g v n d plan ram)
 
-ops-length : (u : ℕ) (ps : List Planned) (c : Flash) → length (planOps u ps c) ≡ length ps
-ops-length u [] c = refl
-ops-length u (p ∷ ps) c = omega (arith, ops-length u ps (apply u (opOn p c) c))
-
 performed-few : FewEnd performed
 performed-few g v n d plan ram l = (refl, omega (arith, ops-length (g .u) plan (v .flash), l))
 
@@ -72,14 +68,6 @@ later-few g v n d plan ram l =
 
 -- ---- a change, then a call
 
--- neither 5 nor 6
-room-of : (g : layout.Geometry) (v : Volume) (e : Edit) → (one (editIs e .inserts) && noRoom g v) ≡ false
-    → (one (editIs e .deletes) && noDeletion g v) ≡ false → Room g (slotsOf (v .state .records) (v .state .deletions) e)
-room-of g v (Insert r) p q = leb-false (layout.recordCapacity g) (v .state .records) p
-room-of g v (Delete j) p q = leb-false (layout.deletionCapacity g) (v .state .deletions) q
-room-of g v (Replace j r) p q =
-    (leb-false (layout.deletionCapacity g) (v .state .deletions) q, leb-false (layout.recordCapacity g) (v .state .records) p)
-
 module _ (end : Commit) (few-end : FewEnd end) (v : Volume) where
   module _ (g : Geometry) (S : Sound g) (long : layout.ramSize (shape g) ≤ length (v .ram)) where
     change-few : (e : Edit) → Few (changeBy end fnvFamily (shape g) v (editIs e))
@@ -88,7 +76,7 @@ module _ (end : Commit) (few-end : FewEnd end) (v : Volume) where
         either (bool? (one (editIs e .inserts) && noRoom (shape g) v)) (λ p. rw p (refl, omega arith))
         (λ p. either (bool? (one (editIs e .deletes) && noDeletion (shape g) v)) (λ q. rw (p, q) (refl, omega arith))
         (λ q. rw (p, q)
-        (few-end (shape g) v _ _ (changePlan fnvFamily (shape g) v (editIs e)) _ (few-changes g S v e long (room-of (shape g) v e p q)))))
+        (few-end (shape g) v _ _ (changePlan fnvFamily (shape g) v (editIs e)) _ (few-changes g S v e long (room-of (shape g) (v .state .records) (v .state .deletions) e p q)))))
 
     insert-few : (r : Record) (s : Option Stop) → Few (insertBy end fnvFamily (shape g) v (recordIs r) s)
     insert-few r none = change-few (Insert r)
@@ -106,9 +94,9 @@ module _ (end : Commit) (few-end : FewEnd end) (v : Volume) where
     delete-few (some (found j)) = change-few (Delete j)
 
     answer-few : (q : Request) → Few (answerBy end fnvFamily (shape g) v (callOf q))
-    answer-few (request.Insert r) = insert-few r (search fnvFamily (shape g) v (r .key) .stop)
-    answer-few (request.Update r) = update-few r (search fnvFamily (shape g) v (r .key) .stop)
-    answer-few (request.Delete key) = delete-few (search fnvFamily (shape g) v key .stop)
+    answer-few (request.Insert r) = insert-few r (search fnvFamily (shape g) v (keyIs (r .key)) .stop)
+    answer-few (request.Update r) = update-few r (search fnvFamily (shape g) v (keyIs (r .key)) .stop)
+    answer-few (request.Delete key) = delete-few (search fnvFamily (shape g) v (keyIs key) .stop)
 
   -- the volume that is not refused by 1 has a sound geometry
   good-sound : badState (v .state) ≡ false → Sound (geometryFor (v .state .sizes))

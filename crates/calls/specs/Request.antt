@@ -1,4 +1,4 @@
--- The changing calls: which key, and what is decided by how that key is resolved.
+-- The changing calls: what is decided by how the key that they name is resolved.
 use mathlib.Core.Path.{_≡_}
 use Prim.Native.Nat.{ℕ}
 use Rattle.layout.specs.Hash.{fnvFamily}
@@ -19,12 +19,6 @@ use Rattle.calls.specs.declared.Resolved.{Resolved}
 use Rattle.calls.specs.declared.Resolved.the-variants as resolved
 use Rattle.calls.specs.declared.Decision.{Decision}
 use Rattle.calls.specs.declared.Decision.the-variants.{Refused, Change}
-
--- the key that it names
-abbrev pub keyOf : Request → ℕ
-keyOf (Insert r) = r .key
-keyOf (Update r) = r .key
-keyOf (Delete key) = key
 
 -- 4 of a delete
 abbrev pub ofAbsent : Geometry → Request → Decision

@@ -7,19 +7,24 @@ ghost use lib.ListN.{length};
 ghost use Rattle.memory.specs.Lent.{before};
 ghost use Rattle.layout.specs.Hash.{fnvFamily};
 ghost use Rattle.layout.specs.Calls as layout;
+ghost use Rattle.layout.specs.Calls.{keyOf};
 ghost use Rattle.layout.specs.Header.{headerSize, pages, onPages, changing, pendingIn};
 ghost use Rattle.layout.specs.Budgets.{lastSteps, callCut, callWhole, restartCut};
 ghost use Rattle.geometry.specs.Shape.{shape};
+ghost use Rattle.keys.specs.Key.{keyIs};
 ghost use Rattle.state.specs.Contract.{recordIs, callOf, volume, given, effectOf, effectBy, cutOf, cutBy, memoryBefore, memoryAfter, Ran};
 ghost use Rattle.state.specs.Judge.{VolumeFits, GoodFits};
 ghost use Rattle.state.specs.declared.Judgement.{Judgement};
-ghost use Rattle.planning.specs.Edits.{Room, programsIn};
-ghost use Rattle.changes.specs.Tasks.{taskOn, taskSlots, taskPlan, taskResult};
+ghost use Rattle.planning.specs.Edits.{programsIn};
+ghost use Rattle.changes.specs.Edits.{countedState};
+ghost use Rattle.changes.specs.Tasks.{HasRoom, Prepared, taskOn, taskSlots, taskPlan, taskResult};
 ghost use Rattle.calls.specs.Resolve.{resolvedBy, resolvedOf, ResolvedFits};
-ghost use Rattle.calls.specs.Request.{keyOf, ofAbsent, ofLive, decisionOf, Decided};
+ghost use Rattle.calls.specs.Request.{ofAbsent, ofLive, decisionOf, Decided};
 use changes::Edit;
 use changes::Task;
 use geometry::Geometry;
+use keys::Key;
+use plan::Plan;
 use search::End;
 use state::Change;
 use state::Cut;
@@ -42,13 +47,13 @@ pub enum Resolved {
 pub fn resolve_judged(
     j: Judgement,
     s: State,
-    key: u32,
+    key: Key,
     main: &[u8],
     spare: &[u8],
     ram: &[u8],
 ) -> Resolved
     requires { ⌜ GoodFits (onPages (volume s (now main) (now spare) (now ram))) j ⌝ }
-    ensures equal { λ r. ⌜ r ≡ resolvedBy j (onPages (given s main spare ram)) key ⌝ }
+    ensures equal { λ r. ⌜ r ≡ resolvedBy j (onPages (given s main spare ram)) (keyIs key) ⌝ }
     ensures fits { λ r. ⌜ ResolvedFits (onPages (given s main spare ram)) r ⌝ }
 {
     match j {
@@ -56,7 +61,7 @@ pub fn resolve_judged(
             return Resolved::Refused(i);
         }
         Judgement::Good(g) => {
-            let n = ram.len() - state::HEADER_SIZE;
+            let n = state::pages_end(ram);
             let v = search::all(g, s.records as usize, s.deletions as usize);
             let f = search::search(v, key, main, &ram[0..n]);
             let end = f.end;
@@ -76,8 +81,8 @@ pub fn resolve_judged(
 }
 
 // Refusals 1, 2, 10 and 8, then whether the key is live.
-pub fn resolve(s: State, key: u32, main: &[u8], spare: &[u8], ram: &[u8]) -> Resolved
-    ensures equal { λ r. ⌜ r ≡ resolvedOf (given s main spare ram) key ⌝ }
+pub fn resolve(s: State, key: Key, main: &[u8], spare: &[u8], ram: &[u8]) -> Resolved
+    ensures equal { λ r. ⌜ r ≡ resolvedOf (given s main spare ram) (keyIs key) ⌝ }
     ensures fits { λ r. ⌜ ResolvedFits (onPages (given s main spare ram)) r ⌝ }
 {
     let j = header::judge(s, main, spare, ram);
@@ -93,8 +98,8 @@ pub enum Decision {
 }
 
 // The key that a call names.
-fn key_of(q: Request) -> u32
-    ensures { λ r. ⌜ r ≡ keyOf q ⌝ }
+fn key_of(q: Request) -> Key
+    ensures { λ r. ⌜ keyIs r ≡ keyOf (callOf q) ⌝ }
 {
     match q {
         Request::Insert(record) => record.key,
@@ -138,34 +143,51 @@ fn decide(q: Request, r: Resolved) -> Decision
 
 // ---- in steps
 
-// The steps of a change behind its intent, from operation `from` of its plan on: the operations, then the RAM and its header.
+// What the steps behind an intent came to: how far they went, and the state that they end with.
+struct Finished {
+    progress: Progress,
+    state: State,
+}
+
+// The steps of a change behind its intent, from operation `from` of its plan on: the operations, then the RAM, whose header gets the new
+// state.
 fn finish(
     t: Task,
+    p: Plan,
     from: usize,
     budget: usize,
     main: &mut [u8],
     spare: &mut [u8],
     ram: &mut [u8],
-) -> Progress
+) -> Finished
     requires { ⌜ (headerSize ≤ length (now ram)) × VolumeFits (taskOn t (now main) (now spare) (pages (now ram))) (t .g) ⌝ }
-    requires { ⌜ Room (shape (t .g)) (taskSlots t) × (from ≤ length (taskPlan t (now main) (now spare) (pages (now ram)))) ⌝ }
-    ensures { λ p. ⌜ Ran (t .g .chip .unit) (lastSteps (taskResult t (before main) (before spare) (pages (before ram)) from)) budget
-        (memoryBefore main spare ram) (memoryAfter main spare ram) p ⌝ }
+    requires { ⌜ Prepared t p × (from ≤ length (taskPlan t (now main) (now spare) (pages (now ram)))) ⌝ }
+    ensures ran { λ r. ⌜ Ran (t .g .chip .unit) (lastSteps (taskResult t (before main) (before spare) (pages (before ram)) from)) budget
+        (memoryBefore main spare ram) (memoryAfter main spare ram) (r .progress) ⌝ }
+    ensures state { λ r. ⌜ r .state ≡ countedState (t .state) (t .edit) ⌝ }
 {
-    let n = ram.len() - state::HEADER_SIZE;
-    let p = changes::carry_on(t, from, budget, main, spare, &mut ram[0..n]);
-    if !p.finished {
-        return p;
-    }
     let edit = t.edit;
-    header::clear(changes::counted_state(t.state, edit), ram);
-    Progress {
-        steps: p.steps + 1,
+    let new = changes::counted_state(t.state, edit);
+    let n = state::pages_end(ram);
+    let r = changes::carry_on(t, p, from, budget, main, spare, &mut ram[0..n]);
+    if !r.finished {
+        return Finished {
+            progress: r,
+            state: new,
+        };
+    }
+    header::clear(new, ram);
+    let progress = Progress {
+        steps: r.steps + 1,
         finished: true,
+    };
+    Finished {
+        progress,
+        state: new,
     }
 }
 
-// A change with a budget of steps: 5, 6 and 7, else its intent and the steps behind it.
+// A change that there is room for, by its plan and a budget of steps: 7, else its intent and the steps behind it.
 fn perform_planned(
     budget: usize,
     t: Task,
@@ -174,11 +196,11 @@ fn perform_planned(
     spare: &mut [u8],
     ram: &mut [u8],
 ) -> Cut
-    requires { ⌜ Decided t q (taskOn t (now main) (now spare) (now ram)) ⌝ }
+    requires { ⌜ Decided t q (taskOn t (now main) (now spare) (now ram)) × HasRoom t ⌝ }
     ensures { λ c. ⌜ cutBy c main spare ram ≡ cutOf (callCut fnvFamily budget (given (t .state) main spare ram) (callOf q)) ⌝ }
 {
-    let edit = t.edit;
-    let i = changes::refusal(t, spare);
+    let p = changes::plan_of(t);
+    let i = changes::fresh_refusal(t, p, spare);
     if i != state::ACCEPTED {
         return state::refuse_cut(t.state, i);
     }
@@ -190,12 +212,12 @@ fn perform_planned(
         return state::cut_after(none, t.state, t.state);
     }
     header::intend(t.state, q, ram);
-    let p = finish(t, 0, budget - 1, main, spare, ram);
+    let r = finish(t, p, 0, budget - 1, main, spare, ram);
     let after = Progress {
-        steps: p.steps + 1,
-        finished: p.finished,
+        steps: r.progress.steps + 1,
+        finished: r.progress.finished,
     };
-    state::cut_after(after, t.state, changes::counted_state(t.state, edit))
+    state::cut_after(after, t.state, r.state)
 }
 
 // The same of a change that fills no page, the common one: its steps are its intent and its RAM, and the chip is only named.
@@ -207,16 +229,11 @@ fn append_change(
     spare: &[u8],
     ram: &mut [u8],
 ) -> Cut
-    requires { ⌜ Decided t q (taskOn t (now main) (now spare) (now ram)) × (programsIn (shape (t .g)) (taskSlots t) ≡ false) ⌝ }
+    requires { ⌜ Decided t q (taskOn t (now main) (now spare) (now ram)) × HasRoom t × (programsIn (shape (t .g)) (taskSlots t) ≡ false) ⌝ }
     ensures { λ c. ⌜ cutBy c main spare ram ≡ cutOf (callCut fnvFamily budget (given (t .state) main spare ram) (callOf q)) ⌝ }
 {
-    let g = t.g;
     let s = t.state;
     let edit = t.edit;
-    let i = changes::room_refusal(g, s, edit);
-    if i != state::ACCEPTED {
-        return state::refuse_cut(s, i);
-    }
     if budget == 0 {
         return Cut {
             refusal: state::ACCEPTED,
@@ -234,15 +251,15 @@ fn append_change(
             state: s,
         };
     }
-    let n = ram.len() - state::HEADER_SIZE;
+    let n = state::pages_end(ram);
     changes::append(t, &mut ram[0..n]);
-    let new = changes::counted_state(s, edit);
-    header::clear(new, ram);
+    let next = changes::counted_state(s, edit);
+    header::clear(next, ram);
     Cut {
         refusal: state::ACCEPTED,
         finished: 1,
         steps: 2,
-        state: new,
+        state: next,
     }
 }
 
@@ -256,7 +273,7 @@ pub fn perform_resolved(
     spare: &mut [u8],
     ram: &mut [u8],
 ) -> Cut
-    requires { ⌜ (r ≡ resolvedOf (volume s (now main) (now spare) (now ram)) (keyOf q))
+    requires { ⌜ (r ≡ resolvedOf (volume s (now main) (now spare) (now ram)) (keyOf (callOf q)))
         × ResolvedFits (onPages (volume s (now main) (now spare) (now ram))) r ⌝ }
     ensures { λ c. ⌜ cutBy c main spare ram ≡ cutOf (callCut fnvFamily budget (given s main spare ram) (callOf q)) ⌝ }
 {
@@ -265,6 +282,10 @@ pub fn perform_resolved(
             return state::refuse_cut(s, i);
         }
         Decision::Change(g, edit) => {
+            let i = changes::room_refusal(g, s, edit);
+            if i != state::ACCEPTED {
+                return state::refuse_cut(s, i);
+            }
             let t = Task { g, state: s, edit };
             if changes::programs(t) {
                 return perform_planned(budget, t, q, main, spare, ram);
@@ -319,9 +340,11 @@ pub fn restart_change(
                 state: old,
                 edit,
             };
-            let from = changes::done(t, spare);
-            let p = finish(t, from, budget, main, spare, ram);
-            return state::cut_after(p, s, changes::counted_state(old, edit));
+            let p = changes::plan_of(t);
+            let from = changes::done(t, p, spare);
+            let r = finish(t, p, from, budget, main, spare, ram);
+            let progress = r.progress;
+            return state::cut_after(progress, s, r.state);
         }
     }
 }
@@ -345,9 +368,9 @@ pub fn update(s: State, record: Record, main: &mut [u8], spare: &mut [u8], ram: 
 }
 
 // Takes a level out.
-pub fn delete(s: State, key: u32, main: &mut [u8], spare: &mut [u8], ram: &mut [u8]) -> Change
+pub fn delete(s: State, key: Key, main: &mut [u8], spare: &mut [u8], ram: &mut [u8]) -> Change
     ensures { λ r. ⌜ effectBy r main spare ram
-        ≡ effectOf (callWhole fnvFamily (given s main spare ram) (layout.delete key)) ⌝ }
+        ≡ effectOf (callWhole fnvFamily (given s main spare ram) (layout.delete (keyIs key))) ⌝ }
 {
     state::uncut(perform_for(state::ENOUGH, s, Request::Delete(key), main, spare, ram))
 }

@@ -16,6 +16,7 @@ ghost use Rattle.load.specs.Contract.{loadedBy};
 ghost use Rattle.lookup.specs.Results.{lookupOf};
 ghost use Rattle.capi.specs.Numbers as numbers;
 use geometry::Sizes;
+use keys::Key;
 use state::Record;
 use state::Request;
 use state::State;
@@ -96,8 +97,9 @@ pub extern "C" fn level_store_insert_numbers(
         records: state[4],
         deletions: state[5],
     };
+    let level = Key { level: key };
     let record = Record {
-        key,
+        key: level,
         moves,
         goal,
         free: word,
@@ -143,8 +145,9 @@ pub extern "C" fn level_store_update_numbers(
         records: state[4],
         deletions: state[5],
     };
+    let level = Key { level: key };
     let record = Record {
-        key,
+        key: level,
         moves,
         goal,
         free: word,
@@ -186,7 +189,8 @@ pub extern "C" fn level_store_delete_numbers(
         records: state[4],
         deletions: state[5],
     };
-    let deleted = calls::delete(handed, key, data, spare, ram);
+    let level = Key { level: key };
+    let deleted = calls::delete(handed, level, data, spare, ram);
     let s = deleted.state;
     let z = s.sizes;
     *answer = [
@@ -224,7 +228,8 @@ pub extern "C" fn level_store_lookup_numbers(
         records: state[4],
         deletions: state[5],
     };
-    let found = lookup::find(handed, key, data, spare, ram);
+    let level = Key { level: key };
+    let found = lookup::find(handed, level, data, spare, ram);
     *answer = [
         found.refusal,
         found.found,
@@ -392,8 +397,9 @@ pub extern "C" fn level_store_insert_cut_numbers(
         records: state[4],
         deletions: state[5],
     };
+    let level = Key { level: key };
     let record = Record {
-        key,
+        key: level,
         moves,
         goal,
         free: word,
@@ -450,8 +456,9 @@ pub extern "C" fn level_store_update_cut_numbers(
         records: state[4],
         deletions: state[5],
     };
+    let level = Key { level: key };
     let record = Record {
-        key,
+        key: level,
         moves,
         goal,
         free: word,
@@ -504,10 +511,11 @@ pub extern "C" fn level_store_delete_cut_numbers(
         records: state[4],
         deletions: state[5],
     };
+    let level = Key { level: key };
     let deleted = calls::perform_for(
         budget as usize,
         handed,
-        Request::Delete(key),
+        Request::Delete(level),
         data,
         spare,
         ram,

@@ -7,13 +7,15 @@ use native.Mathlib.Omega.{arith}
 use lib.ListN.{length, take, drop, length-drop}
 use lib.Seq.{take-all}
 use borrow.Author.Tests.{lt-ltb, le-ltb}
+use Rattle.layout.specs.Keys.{Key}
 use Rattle.layout.specs.Geometry.{Geometry, ramSize, workRam}
 use Rattle.layout.specs.Flash.{Flash, Op, apply, applyAll, Planned, opOn, planOps}
 use Rattle.layout.specs.Hash.{fnvFamily}
 use Rattle.layout.specs.Items.{Record, RA, DA, fills, recordBytes, zeroPage}
 use Rattle.layout.specs.Calls.{Volume, Result, changePlan}
-use Rattle.laws.specs.Done.{first-ops}
+use Rattle.laws.specs.Done.{ops-length, first-ops}
 use Rattle.laws.specs.ItemLaws.{length-record}
+use Rattle.keys.specs.Key.{keyIs}
 use Rattle.state.specs.declared.Record.{Record as CodeRecord}
 use Rattle.state.specs.declared.Progress.{Progress}
 use Rattle.state.specs.Contract.{recordIs}
@@ -34,13 +36,10 @@ use Rattle.changes.specs.Edits.{editIs, oldNumber, newRecord, slotsOf, r
 use Rattle.changes.specs.Filters.{FiltersOf}
 use Rattle.changes.specs.Tasks.{changed, Carried}
 use Rattle.changes.specs.Places.{plan-of, ram-of}
-use Rattle.changes.proofs.ChangeLaws.{unit-of, no-plan}
+use Rattle.changes.proofs.ChangeLaws.{no-plan}
+use Rattle.planning.specs.AnyRam.{unit-is}
 
 -- ---- a budget of operations
-
-ops-length : (u : ℕ) (ps : List Planned) (c : Flash) → length (planOps u ps c) ≡ length ps
-ops-length u [] c = refl
-ops-length u (p ∷ ps) c = ap suc (ops-length u ps (apply u (opOn p c) c))
 
 abbrev progress : ℕ → Bool → Progress
 progress n f = record { steps = n; finished = f }
@@ -90,9 +89,9 @@ module _ (u from b : ℕ) (plan : List Planned) (flash : Flash) where
 
 -- ---- what code computes of a change is the layout's
 
-pub plan-as : (g : Geometry) (p : Plan) (S T : Slots) (main spare ram : ℕ) → p ≡ numbersOf g S → S ≡ T
-    → PlanFits (numbersOf g T) main spare ram → PlanFits p main spare ram
-plan-as g p S T main spare ram e d F = rw (e, d) F
+pub plan-as : (g : Geometry) (p : Plan) (e : Slots) (main spare ram : ℕ) → p ≡ numbersOf g e → PlanFits (numbersOf g e) main spare ram
+    → PlanFits p main spare ram
+plan-as g p e main spare ram is F = rw is F
 
 -- of two tests that fail together each fails
 first-fails : (a b : Bool) → (a || b) ≡ false → a ≡ false
@@ -104,7 +103,7 @@ second-fails true b e = absurd (false≢true (sym e))
 second-fails false b e = e
 
 -- where nothing is programmed, no page is filled
-no-filters : (g : Geometry) (j key : ℕ) (ram filters : List ℕ) (e : Slots) → 0 < g .u → programsIn g e ≡ false
+no-filters : (g : Geometry) (j : ℕ) (key : Key) (ram filters : List ℕ) (e : Slots) → 0 < g .u → programsIn g e ≡ false
     → FiltersOf g j key ram filters e
 no-filters g j key ram filters (Delete d) pos t = λ full. absurd (false≢true (sym t ∙ full))
 no-filters g j key ram filters (Insert n) pos t = λ full. absurd (false≢true (sym t ∙ entry-then-record g n pos full))
@@ -142,14 +141,14 @@ module _ (g : Geometry) (v : Volume) (e : Edit) (S : Slots) (j : ℕ) (r : CodeR
   abbrev cleared : List ℕ → List ℕ
   cleared = zeroPage (g .u) (workRam (g .u))
 
-  module _ (filters : List ℕ) (F : FiltersOf g j (r .key) (v .ram) filters S) where
-    given : Given fnvFamily g j (r .key) (recordBytes (recordIs r)) (newBytes j (recordIs r) (recordNumber S)) filters (v .ram) S
+  module _ (filters : List ℕ) (F : FiltersOf g j (keyIs (r .key)) (v .ram) filters S) where
+    given : Given fnvFamily g j (keyIs (r .key)) (recordBytes (recordIs r)) (newBytes j (recordIs r) (recordNumber S)) filters (v .ram) S
     given = given-of g j (recordIs r) (v .ram) filters S F
 
     plan-is : planned (numbersOf g S) new filters (v .ram) ≡ plan
     plan-is =
         ap (λ (l : List ℕ). planned (numbersOf g S) l filters (v .ram)) (A .new-is)
-        ∙ edit-planned fnvFamily g j (r .key) (recordBytes (recordIs r)) (newBytes j (recordIs r) (recordNumber S)) filters (v .ram)
+        ∙ edit-planned fnvFamily g j (keyIs (r .key)) (recordBytes (recordIs r)) (newBytes j (recordIs r) (recordNumber S)) filters (v .ram)
         (A .pos) (A .long) S given
         ∙ rw (A .slots-are, A .number-is, A .record-is) (plan-of g v e)
 
@@ -157,7 +156,7 @@ module _ (g : Geometry) (v : Volume) (e : Edit) (S : Slots) (j : ℕ) (r : CodeR
     ram-is from ram′ k =
         k ∙ ap (λ (l : List ℕ). cleared (kept g l filters (v .ram) S)) (A .new-is)
         ∙ ap cleared
-        (kept-is fnvFamily g j (r .key) (recordBytes (recordIs r)) (newBytes j (recordIs r) (recordNumber S)) filters (v .ram)
+        (kept-is fnvFamily g j (keyIs (r .key)) (recordBytes (recordIs r)) (newBytes j (recordIs r) (recordNumber S)) filters (v .ram)
         (A .pos) (A .long) S given
         ∙ rw (A .slots-are, A .number-is, A .record-is) (ram-of g v e))
 
@@ -171,7 +170,7 @@ module _ (g : Geometry) (v : Volume) (e : Edit) (S : Slots) (j : ℕ) (r : CodeR
           → flash′ ≡ done (g .u) (span plan s) (v .flash)
       run-is s flash′ run =
           run ∙ ap (λ (q : Plan). done (q .chip .unit) (span (planned q new filters (v .ram)) s) (v .flash)) p-is
-          ∙ ap (λ (u : ℕ). done u (span (planned (numbersOf g S) new filters (v .ram)) s) (v .flash)) (unit-of g S)
+          ∙ ap (λ (u : ℕ). done u (span (planned (numbersOf g S) new filters (v .ram)) s) (v .flash)) (unit-is g S)
           ∙ ap (λ (l : List Planned). done (g .u) (span l s) (v .flash)) plan-is
 
       module _ (from b total : ℕ) (all : total ≡ plannedCount p) (flash′ : Flash) where
@@ -195,7 +194,7 @@ module _ (g : Geometry) (v : Volume) (e : Edit) (S : Slots) (j : ℕ) (r : CodeR
   -- the RAM where nothing is programmed
   pub ram-appended : programsIn g S ≡ false → (ram′ : List ℕ) → ram′ ≡ cleared (appended g new (v .ram) S) → ram′ ≡ result 0 .volume .ram
   ram-appended t ram′ k =
-      ram-is [] (no-filters g j (r .key) (v .ram) [] S (A .pos) t) 0 ram′ (k ∙ ap cleared (kept-appended g (A .pos) new [] (v .ram) S t))
+      ram-is [] (no-filters g j (keyIs (r .key)) (v .ram) [] S (A .pos) t) 0 ram′ (k ∙ ap cleared (kept-appended g (A .pos) new [] (v .ram) S t))
 
 -- no operation, and the RAM
 pub carried-nothing : (g : Geometry) (v : Volume) (e : Edit) (from b : ℕ) → 0 < g .u → 0 < b
@@ -208,12 +207,3 @@ carried-nothing g v e from b pos some l t ram′ k =
     let no : changed g v (editIs e) from .ops ≡ []
     = ap (λ (ps : List Planned). planOps (g .u) (drop from ps) (v .flash)) none ∙ rw z in
     all-done (g .u) 0 b [] (v .flash) (changed g v (editIs e) from) no (v .ram) ram′ (v .flash) 0 refl some refl k
-
--- no budget, no step
-pub carried-none : (u : ℕ) (r : Result) (flash : Flash) (ram : List ℕ) → Carried u r 0 flash ram (progress 0 false) flash ram
-carried-none u r flash ram = record {
-  steps-is = omega arith;
-  finished-is = sym (le-ltb (length (r .ops)) 0 (omega arith));
-  flash-is = refl;
-  ram-is = refl;
-}

@@ -1,23 +1,23 @@
 -- Seven words, one after another, are the new bytes of a change; parts of bytes that were written.
-use mathlib.Core.Path.{_≡_, sym, ap, subst, _∙_}
+use mathlib.Core.Path.{_≡_, refl, sym, ap, subst, _∙_}
 use mathlib.Core.List.{List, [], _∷_}
 use Prim.Native.Nat.{ℕ, _+_, _-_, _≤_}
 use native.Mathlib.Omega.{arith}
 use lib.ListN.{length, getD, take, drop, replicate, length-take, length-drop}
 use lib.Seq.{ext-getD, getD-take, getD-drop}
-use Rattle.memory.specs.Lists.{write, length-write, getD-write-before, getD-write-in}
-use Rattle.memory.specs.Words.{bytes4, wordsBytes}
+use Rattle.memory.specs.Lists.{write, length-write, getD-write-before, getD-write-in, getD-write-after}
+use Rattle.memory.specs.Words.{wordsBytes}
+use Rattle.layout.specs.Keys.{Key}
 use Rattle.layout.specs.Items.{Record, recordBytes, entryBytes, deletionBytes}
 use Rattle.layout.specs.Geometry.{Geometry}
 use Rattle.planning.specs.New.{newBytes}
 use Rattle.plan.specs.Plans.{deletionFourths, entryFourths}
 use Rattle.changes.specs.Filters.{DeletionFilters, EntryFilter}
 
-pub all-written : (j : ℕ) (r : Record) (n : ℕ) {a b c d e f g : List ℕ} → a ≡ write (replicate 28 0) 0 (bytes4 j) → b ≡ write a 4 (bytes4 (r .key))
-    → c ≡ write b 8 (bytes4 (r .moves)) → d ≡ write c 12 (bytes4 (r .goal)) → e ≡ write d 16 (bytes4 (r .free))
-    → f ≡ write e 20 (bytes4 (r .key)) → g ≡ write f 24 (bytes4 n) → g ≡ newBytes j r n
+pub all-written : (j : ℕ) (r : Record) (n : ℕ)
+    → write (replicate 28 0) 0 (wordsBytes (j ∷ r .key ∷ r .moves ∷ r .goal ∷ r .free ∷ r .key ∷ n ∷ [])) ≡ newBytes j r n
 unfolding write wordsBytes recordBytes entryBytes deletionBytes
-all-written j r n pa pb pc pd pe pf pg = rw (pg, pf, pe, pd, pc, pb, pa)
+all-written j r n = refl
 
 -- what was written, and what lies before it
 pub part-written : (l s : List ℕ) (at n : ℕ) → length s ≡ n → at + n ≤ length l → take n (drop at (write l at s)) ≡ s
@@ -39,6 +39,17 @@ part-before l s at k n h long =
     ∙ getD-write-before l at s (k + y) 0 (omega (arith, m, b, h))
     ∙ sym (getD-take n (drop k l) y 0 (omega (arith, m, b)) ∙ getD-drop k l y 0))
 
+-- what lies behind it
+pub part-behind : (l s : List ℕ) (at k n : ℕ) → at + length s ≤ k → k + n ≤ length l → take n (drop k (write l at s)) ≡ take n (drop k l)
+part-behind l s at k n h long =
+    let m : length (take n (drop k (write l at s))) ≡ n = simp (length-take, length-drop, length-write) (omega (arith, long)) in
+    let m′ : length (take n (drop k l)) ≡ n = simp (length-take, length-drop) (omega (arith, long)) in
+    ext-getD 0 (take n (drop k (write l at s))) (take n (drop k l)) (m ∙ sym m′)
+    (λ y b.
+    getD-take n (drop k (write l at s)) y 0 (omega (arith, m, b)) ∙ getD-drop k (write l at s) y 0
+    ∙ getD-write-after l at s (k + y) 0 (omega (arith, h))
+    ∙ sym (getD-take n (drop k l) y 0 (omega (arith, m, b)) ∙ getD-drop k l y 0))
+
 -- the filters of a deletion in their place, and after them that of an entry
 module _ (g : Geometry) (d j : ℕ) (ram D l r : List ℕ) (size : length D ≡ 512) (long : length l ≡ 768) (r-is : r ≡ write l 0 D)
     (F : DeletionFilters g d j ram D) where
@@ -53,7 +64,7 @@ module _ (g : Geometry) (d j : ℕ) (ram D l r : List ℕ) (size : length D ≡ 
       let p : deletionFourths r′ ≡ deletionFourths r = ap deletionFourths e ∙ part-before r E 512 0 512 (omega arith) (omega (arith, n)) in
       subst (λ (s : List ℕ). DeletionFilters g d j ram s) (sym p) deletions-put full
 
-pub entry-put : (g : Geometry) (n key : ℕ) (ram E l r : List ℕ) → length E ≡ 256 → length l ≡ 768 → r ≡ write l 512 E
+pub entry-put : (g : Geometry) (n : ℕ) (key : Key) (ram E l r : List ℕ) → length E ≡ 256 → length l ≡ 768 → r ≡ write l 512 E
     → EntryFilter g n key ram E → EntryFilter g n key ram (entryFourths r)
 entry-put g n key ram E l r size long r-is F full =
     let p : entryFourths r ≡ E = ap entryFourths r-is ∙ part-written l E 512 256 size (omega (arith, long)) in

@@ -7,6 +7,7 @@ use Rattle.layout.specs.Geometry.{Geometry, recordCapacity, deletionCapacity}
 use Rattle.layout.specs.Refusals as refusal
 use Rattle.layout.specs.Calls as calls
 use Rattle.state.specs.declared.Record.{Record}
+use Rattle.state.specs.declared.State.{State}
 use Rattle.state.specs.Contract.{recordIs}
 use Rattle.planning.specs.declared.Slots.{Slots}
 use Rattle.planning.specs.declared.Slots.the-variants as slots
@@ -29,7 +30,7 @@ oldNumber (Replace j r) = j
 -- the record that it inserts; one of zeros where it inserts none
 abbrev pub newRecord : Edit → Record
 newRecord (Insert r) = r
-newRecord (Delete j) = record { key = 0; moves = 0; goal = 0; free = 0 }
+newRecord (Delete j) = record { key = record { level = 0 }; moves = 0; goal = 0; free = 0 }
 newRecord (Replace j r) = r
 
 -- the places that it takes after n records and d deletions
@@ -43,6 +44,15 @@ abbrev pub recordNumber : Slots → ℕ
 recordNumber (slots.Delete d) = 0
 recordNumber (slots.Insert n) = n
 recordNumber (slots.Update d n) = n
+
+-- the state after it
+abbrev pub countedState : State → Edit → State
+countedState s e =
+    record {
+      sizes = s .sizes;
+      records = calls.more (s .records) (editIs e .inserts);
+      deletions = calls.more (s .deletions) (editIs e .deletes);
+    }
 
 -- ---- 5, then 6, of what it adds; 0 where there is room for it
 

@@ -1,4 +1,5 @@
 pub mod Edits
+pub mod Room
 pub mod Filters
 pub mod Tasks
 pub mod Places

@@ -6,6 +6,7 @@ use Rattle.layout.specs.Geometry.{Geometry}
 use Rattle.layout.specs.Hash.{fnvFamily}
 use Rattle.layout.specs.Items.{recordBytes}
 use Rattle.layout.specs.Calls.{Volume, deletes, changePlan, changeRam}
+use Rattle.keys.specs.Key.{keyIs}
 use Rattle.state.specs.Contract.{recordIs}
 use Rattle.planning.specs.Edits.{planOf, ramOf}
 use Rattle.changes.specs.declared.Edit.{Edit}
@@ -19,13 +20,13 @@ module _ (g : Geometry) (v : Volume) where
   abbrev d : ℕ
   d = v .state .deletions
 
-  pub plan-of : (e : Edit) → planOf g fnvFamily (oldNumber e) (newRecord e .key) (recordBytes (recordIs (newRecord e))) (v .ram) (slotsOf n d e)
+  pub plan-of : (e : Edit) → planOf g fnvFamily (oldNumber e) (keyIs (newRecord e .key)) (recordBytes (recordIs (newRecord e))) (v .ram) (slotsOf n d e)
       ≡ changePlan fnvFamily g v (editIs e)
   plan-of (Insert r) = refl
   plan-of (Delete j) = sym (append-nil (deletes fnvFamily g v (editIs (Delete j) .deletes)))
   plan-of (Replace j r) = refl
 
-  pub ram-of : (e : Edit) → ramOf g fnvFamily (oldNumber e) (newRecord e .key) (recordBytes (recordIs (newRecord e))) (v .ram) (slotsOf n d e)
+  pub ram-of : (e : Edit) → ramOf g fnvFamily (oldNumber e) (keyIs (newRecord e .key)) (recordBytes (recordIs (newRecord e))) (v .ram) (slotsOf n d e)
       ≡ changeRam fnvFamily g v (editIs e)
   ram-of (Insert r) = refl
   ram-of (Delete j) = refl

@@ -13,7 +13,9 @@ use Rattle.layout.specs.Calls.{Volume, Result, Edit, one, more, noRoom, noDelet
 use Rattle.geometry.specs.Shape.{shape}
 use Rattle.state.specs.Contract.{volume}
 use Rattle.state.specs.declared.Progress.{Progress}
+use Rattle.plan.specs.declared.Plan.{Plan}
 use Rattle.planning.specs.declared.Slots.{Slots}
+use Rattle.planning.specs.Edits.{Room, numbersOf}
 use Rattle.changes.specs.declared.Task.{Task}
 use Rattle.changes.specs.Edits.{editIs, slotsOf}
 
@@ -37,13 +39,21 @@ pub record Carried (u : ℕ) (r : Result) (b : ℕ) (flash : Flash) (ram : List 
   pub flash-is : flash′ ≡ applyAll u (take b (r .ops)) flash
   pub ram-is : ram′ ≡ cond (p .finished) (r .volume .ram) ram
 
--- ---- of a task: the volume that its state and these bytes are, its places and its plan
+-- ---- of a task: the volume that its state and these bytes are, its places, room for it and its plan
 
 abbrev pub taskOn : Task → List ℕ → List ℕ → List ℕ → Volume
 taskOn t main spare ram = volume (t .state) main spare ram
 
 abbrev pub taskSlots : Task → Slots
 taskSlots t = slotsOf (t .state .records) (t .state .deletions) (t .edit)
+
+-- there is room for it
+abbrev pub HasRoom : Task → Type 0
+HasRoom t = Room (shape (t .g)) (taskSlots t)
+
+-- it is prepared: there is room for it, and this is its plan in the code's numbers
+abbrev pub Prepared : Task → Plan → Type 0
+Prepared t p = HasRoom t × (p ≡ numbersOf (shape (t .g)) (taskSlots t))
 
 abbrev pub taskPlan : Task → List ℕ → List ℕ → List ℕ → List Planned
 taskPlan t main spare ram = changePlan fnvFamily (shape (t .g)) (taskOn t main spare ram) (editIs (t .edit))

@@ -2,28 +2,32 @@
 ghost use mathlib.Core.Path.{_≡_};
 ghost use mathlib.Core.Bool.{false};
 ghost use mathlib.Core.List.{List};
-ghost use Prim.Native.Nat.{ℕ, _+_, _<_, _≤_};
-ghost use lib.ListN.{length};
+ghost use Prim.Native.Nat.{ℕ, _<_, _≤_};
+ghost use lib.ListN.{length, replicate};
 ghost use Rattle.memory.specs.Lent.{before, after};
 ghost use Rattle.layout.specs.Geometry.{recordCapacity, deletionCapacity, spareSize, ramSize};
-ghost use Rattle.layout.specs.Calls.{more};
 ghost use Rattle.laws.specs.Done.{doneCount};
 ghost use Rattle.laws.specs.LentFlash.{flashBefore, flashAfter};
 ghost use Rattle.geometry.specs.Shape.{shape, Sound};
+ghost use Rattle.keys.specs.Key.{keyIs};
 ghost use Rattle.state.specs.Contract.{recordIs};
 ghost use Rattle.state.specs.Judge.{VolumeFits};
 ghost use Rattle.planning.specs.New.{newBytes};
 ghost use Rattle.planning.specs.Edits.{Room, programsIn};
-ghost use Rattle.changes.specs.Edits.{editIs, slotsOf, oldNumber, newRecord, recordNumber, fullAt, deletionsFullAt, roomRefusal};
+ghost use Rattle.changes.specs.Edits.{editIs, slotsOf, oldNumber, newRecord, recordNumber, countedState};
+ghost use Rattle.changes.specs.Edits.{fullAt, deletionsFullAt, roomRefusal};
 ghost use Rattle.changes.specs.Filters.{DeletionFilters, EntryFilter, FiltersOf};
-ghost use Rattle.changes.specs.Tasks.{changeRefusal, Carried, taskOn, taskSlots, taskPlan, taskResult};
+ghost use Rattle.changes.specs.Tasks.{changeRefusal, Carried, HasRoom, Prepared, taskOn, taskSlots, taskPlan, taskResult};
 use geometry::Geometry;
 use geometry::areas;
+use keys::Key;
+use plan::Plan;
 use plan::Span;
 use planning::Slots;
 use state::Progress;
 use state::Record;
 use state::State;
+use words::numbers;
 
 // What a change does: it inserts a record, deletes the record of a number, or both.
 pub enum Edit {
@@ -71,12 +75,15 @@ fn new_record(e: Edit) -> Record
 {
     match e {
         Edit::Insert(record) => record,
-        Edit::Delete(_) => Record {
-            key: 0,
-            moves: 0,
-            goal: 0,
-            free: 0,
-        },
+        Edit::Delete(_) => {
+            let key = Key { level: 0 };
+            Record {
+                key,
+                moves: 0,
+                goal: 0,
+                free: 0,
+            }
+        }
         Edit::Replace(_, record) => record,
     }
 }
@@ -137,125 +144,86 @@ fn record_number(g: Geometry, e: Slots) -> u32
     }
 }
 
-// Where the words of the new bytes lie behind the record's key and the entry's.
-const MOVES_AT: usize = plan::RECORD_AT + areas::MOVES_AT;
-
-const GOAL_AT: usize = MOVES_AT + areas::WORD_SIZE;
-
-const FREE_AT: usize = GOAL_AT + areas::WORD_SIZE;
-
-const NUMBER_AT: usize = plan::ENTRY_AT + areas::NUMBER_AT;
-
 // The deletion of record `old`, then record n and its entry.
 fn new_bytes(old: u32, record: Record, n: u32) -> [u8; plan::NEW_SIZE]
     ensures { λ r. ⌜ r ≡ newBytes old (recordIs «record») n ⌝ }
 {
     let mut b = [0u8; plan::NEW_SIZE];
-    words::put32(&mut b, 0, old);
-    words::put32(&mut b, plan::RECORD_AT, record.key);
-    words::put32(&mut b, MOVES_AT, record.moves);
-    words::put32(&mut b, GOAL_AT, record.goal);
-    words::put32(&mut b, FREE_AT, record.free);
-    words::put32(&mut b, plan::ENTRY_AT, record.key);
-    words::put32(&mut b, NUMBER_AT, n);
+    let ws = [
+        old,
+        record.key.level,
+        record.moves,
+        record.goal,
+        record.free,
+        record.key.level,
+        n,
+    ];
+    words::put_words(&mut b, 0, &ws);
     b
 }
 
-// The filters of the page that deletion d, of record `old`, fills, by their fourths.
-fn deletion_filters(g: Geometry, d: usize, old: u32, ram: &[u8]) -> [u8; 512]
-    requires { ⌜ Sound g × (ramSize (shape g) ≤ length (now ram)) ⌝ }
-    ensures { λ r. ⌜ DeletionFilters (shape g) d old (before ram) r ⌝ }
+// `out` becomes the filters of the page that deletion d, of record `old`, fills, by their fourths.
+fn deletion_filters(g: Geometry, d: usize, old: u32, ram: &[u8], out: &mut [u8])
+    requires { ⌜ Sound g × (ramSize (shape g) ≤ length (now ram)) × (length (now out) ≡ 512) ⌝ }
+    ensures { λ _. ⌜ DeletionFilters (shape g) d old (before ram) (after out) ⌝ }
 {
     if !geometry::deletion_area(g).fills(d) {
-        return [0u8; 512];
+        return;
     }
-    filter::number_filters(g.chip, g.hashes, g.da_ram(), old, ram)
+    filter::number_filters(g.chip, g.hashes, g.da_ram(), old, ram, out);
 }
 
-// The filter of the page that entry n, with the key, fills.
-fn entry_filter(g: Geometry, n: usize, key: u32, ram: &[u8]) -> [u8; 256]
-    requires { ⌜ Sound g × (ramSize (shape g) ≤ length (now ram)) ⌝ }
-    ensures { λ r. ⌜ EntryFilter (shape g) n key (before ram) r ⌝ }
+// `out`, which is all 0, becomes the filter of the page that entry n, with the key, fills.
+fn entry_filter(g: Geometry, n: usize, key: Key, ram: &[u8], out: &mut [u8])
+    requires { ⌜ Sound g × (ramSize (shape g) ≤ length (now ram)) × (now out ≡ replicate 256 0) ⌝ }
+    ensures { λ _. ⌜ EntryFilter (shape g) n (keyIs key) (before ram) (after out) ⌝ }
 {
     if !geometry::entry_area(g).fills(n) {
-        return [0u8; 256];
+        return;
     }
-    filter::new_filter(g.chip, g.hashes, g.ka_ram(), areas::ENTRY_SIZE, key, ram)
+    filter::new_filter(
+        g.chip,
+        g.hashes,
+        g.ka_ram(),
+        areas::ENTRY_SIZE,
+        fnv::of_key(key),
+        ram,
+        out,
+    );
 }
 
-// The new filters of a change, by their fourths: those of its deletion, then that of its entry.
-fn new_filters(g: Geometry, e: Slots, old: u32, key: u32, ram: &[u8]) -> [u8; plan::FILTERS_SIZE]
-    requires { ⌜ Sound g × (ramSize (shape g) ≤ length (now ram)) ⌝ }
-    ensures { λ r. ⌜ FiltersOf (shape g) old key (before ram) r e ⌝ }
+// `filters`, which are all 0, become the new filters of a change, by their fourths: those of its deletion, then that of its entry.
+fn new_filters(g: Geometry, e: Slots, old: u32, key: Key, ram: &[u8], filters: &mut [u8])
+    requires { ⌜ Sound g × (ramSize (shape g) ≤ length (now ram)) × (now filters ≡ replicate 768 0) ⌝ }
+    ensures { λ _. ⌜ FiltersOf (shape g) old (keyIs key) (before ram) (after filters) e ⌝ }
 {
-    let mut r = [0u8; plan::FILTERS_SIZE];
     match e {
         Slots::Delete(d) => {
-            let deletions = deletion_filters(g, d, old, ram);
-            words::copy_at(&mut r, 0, &deletions);
+            deletion_filters(g, d, old, ram, &mut filters[0..plan::ENTRY_FILTER_AT]);
         }
         Slots::Insert(n) => {
-            let entry = entry_filter(g, n, key, ram);
-            words::copy_at(&mut r, plan::ENTRY_FILTER_AT, &entry);
+            entry_filter(
+                g,
+                n,
+                key,
+                ram,
+                &mut filters[plan::ENTRY_FILTER_AT..plan::FILTERS_SIZE],
+            );
         }
         Slots::Update(d, n) => {
-            let deletions = deletion_filters(g, d, old, ram);
-            let entry = entry_filter(g, n, key, ram);
-            words::copy_at(&mut r, 0, &deletions);
-            words::copy_at(&mut r, plan::ENTRY_FILTER_AT, &entry);
+            deletion_filters(g, d, old, ram, &mut filters[0..plan::ENTRY_FILTER_AT]);
+            entry_filter(
+                g,
+                n,
+                key,
+                ram,
+                &mut filters[plan::ENTRY_FILTER_AT..plan::FILTERS_SIZE],
+            );
         }
     }
-    r
 }
 
 // ---- the change
-
-// The operations of a change that fills a page from `from` on, as many as the budget has, and, if it has one more, the RAM after them.
-fn run_plan(
-    t: Task,
-    from: usize,
-    budget: usize,
-    main: &mut [u8],
-    spare: &mut [u8],
-    ram: &mut [u8],
-) -> Progress
-    requires { ⌜ VolumeFits (taskOn t (now main) (now spare) (now ram)) (t .g) × Room (shape (t .g)) (taskSlots t) ⌝ }
-    requires { ⌜ from ≤ length (taskPlan t (now main) (now spare) (now ram)) ⌝ }
-    ensures { λ p. ⌜ Carried (t .g .chip .unit) (taskResult t (before main) (before spare) (before ram) from) budget
-        (flashBefore main spare) (before ram) p (flashAfter main spare) (after ram) ⌝ }
-{
-    let g = t.g;
-    let edit = t.edit;
-    let e = slots(t.state, edit);
-    let old = old_number(edit);
-    let record = new_record(edit);
-    let p = planning::of(g, e);
-    let new = new_bytes(old, record, record_number(g, e));
-    let filters = new_filters(g, e, old, record.key, ram);
-    let total = plan::whole(p).to;
-    if total - from < budget {
-        plan::run(
-            p,
-            Span { from, to: total },
-            &new,
-            &filters,
-            main,
-            spare,
-            ram,
-        );
-        kept::finish(g, e, &new, &filters, ram);
-        return Progress {
-            steps: total - from,
-            finished: true,
-        };
-    }
-    let to = from + budget;
-    plan::run(p, Span { from, to }, &new, &filters, main, spare, ram);
-    Progress {
-        steps: budget,
-        finished: false,
-    }
-}
 
 // Whether a change fills a page.
 pub fn programs(t: Task) -> bool
@@ -267,9 +235,80 @@ pub fn programs(t: Task) -> bool
     planning::programs(g, slots(t.state, edit))
 }
 
-// The RAM after a change that fills none, whatever the chip.
+// Its plan, made once: for 7, for what is done of it and for its operations.
+pub fn plan_of(t: Task) -> Plan
+    requires { ⌜ Sound (t .g) × HasRoom t ⌝ }
+    ensures { λ r. ⌜ Prepared t r ⌝ }
+{
+    let g = t.g;
+    let edit = t.edit;
+    planning::of(g, slots(t.state, edit))
+}
+
+// 7 of a change by its plan, whatever the other bytes; accepted where all is fresh that it programs.
+pub fn fresh_refusal(t: Task, p: Plan, spare: &[u8]) -> u32
+    requires { ⌜ Sound (t .g) × Prepared t p × (spareSize (shape (t .g)) ≤ length (now spare)) ⌝ }
+    ensures { λ r. ⌜ ((main ram : List ℕ) → ramSize (shape (t .g)) ≤ length ram
+        → r ≡ changeRefusal (shape (t .g)) (taskOn t main (before spare) ram) (editIs (t .edit))) ⌝ }
+{
+    if !plan::fresh(p, spare) {
+        return state::NOT_FRESH;
+    }
+    state::ACCEPTED
+}
+
+// How many operations of a change count as done, by its plan and the spare area alone.
+pub fn done(t: Task, p: Plan, spare: &[u8]) -> usize
+    requires { ⌜ Sound (t .g) × Prepared t p × (spareSize (shape (t .g)) ≤ length (now spare)) ⌝ }
+    ensures { λ r. ⌜ ((main ram : List ℕ) → ramSize (shape (t .g)) ≤ length ram
+        → r ≡ doneCount (before spare) (taskPlan t main (before spare) ram)) ⌝ }
+{
+    plan::done(p, spare)
+}
+
+// The operations of a change by its plan from `from` on, as many as the budget has, and, if it has one more, the RAM after them.
+pub fn carry_on(
+    t: Task,
+    p: Plan,
+    from: usize,
+    budget: usize,
+    main: &mut [u8],
+    spare: &mut [u8],
+    ram: &mut [u8],
+) -> Progress
+    requires { ⌜ VolumeFits (taskOn t (now main) (now spare) (now ram)) (t .g) × Prepared t p ⌝ }
+    requires { ⌜ from ≤ length (taskPlan t (now main) (now spare) (now ram)) ⌝ }
+    ensures { λ r. ⌜ Carried (t .g .chip .unit) (taskResult t (before main) (before spare) (before ram) from) budget
+        (flashBefore main spare) (before ram) r (flashAfter main spare) (after ram) ⌝ }
+{
+    let g = t.g;
+    let edit = t.edit;
+    let e = slots(t.state, edit);
+    let old = old_number(edit);
+    let record = new_record(edit);
+    let new = new_bytes(old, record, record_number(g, e));
+    let mut filters = [0u8; plan::FILTERS_SIZE];
+    new_filters(g, e, old, record.key, ram, &mut filters);
+    let total = plan::whole(p).to;
+    let left = total - from;
+    let to = from + numbers::lesser(left, budget);
+    plan::run(p, Span { from, to }, &new, &filters, main, spare, ram);
+    if budget <= left {
+        return Progress {
+            steps: budget,
+            finished: false,
+        };
+    }
+    kept::finish(g, e, &new, &filters, ram);
+    Progress {
+        steps: left,
+        finished: true,
+    }
+}
+
+// The RAM after a change that fills no page, whatever the chip.
 pub fn append(t: Task, ram: &mut [u8])
-    requires { ⌜ Sound (t .g) × Room (shape (t .g)) (taskSlots t) × (ramSize (shape (t .g)) ≤ length (now ram)) ⌝ }
+    requires { ⌜ Sound (t .g) × HasRoom t × (ramSize (shape (t .g)) ≤ length (now ram)) ⌝ }
     requires { ⌜ programsIn (shape (t .g)) (taskSlots t) ≡ false ⌝ }
     ensures { λ _. ⌜ ((main spare : List ℕ) → after ram ≡ taskResult t main spare (before ram) 0 .volume .ram) ⌝ }
 {
@@ -280,82 +319,10 @@ pub fn append(t: Task, ram: &mut [u8])
     kept::append(g, e, &new, ram);
 }
 
-// The steps of any change; one that fills no page makes no plan.
-pub fn carry_on(
-    t: Task,
-    from: usize,
-    budget: usize,
-    main: &mut [u8],
-    spare: &mut [u8],
-    ram: &mut [u8],
-) -> Progress
-    requires { ⌜ VolumeFits (taskOn t (now main) (now spare) (now ram)) (t .g) × Room (shape (t .g)) (taskSlots t) ⌝ }
-    requires { ⌜ from ≤ length (taskPlan t (now main) (now spare) (now ram)) ⌝ }
-    ensures { λ p. ⌜ Carried (t .g .chip .unit) (taskResult t (before main) (before spare) (before ram) from) budget
-        (flashBefore main spare) (before ram) p (flashAfter main spare) (after ram) ⌝ }
-{
-    if budget == 0 {
-        return Progress {
-            steps: 0,
-            finished: false,
-        };
-    }
-    if programs(t) {
-        return run_plan(t, from, budget, main, spare, ram);
-    }
-    append(t, ram);
-    Progress {
-        steps: 0,
-        finished: true,
-    }
-}
-
-// 5, 6, then 7 of a change, whatever the other bytes; accepted where none applies.
-pub fn refusal(t: Task, spare: &[u8]) -> u32
-    requires { ⌜ Sound (t .g) × (spareSize (shape (t .g)) ≤ length (now spare)) ⌝ }
-    ensures { λ r. ⌜ ((main ram : List ℕ) → ramSize (shape (t .g)) ≤ length ram
-        → r ≡ changeRefusal (shape (t .g)) (taskOn t main (before spare) ram) (editIs (t .edit))) ⌝ }
-{
-    let g = t.g;
-    let s = t.state;
-    let edit = t.edit;
-    let i = room_refusal(g, s, edit);
-    if i != state::ACCEPTED {
-        return i;
-    }
-    let e = slots(s, edit);
-    if !planning::programs(g, e) {
-        return state::ACCEPTED;
-    }
-    if !plan::fresh(planning::of(g, e), spare) {
-        return state::NOT_FRESH;
-    }
-    state::ACCEPTED
-}
-
-// How many operations of a change count as done, by the spare area alone.
-pub fn done(t: Task, spare: &[u8]) -> usize
-    requires { ⌜ Sound (t .g) × Room (shape (t .g)) (taskSlots t) × (spareSize (shape (t .g)) ≤ length (now spare)) ⌝ }
-    ensures { λ r. ⌜ ((main ram : List ℕ) → ramSize (shape (t .g)) ≤ length ram
-        → r ≡ doneCount (before spare) (taskPlan t main (before spare) ram)) ⌝ }
-{
-    let g = t.g;
-    let edit = t.edit;
-    let e = slots(t.state, edit);
-    if !planning::programs(g, e) {
-        return 0;
-    }
-    plan::done(planning::of(g, e), spare)
-}
-
-// The counts after a change.
+// The state after a change.
 pub fn counted_state(s: State, e: Edit) -> State
     requires { ⌜ (s .records < 4294967295) × (s .deletions < 4294967295) ⌝ }
-    ensures { λ r. ⌜ r ≡ record {
-      sizes = s .sizes;
-      records = more (s .records) (editIs e .inserts);
-      deletions = more (s .deletions) (editIs e .deletes);
-    } ⌝ }
+    ensures { λ r. ⌜ r ≡ countedState s e ⌝ }
 {
     let mut t = s;
     match e {

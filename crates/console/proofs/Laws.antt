@@ -12,20 +12,20 @@ use Rattle.layout.specs.Calls.{Volume}
 use Rattle.console.specs.Buffers.{Buffers, endLine, feed, close}
 use Rattle.console.specs.Contract.{buffersOf}
 use Rattle.console.specs.Stream.{into}
-use Rattle.console.specs.declared.stream.Progress.{Progress}
+use Rattle.console.specs.declared.stream.Fill.{Fill}
 use Rattle.console.specs.declared.ChunkResult.{ChunkResult}
 use Rattle.console.specs.Chunks.{afterChunk, FeedsPrefix, feedAll, closeIf, Short, Leaves}
 
 -- ---- one chunk
 
 -- the buffers after a chunk, by those after the feed and whether the input continues
-pub chunk-is : (r : ChunkResult) (q : Progress) (K : Buffers) (line main spare ram out : List ℕ) → buffersOf q line main spare ram out ≡ K
+pub chunk-is : (r : ChunkResult) (q : Fill) (K : Buffers) (line main spare ram out : List ℕ) → buffersOf q line main spare ram out ≡ K
     → r .progress .state ≡ q .state → r .progress .fill ≡ cond (r .continues) (q .fill) 0 → r .progress .printed ≡ 0
     → buffersOf (r .progress) line main spare ram out ≡ afterChunk (r .continues) K
 chunk-is r q K line main spare ram out e s f z = rw (← e, s, f, z)
 
 -- nothing was read: the input's end, or a failure
-pub feeds-none : (r : ChunkResult) (p : Progress) (chunk line main spare ram out : List ℕ)
+pub feeds-none : (r : ChunkResult) (p : Fill) (chunk line main spare ram out : List ℕ)
     → r .continues ≡ false → r .progress .state ≡ p .state → r .progress .fill ≡ cond (r .ok) (p .fill) 0 → r .progress .printed ≡ 0
     → FeedsPrefix r (buffersOf p line main spare ram out) chunk (buffersOf (r .progress) line main spare ram out)
 unfolding feed

@@ -7,9 +7,9 @@ use lib.Dec.{ltb, eqb}
 use lib.ListN.{length, take}
 use Rattle.memory.specs.Lists.{write}
 use Rattle.layout.specs.Calls.{Volume}
-use Rattle.script.specs.Lines.{request}
+use Rattle.script.specs.Lines.{command}
 use Rattle.script.specs.Answers.{text}
-use Rattle.script.specs.Script.{Reply, perform}
+use Rattle.script.specs.Script.{Performed, perform}
 
 -- what is kept from one byte of the input to the next: the volume, the line's buffer and how much of it is in use, the output's buffer
 -- and how much of it is in use
@@ -23,7 +23,7 @@ pub record Buffers : Type 0 where
 -- a line's end: it is answered behind what was printed
 unfoldable pub endLine : Buffers → Buffers
 endLine k =
-    let r : Reply = perform (k .volume) (request (take (k .fill) (k .buffer))) in
+    let r : Performed = perform (k .volume) (command (take (k .fill) (k .buffer))) in
     record {
       volume = r .volume;
       buffer = k .buffer;

@@ -10,7 +10,7 @@ use lib.ListN.{length, take}
 use Rattle.memory.specs.Lists.{length-write}
 use Rattle.layout.specs.Flash.{flashOf}
 use Rattle.layout.specs.Calls.{Volume}
-use Rattle.script.specs.Lines.{request}
+use Rattle.script.specs.Lines.{command}
 use Rattle.script.specs.Answers.{text}
 use Rattle.script.specs.Script.{perform, prints}
 use Rattle.console.specs.Buffers.{Buffers, endLine, addByte, nextByte, feed, close}
@@ -103,7 +103,7 @@ unfolding nextByte endLine addByte
 byte-room k c = go (eqb c 10)
   where
     go : (b : Bool) → length (cond b (endLine k) (addByte k c) .out) ≡ length (k .out)
-    go true = length-write (k .out) (k .printed) (text (perform (k .volume) (request (take (k .fill) (k .buffer))) .answer))
+    go true = length-write (k .out) (k .printed) (text (perform (k .volume) (command (take (k .fill) (k .buffer))) .answer))
     go false = refl
 
 feed-room : (cs : List ℕ) (k : Buffers) → length (feed k cs .out) ≡ length (k .out)

@@ -18,17 +18,17 @@ use libc::STDERR_FILENO;
 use libc::STDIN_FILENO;
 use libc::STDOUT_FILENO;
 use state::State;
-use stream::Progress;
+use stream::Fill;
 
 // What a chunk leaves, whether the input continues, and whether nothing failed.
 struct ChunkResult {
-    progress: Progress,
+    progress: Fill,
     continues: bool,
     ok: bool,
 }
 
 // "Before any format the state is all zero."
-fn begin() -> Progress
+fn begin() -> Fill
     ensures equal { λ r. ⌜ r ≡ record { state = noState; fill = 0; printed = 0 } ⌝ }
     ensures zeros { λ r. ⌜ (r .fill ≡ 0) × (r .printed ≡ 0) ⌝ }
 {
@@ -43,7 +43,7 @@ fn begin() -> Progress
         records: 0,
         deletions: 0,
     };
-    Progress {
+    Fill {
         state,
         fill: 0,
         printed: 0,
@@ -67,7 +67,7 @@ fn succeed(state: State, fill: usize, continues: bool) -> ChunkResult
     ensures { λ r. ⌜ (r .continues ≡ continues) × (r .progress .state ≡ state) × (r .progress .fill ≡ fill)
         × (r .progress .printed ≡ 0) × (r .ok ≡ true) ⌝ }
 {
-    let progress = Progress {
+    let progress = Fill {
         state,
         fill,
         printed: 0,
@@ -85,7 +85,7 @@ fn fail(state: State, reason: &[u8]) -> ChunkResult
         × (r .progress .printed ≡ 0) × (r .ok ≡ false) ⌝ }
 {
     io::write_all(STDERR_FILENO, reason);
-    let progress = Progress {
+    let progress = Fill {
         state,
         fill: 0,
         printed: 0,
@@ -98,7 +98,7 @@ fn fail(state: State, reason: &[u8]) -> ChunkResult
 }
 
 // Answers are written: those of a chunk, or the last.
-fn write_answers(q: Progress, out: &[u8]) -> ChunkResult
+fn write_answers(q: Fill, out: &[u8]) -> ChunkResult
     requires { ⌜ q .printed ≤ length (now out) ⌝ }
     ensures { λ r. ⌜ (r .progress .state ≡ q .state) × (r .progress .fill ≡ cond (r .continues) (q .fill) 0)
         × (r .progress .printed ≡ 0) × (r .ok ≡ r .continues) ⌝ }
@@ -113,7 +113,7 @@ fn write_answers(q: Progress, out: &[u8]) -> ChunkResult
 
 // The lines that end in a chunk are answered, and the answers are written.
 fn answer_chunk(
-    p: Progress,
+    p: Fill,
     chunk: &[u8],
     line: &mut [u8],
     main: &mut [u8],
@@ -133,7 +133,7 @@ fn answer_chunk(
 
 // The next chunk is read and answered.
 fn next_chunk(
-    p: Progress,
+    p: Fill,
     chunk: &mut [u8],
     line: &mut [u8],
     main: &mut [u8],
@@ -159,14 +159,7 @@ fn next_chunk(
 }
 
 // The input's end.
-fn finish(
-    p: Progress,
-    line: &[u8],
-    main: &mut [u8],
-    spare: &mut [u8],
-    ram: &mut [u8],
-    out: &mut [u8],
-)
+fn finish(p: Fill, line: &[u8], main: &mut [u8], spare: &mut [u8], ram: &mut [u8], out: &mut [u8])
     requires { ⌜ (p .fill ≤ length (now line)) × (p .printed ≡ 0) × (32 ≤ length (now out)) ⌝ }
     ensures { λ _. ⌜ (flashAfter main spare ≡ close (buffersBefore p line main spare ram out) .volume .flash)
         × (after ram ≡ close (buffersBefore p line main spare ram out) .volume .ram)

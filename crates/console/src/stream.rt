@@ -13,7 +13,7 @@ ghost use Rattle.console.specs.Contract.{buffersBefore, buffersAfter};
 use state::State;
 
 // What is kept from one chunk to the next beside the buffers.
-pub struct Progress {
+pub struct Fill {
     pub state: State,
     pub fill: usize,
     pub printed: usize,
@@ -35,13 +35,13 @@ fn add_byte(c: u8, fill: usize, line: &mut [u8]) -> usize
 
 // A line's end: the line is answered behind what was printed.
 fn end_line(
-    p: Progress,
+    p: Fill,
     line: &[u8],
     main: &mut [u8],
     spare: &mut [u8],
     ram: &mut [u8],
     out: &mut [u8],
-) -> Progress
+) -> Fill
     requires { ⌜ (p .fill ≤ length (now line)) × (p .printed + 32 ≤ length (now out)) ⌝ }
     ensures equal { λ r. ⌜ buffersAfter r line main spare ram out ≡ endLine (buffersBefore p line main spare ram out) ⌝ }
     ensures within { λ r. ⌜ (r .fill ≡ 0) × (r .printed ≤ p .printed + 32) ⌝ }
@@ -52,7 +52,7 @@ fn end_line(
     let end = at + 32;
     let s = lines::answer_next(state, &line[0..fill], main, spare, ram, &mut out[at..end]);
     let next = s.state;
-    Progress {
+    Fill {
         state: next,
         fill: 0,
         printed: at + s.length,
@@ -61,14 +61,14 @@ fn end_line(
 
 // One byte of the input: a line feed ends the line, any other byte lengthens it.
 fn next_byte(
-    p: Progress,
+    p: Fill,
     c: u8,
     line: &mut [u8],
     main: &mut [u8],
     spare: &mut [u8],
     ram: &mut [u8],
     out: &mut [u8],
-) -> Progress
+) -> Fill
     requires { ⌜ (p .fill ≤ length (now line)) × (p .printed + 32 ≤ length (now out)) ⌝ }
     ensures equal { λ r. ⌜ buffersAfter r line main spare ram out ≡ nextByte (buffersBefore p line main spare ram out) c ⌝ }
     ensures within { λ r. ⌜ (r .fill ≤ length (before line)) × (r .printed ≤ p .printed + 32) ⌝ }
@@ -78,7 +78,7 @@ fn next_byte(
     }
     let state = p.state;
     let fill = add_byte(c, p.fill, line);
-    Progress {
+    Fill {
         state,
         fill,
         printed: p.printed,
@@ -87,14 +87,14 @@ fn next_byte(
 
 // The bytes of a chunk, one after another: each line that ends is answered.
 pub fn feed(
-    p: Progress,
+    p: Fill,
     chunk: &[u8],
     line: &mut [u8],
     main: &mut [u8],
     spare: &mut [u8],
     ram: &mut [u8],
     out: &mut [u8],
-) -> Progress
+) -> Fill
     requires { ⌜ (p .fill ≤ length (now line)) × (p .printed + length (now chunk) * 32 ≤ length (now out)) ⌝ }
     ensures equal { λ r. ⌜ buffersAfter r line main spare ram out ≡ feed (buffersBefore p line main spare ram out) (before chunk) ⌝ }
     ensures within { λ r. ⌜ (r .fill ≤ length (before line)) × (r .printed ≤ length (before out)) ⌝ }
@@ -110,13 +110,13 @@ pub fn feed(
 
 // The input's end: a line without its line feed is answered too.
 pub fn close(
-    p: Progress,
+    p: Fill,
     line: &[u8],
     main: &mut [u8],
     spare: &mut [u8],
     ram: &mut [u8],
     out: &mut [u8],
-) -> Progress
+) -> Fill
     requires { ⌜ (p .fill ≤ length (now line)) × (p .printed + 32 ≤ length (now out)) ⌝ }
     ensures equal { λ r. ⌜ buffersAfter r line main spare ram out ≡ close (buffersBefore p line main spare ram out) ⌝ }
     ensures within { λ r. ⌜ r .printed ≤ length (before out) ⌝ }

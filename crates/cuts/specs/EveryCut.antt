@@ -35,7 +35,7 @@ use Rattle.history.specs.Frames.{Beyond}
 use Rattle.history.specs.Inside.{Inside, main-past, spare-past}
 use Rattle.history.specs.Every.{state-allowed, beyond-kept, format-beyond-kept, ops-inside, format-ops-inside, again-beyond-kept}
 use Rattle.history.specs.Every.{again-ops-inside}
-use Rattle.history.specs.CallRefusals.{refusalsOf, Among, call-refusals}
+use Rattle.history.specs.CallRefusals.{refusalsOf, Among, call-refusals, either-among}
 use Rattle.cuts.specs.Headers.{header-size, intent-length}
 use Rattle.cuts.specs.Whole as whole
 use Rattle.cuts.specs.RestartLaws.{taken-outcome, restart-is, short-ram, restart-orderly}
@@ -69,10 +69,6 @@ pub restart-refusal-keeps : (h : Family) (b : ℕ) (v : Volume) (i : ℕ) → re
 restart-refusal-keeps h b v i e = restart-orderly h b v .refused-back i e
 
 -- ---- which refusals there are
-
-either-among : (is : List ℕ) (t : Bool) (r s : Result) → Among is (r .outcome) → Among is (s .outcome) → Among is (cond t r s .outcome)
-either-among is true r s a b = a
-either-among is false r s a b = b
 
 or-true : (t : Bool) → (t || true) ≡ true
 or-true true = refl
@@ -406,15 +402,15 @@ module _ (h : Family) (b : ℕ) (v : Volume) where
       (again-ops-inside h (pendingOn v) c))
 
 -- the chip and the RAM as they were
-abbrev pub SameBytes : Volume → Result → Type 0
-SameBytes v r = (r .volume .flash ≡ v .flash) × (r .volume .ram ≡ v .ram)
+abbrev pub Unchanged : Volume → Result → Type 0
+Unchanged v r = (r .volume .flash ≡ v .flash) × (r .volume .ram ≡ v .ram)
 
-either-same : (v : Volume) (t : Bool) (r s : Result) → SameBytes v r → SameBytes v s → SameBytes v (cond t r s)
+either-same : (v : Volume) (t : Bool) (r s : Result) → Unchanged v r → Unchanged v s → Unchanged v (cond t r s)
 either-same v true r s p q = p
 either-same v false r s p q = q
 
 -- a restart that finds no call changes no byte
-pub restart-idle-keeps : (h : Family) (b : ℕ) (v : Volume) → pendingIn (v .ram) ≡ nothing → SameBytes v (restartFor h b v)
+pub restart-idle-keeps : (h : Family) (b : ℕ) (v : Volume) → pendingIn (v .ram) ≡ nothing → Unchanged v (restartFor h b v)
 unfolding restartFor
 restart-idle-keeps h b v q =
     rw q

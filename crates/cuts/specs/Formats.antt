@@ -7,14 +7,14 @@ use native.Mathlib.Omega.{arith}
 use lib.ListN.{length, getD, take, replicate, length-append, length-take, length-drop}
 use lib.Seq.{getD-append-add}
 use lib.Dec.{ltb, eqb}
-use borrow.Author.Tests.{le-ltb, ltb-false}
+use borrow.Author.Tests.{ltb-false}
 use Rattle.memory.specs.Booleans.{or-eq-false-iff, cond-pos, cond-neg}
 use Rattle.memory.specs.Lists.{write}
 use Rattle.memory.specs.Words.{word, wordsBytes, length-words}
 use Rattle.layout.specs.Geometry.{State, stateOf, Geometry, geometry, allowed, blocks, mainSize, spareSize, ramSize, Sizes, unitOf}
 use Rattle.layout.specs.Flash.{Op, Flash, applyAll, erases}
 use Rattle.layout.specs.Hash.{Family}
-use Rattle.layout.specs.Calls.{Volume, accepted, Result, refuse, tooShort, format, formatted}
+use Rattle.layout.specs.Calls.{Volume, accepted, Result, tooShort, format, formatted}
 use Rattle.laws.specs.Sound.{SizesSound, sound}
 use Rattle.laws.specs.Sound as units
 use Rattle.history.specs.FlashLaws.{apply-main-length, apply-spare-length, erases-allowed}
@@ -28,13 +28,13 @@ use Rattle.cuts.specs.CutLaws.{OnlyErases}
 use Rattle.cuts.specs.Resume.{CutAt, Fit}
 use Rattle.cuts.specs.Shape.{erases-only, apart-erases, anchored-erases}
 use Rattle.layout.specs.Header.{pages, header, onPages, formatWords, noIntent, headerBytes, headerWord, formatting, pendingIn}
-use Rattle.layout.specs.Budgets.{store, chips, lastSteps, callSteps, taken, pendingOn, formatFor, resumed, restartFor, restarts}
+use Rattle.layout.specs.Budgets.{store, chips, lastSteps, callSteps, taken, pendingOn, formatFor, restartFor, restarts}
 use Rattle.layout.specs.Budgets.{pendingOps, formatWhole, restartWhole}
 use Rattle.cuts.specs.Events.{lift, Format, wholeFormat, cutFormat, formatResult, formatEnd, formatOps}
 use Rattle.cuts.specs.Told.{Has, afterOps, only-in-order, erased-in-order, has-false, has-erases}
 use Rattle.cuts.specs.Later.{later}
 use Rattle.cuts.specs.Headers.{StateFits, pages-of, header-of, long-ram, word-of}
-use Rattle.cuts.specs.Idle.{fits-of, idle-restart}
+use Rattle.cuts.specs.Idle.{fits-of, idle-restart, resumes}
 use Rattle.cuts.specs.Uncut.{format-lifted, format-lifted-ops, format-lifted-outcome}
 use Rattle.cuts.specs.Finish.{ran, restOf, allOf, short-same, call-none, call-whole, recovers, ends-by, run-cut, later-length}
 use Rattle.cuts.specs.Finish.{restart-accepts, runs-flash}
@@ -173,11 +173,8 @@ module _ (h : Family) (v : Volume) (sizes : Sizes) (can : allowed sizes ≡ true
         (rw (cut .is) (apply-spare-length (unitOf sizes) (cut .done) (v .flash))) ∙ long)
 
     pub again : (b : ℕ) → restartFor h b m ≡ ran (unitOf sizes) b st s′ X intended (restOf X ops finished)
-    unfolding restartFor
     again b =
-        cond-neg (ltb (length intended) 64) (refuse m 2) (resumed h b m (pendingIn intended))
-        (le-ltb (length intended) 64 (long-ram p words words-length))
-        ∙ ap (resumed h b m) pending-is
+        resumes h b m (formatting sizes) (long-ram p words words-length) pending-is
         ∙ ap (λ (r : Result). taken b (unitOf sizes) m (lastSteps r) r) result-is
         ∙ ap (λ (os : List Op). ran (unitOf sizes) b st s′ X intended (chips os ++ (store finished ∷ [])))
         (sym (later-only (X .spare) ops (erases-only 0 (blocks g))))

@@ -8,6 +8,7 @@ use lib.ListN.{length, getD, length-append}
 use lib.Seq.{take-append-seam, drop-append-seam}
 use lib.Dec.{eqb}
 use Rattle.memory.specs.Words.{word, wordsBytes, bytes-word, length-words, words-byte}
+use Rattle.layout.specs.Keys.{KeyOk}
 use Rattle.layout.specs.Geometry.{State}
 use Rattle.layout.specs.Calls.{Call, insert, update, delete, lookup}
 use Rattle.layout.specs.Header.{pages, header, stateWords, intentWords, noIntent, headerBytes, headerWord, stateIn, nothing}
@@ -22,11 +23,11 @@ pub record StateFits (s : State) : Type 0 where
   pub n-fits : s .records < 2 ^ 32
   pub d-fits : s .deletions < 2 ^ 32
 
--- a changing call of 32-bit numbers
+-- a changing call of an allowed key and 32-bit numbers
 abbrev pub Words : Call → Type 0
-Words (insert r) = (r .key < 2 ^ 32) × (r .moves < 2 ^ 32) × (r .goal < 2 ^ 32) × (r .free < 2 ^ 32)
-Words (update r) = (r .key < 2 ^ 32) × (r .moves < 2 ^ 32) × (r .goal < 2 ^ 32) × (r .free < 2 ^ 32)
-Words (delete key) = key < 2 ^ 32
+Words (insert r) = KeyOk (r .key) × (r .moves < 2 ^ 32) × (r .goal < 2 ^ 32) × (r .free < 2 ^ 32)
+Words (update r) = KeyOk (r .key) × (r .moves < 2 ^ 32) × (r .goal < 2 ^ 32) × (r .free < 2 ^ 32)
+Words (delete key) = KeyOk key
 Words (lookup key) = ⊥
 
 module _ (p b : List ℕ) (size : length b ≡ 64) where
@@ -109,7 +110,7 @@ module _ (p : List ℕ) (s : State) where
   intent-stored (insert r) w =
       rw (
         word-stored p s (intentWords (insert r)) refl 6 (omega arith) (omega arith),
-        word-stored p s (intentWords (insert r)) refl 7 (omega arith) (w .0),
+        word-stored p s (intentWords (insert r)) refl 7 (omega arith) (w .0 .level-lt),
         word-stored p s (intentWords (insert r)) refl 8 (omega arith) (w .1),
         word-stored p s (intentWords (insert r)) refl 9 (omega arith) (w .2),
         word-stored p s (intentWords (insert r)) refl 10 (omega arith) (w .3),
@@ -117,7 +118,7 @@ module _ (p : List ℕ) (s : State) where
   intent-stored (update r) w =
       rw (
         word-stored p s (intentWords (update r)) refl 6 (omega arith) (omega arith),
-        word-stored p s (intentWords (update r)) refl 7 (omega arith) (w .0),
+        word-stored p s (intentWords (update r)) refl 7 (omega arith) (w .0 .level-lt),
         word-stored p s (intentWords (update r)) refl 8 (omega arith) (w .1),
         word-stored p s (intentWords (update r)) refl 9 (omega arith) (w .2),
         word-stored p s (intentWords (update r)) refl 10 (omega arith) (w .3),
@@ -125,8 +126,7 @@ module _ (p : List ℕ) (s : State) where
   intent-stored (delete key) w =
       rw (
         word-stored p s (intentWords (delete key)) refl 6 (omega arith) (omega arith),
-        word-stored p s (intentWords (delete key)) refl 7
-            (omega arith) w,
+        word-stored p s (intentWords (delete key)) refl 7 (omega arith) (w .level-lt),
       )
   intent-stored (lookup key) w = absurd w
 

@@ -17,7 +17,7 @@ use Rattle.history.specs.Image.{History}
 use Rattle.laws.specs.Sound.{SizesSound}
 use Rattle.laws.specs.Sound as units
 use Rattle.history.specs.Volumes.{Holds, volumeOf}
-use Rattle.layout.specs.Header.{pages, noIntent, headerBytes, pendingIn}
+use Rattle.layout.specs.Header.{pages, noIntent, headerBytes, Pending, nothing, pendingIn}
 use Rattle.layout.specs.Budgets.{resumed, restartFor}
 use Rattle.cuts.specs.Headers.{StateFits, long-ram, header-size, pages-stored, state-stored, idle-stored}
 
@@ -37,6 +37,12 @@ fits-of h sizes ok H C ram I =
       n-fits = n;
       d-fits = omega (arith, n, I .d-le);
     }
+
+-- a restart on a RAM that is long enough goes on with the call that its header tells
+pub resumes : (h : Family) (b : ℕ) (v : Volume) (p : Pending) → 64 ≤ length (v .ram) → pendingIn (v .ram) ≡ p
+    → restartFor h b v ≡ resumed h b v p
+unfolding restartFor
+resumes h b v p long e = cond-neg (ltb (length (v .ram)) 64) _ _ (le-ltb (length (v .ram)) 64 long) ∙ ap (resumed h b v) e
 
 module _ (h : Family) (st t : State) (X : Flash) (p : List ℕ) (fits : StateFits t) (good : badState t ≡ false)
     (long : tooShort (geometry (t .sizes)) X p ≡ false) where
@@ -58,9 +64,7 @@ module _ (h : Family) (st t : State) (X : Flash) (p : List ℕ) (fits : StateFit
 
   pub idle-restart : (b : ℕ) → restartFor h b m
       ≡ record { outcome = accepted; count = 0; daPages = 0; volume = record { state = t; flash = X; ram = stored }; ops = [] }
-  unfolding restartFor
   idle-restart b =
       let enough : 64 ≤ length stored = long-ram p (headerBytes t noIntent) (header-size p t noIntent refl) in
-      cond-neg (ltb (length stored) 64) (refuse m 2) (resumed h b m (pendingIn stored)) (le-ltb (length stored) 64 enough)
-      ∙ ap (resumed h b m) (idle-stored p t)
+      resumes h b m nothing enough (idle-stored p t)
       ∙ ap (λ (t′ : State). by t′ (pages stored)) (state-stored p t noIntent refl fits) ∙ ap (by t) (pages-stored p t noIntent refl) ∙ by-is

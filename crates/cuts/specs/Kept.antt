@@ -7,7 +7,7 @@ use native.Mathlib.Nat.{mul-le-mul-right}
 use native.Mathlib.Omega.{arith}
 use lib.ListN.{length, getD, replicate, length-replicate, getD-replicate}
 use lib.Seq.{getD-set-other}
-use Rattle.memory.specs.Lists.{write, length-write, getD-write-before, getD-write-in, getD-write-after, length-tab}
+use Rattle.memory.specs.Lists.{write, length-write, getD-write-before, getD-write-in, getD-write-after, length-tabulate}
 use Rattle.memory.specs.Numbers.{euclid}
 use Rattle.memory.specs.Cases.{lt?, eq?, either}
 use Rattle.layout.specs.Flash.{Op, program, erase, Flash, apply, applyAll, erases}
@@ -145,7 +145,7 @@ module _ (u : ℕ) (pu : 0 < u) (a : ℕ) where
 
 pub sized-programs : (u d s k : ℕ) (f : ℕ → ℕ → ℕ) → Sized u (programs u d s k f)
 sized-programs u d s zero f = tt
-sized-programs u d s (suc k) f = (length-tab (16 * u) (f zero), sized-programs u d (s + d) k (λ j. f (suc j)))
+sized-programs u d s (suc k) f = (length-tabulate (16 * u) (f zero), sized-programs u d (s + d) k (λ j. f (suc j)))
 
 pub sized-erases : (u b k : ℕ) → Sized u (erases b k)
 sized-erases u b zero = tt

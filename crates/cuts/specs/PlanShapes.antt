@@ -8,7 +8,7 @@ use native.Mathlib.Omega.{arith}
 use lib.ListN.{length, getD}
 use lib.Dec.{eqb}
 use Rattle.memory.specs.Cases.{either, bool?}
-use Rattle.memory.specs.Lists.{tab}
+use Rattle.memory.specs.Lists.{tabulate}
 use Rattle.layout.specs.Geometry.{Geometry, indexBlock, deletionIndexBlock}
 use Rattle.layout.specs.Flash.{Op, program, erase, Flash, applyAll, erases, planOps}
 use Rattle.layout.specs.Hash.{Family}
@@ -127,17 +127,17 @@ module _ (u lo hi : ℕ) where
       → Shaped u lo hi (programs u 1 s k f ++ es)
   set-shaped s k last f es q o v z e =
       let most : List Op = programs u 1 s last f in
-      let end : List ℕ = tab (16 * u) (f last) in
-      let is : programs u 1 s (suc last) f ++ es ≡ programs u 1 s last f ++ (program (s + last * 1) (tab (16 * u) (f last)) ∷ es)
+      let end : List ℕ = tabulate (16 * u) (f last) in
+      let is : programs u 1 s (suc last) f ++ es ≡ programs u 1 s last f ++ (program (s + last * 1) (tabulate (16 * u) (f last)) ∷ es)
       = ap (λ (l : List Op). l ++ es) (programs-last u 1 s last f)
-      ∙ append-assoc (programs u 1 s last f) (program (s + last * 1) (tab (16 * u) (f last)) ∷ []) es in
+      ∙ append-assoc (programs u 1 s last f) (program (s + last * 1) (tabulate (16 * u) (f last)) ∷ []) es in
       let p : OnlyPrograms (programs u 1 s last f) = programs-only u 1 s last f in
       let pp : OnlyPrograms (programs u 1 s (suc last) f) = programs-only u 1 s (suc last) f in
       rw (← q)
       (record {
-        apart = rw (sym is) at (apart-programs (programs u 1 s last f) (program (s + last * 1) (tab (16 * u) (f last)) ∷ es) p
+        apart = rw (sym is) at (apart-programs (programs u 1 s last f) (program (s + last * 1) (tabulate (16 * u) (f last)) ∷ es) p
             (apart-erases es o));
-        anchored = rw (sym is) at (anchored-programs (programs u 1 s last f) (s + last * 1) (tab (16 * u) (f last)) es p
+        anchored = rw (sym is) at (anchored-programs (programs u 1 s last f) (s + last * 1) (tabulate (16 * u) (f last)) es p
             (v, anchored-erases es o));
         begins = tt;
         sized = sized-append u (programs u 1 s (suc last) f) es (sized-programs u 1 s (suc last) f) z;

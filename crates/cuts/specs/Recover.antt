@@ -6,8 +6,7 @@ use mathlib.Core.List.{List, [], _∷_, _++_}
 use Prim.Native.Nat.{ℕ, suc, _+_, _≤_, _<_}
 use native.Mathlib.Omega.{arith}
 use lib.ListN.{length}
-use lib.Dec.{ltb, eqb}
-use borrow.Author.Tests.{le-ltb}
+use lib.Dec.{eqb}
 use Rattle.memory.specs.Cases.{either, bool?}
 use Rattle.memory.specs.Booleans.{cond-pos, cond-neg}
 use Rattle.layout.specs.Geometry.{State, stateOf, Geometry, geometry, allowed, indexBlock, blocks, spareSize, workRam, Sizes, unitOf}
@@ -16,7 +15,7 @@ use Rattle.layout.specs.Hash.{Family}
 use Rattle.layout.specs.Items.{zeroPage}
 use Rattle.layout.specs.Search.{found}
 use Rattle.layout.specs.Calls.{Volume, Call, accepted, refused, Result, refuse, judgeFirst, badState, tooShort, search, commit, answer}
-use Rattle.layout.specs.Calls.{call}
+use Rattle.layout.specs.Calls.{keyOf, call}
 use Rattle.laws.specs.Sound.{SizesSound}
 use Rattle.history.specs.FlashLaws.{AllAllowed, apply-main-length, apply-spare-length}
 use Rattle.history.specs.Runs.{ProgramOrder}
@@ -37,16 +36,16 @@ use Rattle.cuts.specs.Resume.{CutAt, Fit}
 use Rattle.cuts.specs.Plans.{plan-resumes}
 use Rattle.cuts.specs.PlanShapes.{shaped-fit}
 use Rattle.cuts.specs.CutVolume.{cut-search}
-use Rattle.layout.specs.Header.{pages, onPages, intentWords, noIntent, headerBytes, kindIn, stateIn, pendingIn}
-use Rattle.layout.specs.Budgets.{Step, store, chips, lastSteps, callSteps, taken, pendingOn, resultOf, callFor, resumed, restartFor}
+use Rattle.layout.specs.Header.{pages, onPages, intentWords, noIntent, headerBytes, kindIn, stateIn, pendingIn, changing}
+use Rattle.layout.specs.Budgets.{Step, store, chips, lastSteps, callSteps, taken, pendingOn, resultOf, callFor, restartFor}
 use Rattle.layout.specs.Budgets.{restarts, restartsOps, pendingOps, restartWhole}
 use Rattle.cuts.specs.Headers.{StateFits, Words, long-ram, header-size, pages-stored, state-stored, idle-kind, intent-length}
 use Rattle.cuts.specs.Headers.{intent-stored}
-use Rattle.cuts.specs.Idle.{fits-of, idle-restart}
+use Rattle.cuts.specs.Idle.{fits-of, idle-restart, resumes}
 use Rattle.cuts.specs.Finish.{ran, restOf, allOf, short-same, call-none, call-whole, recovers, runs-allowed, runs-inside, runs-flash}
 use Rattle.cuts.specs.Finish.{restart-accepts}
 use Rattle.cuts.specs.Finish.{ends-by, run-cut, restart-whole, spare-tells, spare-ends, restart-good, call-good}
-use Rattle.cuts.specs.Work.{Work, work, judged-is, keyOf, call-is, refused-not}
+use Rattle.cuts.specs.Work.{Work, work, judged-is, call-is, refused-not}
 
 module _ (h : Family) (sizes : Sizes) (ok : SizesSound sizes) (can : allowed sizes ≡ true) (H : History) (C : Flash) (ram : List ℕ)
     (I : Holds h sizes H C ram)
@@ -200,14 +199,12 @@ module _ (h : Family) (sizes : Sizes) (ok : SizesSound sizes) (can : allowed siz
     result-is = ap (λ (w : Volume). callAgain h w c) pending-is ∙ called-again X cut
 
     pub restarted : (b : ℕ) → restartFor h b m ≡ ran (unitOf sizes) b st s′ X intended (restOf X ops finished)
-    unfolding restartFor
     restarted b =
         let long : 64 ≤ length intended = long-ram ram (headerBytes s (intentWords c))
         (header-size ram s (intentWords c) (intent-length ram s c)) in
         let unit : unitOf (stateIn intended .sizes) ≡ unitOf sizes
         = ap (λ (t : State). unitOf (t .sizes)) (state-stored ram s (intentWords c) (intent-length ram s c) old-fits) in
-        cond-neg (ltb (length intended) 64) (refuse m 2) (resumed h b m (pendingIn intended)) (le-ltb (length intended) 64 long)
-        ∙ ap (resumed h b m) (intent-stored ram s c words)
+        resumes h b m (changing c) long (intent-stored ram s c words)
         ∙ ap (λ (r : Result). taken b (unitOf (stateIn intended .sizes)) m (lastSteps r) r) result-is
         ∙ ap (λ (k : ℕ). taken b k m (lastSteps (result X rest)) (result X rest)) unit
 

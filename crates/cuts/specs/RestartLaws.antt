@@ -8,8 +8,8 @@ use Prim.Native.Nat.{ℕ, zero, suc, _≤_, _<_}
 use native.Mathlib.Omega.{arith}
 use lib.ListN.{length, getD, take}
 use lib.Dec.{ltb}
-use borrow.Author.Tests.{lt-ltb, le-ltb}
-use Rattle.memory.specs.Booleans.{cond-pos, cond-neg}
+use borrow.Author.Tests.{lt-ltb}
+use Rattle.memory.specs.Booleans.{cond-pos}
 use Rattle.memory.specs.Cases.{either, bool?}
 use Rattle.layout.specs.Geometry.{Geometry, geometry, Sizes, unitOf, allowed, blocks}
 use Rattle.layout.specs.Flash.{Op, program, erase, planOps, Planned, fresh, allFresh}
@@ -28,6 +28,7 @@ use Rattle.layout.specs.Header.{pages, onPages, intended, formatIntended, finis
 use Rattle.layout.specs.Header.{unknown, pendingIn}
 use Rattle.layout.specs.Budgets.{Step, lastSteps, callSteps, takenBy, taken, formatFor, pendingOn, resultOf, callFor, foundNone, resumed}
 use Rattle.layout.specs.Budgets.{restartFor}
+use Rattle.cuts.specs.Idle.{resumes}
 use Rattle.cuts.specs.Finish.{ops-cut}
 
 -- ---- "Restart refuses as the pending call would, 7 and 10 aside"
@@ -97,8 +98,7 @@ format-outcome b v sizes =
 
 module _ (h : Family) (b : ℕ) (v : Volume) (long : 64 ≤ length (v .ram)) where
   pub restart-is : restartFor h b v ≡ resumed h b v (pendingIn (v .ram))
-  unfolding restartFor
-  restart-is = cond-neg (ltb (length (v .ram)) 64) _ _ (le-ltb (length (v .ram)) 64 long)
+  restart-is = resumes h b v (pendingIn (v .ram)) long refl
 
   -- by the header's state, whatever state is handed in
   pub restart-as : (c : Call) → pendingIn (v .ram) ≡ changing c

@@ -4,7 +4,7 @@ use mathlib.Core.Path.{_≡_, ap}
 use mathlib.Core.List.{List, [], _∷_, _++_}
 use Prim.Native.Nat.{ℕ, zero, suc, _+_, _*_}
 use native.Mathlib.Omega.{arith}
-use Rattle.memory.specs.Lists.{tab}
+use Rattle.memory.specs.Lists.{tabulate}
 use Rattle.layout.specs.Flash.{Op, program, erase, erases}
 use Rattle.history.specs.Operations.{programs}
 use Rattle.cuts.specs.CutLaws.{OnlyErases, NoProgram, Apart, Survives, Anchored}
@@ -31,11 +31,11 @@ erases-append (erase b ∷ os) ys p q = erases-append os ys p q
 
 -- the last sector
 pub programs-last : (u d s k : ℕ) (f : ℕ → ℕ → ℕ) → programs u d s (suc k) f ≡ programs u d s k f
-    ++ (program (s + k * d) (tab (16 * u) (f k)) ∷ [])
+    ++ (program (s + k * d) (tabulate (16 * u) (f k)) ∷ [])
 programs-last u d s zero f = let e : s + 0 * d ≡ s = omega arith in rw e
 programs-last u d s (suc k) f =
     let e : s + suc k * d ≡ s + d + k * d = omega arith in
-    rw e (ap (λ (l : List Op). program s (tab (16 * u) (f zero)) ∷ l) (programs-last u d (s + d) k (λ j. f (suc j))))
+    rw e (ap (λ (l : List Op). program s (tabulate (16 * u) (f zero)) ∷ l) (programs-last u d (s + d) k (λ j. f (suc j))))
 
 -- ---- what the shapes give: a block is not erased before it is programmed, and a spare byte stays before each run of erases
 

@@ -16,7 +16,7 @@ use Rattle.layout.specs.Flash.{Op, Flash, applyAll, Planned, planOps}
 use Rattle.layout.specs.Hash.{Family}
 use Rattle.layout.specs.Items.{Record, recordBytes}
 use Rattle.layout.specs.Search.{Stop, found}
-use Rattle.layout.specs.Calls.{Volume, Call, insert, update, delete, lookup, accepted, refused, Result, deletionPlan, deletionRam}
+use Rattle.layout.specs.Calls.{Volume, Call, insert, update, delete, lookup, keyOf, accepted, refused, Result, deletionPlan, deletionRam}
 use Rattle.layout.specs.Calls.{badState, tooShort, judgeFirst}
 use Rattle.layout.specs.Calls.{insertionPlan, insertionRam, commit, search, searchDaPages, lookupAfter, answer, call}
 use Rattle.laws.specs.ItemLaws.{length-record}
@@ -38,12 +38,6 @@ pub judged-is : (w : Volume) (r : Result) → badState (w .state) ≡ false
     → tooShort (geometry (w .state .sizes)) (w .flash) (w .ram) ≡ false → judgeFirst w r ≡ r
 unfolding judgeFirst
 judged-is w r a b = rw (a, b)
-
-abbrev pub keyOf : Call → Key
-keyOf (insert r) = r .key
-keyOf (update r) = r .key
-keyOf (delete key) = key
-keyOf (lookup key) = key
 
 -- no refusal is an acceptance
 pub refused-not : (i : ℕ) → refused i ≡ accepted → ⊥

@@ -1,3 +1,2 @@
-pub mod Pages
 pub mod Bits
 pub mod Volume

@@ -21,7 +21,7 @@ abbrev pub held : Deletions → List ℕ → List ℕ → Volume
 held t main ram = record { state = stateOf (sizesOf 0 0 0 0) 0 (t .d); flash = flashOf main []; ram = ram }
 
 -- the lent bytes hold a volume of a sound geometry, of whose deletions no more are tested than there are
-pub record Ready (t : Deletions) (main ram : List ℕ) : Type 0 where
+pub record DeletionsFit (t : Deletions) (main ram : List ℕ) : Type 0 where
   pub sound : Sound (t .g)
   pub read : Readable (shape (t .g)) main ram
   pub cap : t .d ≤ deletionCapacity (shape (t .g))

@@ -5,12 +5,12 @@ use mathlib.Core.Option.{Option, none, some}
 use mathlib.Core.List.{List}
 use Prim.Native.Nat.{ℕ, _+_, _*_, _/_, _%_, _≤_, _<_}
 use lib.Dec.{eqb}
-use lib.ListN.{length, getD}
+use lib.ListN.{length}
 use Rattle.memory.specs.Bits.{bit}
 use Rattle.memory.specs.Words.{word}
 use Rattle.layout.specs.Keys.{wordSize}
-use Rattle.layout.specs.Geometry.{page, filterBits, deletionsPerPage}
-use Rattle.layout.specs.Search.{Stop, Found, found, reply, scan, searchPages}
+use Rattle.layout.specs.Geometry.{page, deletionsPerPage}
+use Rattle.layout.specs.Search.{Stop, Found, found, scan, searchPages}
 use Rattle.layout.specs.Calls.{tryDeletion, maybeDeleted, deletionFilters}
 use Rattle.geometry.specs.Shape.{shape}
 use Rattle.geometry.specs.Indexes.{deletionIndexFor}
@@ -19,47 +19,36 @@ use Rattle.deletions.specs.declared.Deletions.{Deletions}
 use Rattle.deletions.specs.Test.{held}
 
 -- where a test of number j ends, if it is met or not
-abbrev pub stopOf : ℕ → Bool → Option Stop
-stopOf j met = cond met (some (found j)) none
+abbrev pub testStop : ℕ → Bool → Option Stop
+testStop j met = cond met (some (found j)) none
 
 -- deletion i of these
-abbrev pub tryOf : Deletions → List ℕ → List ℕ → ℕ → ℕ → Option Stop
-tryOf t main ram j = tryDeletion (shape (t .g)) (held t main ram) j
+abbrev pub tryHeld : Deletions → List ℕ → List ℕ → ℕ → ℕ → Option Stop
+tryHeld t main ram j = tryDeletion (shape (t .g)) (held t main ram) j
 
 -- number k of those that lie from byte `start` on
 abbrev pub tryWord : List ℕ → ℕ → ℕ → ℕ → Option Stop
-tryWord bytes start j k = stopOf j (eqb (word bytes (start + k * wordSize)) j)
+tryWord bytes start j k = testStop j (eqb (word bytes (start + k * wordSize)) j)
 
 -- those of the page that the first d₀ do not fill
 abbrev pub pastPages : Deletions → List ℕ → List ℕ → ℕ → Option Stop
 pastPages t main ram j =
     let q : ℕ = deletionsPerPage (t .g .chip .unit) in
-    scan (tryOf t main ram j) (t .d0 / q * q) (t .d0 % q)
+    scan (tryHeld t main ram j) (t .d0 / q * q) (t .d0 % q)
 
 -- the full pages below a number, opened by the bits of some positions
-abbrev pub pagesBelow : Deletions → List ℕ → List ℕ → ℕ → List ℕ → ℕ → Found
-pagesBelow t main ram j ps below =
-    searchPages (maybeDeleted (shape (t .g)) (held t main ram) ps) (tryOf t main ram j) (deletionsPerPage (t .g .chip .unit)) below
-
--- what is found in all by a search that ended so after k pages, if it ended nowhere with what the search of older pages finds
-abbrev pub onward : Option Stop → ℕ → Found → Found
-onward none k older = reply (older .stop) (k + older .opened)
-onward (some r) k older = reply (some r) k
+abbrev pub testBelow : Deletions → List ℕ → List ℕ → ℕ → List ℕ → ℕ → Found
+testBelow t main ram j ps below =
+    searchPages (maybeDeleted (shape (t .g)) (held t main ram) ps) (tryHeld t main ram j) (deletionsPerPage (t .g .chip .unit)) below
 
 -- is one of the two filters of page i of a word open
 abbrev pub eitherBit : ℕ → ℕ → Bool
 eitherBit bits i = bit bits (2 * i) || bit bits (2 * i + 1)
 
 -- the pages of a word that are to be opened lie within the flash
-pub record PagesIn (u start bits : ℕ) (main : List ℕ) : Type 0 where
+pub record WordPagesIn (u start bits : ℕ) (main : List ℕ) : Type 0 where
   pub page-in : (i : ℕ) → i < 32 → eitherBit bits i ≡ true → start + i * page u + page u ≤ length main
 
--- there are 1 to 8 positions, and they lie within a filter
-pub record Low (u count : ℕ) (ps : List ℕ) : Type 0 where
-  pub some : 1 ≤ count
-  pub few : count ≤ 8
-  pub within : (i : ℕ) → i < count → getD ps i 0 < filterBits u
-
 -- the filters of its deletions, all of them
-abbrev pub filtersOf : Deletions → Filters
-filtersOf t = record { chip = t .g .chip; index = deletionIndexFor (shape (t .g)); count = deletionFilters (shape (t .g)) (t .d) }
+abbrev pub deletionFiltersOf : Deletions → Filters
+deletionFiltersOf t = record { chip = t .g .chip; index = deletionIndexFor (shape (t .g)); count = deletionFilters (shape (t .g)) (t .d) }

@@ -9,9 +9,10 @@ ghost use Rattle.layout.specs.Hash.{fnvFamily};
 ghost use Rattle.layout.specs.Search.{searchPages};
 ghost use Rattle.layout.specs.Calls.{testDeletion};
 ghost use Rattle.laws.specs.Units.{UnitSound};
+ghost use Rattle.laws.specs.Walks.{onward, Low};
 ghost use Rattle.geometry.specs.Shape.{shape, Sound};
-ghost use Rattle.deletions.specs.Test.{testedOf, held, Ready};
-ghost use Rattle.deletions.specs.Walk.{stopOf, tryWord, pastPages, pagesBelow, onward, eitherBit, PagesIn, Low, filtersOf};
+ghost use Rattle.deletions.specs.Test.{testedOf, held, DeletionsFit};
+ghost use Rattle.deletions.specs.Walk.{testStop, tryWord, pastPages, testBelow, eitherBit, WordPagesIn, deletionFiltersOf};
 use filter::Filters;
 use geometry::Chip;
 use geometry::Geometry;
@@ -35,8 +36,8 @@ pub struct Tested {
 
 // Those of the page that d0 deletions do not fill: in RAM, unless it has been filled since.
 fn in_open(t: Deletions, j: u32, main: &[u8], ram: &[u8]) -> bool
-    requires { ⌜ Ready t (now main) (now ram) ⌝ }
-    ensures { λ r. ⌜ stopOf j r ≡ pastPages t (before main) (before ram) j ⌝ }
+    requires { ⌜ DeletionsFit t (now main) (now ram) ⌝ }
+    ensures { λ r. ⌜ testStop j r ≡ pastPages t (before main) (before ram) j ⌝ }
 {
     let per_page = t.g.deletions_per_page();
     let count = areas::slot(per_page, t.d0);
@@ -52,20 +53,20 @@ fn in_open(t: Deletions, j: u32, main: &[u8], ram: &[u8]) -> bool
 
 // The filters of the volume's deletions, two to a page.
 fn filters(t: Deletions) -> Filters
-    requires { ⌜ Sound (t .g) × (t .d ≤ 33554432) ⌝ }
-    ensures { λ r. ⌜ r ≡ filtersOf t ⌝ }
+    requires { ⌜ Sound (t .g) ⌝ }
+    ensures { λ r. ⌜ r ≡ deletionFiltersOf t ⌝ }
 {
     let chip = t.g.chip;
     let index = sets::deletion_index(t.g);
     Filters {
         chip,
         index,
-        count: 2 * (t.d / t.g.deletions_per_page()),
+        count: sets::deletion_filters(t.g, t.d),
     }
 }
 
 // What was found in a block of pages: whether the number was met in it, the pages opened, and the block's first page.
-struct Walk {
+struct BlockTest {
     met: bool,
     opened: u32,
     start: usize,
@@ -74,7 +75,7 @@ struct Walk {
 // The pages of a word of filters, newest first; their bytes are from `start` on. It is a function because its loop calls nothing that stays
 // a call in small pages, and so keeps its values in registers.
 fn in_word(chip: Chip, start: usize, bits: u64, j: u32, main: &[u8]) -> Tested
-    requires { ⌜ UnitSound (chip .unit) × PagesIn (chip .unit) start bits (now main) ⌝ }
+    requires { ⌜ UnitSound (chip .unit) × WordPagesIn (chip .unit) start bits (now main) ⌝ }
     ensures { λ r. ⌜ testedOf j r
         ≡ searchPages (eitherBit bits) (tryWord (before main) start j) (deletionsPerPage (chip .unit)) 32 ⌝ }
 {
@@ -101,12 +102,12 @@ fn in_block(
     below: usize,
     main: &[u8],
     ram: &[u8],
-) -> Walk
-    requires { ⌜ Ready t (now main) (now ram) × Low (t .g .chip .unit) count ps ⌝ }
+) -> BlockTest
+    requires { ⌜ DeletionsFit t (now main) (now ram) × Low (t .g .chip .unit) count ps ⌝ }
     requires { ⌜ (0 < below) × (below ≤ t .d0 / deletionsPerPage (t .g .chip .unit)) ⌝ }
     ensures start { λ r. ⌜ r .start < below ⌝ }
-    ensures found { λ r. ⌜ pagesBelow t (before main) (before ram) j (take count ps) below
-        ≡ onward (stopOf j (r .met)) (r .opened) (pagesBelow t (before main) (before ram) j (take count ps) (r .start)) ⌝ }
+    ensures found { λ r. ⌜ testBelow t (before main) (before ram) j (take count ps) below
+        ≡ onward (testStop j (r .met)) (r .opened) (testBelow t (before main) (before ram) j (take count ps) (r .start)) ⌝ }
 {
     let b = filter::block_below(filters(t), 2 * below, ps, count, main, ram);
     let first = b.start / 2;
@@ -119,14 +120,14 @@ fn in_block(
         let r = in_word(t.g.chip, at, b.words[w], j, main);
         opened += r.opened;
         if r.met {
-            return Walk {
+            return BlockTest {
                 met: true,
                 opened,
                 start: first,
             };
         }
     }
-    Walk {
+    BlockTest {
         met: false,
         opened,
         start: first,
@@ -135,9 +136,9 @@ fn in_block(
 
 // Full pages, a block of filters after another, the newest first, for any `count` positions, 1 to 8.
 fn in_pages(t: Deletions, j: u32, ps: [u32; 8], count: usize, main: &[u8], ram: &[u8]) -> Tested
-    requires { ⌜ Ready t (now main) (now ram) × Low (t .g .chip .unit) count ps ⌝ }
+    requires { ⌜ DeletionsFit t (now main) (now ram) × Low (t .g .chip .unit) count ps ⌝ }
     ensures { λ r. ⌜ testedOf j r
-        ≡ pagesBelow t (before main) (before ram) j (take count ps) (t .d0 / deletionsPerPage (t .g .chip .unit)) ⌝ }
+        ≡ testBelow t (before main) (before ram) j (take count ps) (t .d0 / deletionsPerPage (t .g .chip .unit)) ⌝ }
 {
     let mut opened: u32 = 0;
     let mut below = t.d0 / t.g.deletions_per_page();
@@ -156,7 +157,7 @@ fn in_pages(t: Deletions, j: u32, ps: [u32; 8], count: usize, main: &[u8], ram: 
 
 // Is record number j among the first d0 deletions.
 pub fn test(t: Deletions, j: u32, main: &[u8], ram: &[u8]) -> Tested
-    requires { ⌜ Ready t (now main) (now ram) ⌝ }
+    requires { ⌜ DeletionsFit t (now main) (now ram) ⌝ }
     ensures { λ r. ⌜ testedOf j r ≡ testDeletion fnvFamily (shape (t .g)) (held t (before main) (before ram)) (t .d0) j ⌝ }
 {
     if in_open(t, j, main, ram) {
@@ -172,6 +173,6 @@ pub fn test(t: Deletions, j: u32, main: &[u8], ram: &[u8]) -> Tested
         }; // without a full page there is no filter, and the number is not hashed
     }
     let count = t.g.hashes;
-    let ps = fnv::positions(t.g.chip, count, j);
+    let ps = fnv::positions(t.g.chip, count, fnv::of_number(j));
     in_pages(t, j, ps, count, main, ram)
 }

@@ -5,7 +5,7 @@ use mathlib.Core.List.{List}
 use Prim.Native.Nat.{ℕ, zero, suc, _+_, _-_, _*_, _/_, _^_, _≤_, _<_}
 use native.Mathlib.Omega.{arith}
 use lib.ListN.{length, getD, take, drop, length-take, length-drop}
-use Rattle.memory.specs.Lists.{tab, tab-ext, is-tab}
+use Rattle.memory.specs.Lists.{tabulate, tabulate-ext, is-tabulate}
 use Rattle.fields.specs.declared.Source.{Source}
 use Rattle.fields.specs.Sources.{fieldByte, runByte, Aligned, Whole, Size, Run, Runs}
 use Rattle.fields.specs.Lists.{part-at}
@@ -16,9 +16,9 @@ module _ (bytes : List ℕ) (s : Source) (w y n : ℕ) (A : Aligned s w) where
     pub copy-inside : s .at + y + n ≤ length bytes
     copy-inside = omega (arith, same-inside bytes s w (y + (n - 1)) A same (length bytes) (R (n - 1) (omega arith)))
 
-    pub copies : ((i : ℕ) → getD bytes i 0 < 256) → take (s .at + y + n - (s .at + y)) (drop (s .at + y) bytes) ≡ tab n (λ i. fieldByte bytes s w (y + i))
+    pub copies : ((i : ℕ) → getD bytes i 0 < 256) → take (s .at + y + n - (s .at + y)) (drop (s .at + y) bytes) ≡ tabulate n (λ i. fieldByte bytes s w (y + i))
     copies small =
-        is-tab (take (s .at + y + n - (s .at + y)) (drop (s .at + y) bytes)) n _ (simp (length-take, length-drop) (omega (arith, copy-inside)))
+        is-tabulate (take (s .at + y + n - (s .at + y)) (drop (s .at + y) bytes)) n _ (simp (length-take, length-drop) (omega (arith, copy-inside)))
         (λ i h.
         let a : s .at + y + i ≡ s .at + (y + i) = omega arith in
         rw (part-at bytes (s .at + y) n i h, a) (same-byte bytes s w (y + i) A same (small (s .at + (y + i)))))
@@ -45,6 +45,6 @@ module _ (bytes : List ℕ) (s : Source) (w y n : ℕ) (A : Aligned s w) where
     pub runs-in : Run (length bytes) s w y n → Runs (length bytes) (s .at + s .low / 8) (s .step / 8) (w / 8) y n
     runs-in R i h = run-in bytes s w (y + i) A big (length bytes) (R i h)
 
-    pub runs-are : (out : List ℕ) → ((i : ℕ) → getD bytes i 0 < 256) → out ≡ tab n (λ i. runByte bytes (s .at + s .low / 8) (s .step / 8) (w / 8) (y + i))
-        → out ≡ tab n (λ i. fieldByte bytes s w (y + i))
-    runs-are out small e = e ∙ tab-ext n _ _ (λ i h. run-is bytes s w (y + i) A big (small _))
+    pub runs-are : (out : List ℕ) → ((i : ℕ) → getD bytes i 0 < 256) → out ≡ tabulate n (λ i. runByte bytes (s .at + s .low / 8) (s .step / 8) (w / 8) (y + i))
+        → out ≡ tabulate n (λ i. fieldByte bytes s w (y + i))
+    runs-are out small e = e ∙ tabulate-ext n _ _ (λ i h. run-is bytes s w (y + i) A big (small _))

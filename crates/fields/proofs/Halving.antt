@@ -15,23 +15,13 @@ use Rattle.memory.specs.Bits.{bit, bitIn, bit-low, bit-high, bit-mod, bit-shr}
 use Rattle.memory.specs.Booleans.{eq-of-beq}
 use Rattle.memory.specs.Cases.{lt?, either}
 use Rattle.memory.specs.Numbers.{div-lt}
+use Rattle.memory.specs.Ranges.{all, all-at}
 use Rattle.fields.specs.declared.Source.{Source}
 use Rattle.fields.specs.Laws.{pack-byte}
 use Rattle.fields.specs.Sources.{fieldByte, Aligned, Reaches}
 use Rattle.fields.specs.Halves.{Narrow, Half}
 
 -- ---- a law of every byte, computed
-
-unfoldable all : (ℕ → Bool) → ℕ → Bool
-all f zero = true
-all f (suc n) = f n && all f n
-
-all-at : (f : ℕ → Bool) (n i : ℕ) → all f n ≡ true → i < n → f i ≡ true
-unfolding all
-all-at f zero i e h = absurd (not-suc-le-zero h)
-all-at f (suc n) i e h =
-    let p = and-eq-true-iff (f n) (all f n) .0 e in
-    either (lt? i n) (λ l. all-at f n i (p .1) (l .1)) (λ l. let q : i ≡ n = omega arith in rw q (p .0))
 
 -- does g take the even fields of w bits of x
 abbrev halves : (ℕ → ℕ) → ℕ → ℕ → Bool

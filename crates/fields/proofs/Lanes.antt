@@ -8,10 +8,10 @@ use lib.ListN.{length, getD}
 use Rattle.memory.specs.Bits.{bit}
 use Rattle.memory.specs.Cases.{lt?, either}
 use Rattle.memory.specs.Lists.{Done, write, getD-write-before, getD-write-in}
+use Rattle.memory.specs.Words.{bytes8, eight-bits}
 use Rattle.fields.specs.Laws.{pack-byte}
 use Rattle.fields.specs.Halves.{Narrow}
-use Rattle.fields.specs.Columns.{Column, Split, row, rowBit, bytes8, columnByte}
-use Rattle.fields.proofs.Bits.{byte-bits}
+use Rattle.fields.specs.Columns.{Column, Split, row, rowBit, columnByte}
 
 pub not-others : (w : ℕ) → Narrow w → w ≢ 1 → w ≢ 2 → w ≡ 4
 not-others w (inl e) a b = absurd (a e)
@@ -29,7 +29,7 @@ module _ (bytes : List ℕ) (at stride w i a x z : ℕ) (N : Narrow w) (eight : 
     (C : Column bytes a stride x) (S : Split w x z) where
   pub turn-byte : (q : ℕ) → q < 8 → getD (bytes8 z) q 0 ≡ columnByte bytes at stride w (i + q)
   unfolding columnByte
-  turn-byte q h = sym (pack-byte _ (getD (bytes8 z) q 0) (byte-bits z q h .0) one)
+  turn-byte q h = sym (pack-byte _ (getD (bytes8 z) q 0) (eight-bits z q h .0) one)
     where
       one : (b : ℕ) → b < 8
           → bit (getD bytes (at + ((i + q) / 8 * 8 + row w ((i + q) % 8 * 8 + b)) * stride) 0) (rowBit w ((i + q) % 8 * 8 + b)) ≡ bit (getD (bytes8 z) q 0) b
@@ -44,7 +44,7 @@ module _ (bytes : List ℕ) (at stride w i a x z : ℕ) (N : Narrow w) (eight : 
           let p : at + (i + row w (q * 8 + b)) * stride ≡ a + row w (q * 8 + b) * stride = omega (arith, a-is) in
           let c : bit x (row w (q * 8 + b) * 8 + rowBit w (q * 8 + b)) ≡ bit (getD bytes (a + row w (q * 8 + b) * stride) 0) (rowBit w (q * 8 + b))
           = rw (u, v) at (C (row w (q * 8 + b) * 8 + rowBit w (q * 8 + b)) k) in
-          rw (d, m, p) (sym (byte-bits z q h .1 b l ∙ (S (q * 8 + b) j ∙ c)))
+          rw (d, m, p) (sym (eight-bits z q h .1 b l ∙ (S (q * 8 + b) j ∙ c)))
 
   pub turn-more : (out : List ℕ) → i + 8 ≤ length out → Done (columnByte bytes at stride w) out i
       → Done (columnByte bytes at stride w) (write out i (bytes8 z)) (i + 8)

@@ -7,7 +7,7 @@ use native.Mathlib.Nat.{mul-le-mul-right}
 use native.Mathlib.Omega.{arith}
 use lib.ListN.{length, getD, take, drop}
 use Rattle.memory.specs.Cases.{lt?, either}
-use Rattle.memory.specs.Lists.{tab}
+use Rattle.memory.specs.Lists.{tabulate}
 use Rattle.memory.specs.Numbers.{div-of, mod-of}
 use Rattle.fields.specs.Sources.{runByte, Whole, Size, Runs}
 use Rattle.fields.specs.Lists.{part-at}
@@ -65,8 +65,8 @@ pub at-size : (len at stride n y k m : ℕ) → n ≡ m → 0 < m
     → ((0 < m) × (stride < 2 ^ 61) × (0 < k) × Runs len at stride m y k) × (Whole m y × Whole m k)
 at-size len at stride n y k m e h p = ((h, p .0 .1, p .0 .2, rw e at (p .0 .3)), rw e at (p .1))
 
-pub of-size : (bytes : List ℕ) (at stride n y k m : ℕ) (out : List ℕ) → n ≡ m → out ≡ tab k (λ i. runByte bytes at stride m (y + i))
-    → out ≡ tab k (λ i. runByte bytes at stride n (y + i))
+pub of-size : (bytes : List ℕ) (at stride n y k m : ℕ) (out : List ℕ) → n ≡ m → out ≡ tabulate k (λ i. runByte bytes at stride m (y + i))
+    → out ≡ tabulate k (λ i. runByte bytes at stride n (y + i))
 of-size bytes at stride n y k m out e p = rw e p
 
 pub last-size : (n : ℕ) → Size n → n ≢ 1 → n ≢ 2 → n ≢ 4 → n ≢ 8 → n ≡ 16

@@ -1,18 +1,13 @@
 -- A byte of each of many rows: the fields of w bits that they hold, one after another for each field of the byte.
 use mathlib.Core.Path.{_≡_}
-use mathlib.Core.List.{List, [], _∷_}
-use Prim.Native.Nat.{ℕ, _+_, _*_, _/_, _%_, _^_, _<_}
-use lib.Bits.{bitAnd, bitOr}
+use mathlib.Core.List.{List}
+use Prim.Native.Nat.{ℕ, _+_, _*_, _/_, _%_, _<_}
 use lib.ListN.{getD}
 use Rattle.memory.specs.Bits.{bit, pack}
 
 -- r has byte a of eight rows `stride` bytes apart
 abbrev pub Column : List ℕ → ℕ → ℕ → ℕ → Type 0
 Column bytes a stride r = (i : ℕ) → i < 64 → bit r i ≡ bit (getD bytes (a + i / 8 * stride) 0) (i % 8)
-
--- the bits of mask m and those d bits above them change places, those of `keep` stay
-abbrev pub exchanged : ℕ → ℕ → ℕ → ℕ → ℕ
-exchanged x keep m d = bitOr (bitOr (bitAnd x keep) (bitAnd x m * 2 ^ d % 2 ^ 64)) (bitAnd (x / 2 ^ d) m)
 
 -- of the 8 / w fields of each byte the first ones, then the second ones: bit i of them is bit rowBit of byte row
 abbrev pub row : ℕ → ℕ → ℕ
@@ -23,13 +18,6 @@ rowBit w i = i / (8 * w) * w + i % w
 
 abbrev pub Split : ℕ → ℕ → ℕ → Type 0
 Split w x r = (i : ℕ) → i < 64 → bit r i ≡ bit x (row w i * 8 + rowBit w i)
-
--- the eight bytes of a number below 2 ^ 64
-abbrev pub bytes8 : ℕ → List ℕ
-bytes8 x =
-    (x % 256) ∷ (x / 256 % 256) ∷ (x / 256 / 256 % 256) ∷ (x / 256 / 256 / 256 % 256) ∷ (x / 256 / 256 / 256 / 256 % 256)
-    ∷ (x / 256 / 256 / 256 / 256 / 256 % 256) ∷ (x / 256 / 256 / 256 / 256 / 256 / 256 % 256)
-    ∷ (x / 256 / 256 / 256 / 256 / 256 / 256 / 256 % 256) ∷ []
 
 -- byte k of a column: of rows k / 8 * 8 to k / 8 * 8 + 7
 unfoldable pub columnByte : List ℕ → ℕ → ℕ → ℕ → ℕ → ℕ

@@ -7,7 +7,7 @@ use native.Mathlib.Omega.{arith}
 use lib.ListN.{getD}
 use lib.Pow.{pow-pos}
 use Rattle.memory.specs.Bits.{bit, bitIn, pack-ext, bit-pack}
-use Rattle.memory.specs.Lists.{tab, tab-ext, getD-tab}
+use Rattle.memory.specs.Lists.{tabulate, tabulate-ext, getD-tabulate}
 use Rattle.memory.specs.Numbers.{div-of, mod-of}
 use Rattle.fields.specs.declared.Source.{Source}
 use Rattle.fields.specs.Halves.{Narrow}
@@ -20,7 +20,7 @@ laneOf s = record { at = 0; step = 64; low = s .low % 8 * 8 }
 
 -- the column that a source's fields lie in
 abbrev pub columnOf : List ℕ → Source → ℕ → List ℕ
-columnOf bytes s w = tab 128 (columnByte bytes (s .at + s .low / 8) (s .step / 8) w)
+columnOf bytes s w = tabulate 128 (columnByte bytes (s .at + s .low / 8) (s .step / 8) w)
 
 -- ---- columns of bytes that agree are equal
 
@@ -31,10 +31,10 @@ row-lt w j (inr (inr e)) h = rw e (omega arith)
 
 pub column-same : (bytes bytes′ : List ℕ) (at stride w : ℕ) → Narrow w
     → ((r : ℕ) → r < 128 → getD bytes (at + r * stride) 0 ≡ getD bytes′ (at + r * stride) 0)
-    → tab 128 (columnByte bytes at stride w) ≡ tab 128 (columnByte bytes′ at stride w)
+    → tabulate 128 (columnByte bytes at stride w) ≡ tabulate 128 (columnByte bytes′ at stride w)
 unfolding columnByte
 column-same bytes bytes′ at stride w N same =
-    tab-ext 128 _ _ (λ k h. pack-ext 8 _ _ (λ b l.
+    tabulate-ext 128 _ _ (λ k h. pack-ext 8 _ _ (λ b l.
     ap (λ (v : ℕ). bit v (rowBit w (k % 8 * 8 + b)))
     (same (k / 8 * 8 + row w (k % 8 * 8 + b)) (omega (arith, row-lt w (k % 8 * 8 + b) N (omega arith))))))
 
@@ -178,5 +178,5 @@ module _ (bytes : List ℕ) (s : Source) (w : ℕ) (A : Aligned s w) (narrow : w
           let t = ap (λ (n : ℕ). (y * 8 + b) / w * n) whole in
           let d : s .at + ((y * 8 + b) / w * s .step + (s .low + (y * 8 + b) % w)) / 8 ≡ s .at + s .low / 8 + (y * 8 + b) / w * (s .step / 8) = omega (arith, P .small) in
           let m : ((y * 8 + b) / w * s .step + (s .low + (y * 8 + b) % w)) % 8 ≡ s .low % 8 + (y * 8 + b) % w = omega (arith, P .small) in
-          rw (P .byte, P .low, z, d, m, getD-tab 128 (columnByte bytes (s .at + s .low / 8) (s .step / 8) w) (y / w * 8 + s .low % 8 + y % w) 0 (P .inside))
+          rw (P .byte, P .low, z, d, m, getD-tabulate 128 (columnByte bytes (s .at + s .low / 8) (s .step / 8) w) (y / w * 8 + s .low % 8 + y % w) 0 (P .inside))
           (bit-pack 8 _ b l ∙ rw (P .eighth, P .within, P .rows, P .bits))

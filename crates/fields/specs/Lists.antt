@@ -5,11 +5,11 @@ use Prim.Native.Nat.{ℕ, _+_, _-_, _≤_, _<_}
 use native.Mathlib.Omega.{arith}
 use lib.ListN.{length, getD, take, drop, replicate, length-take, length-drop, length-replicate, getD-replicate}
 use lib.Seq.{getD-take, getD-drop}
-use Rattle.memory.specs.Lists.{tab, is-tab, length-tab, getD-tab, Done, length-write, getD-write-before, getD-write-in, part-back}
+use Rattle.memory.specs.Lists.{tabulate, is-tabulate, length-tabulate, getD-tabulate, Done, length-write, getD-write-before, getD-write-in, part-back}
 use Rattle.memory.specs.Cases.{lt?, either}
 
-pub done-all : (f : ℕ → ℕ) (l : List ℕ) (n i : ℕ) → length l ≡ n → n ≤ i → Done f l i → l ≡ tab n f
-done-all f l n i e h D = is-tab l n f e (λ k p. D k (omega arith))
+pub done-all : (f : ℕ → ℕ) (l : List ℕ) (n i : ℕ) → length l ≡ n → n ≤ i → Done f l i → l ≡ tabulate n f
+done-all f l n i e h D = is-tabulate l n f e (λ k p. D k (omega arith))
 
 -- what is taken is no longer than that
 pub take-lt : (l : List ℕ) (n i : ℕ) → i < length (take n l) → i < n
@@ -37,21 +37,21 @@ module _ (l ys : List ℕ) (i e : ℕ) (order : i ≤ e) (h : e ≤ length l) (s
       getD-write-in l i ys k 0 (a .1) (omega arith) (omega arith) ∙ P (k - i) (omega arith) ∙ ap f q))
 
 -- the same, come back as a table
-module _ (l ys : List ℕ) (i e : ℕ) (g : ℕ → ℕ) (order : i ≤ e) (h : e ≤ length l) (is : ys ≡ tab (length (take (e - i) (drop i l))) g) where
+module _ (l ys : List ℕ) (i e : ℕ) (g : ℕ → ℕ) (order : i ≤ e) (h : e ≤ length l) (is : ys ≡ tabulate (length (take (e - i) (drop i l))) g) where
   size : length (take (e - i) (drop i l)) ≡ e - i
   size = simp (length-take, length-drop) (omega arith)
 
-  table : ys ≡ tab (e - i) g
-  table = is ∙ ap (λ (n : ℕ). tab n g) size
+  table : ys ≡ tabulate (e - i) g
+  table = is ∙ ap (λ (n : ℕ). tabulate n g) size
 
   pub table-length : length (take i l ++ (ys ++ drop (e - i) (drop i l))) ≡ length l
-  table-length = part-length l ys i e order h (ap length table ∙ length-tab (e - i) g)
+  table-length = part-length l ys i e order h (ap length table ∙ length-tabulate (e - i) g)
 
   pub table-more : (f : ℕ → ℕ) → Done f l i → ((j : ℕ) → j < e - i → g j ≡ f (i + j))
       → Done f (take i l ++ (ys ++ drop (e - i) (drop i l))) e
   table-more f D P =
-      part-more l ys i e order h (ap length table ∙ length-tab (e - i) g) f D
-      (λ j b. ap (λ (v : List ℕ). getD v j 0) table ∙ getD-tab (e - i) g j 0 b ∙ P j b)
+      part-more l ys i e order h (ap length table ∙ length-tabulate (e - i) g) f D
+      (λ j b. ap (λ (v : List ℕ). getD v j 0) table ∙ getD-tabulate (e - i) g j 0 b ∙ P j b)
 
-pub zeros : (n : ℕ) → replicate {A = ℕ} n 0 ≡ tab n (λ i. 0)
-zeros n = is-tab (replicate {A = ℕ} n 0) n (λ i. 0) (length-replicate {A = ℕ} n 0) (λ i h. getD-replicate n i 0 0 h)
+pub zeros : (n : ℕ) → replicate {A = ℕ} n 0 ≡ tabulate n (λ i. 0)
+zeros n = is-tabulate (replicate {A = ℕ} n 0) n (λ i. 0) (length-replicate {A = ℕ} n 0) (λ i h. getD-replicate n i 0 0 h)

@@ -13,7 +13,7 @@ use lib.Pow.{pow-pos}
 use lib.Bits.{bitOr, bitXor, or-add-and, xor-add-and, and-le-l, and-le-r, or-shr, xor-shr}
 use Rattle.memory.specs.Bits.{bit, bitIn, bit-or, bit-zero}
 use Rattle.memory.specs.Cases.{either, bool?, lt?}
-use Rattle.memory.specs.Ranges.{any, any-at, allOf}
+use Rattle.memory.specs.Ranges.{any, any-at, allOf, any-no}
 use Rattle.kernels.specs.Masks.{hasMask}
 use Rattle.filter.specs.Groups.{rowAt, levelHas}
 use Rattle.filter.specs.Recent.{MaskOf, OneRow}
@@ -30,11 +30,6 @@ any-some f (suc n) e =
     either (bool? (f n))
     (λ h. (n, omega arith, h))
     (λ h. let r = any-some f n (rw h at e) in (r .0, omega (arith, r .1), r .2))
-
-any-none : (f : ℕ → Bool) (n : ℕ) → ((i : ℕ) → i < n → f i ≡ false) → any f n ≡ false
-unfolding any
-any-none f zero h = refl
-any-none f (suc n) h = rw (h n (omega arith)) (any-none f n (λ i l. h i (omega arith)))
 
 all-at : (f : ℕ → Bool) (ps : List ℕ) (k i : ℕ) → k ≤ length ps → allOf f (take k ps) ≡ true → i < k → f (getD ps i 0) ≡ true
 all-at f ps zero i h e l = absurd (omega arith)
@@ -86,7 +81,7 @@ module _ (ps : List ℕ) (count w m : ℕ) (few : count ≤ length ps) (W : 0 < 
   unfolding hasMask
   mask-all =
       either (bool? (allOf has (take count ps)))
-      (λ e. rw (any-none shut w (open-all e)) (sym e))
+      (λ e. rw (any-no shut w (open-all e)) (sym e))
       (λ e.
       let s = all-not has ps count few e in
       let b : ℕ = getD ps (s .0) 0 % w in

@@ -37,10 +37,6 @@ open-map G H a b m r e R i h =
     (λ t. ap (λ (z : Bool). ltb i m && z) (e i (t .1)))
     (λ t. rw (t .0))
 
-pub open-none : (gate : ℕ → Bool) (first k : ℕ) → k ≡ 0 → Open gate first k 0
-unfolding Open
-open-none gate first k e i h = bit-zero i ∙ sym (ap (λ (t : Bool). t && gate (first + i)) (le-ltb i k (omega arith)))
-
 -- ---- a mask in L1 and in the SKA page
 
 module _ (rs : Recent) (count : ℕ) (ps main ram : List ℕ) (m w : ℕ) (R : RecentIn rs count ps (length main) (length ram)) (eight : count ≤ length ps)

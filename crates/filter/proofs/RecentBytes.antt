@@ -13,12 +13,12 @@ use lib.Pow.{pow-mono}
 use Rattle.memory.specs.Bits.{bit, bitIn}
 use Rattle.memory.specs.Cases.{either, lt?}
 use Rattle.memory.specs.Ranges.{allOf}
-use Rattle.kernels.specs.Blocks.{Shows, Open}
+use Rattle.kernels.specs.Blocks.{Shows, Open, open-none, open-lowest}
 use Rattle.filter.specs.Groups.{rowAt}
 use Rattle.filter.specs.Recent.{recentHas, RecentIn, RecentOf}
 use Rattle.filter.specs.declared.groups.Recent.{Recent}
 use Rattle.filter.proofs.Bytes.{eighth, step-bit, few-bit}
-use Rattle.filter.proofs.Recent.{open-none, recent-two}
+use Rattle.filter.proofs.Recent.{recent-two}
 use Rattle.filter.proofs.Rows.{One}
 
 -- ---- the test of a filter, by its number since the last round
@@ -184,17 +184,6 @@ module _ {rs : Recent} {first count : ℕ} {ps : List ℕ} {main ram w top n k r
       rw (I .same) (rw (steps, Q .row-is, O, Q .w-is, e) at B)
 
 -- ---- the words of a block
-
--- the lowest m bits
-open-lowest : (gate : ℕ → Bool) (first k m n r y : ℕ) → k ≡ m → m ≤ n → Shows gate first n r → ((i : ℕ) → i < 64 → bit y i ≡ (ltb i m && bit r i))
-    → Open gate first k y
-unfolding Shows Open
-open-lowest gate first k m n r y e le R Y i h =
-    rw e
-    (Y i h
-    ∙ either (lt? i m)
-    (λ t. ap (λ (b : Bool). ltb i m && b) (R i (omega (arith, t .1))))
-    (λ t. rw (t .0)))
 
 -- all of them
 open-whole : (gate : ℕ → Bool) (first k n r : ℕ) → k ≡ 64 → n ≡ 64 → Shows gate first n r → Open gate first k r

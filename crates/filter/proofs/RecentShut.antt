@@ -10,23 +10,19 @@ use lib.Dec.{ltb}
 use lib.ListN.{length, getD, take}
 use Rattle.memory.specs.Bits.{bit, bit-zero}
 use Rattle.memory.specs.Cases.{either, lt?}
-use Rattle.kernels.specs.Blocks.{Open, Upto}
-use Rattle.kernels.specs.Masks.{hasMask, Shut}
+use Rattle.kernels.specs.Blocks.{Open, Upto, open-none}
+use Rattle.kernels.specs.Masks.{hasMask, Shut, Had, Lacked}
 use Rattle.filter.specs.Groups.{rowAt}
 use Rattle.filter.specs.Recent.{MaskOf, OneRow, recentHas, RecentIn, RecentOf}
 use Rattle.filter.specs.declared.groups.Block.{Block}
 use Rattle.filter.specs.declared.groups.Recent.{Recent}
-use Rattle.filter.proofs.Recent.{open-map, open-none, l1-gate, ska-gate, mask-later, upto-two}
+use Rattle.filter.proofs.Recent.{open-map, l1-gate, ska-gate, mask-later, upto-two}
 
 -- ---- one word or two
 
 -- counted from filter 64 on
 open-64 : (gate : ℕ → Bool) (m r : ℕ) → Open (λ g. gate (64 + g)) 0 m r → Open gate 64 m r
 open-64 gate m r O = open-map (λ g. gate (64 + g)) gate 0 64 m r (λ i h. let z : 0 + i ≡ i = omega arith in rw z) O
-
--- what `having` says of the words of those that are shut
-abbrev pub Had : ℕ → ℕ → ℕ → Type 0
-Had x n r = (gate : ℕ → Bool) → Shut gate ((n + 3) / 4) x → Open gate 0 n r
 
 pub shut-two : (n a b x y : ℕ) → 64 < n → n ≤ 128 → Had a 64 x → Had b (n - 64) y
     → (gate : ℕ → Bool) → Shut gate ((min n 64 + 3) / 4) a → Shut (λ g. gate (64 + g)) ((n - 64 + 3) / 4) b
@@ -49,12 +45,6 @@ shut-none : (gate : ℕ → Bool) → Shut gate 0 0
 unfolding Shut
 shut-none gate i j h l =
     bit-zero (16 * i + j) ∙ sym (ap (λ (t : Bool). not t && not (gate (4 * (j + 0 - 16) + i))) (lt-ltb j (16 - 0) (omega arith)))
-
--- what `lacking` says
-abbrev pub Lacked : ℕ → ℕ → ℕ → ℕ → List ℕ → ℕ → Type 0
-Lacked start m at n bytes r =
-    (gate : ℕ → Bool) (q : ℕ) → q + n ≤ 16 → Shut gate q start
-    → ((g : ℕ) → g < 4 * n → gate (4 * q + g) ≡ hasMask bytes at 16 m g) → Shut gate (q + n) r
 
 -- n filters, L1's in so many words, then k of the SKA page: none of these, or L1's words are an even number
 abbrev Parts : ℕ → ℕ → ℕ → Type 0

@@ -11,12 +11,12 @@ use lib.ListN.{length, getD, take}
 use lib.Pow.{pow-pos}
 use Rattle.memory.specs.Bits.{bit, bit-or, bit-zero, bit-mod, bit-low, bit-high}
 use Rattle.memory.specs.Cases.{either, lt?}
-use Rattle.kernels.specs.Blocks.{Open}
+use Rattle.kernels.specs.Blocks.{Open, open-none}
 use Rattle.kernels.specs.Masks.{hasMask}
 use Rattle.filter.specs.Groups.{rowAt}
 use Rattle.filter.specs.Recent.{MaskOf, OneRow, recentHas, RecentIn, RecentOf}
 use Rattle.filter.specs.declared.groups.Recent.{Recent}
-use Rattle.filter.proofs.Recent.{open-map, open-none, l1-gate, ska-gate, mask-later, recent-two}
+use Rattle.filter.proofs.Recent.{open-map, l1-gate, ska-gate, mask-later, recent-two}
 
 -- ---- words that show tests
 

@@ -9,14 +9,13 @@ use borrow.Author.Tests.{lt-ltb, le-ltb}
 use lib.Bits.{bitAnd}
 use lib.Dec.{ltb}
 use lib.ListN.{length, getD, take}
-use Rattle.memory.specs.Bits.{bit, bitIn, pack, bit-pack, bit-zero, bit-high}
+use Rattle.memory.specs.Bits.{bit, bitIn, pack, bit-pack, bit-zero, bit-high, bit-and}
 use Rattle.memory.specs.Cases.{either, lt?}
 use Rattle.memory.specs.Lists.{Done}
 use Rattle.memory.specs.Ranges.{allOf}
 use Rattle.layout.specs.Index.{Index, filterBit}
 use Rattle.kernels.specs.Rows.{allIn}
 use Rattle.kernels.specs.Blocks.{Shows, Upto}
-use Rattle.kernels.specs.Conjunction.{bit-and}
 use Rattle.filter.specs.Groups.{rowAt, levelHas}
 use Rattle.filter.specs.Blocks.{BlockOf, BlockAt}
 use Rattle.filter.specs.declared.groups.Block.{Block}

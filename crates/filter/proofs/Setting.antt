@@ -16,7 +16,6 @@ use borrow.Author.Tests.{eq-eqb, ne-eqb}
 use Rattle.memory.specs.Bits.{bit, bit-zero, bit-or}
 use Rattle.memory.specs.Cases.{either, eq?}
 use Rattle.memory.specs.Ranges.{any, any-ext, any-memb}
-use Rattle.memory.specs.Words.{bytes4}
 use Rattle.layout.specs.Hash.{fnvFamily, positions}
 use Rattle.laws.specs.Positions.{length-positions, positionArray, position-at}
 use Rattle.filter.specs.Filter.{arrayBit, keyBit}
@@ -65,14 +64,14 @@ set-next f i o o₁ o₂ e₁ e₂ = rw (e₂, e₁, add-one) (join (f i) (any f
     join true b c = refl
     join false b c = refl
 
--- is x one of the first k of an array with a key's positions
-pub any-position : (u k key x : ℕ) (ps : List ℕ) → ps ≡ positionArray fnvFamily k u (bytes4 key)
-    → any (λ i. eqb (getD ps i 0) x) k ≡ keyBit u k key x
-any-position u k key x ps e =
-    let l : List ℕ = positions fnvFamily k u (bytes4 key) in
+-- is x one of the first k of an array with the positions
+pub any-position : (u k : ℕ) (bytes : List ℕ) (x : ℕ) (ps : List ℕ) → ps ≡ positionArray fnvFamily k u bytes
+    → any (λ i. eqb (getD ps i 0) x) k ≡ keyBit u k bytes x
+any-position u k bytes x ps e =
+    let l : List ℕ = positions fnvFamily k u bytes in
     any-ext (λ i. eqb (getD ps i 0) x) (λ i. eqb (getD l i 0) x) k
-    (λ i h. ap (λ (y : ℕ). eqb y x) (ap (λ (z : List ℕ). getD z i 0) e ∙ position-at fnvFamily k u (bytes4 key) i h))
-    ∙ ap (any (λ i. eqb (getD l i 0) x)) (sym (length-positions fnvFamily k u (bytes4 key))) ∙ any-memb x l
+    (λ i h. ap (λ (y : ℕ). eqb y x) (ap (λ (z : List ℕ). getD z i 0) e ∙ position-at fnvFamily k u bytes i h))
+    ∙ ap (any (λ i. eqb (getD l i 0) x)) (sym (length-positions fnvFamily k u bytes)) ∙ any-memb x l
 
 -- no bit is set
 pub none-set : (n x : ℕ) → x / 8 < n → arrayBit (replicate n 0) x ≡ false
@@ -84,6 +83,6 @@ pub any-more : (f : ℕ → Bool) (n : ℕ) → (f n || any f n) ≡ any f (n + 
 unfolding any
 any-more f n = rw add-one
 
--- word i of those from byte `at` on, `step` bytes apart
+-- the first word of item i of those from byte `at` on, `step` bytes apart
 pub word-in : (u at step i len : ℕ) → i < 8 * u - 1 → 4 ≤ step → at + (8 * u - 1) * step ≤ len → at + i * step + 4 ≤ len
 word-in u at step i len h s fits = omega (arith, mul-le-mul-right step h, s, fits)

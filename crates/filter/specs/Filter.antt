@@ -22,23 +22,22 @@ use Rattle.geometry.specs.Bounds.{index-le}
 unfoldable pub arrayBit : List ℕ → ℕ → Bool
 arrayBit a x = bit (getD a (x / 8) 0) (x % 8)
 
--- is x one of the k positions of the key
-abbrev pub keyBit : ℕ → ℕ → ℕ → ℕ → Bool
-keyBit u k key x = memb x (positions fnvFamily k u (bytes4 key))
+-- is x one of the k positions of a key or a number with these bytes
+abbrev pub keyBit : ℕ → ℕ → List ℕ → ℕ → Bool
+keyBit u k bytes x = memb x (positions fnvFamily k u bytes)
 
--- bit x of the filter of S/2 words: of those from byte `at` on, `step` bytes apart, but the last, and of a key
-abbrev pub withKey : ℕ → ℕ → ℕ → ℕ → ℕ → List ℕ → ℕ → Bool
-withKey u k at step key ram x = keyBit u k key x || any (λ i. keyBit u k (word ram (at + i * step)) x) (entriesPerPage u - 1)
+-- what is hashed of the item from byte `at` on, its first word: an entry's key or a deletion's number
+abbrev pub itemBytes : List ℕ → ℕ → List ℕ
+itemBytes ram at = bytes4 (word ram at)
+
+-- bit x of the filter of S/2 items: of those from byte `at` on, `step` bytes apart, but the last, and of one with these bytes
+abbrev pub withKey : ℕ → ℕ → ℕ → ℕ → List ℕ → List ℕ → ℕ → Bool
+withKey u k at step bytes ram x = keyBit u k bytes x || any (λ i. keyBit u k (itemBytes ram (at + i * step)) x) (entriesPerPage u - 1)
 
 -- those of both halves of the page of deletions from byte `at` on, whose last number is not in RAM yet
 abbrev pub halfBits : ℕ → ℕ → ℕ → ℕ → List ℕ → ℕ → ℕ → Bool
-halfBits u k at number ram zero x = withKey u k at deletionSize (word ram (at + (deletionsPerFilter u - 1) * deletionSize)) ram x
-halfBits u k at number ram (suc f) x = withKey u k (at + deletionsPerFilter u * deletionSize) deletionSize number ram x
-
--- those of two arrays
-abbrev pub pairBits : List ℕ → List ℕ → ℕ → ℕ → Bool
-pairBits first second zero = arrayBit first
-pairBits first second (suc f) = arrayBit second
+halfBits u k at number ram zero x = withKey u k at deletionSize (itemBytes ram (at + (deletionsPerFilter u - 1) * deletionSize)) ram x
+halfBits u k at number ram (suc f) x = withKey u k (at + deletionsPerFilter u * deletionSize) deletionSize (bytes4 number) ram x
 
 -- the unit is one of the six allowed; the index lies within the flash with Z full sets, its SKA page within the RAM
 pub record IndexFits (u : ℕ) (ix : Index) (Z : ℕ) (main ram : List ℕ) : Type 0 where

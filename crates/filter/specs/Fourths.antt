@@ -3,14 +3,14 @@ use mathlib.Core.Path.{_≡_, refl, sym, ap, _∙_}
 use mathlib.Core.Logic.{_⊎_, inl, inr}
 use mathlib.Core.Bool.{Bool}
 use mathlib.Core.List.{List}
-use Prim.Native.Nat.{ℕ, suc, _+_, _-_, _*_, _/_, _%_, _≤_, _<_}
+use Prim.Native.Nat.{ℕ, zero, suc, _+_, _-_, _*_, _/_, _%_, _≤_, _<_}
 use native.Mathlib.Nat.{mul-le-mul-right}
 use native.Mathlib.Omega.{arith}
 use lib.ListN.{length, getD, drop}
 use lib.Seq.{ext-getD, getD-take, getD-drop}
 use Rattle.memory.specs.Bits.{pack, pack-ext}
 use Rattle.memory.specs.Cases.{either, lt?}
-use Rattle.memory.specs.Lists.{getD-tab, pieces, length-pieces, pieces-in, pieces-out}
+use Rattle.memory.specs.Lists.{getD-tabulate, pieces, length-pieces, pieces-in, pieces-out}
 use Rattle.memory.specs.Numbers.{euclid, div-lt}
 use Rattle.layout.specs.Geometry.{sectorsPerPage, sector, page, filterBits, fourthSize}
 use Rattle.layout.specs.Index.{Index, withFilter}
@@ -23,9 +23,19 @@ FourthsOf u n B fourths =
     (i f y : ℕ) → i < sectorsPerPage → f < n → y < fourthSize u
     → getD fourths (i * (n * fourthSize u) + (f * fourthSize u + y)) 0 ≡ pack 8 (λ b. B f (i * sector u + (y * 8 + b)))
 
--- nothing behind the first n bytes
-abbrev pub ZerosFrom : ℕ → List ℕ → Type 0
-ZerosFrom n bytes = (x : ℕ) → n ≤ x → getD bytes x 0 ≡ 0
+-- filter f of two, with the bits B, is put among the fourths of both: its own are there, those of the other stay
+pub record FilterPut (u f : ℕ) (B : ℕ → Bool) (fourths fourths′ : List ℕ) : Type 0 where
+  pub there : (i y : ℕ) → i < sectorsPerPage → y < fourthSize u
+      → getD fourths′ (i * (2 * fourthSize u) + (f * fourthSize u + y)) 0 ≡ pack 8 (λ b. B (i * sector u + (y * 8 + b)))
+  pub other : (i e y : ℕ) → i < sectorsPerPage → e < 2 → (e ≡ f → ⊥) → y < fourthSize u
+      → getD fourths′ (i * (2 * fourthSize u) + (e * fourthSize u + y)) 0 ≡ getD fourths (i * (2 * fourthSize u) + (e * fourthSize u + y)) 0
+
+-- one after the other, both are there
+pub both-put : (u : ℕ) (B : ℕ → ℕ → Bool) (fourths one two : List ℕ) → FilterPut u 0 (B 0) fourths one → FilterPut u 1 (B 1) one two
+    → FourthsOf u 2 B two
+both-put u B fourths one two P Q i zero y a b c = Q .other i 0 y a b (λ e. absurd (omega (arith, e))) c ∙ P .there i y a c
+both-put u B fourths one two P Q i (suc zero) y a b c = Q .there i y a c
+both-put u B fourths one two P Q i (suc (suc f)) y a b c = absurd (omega arith)
 
 -- `piece` bytes of each sector, from byte `at` of the RAM on, become those of the fourths
 abbrev pub withFourths : ℕ → ℕ → ℕ → List ℕ → List ℕ → List ℕ
@@ -50,7 +60,7 @@ array-fourths u bits most size bytes i f y a b c =
     let s : i * (1 * (2 * u)) + (0 * (2 * u) + y) ≡ i * (2 * u) + y = omega arith in
     rw (z, s) (sym (getD-take (2 * u) (drop (i * (2 * u)) bits) y 0 c ∙ getD-drop (i * (2 * u)) bits y 0)
     ∙ ap (λ (l : List ℕ). getD l y 0) (rw n at p)
-    ∙ getD-tab (2 * u) (λ y. pack 8 (λ b. arrayBit bits (i * (16 * u) + (y * 8 + b)))) y 0 c)
+    ∙ getD-tabulate (2 * u) (λ y. pack 8 (λ b. arrayBit bits (i * (16 * u) + (y * 8 + b)))) y 0 c)
 
 -- of one filter: it is put into the SKA page
 pub one-filter : (u piece : ℕ) (ix : Index) (s : ℕ) (B : ℕ → ℕ → Bool) (fourths ram : List ℕ) → piece ≡ fourthSize u

@@ -3,19 +3,17 @@ use mathlib.Core.Path.{_≡_, refl, sym, ap, _∙_}
 use mathlib.Core.Bool.{Bool}
 use mathlib.Core.List.{List}
 use Prim.Native.Nat.{ℕ, zero, suc, _+_, _*_, _-_, _/_, _%_, _≤_, _<_}
-use native.Mathlib.Nat.{mul-le-mul-right}
 use native.Mathlib.Omega.{arith}
 use lib.ListN.{length, getD, take, drop, length-take, length-drop}
 use lib.Seq.{ext-getD, getD-take, getD-drop}
-use Rattle.memory.specs.Lists.{pieces, write, tab, tab-ext, length-tab, getD-tab}
+use Rattle.memory.specs.Lists.{pieces, write, tabulate, tabulate-ext, length-tabulate, getD-tabulate}
 use Rattle.memory.specs.Bits.{bit, pack, pack-ext, pack-bit}
-use Rattle.layout.specs.Geometry.{sector, filterBits, fourthSize}
-use Rattle.layout.specs.Index.{Index, withFilter}
+use Rattle.layout.specs.Geometry.{sector, fourthSize}
 use Rattle.filter.specs.Filter.{arrayBit}
 
 -- the i-th fourth of a filter as bytes
 abbrev pub fourthOf : ℕ → (ℕ → Bool) → ℕ → List ℕ
-fourthOf u f i = tab (fourthSize u) (λ y. pack 8 (λ b. f (i * sector u + (y * 8 + b))))
+fourthOf u f i = tabulate (fourthSize u) (λ y. pack 8 (λ b. f (i * sector u + (y * 8 + b))))
 
 pub pieces-ext : {A : Type 0} (L d at k : ℕ) (f g : ℕ → ℕ → A) (l : List A) → ((j y : ℕ) → j < k → y < L → f j y ≡ g j y)
     → pieces L d at k f l ≡ pieces L d at k g l
@@ -23,17 +21,8 @@ unfolding pieces
 pieces-ext L d at zero f g l h = refl
 pieces-ext {A = A} L d at (suc k) f g l h =
     ap (λ (t : List A). pieces L d (at + d) k (λ j. f (suc j)) (write l at t))
-    (tab-ext L (f zero) (g zero) (λ y b. h zero y (omega arith) b))
-    ∙ pieces-ext L d (at + d) k (λ j. f (suc j)) (λ j. g (suc j)) (write l at (tab L (g zero))) (λ j y a b. h (suc j) y (omega arith) b)
-
--- bits behind a filter do not count
-pub with-filter-ext : (u : ℕ) (ix : Index) (s : ℕ) (f g : ℕ → Bool) (ram : List ℕ) → ((x : ℕ) → x < filterBits u → f x ≡ g x)
-    → withFilter u ix s f ram ≡ withFilter u ix s g ram
-with-filter-ext u ix s f g ram h =
-    pieces-ext (2 * u) (16 * u) (ix .ska + s * (2 * u)) 4
-    (λ i y. pack 8 (λ b. f (i * (16 * u) + (y * 8 + b)))) (λ i y. pack 8 (λ b. g (i * (16 * u) + (y * 8 + b)))) ram
-    (λ i y a b. pack-ext 8 (λ b. f (i * (16 * u) + (y * 8 + b))) (λ b. g (i * (16 * u) + (y * 8 + b)))
-    (λ k l. h (i * (16 * u) + (y * 8 + k)) (omega (arith, mul-le-mul-right (16 * u) a))))
+    (tabulate-ext L (f zero) (g zero) (λ y b. h zero y (omega arith) b))
+    ∙ pieces-ext L d (at + d) k (λ j. f (suc j)) (λ j. g (suc j)) (write l at (tabulate L (g zero))) (λ j y a b. h (suc j) y (omega arith) b)
 
 -- the 2 u bytes of an array from byte i * 2 u on are the i-th fourth of its bits
 pub piece-of : (u i lo hi : ℕ) (a : List ℕ) → ((k : ℕ) → getD a k 0 < 256) → lo ≡ i * (2 * u) → hi ≡ lo + 2 * u → hi ≤ length a
@@ -42,11 +31,11 @@ unfolding arrayBit
 piece-of u i lo hi a bytes el eh fits =
     let n : hi - lo ≡ 2 * u = omega arith in
     let len : length (take (2 * u) (drop lo a)) ≡ 2 * u = simp (length-take, length-drop) (omega arith) in
-    rw n (ext-getD 0 (take (2 * u) (drop lo a)) (tab (2 * u) (λ y. pack 8 (λ b. arrayBit a (i * (16 * u) + (y * 8 + b)))))
-    (len ∙ sym (length-tab (2 * u) _))
+    rw n (ext-getD 0 (take (2 * u) (drop lo a)) (tabulate (2 * u) (λ y. pack 8 (λ b. arrayBit a (i * (16 * u) + (y * 8 + b)))))
+    (len ∙ sym (length-tabulate (2 * u) _))
     (λ y h.
     let b : y < 2 * u = rw len at h in
-    byte y b ∙ sym (getD-tab (2 * u) (λ y. pack 8 (λ b. arrayBit a (i * (16 * u) + (y * 8 + b)))) y 0 b)))
+    byte y b ∙ sym (getD-tabulate (2 * u) (λ y. pack 8 (λ b. arrayBit a (i * (16 * u) + (y * 8 + b)))) y 0 b)))
   where
     -- bit b of byte y of the fourth
     bitOf : ℕ → ℕ → Bool

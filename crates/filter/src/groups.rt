@@ -22,6 +22,7 @@ ghost use Rattle.filter.specs.Recent.{MaskOf, OneRow, recentHas, RecentI
 use geometry::Chip;
 use geometry::sets;
 use geometry::sets::Index;
+use words::numbers;
 
 // The filters of an index on a chip: so many.
 pub struct Filters {
@@ -59,12 +60,6 @@ struct Stage {
 }
 
 // ---- numbers
-
-fn wide(x: u32) -> usize
-    ensures { λ r. ⌜ r ≡ x ⌝ }
-{
-    x as usize
-}
 
 // The exponent of the least power of two not below x.
 fn exponent(x: usize) -> usize
@@ -169,6 +164,16 @@ fn level_in_sets(chip: Chip, e: usize, ix: Index, st: Stage, below: usize) -> Le
     full_level(chip, ix, shifted(below - 1, e + 9))
 }
 
+// ---- rows
+
+// The first byte of the row of a position.
+fn row_of(l: Level, p: u32) -> usize
+    requires { ⌜ (l .exponent < 10) × (rowAt l p < 2 ^ 64) ⌝ }
+    ensures { λ r. ⌜ r ≡ rowAt l p ⌝ }
+{
+    l.base + shifted(numbers::usize_of_u32(p), l.exponent) * l.stride
+}
+
 // ---- filters of whole bytes: a few
 
 // Which of the first n filters of a level have position p.
@@ -177,12 +182,9 @@ fn few_bits(l: Level, p: u32, n: usize, bytes: &[u8]) -> u64
     ensures { λ r. ⌜ (r < 2 ^ n)
         × ((i : ℕ) → i < n → bit r i ≡ bitIn (before bytes) (rowAt l p) (i * 2 ^ l .exponent + p % 2 ^ l .exponent)) ⌝ }
 {
-    let e = l.exponent;
-    let x = wide(p);
-    let w = power(e);
-    let low = x % w;
-    let row = l.base + shifted(x, e) * l.stride;
-    kernels::byte_bits(row + low / 8, low, w / 8, n, bytes)
+    let w = power(l.exponent);
+    let low = numbers::usize_of_u32(p) % w;
+    kernels::byte_bits(row_of(l, p) + low / 8, low, w / 8, n, bytes)
 }
 
 // The level's filters below `below`, eight at the most: one word.
@@ -213,13 +215,17 @@ fn position_bits(l: Level, p: u32, first: usize, n: usize, bytes: &[u8]) -> u64
     ensures { λ r. ⌜ ((i : ℕ) → i < n * 8
         → bit r i ≡ bitIn (before bytes) (rowAt l p) ((first + i) * 2 ^ l .exponent + p % 2 ^ l .exponent)) ⌝ }
 {
-    let e = l.exponent;
-    let x = wide(p);
-    let w = power(e);
+    let w = power(l.exponent);
     let step = w / 8;
-    let low = x % w;
-    let row = l.base + shifted(x, e) * l.stride;
-    kernels::row_bits(0, row + first * step + low / 8, low, step, n, bytes)
+    let low = numbers::usize_of_u32(p) % w;
+    kernels::row_bits(
+        0,
+        row_of(l, p) + first * step + low / 8,
+        low,
+        step,
+        n,
+        bytes,
+    )
 }
 
 // Which of them have all of the first `count` positions. The loop begins with the first one, so that where the bytes lie is computed once.
@@ -270,7 +276,7 @@ fn block_by_words(l: Level, below: usize, ps: [u32; 8], count: usize, bytes: &[u
     let mut low = [0usize; 8];
     let mut i = 0;
     while i < count {
-        let x = wide(ps[i]);
+        let x = numbers::usize_of_u32(ps[i]);
         at[i] = base + shifted(x, e) * stride;
         low[i] = x % w;
         i += 1;
@@ -284,24 +290,6 @@ fn block_by_words(l: Level, below: usize, ps: [u32; 8], count: usize, bytes: &[u
 }
 
 // ---- filters since the last round
-
-// The lesser of two numbers.
-fn lesser(a: usize, b: usize) -> usize
-    ensures { λ r. ⌜ r ≡ min a b ⌝ }
-{
-    if a < b {
-        return a;
-    }
-    b
-}
-
-// The first byte of the row of a position.
-fn row_of(l: Level, p: u32) -> usize
-    requires { ⌜ (l .exponent < 10) × (rowAt l p < 2 ^ 64) ⌝ }
-    ensures { λ r. ⌜ r ≡ rowAt l p ⌝ }
-{
-    l.base + shifted(wide(p), l.exponent) * l.stride
-}
 
 // Positions as bits among the 2 ^ e that a filter has in a row, and whether they lie in one row.
 struct Mask {
@@ -322,12 +310,12 @@ fn mask_of(e: usize, ps: [u32; 8], count: usize) -> Mask
     let mut i = 0;
     while i < count {
         let p = ps[i];
-        let b = kernels::single(wide(p) % w);
+        let b = kernels::single(numbers::usize_of_u32(p) % w);
         bits = bits | b;
         differ = differ | (p ^ first);
         i += 1;
     }
-    let one_row = shifted(wide(differ), e) == 0;
+    let one_row = shifted(numbers::usize_of_u32(differ), e) == 0;
     Mask { bits, one_row }
 }
 
@@ -337,10 +325,10 @@ fn recent_64(rs: Recent, mask: u64, ps: [u32; 8], count: usize, main: &[u8], ram
     requires { ⌜ OneRow ps count 6 × MaskOf ps count 64 mask ⌝ }
     ensures { λ r. ⌜ RecentOf rs (before main) (before ram) (take count ps) r ⌝ }
 {
-    let top = lesser(rs.below, rs.ska.start);
+    let top = numbers::lesser(rs.below, rs.ska.start);
     let start = rs.l1.start;
     let all = top - start;
-    let few = lesser(all, 64);
+    let few = numbers::lesser(all, 64);
     let row = row_of(rs.l1, ps[0]);
     let a = kernels::words_with(mask, row, few, main);
     let b = kernels::words_with(mask, row + 512, all - few, main);
@@ -392,10 +380,10 @@ fn recent_16(rs: Recent, mask: u64, ps: [u32; 8], count: usize, main: &[u8], ram
     requires { ⌜ OneRow ps count 4 × MaskOf ps count 16 mask × (mask < 65536) ⌝ }
     ensures { λ r. ⌜ RecentOf rs (before main) (before ram) (take count ps) r ⌝ }
 {
-    let top = lesser(rs.below, rs.ska.start);
+    let top = numbers::lesser(rs.below, rs.ska.start);
     let start = rs.l1.start;
     let words = (top - start + 3) / 4;
-    let few = lesser(words, 16);
+    let few = numbers::lesser(words, 16);
     let row = row_of(rs.l1, ps[0]);
     let a = kernels::lacking(0, mask, row, few, main);
     let b = kernels::lacking(0, mask, row + 128, words - few, main);
@@ -418,15 +406,15 @@ fn recent_word(rs: Recent, first: usize, ps: [u32; 8], count: usize, main: &[u8]
 {
     let w = power(rs.l1.exponent);
     let step = w / 8;
-    let top = lesser(rs.below, rs.ska.start);
-    let n = lesser((top - rs.l1.start + 7) / 8 - first / 8, 8);
+    let top = numbers::lesser(rs.below, rs.ska.start);
+    let n = numbers::lesser((top - rs.l1.start + 7) / 8 - first / 8, 8);
     let mut r: u64 = 0xffff_ffff_ffff_ffff;
     let mut i = 0;
     while i < count {
         let p = ps[i];
         let row = row_of(rs.l1, p);
         let other = row_of(rs.ska, p);
-        let low = wide(p) % w;
+        let low = numbers::usize_of_u32(p) % w;
         let o = low / 8;
         let s = kernels::byte_bits(other + o, low, step, rs.below - top, ram);
         let y = kernels::row_bits(s, row + first * step + o, low, step, n, main);

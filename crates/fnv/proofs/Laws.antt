@@ -8,7 +8,7 @@ use lib.Bits.{bitXor}
 use lib.ListN.{length, drop, getD, set, replicate, drop-of-length-le, length-append, length-replicate, getD-replicate, List·getD-append}
 use lib.Seq.{drop-cons, ext-getD, getD-append-add, getD-set-same, getD-set-other}
 use Rattle.memory.specs.Cases.{either, lt?, eq?}
-use Rattle.memory.specs.Lists.{tab, length-tab, getD-tab}
+use Rattle.memory.specs.Lists.{tabulate, length-tabulate, getD-tabulate}
 use Rattle.memory.specs.Power.{PowerOfTwo}
 use Rattle.layout.specs.Hash.{fnvFrom, Family, positions}
 use Rattle.laws.specs.Positions.{positionArray}
@@ -50,17 +50,17 @@ pub filled : (f : Family) (k u : ℕ) (l ps : List ℕ) → k ≤ 8 → length p
     → ps ≡ positionArray f k u l
 unfolding positions
 filled f k u l ps few long front rest =
-    let t = length-tab k (position f u l) in
-    ext-getD 0 ps (tab k (position f u l) ++ replicate (8 - k) 0)
+    let t = length-tabulate k (position f u l) in
+    ext-getD 0 ps (tabulate k (position f u l) ++ replicate (8 - k) 0)
     (long ∙ rw (length-append, t, length-replicate) (omega arith))
     (λ i h.
     either (lt? i k)
-    (λ a. front i (a .1) ∙ sym (List·getD-append (tab k (position f u l)) (replicate (8 - k) 0) 0 i (rw t (a .1)) ∙ getD-tab k (position f u l) i 0 (a .1)))
+    (λ a. front i (a .1) ∙ sym (List·getD-append (tabulate k (position f u l)) (replicate (8 - k) 0) 0 i (rw t (a .1)) ∙ getD-tabulate k (position f u l) i 0 (a .1)))
     (λ a.
-    let d : length (tab k (position f u l)) + (i - k) ≡ i = rw t (omega (arith, a .1)) in
+    let d : length (tabulate k (position f u l)) + (i - k) ≡ i = rw t (omega (arith, a .1)) in
     rest i (omega (arith, a .1)) (omega arith)
-    ∙ sym (ap (λ (x : ℕ). getD (tab k (position f u l) ++ replicate (8 - k) 0) x 0) (sym d)
-    ∙ getD-append-add (tab k (position f u l)) (replicate (8 - k) 0) (i - k) 0
+    ∙ sym (ap (λ (x : ℕ). getD (tabulate k (position f u l) ++ replicate (8 - k) 0) x 0) (sym d)
+    ∙ getD-append-add (tabulate k (position f u l)) (replicate (8 - k) 0) (i - k) 0
     ∙ getD-replicate {A = ℕ} (8 - k) (i - k) 0 0 (omega (arith, a .1)))))
 
 -- one more element in an array of eight

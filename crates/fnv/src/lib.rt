@@ -1,15 +1,19 @@
-// FNV-1a at 32 bits, the hash family of a key and a key's positions in a filter. Document 01, "Filters".
+// FNV-1a at 32 bits, the hash family of a key or a number and its positions in a filter. Document 01, "Filters".
 ghost use mathlib.Core.Path.{_≡_};
 ghost use Prim.Native.Nat.{ℕ, _+_, _*_, _%_, _^_, _<_, _≤_};
 ghost use lib.Bits.{bitXor};
 ghost use lib.ListN.{getD};
 ghost use Rattle.memory.specs.Power.{PowerOfTwo};
 ghost use Rattle.memory.specs.Words.{bytes4};
+ghost use Rattle.layout.specs.Keys.{keyBytes};
 ghost use Rattle.layout.specs.Geometry.{sector, filterBits};
 ghost use Rattle.layout.specs.Hash.{fnv1a, fnvFamily};
 ghost use Rattle.laws.specs.Positions.{positionArray};
 ghost use Rattle.laws.specs.Units.{UnitSound};
+ghost use Rattle.keys.specs.Key.{keyIs};
+ghost use Rattle.fnv.specs.Hashed.{bytesOf};
 use geometry::Chip;
+use keys::Key;
 
 // What FNV-1a starts from.
 const START: u32 = 2166136261;
@@ -60,18 +64,38 @@ fn absorb_low(h: u32, x: u32) -> u32
     absorb(h, (x % 256) as u8)
 }
 
-// Hash j of a key: FNV-1a over five bytes, j and then the key's four, lowest first.
-pub fn hash(j: u8, key: u32) -> u32
-    ensures { λ r. ⌜ r ≡ fnvFamily j (bytes4 key) ⌝ }
+// What is hashed behind j: the four bytes of a number.
+pub struct Hashed {
+    pub number: u32,
+}
+
+// Of a key, its bytes.
+pub fn of_key(key: Key) -> Hashed
+    ensures { λ r. ⌜ bytesOf r ≡ keyBytes (keyIs key) ⌝ }
 {
-    let key1 = key / 256;
-    let key2 = key1 / 256;
-    let key3 = key2 / 256;
+    Hashed { number: key.level }
+}
+
+// Of a record number, its own.
+pub fn of_number(j: u32) -> Hashed
+    ensures { λ r. ⌜ bytesOf r ≡ bytes4 j ⌝ }
+{
+    Hashed { number: j }
+}
+
+// Hash j: FNV-1a over five bytes, j and then the number's four, lowest first.
+pub fn hash(j: u8, x: Hashed) -> u32
+    ensures { λ r. ⌜ r ≡ fnvFamily j (bytesOf x) ⌝ }
+{
+    let x0 = x.number;
+    let x1 = x0 / 256;
+    let x2 = x1 / 256;
+    let x3 = x2 / 256;
     let a = absorb(START, j);
-    let b = absorb_low(a, key);
-    let c = absorb_low(b, key1);
-    let d = absorb_low(c, key2);
-    absorb_low(d, key3)
+    let b = absorb_low(a, x0);
+    let c = absorb_low(b, x1);
+    let d = absorb_low(c, x2);
+    absorb_low(d, x3)
 }
 
 // The first bit of the fourth of a filter that a hash picks; a fourth has `size` bits.
@@ -90,35 +114,35 @@ fn within(base: u32, size: u32, h: u32) -> u32
     base + (h & (size - 1))
 }
 
-// The first bit of the fourth of a filter that has a key's positions: hash 0 picks it.
-fn fourth_of(chip: Chip, key: u32) -> u32
+// The first bit of the fourth of a filter that has the positions: hash 0 picks it.
+fn fourth_of(chip: Chip, x: Hashed) -> u32
     requires { ⌜ UnitSound (chip .unit) ⌝ }
-    ensures { λ r. ⌜ (r ≡ fnvFamily 0 (bytes4 key) % 4 * sector (chip .unit)) × (r ≤ 3 * sector (chip .unit)) ⌝ }
+    ensures { λ r. ⌜ (r ≡ fnvFamily 0 (bytesOf x) % 4 * sector (chip .unit)) × (r ≤ 3 * sector (chip .unit)) ⌝ }
 {
     let size = chip.sector_size() as u32;
-    fourth(size, hash(0, key))
+    fourth(size, hash(0, x))
 }
 
-// Position i of a key, in the fourth that starts at `start`.
-fn position(chip: Chip, start: u32, i: usize, key: u32) -> u32
+// Position i, in the fourth that starts at `start`.
+fn position(chip: Chip, start: u32, i: usize, x: Hashed) -> u32
     requires { ⌜ UnitSound (chip .unit) × (start ≤ 3 * sector (chip .unit)) × (i < 8) ⌝ }
-    ensures { λ r. ⌜ (r ≡ start + fnvFamily (i + 1) (bytes4 key) % sector (chip .unit)) × (r < filterBits (chip .unit)) ⌝ }
+    ensures { λ r. ⌜ (r ≡ start + fnvFamily (i + 1) (bytesOf x) % sector (chip .unit)) × (r < filterBits (chip .unit)) ⌝ }
 {
     let size = chip.sector_size() as u32;
-    within(start, size, hash((i + 1) as u8, key))
+    within(start, size, hash((i + 1) as u8, x))
 }
 
-// The `count` positions of a key in a filter of 4S bits, (h0 mod 4) S + (hj mod S) for j = 1 to `count`, and zeros after them.
-pub fn positions(chip: Chip, count: usize, key: u32) -> [u32; 8]
+// The `count` positions in a filter of 4S bits, (h0 mod 4) S + (hj mod S) for j = 1 to `count`, and zeros after them.
+pub fn positions(chip: Chip, count: usize, x: Hashed) -> [u32; 8]
     requires { ⌜ UnitSound (chip .unit) × (count ≤ 8) ⌝ }
-    ensures equal { λ r. ⌜ r ≡ positionArray fnvFamily count (chip .unit) (bytes4 key) ⌝ }
+    ensures equal { λ r. ⌜ r ≡ positionArray fnvFamily count (chip .unit) (bytesOf x) ⌝ }
     ensures below { λ r. ⌜ ((i : ℕ) → i < count → getD r i 0 < filterBits (chip .unit)) ⌝ }
 {
-    let start = fourth_of(chip, key);
+    let start = fourth_of(chip, x);
     let mut ps = [0u32; 8];
     let mut i = 0;
     while i < count {
-        ps[i] = position(chip, start, i, key);
+        ps[i] = position(chip, start, i, x);
         i += 1;
     }
     ps

@@ -5,6 +5,7 @@ ghost use Prim.Native.Nat.{_+_, _*_, _<_, _≤_};
 ghost use lib.Dec.{eqb};
 ghost use Rattle.memory.specs.Power.{log2up};
 ghost use Rattle.layout.specs.Geometry.{sideBlocks};
+ghost use Rattle.layout.specs.Calls.{deletionFilters};
 ghost use Rattle.layout.specs.Index.{filtersPerFlush, inSka, setPages, setWidth, setBlocks, sideBlock, fullBlock, setBlock};
 ghost use Rattle.geometry.specs.Shape.{shape, Sound};
 ghost use Rattle.geometry.specs.Indexes.{indexOf, indexFor, deletionIndexFor};
@@ -44,6 +45,15 @@ pub fn key_index(g: Geometry) -> Index
         first: g.index_block(),
         ska: g.ska_ram(),
     }
+}
+
+// Filters of the full pages of the first d deletions, two of each.
+pub fn deletion_filters(g: Geometry, d: usize) -> usize
+    requires { ⌜ Sound g ⌝ }
+    ensures { λ r. ⌜ r ≡ deletionFilters (shape g) d ⌝ }
+{
+    let pages = d / g.deletions_per_page();
+    2 * pages
 }
 
 // The index over the deletions.

@@ -1,14 +1,14 @@
 -- Words of the header by their places in the RAM, and what is stored in them.
-use mathlib.Core.Path.{_≡_, sym, ap, _∙_}
+use mathlib.Core.Path.{_≡_, refl, sym, ap, _∙_}
 use mathlib.Core.Bool.{Bool, true, false, cond, false≢true}
-use mathlib.Core.List.{List, _++_, append-nil, append-assoc}
+use mathlib.Core.List.{List, [], _∷_, _++_, append-nil, append-assoc}
 use Prim.Native.Nat.{ℕ, _+_, _-_, _*_, _≤_}
 use native.Mathlib.Omega.{arith}
 use lib.Dec.{eqb}
 use lib.ListN.{length, take, drop, replicate, length-append}
 use lib.Seq.{getD-drop, take-add, drop-length}
 use Rattle.memory.specs.Lists.{write, write-cut, write-append}
-use Rattle.memory.specs.Words.{word, bytes4, wordsBytes}
+use Rattle.memory.specs.Words.{word, wordsBytes}
 use Rattle.layout.specs.Geometry as layout
 use Rattle.layout.specs.Geometry.{State}
 use Rattle.layout.specs.Refusals as refusal
@@ -56,18 +56,14 @@ put-intent ram b h eb =
     ∙ ap (λ (l : List ℕ). l ++ b) (take-add (length ram - 64) 24 ram)
     ∙ append-assoc (take (length ram - 64) ram) (take 24 (drop (length ram - 64) ram)) b
 
--- words put one after another
-pub state-written : (s : State) {a b c d e f : List ℕ} → a ≡ write (replicate 24 0) 0 (bytes4 (s .sizes .sectorSize))
-    → b ≡ write a 4 (bytes4 (s .sizes .raBlocks)) → c ≡ write b 8 (bytes4 (s .sizes .daBlocks))
-    → d ≡ write c 12 (bytes4 (s .sizes .hashCount)) → e ≡ write d 16 (bytes4 (s .records)) → f ≡ write e 20 (bytes4 (s .deletions))
-    → f ≡ wordsBytes (stateWords s)
+-- words put into zeros
+pub state-written : (s : State) → write (replicate 24 0) 0 (wordsBytes (stateWords s)) ≡ wordsBytes (stateWords s)
 unfolding write wordsBytes
-state-written s pa pb pc pd pe pf = rw (pf, pe, pd, pc, pb, pa)
+state-written s = refl
 
-pub intent-written : (kind x y z w : ℕ) {a b c d e : List ℕ} → a ≡ write (replicate 40 0) 0 (bytes4 kind) → b ≡ write a 4 (bytes4 x)
-    → c ≡ write b 8 (bytes4 y) → d ≡ write c 12 (bytes4 z) → e ≡ write d 16 (bytes4 w) → e ≡ wordsBytes (callWords kind x y z w)
+pub intent-written : (kind x y z w : ℕ) → write (replicate 40 0) 0 (wordsBytes (kind ∷ x ∷ y ∷ z ∷ w ∷ [])) ≡ wordsBytes (callWords kind x y z w)
 unfolding write wordsBytes
-intent-written kind x y z w pa pb pc pd pe = rw (pe, pd, pc, pb, pa)
+intent-written kind x y z w = refl
 
 -- ---- the judgement of the volume without its header, and refusal 10
 

@@ -13,6 +13,7 @@ ghost use Rattle.state.specs.Judge.{GoodFits};
 ghost use Rattle.header.specs.Header.{idleJudgement, pendingIs, callWords};
 use geometry::Sizes;
 use geometry::areas;
+use keys::Key;
 use state::Judgement;
 use state::Record;
 use state::Request;
@@ -93,8 +94,9 @@ pub fn pending_in(ram: &[u8]) -> Pending
     let b = word(ram, ARGUMENTS + 1);
     let c = word(ram, ARGUMENTS + 2);
     let d = word(ram, ARGUMENTS + 3);
+    let key = Key { level: a };
     let record = Record {
-        key: a,
+        key,
         moves: b,
         goal: c,
         free: d,
@@ -115,7 +117,7 @@ pub fn pending_in(ram: &[u8]) -> Pending
         return Pending::Change(Request::Update(record));
     }
     if kind == DELETE {
-        return Pending::Change(Request::Delete(a));
+        return Pending::Change(Request::Delete(key));
     }
     if kind == FORMAT {
         return Pending::Format(sizes);
@@ -148,12 +150,15 @@ fn state_bytes(s: State) -> [u8; STATE_SIZE]
     ensures { λ r. ⌜ r ≡ wordsBytes (stateWords (stateIs s)) ⌝ }
 {
     let mut b = [0u8; STATE_SIZE];
-    words::put32(&mut b, 0, s.sizes.sector_size);
-    words::put32(&mut b, 4, s.sizes.ra_blocks);
-    words::put32(&mut b, 8, s.sizes.da_blocks);
-    words::put32(&mut b, 12, s.sizes.hash_count);
-    words::put32(&mut b, 16, s.records);
-    words::put32(&mut b, 20, s.deletions);
+    let ws = [
+        s.sizes.sector_size,
+        s.sizes.ra_blocks,
+        s.sizes.da_blocks,
+        s.sizes.hash_count,
+        s.records,
+        s.deletions,
+    ];
+    words::put_words(&mut b, 0, &ws);
     b
 }
 
@@ -162,11 +167,8 @@ fn intent_bytes(kind: u32, a: u32, b: u32, c: u32, d: u32) -> [u8; INTENT_SIZE]
     ensures { λ r. ⌜ r ≡ wordsBytes (callWords kind a b c d) ⌝ }
 {
     let mut r = [0u8; INTENT_SIZE];
-    words::put32(&mut r, 0, kind);
-    words::put32(&mut r, 4, a);
-    words::put32(&mut r, 8, b);
-    words::put32(&mut r, 12, c);
-    words::put32(&mut r, 16, d);
+    let ws = [kind, a, b, c, d];
+    words::put_words(&mut r, 0, &ws);
     r
 }
 
@@ -175,9 +177,9 @@ fn request_bytes(q: Request) -> [u8; INTENT_SIZE]
     ensures { λ r. ⌜ r ≡ wordsBytes (intentWords (callOf q)) ⌝ }
 {
     match q {
-        Request::Insert(r) => intent_bytes(INSERT, r.key, r.moves, r.goal, r.free),
-        Request::Update(r) => intent_bytes(UPDATE, r.key, r.moves, r.goal, r.free),
-        Request::Delete(key) => intent_bytes(DELETE, key, 0, 0, 0),
+        Request::Insert(r) => intent_bytes(INSERT, r.key.level, r.moves, r.goal, r.free),
+        Request::Update(r) => intent_bytes(UPDATE, r.key.level, r.moves, r.goal, r.free),
+        Request::Delete(key) => intent_bytes(DELETE, key.level, 0, 0, 0),
     }
 }
 

@@ -10,7 +10,7 @@ use lib.ListN.{length, getD, replicate, length-replicate, getD-replicate}
 use lib.Dec.{ltb}
 use borrow.Author.Tests.{lt-ltb, le-ltb, eq-eqb, ne-eqb}
 use Rattle.memory.specs.Cases.{bool?, lt?, either}
-use Rattle.memory.specs.Lists.{write, length-write, getD-write-before, getD-write-in, getD-write-after, tab, length-tab, getD-tab, tab-ext}
+use Rattle.memory.specs.Lists.{write, length-write, getD-write-before, getD-write-in, getD-write-after, tabulate, length-tabulate, getD-tabulate, tabulate-ext}
 use Rattle.memory.specs.Lists.{part}
 use Rattle.memory.specs.Numbers.{euclid, div-of, mod-of, carry}
 use Rattle.memory.specs.Words.{word, byteOf, bytes-word}
@@ -125,8 +125,8 @@ module _ (u : ℕ) (pu : 0 < u) (a : Area) (blocks : ℕ) (whole : a .perPage * 
 
   -- the bytes of item j where it lies
   pub read-bytes : (f : ℕ → ℕ → ℕ) (n : ℕ) (main spare ram : List ℕ) → AreaIs u a blocks f n main spare ram → n * a .size ≤ blocks * block u
-      → (j : ℕ) → j < n → bytesAt main ram (itemPlace u a n j) (a .size) ≡ tab (a .size) (f j)
-  read-bytes f n main spare ram A room j hj = tab-ext (a .size) _ (f j) (λ b hb. read-byte f n main spare ram A room j b hj hb)
+      → (j : ℕ) → j < n → bytesAt main ram (itemPlace u a n j) (a .size) ≡ tabulate (a .size) (f j)
+  read-bytes f n main spare ram A room j hj = tabulate-ext (a .size) _ (f j) (λ b hb. read-byte f n main spare ram A room j b hj hb)
 
   -- one more item; g is f with item n in it
   module _ (f : ℕ → ℕ → ℕ) (n : ℕ) (item : List ℕ) (C : Flash) (ram : List ℕ) (A : AreaIs u a blocks f n (C .main) (C .spare) ram)
@@ -181,9 +181,9 @@ module _ (u : ℕ) (pu : 0 < u) (a : Area) (blocks : ℕ) (whole : a .perPage * 
     page-main =
         let from : firstSector * (16 * u) ≡ a .first * block u + done = omega (arith, done-is) in
         let long : 4 * (16 * u) ≡ a .perPage * a .size = omega (arith, whole) in
-        let same : tab (a .perPage * a .size) (λ i. bytes (i / (16 * u)) (i % (16 * u)))
+        let same : tabulate (a .perPage * a .size) (λ i. bytes (i / (16 * u)) (i % (16 * u)))
         ≡ part (put a n item ram) (a .ram) (a .perPage * a .size)
-        = tab-ext (a .perPage * a .size) _ _ (λ i l. rw (euclid i (16 * u) (omega arith) .whole)) in
+        = tabulate-ext (a .perPage * a .size) _ _ (λ i l. rw (euclid i (16 * u) (omega arith) .whole)) in
         row-main u firstSector 4 bytes C (omega arith) (omega (arith, done-is, page-room, main-fits, whole)) ∙ rw (from, long, same)
 
     -- the main area after the item that fills its page
@@ -193,7 +193,7 @@ module _ (u : ℕ) (pu : 0 < u) (a : Area) (blocks : ℕ) (whole : a .perPage * 
     main-full full i h =
         let st = start n (a .perPage) (a .size) pq in
         let last : n % a .perPage * a .size + a .size ≡ a .perPage * a .size = omega (arith, ap (λ (x : ℕ). x * a .size) full) in
-        let long = length-tab (a .perPage * a .size) (λ k. getD (put a n item ram) (a .ram + k) 0) in
+        let long = length-tabulate (a .perPage * a .size) (λ k. getD (put a n item ram) (a .ram + k) 0) in
         rw page-main
         (either (lt? i done)
         (λ c.
@@ -206,7 +206,7 @@ module _ (u : ℕ) (pu : 0 < u) (a : Area) (blocks : ℕ) (whole : a .perPage * 
         let s : a .first * block u + i - (a .first * block u + done) ≡ i - done = omega arith in
         let e : done + (i - done) ≡ i = omega arith in
         getD-write-in (C .main) _ _ (a .first * block u + i) 0 (omega arith) (omega arith) (omega (arith, main-fits))
-        ∙ rw s (getD-tab (a .perPage * a .size) _ (i - done) 0 k)
+        ∙ rw s (getD-tabulate (a .perPage * a .size) _ (i - done) 0 k)
         ∙ put-ram (i - done) (omega (arith, whole))
         ∙ rw (lt-ltb (i - done) (n % a .perPage * a .size + a .size) (omega arith), d .0, e))
         (λ d. getD-write-after (C .main) _ _ (a .first * block u + i) 0 (omega arith) ∙ A .on-main i h ∙ rw (c .0, d .0))))

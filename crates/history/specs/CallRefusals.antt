@@ -11,6 +11,7 @@ use Rattle.layout.specs.Hash.{Family}
 use Rattle.layout.specs.Items.{Record}
 use Rattle.layout.specs.Refusals as refusal
 use Rattle.layout.specs.Search.{Stop, found, corrupt}
+use Rattle.layout.specs.Keys.{Key}
 use Rattle.layout.specs.Calls.{Volume, Call, insert, update, delete, lookup, Outcome, accepted, hit, miss, refused, Result}
 use Rattle.layout.specs.Calls.{badState, tooShort, judgeFirst, search, commit, noRoom, noDeletion, changeBy, insertAfter, updateAfter}
 use Rattle.layout.specs.Calls.{deleteAfter, lookupAfter, answer, call}
@@ -38,7 +39,8 @@ Among is (hit place bytes) = Unit {0}
 Among is miss = Unit {0}
 Among is (refused i) = memb i is ≡ true
 
-either-among : (is : List ℕ) (t : Bool) (r s : Result) → Among is (r .outcome) → Among is (s .outcome) → Among is (cond t r s .outcome)
+-- one of two results
+pub either-among : (is : List ℕ) (t : Bool) (r s : Result) → Among is (r .outcome) → Among is (s .outcome) → Among is (cond t r s .outcome)
 either-among is true r s a b = a
 either-among is false r s a b = b
 
@@ -69,13 +71,14 @@ module _ (h : Family) (g : Geometry) (v : Volume) where
   update-among r (some (found j)) =
       either-among _ (noRoom g v) _ _ refl (either-among _ (noDeletion g v) _ _ refl (commit-among _ _ _ _ _ refl))
 
-  delete-among : (key : ℕ) (s : Option Stop) → Among (refusalsOf (delete key)) (deleteAfter h g v s .outcome)
+  delete-among : (key : Key) (s : Option Stop) → Among (refusalsOf (delete key)) (deleteAfter h g v s .outcome)
   unfolding changeBy memb
   delete-among key (some corrupt) = refl
   delete-among key none = refl
   delete-among key (some (found j)) = either-among _ (noDeletion g v) _ _ refl (commit-among _ _ _ _ _ refl)
 
-  lookup-among : (key opened daPages : ℕ) (s : Option Stop) → Among (refusalsOf (lookup key)) (lookupAfter g v opened daPages s .outcome)
+  lookup-among : (key : Key) (opened daPages : ℕ) (s : Option Stop)
+      → Among (refusalsOf (lookup key)) (lookupAfter g v opened daPages s .outcome)
   unfolding lookupAfter memb
   lookup-among key opened daPages (some corrupt) = refl
   lookup-among key opened daPages none = tt

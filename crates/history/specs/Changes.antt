@@ -1,5 +1,5 @@
 -- What an accepted deletion and an accepted insertion leave: the parts of the longer history.
-use mathlib.Core.Path.{_≡_, refl, sym, ap, _∙_}
+use mathlib.Core.Path.{_≡_, refl, sym, ap, ap₂, _∙_}
 use mathlib.Core.Logic.{_≢_, _⊎_, inl, inr}
 use mathlib.Core.Bool.{Bool, true, false, cond}
 use mathlib.Core.List.{List, [], _∷_, _++_, append-nil}
@@ -12,14 +12,14 @@ use borrow.Author.Tests.{eqb-true, eqb-false}
 use Rattle.memory.specs.Cases.{either, lt?}
 use Rattle.memory.specs.Numbers.{carry, euclid}
 use Rattle.memory.specs.Ranges.{any-ext, memb}
-use Rattle.memory.specs.Words.{word}
+use Rattle.memory.specs.Words.{byteOf, word}
 use Rattle.layout.specs.Geometry.{Geometry, filterBits, kaBlocks, indexBlock, fullSets, recordCapacity, deletionCapacity, spareSize, kaRam}
 use Rattle.layout.specs.Geometry.{daRam, deletionIndexBlock, deletionSets}
 use Rattle.layout.specs.Flash.{Flash, Op, applyAll, planOps, allFresh}
 use Rattle.layout.specs.Hash.{Family}
 use Rattle.layout.specs.Items.{RA, KA, DA, entryBytes, deletionBytes, put, fills, Record, recordBytes, noRecord}
 use Rattle.layout.specs.Index.{inFull, fullBlock, filterRam}
-use Rattle.layout.specs.Keys.{Key, KeyOk, keyAt}
+use Rattle.layout.specs.Keys.{Key, KeyOk, keyIn, keyAt}
 use Rattle.layout.specs.Calls.{keyIndex, keyFilters, keyPositions, pageFilter, deletionPlan, deletionRam, insertionPlan, insertionRam}
 use Rattle.layout.specs.Calls.{deletionIndex, deletionFilters, numberPositions, halfFilter, newHalf}
 use Rattle.history.specs.Operations.{filterOps, recordOps, recordRam, entryOps, entryRam, entered, filteredRam}
@@ -30,7 +30,7 @@ use Rattle.history.specs.Image.{History, recordAt, raItem, kaItem, daIte
 use Rattle.history.specs.Live.{withRecord, withDeletion}
 use Rattle.history.specs.AreaLaws.{area-ext, put-word}
 use Rattle.history.specs.IndexLaws.{index-ext}
-use Rattle.laws.specs.ItemLaws.{length-record, length-entry, length-deletion, entry-key, deletion-number}
+use Rattle.laws.specs.ItemLaws.{length-record, length-entry, length-deletion, entry-key, entry-number, deletion-number}
 use Rattle.history.specs.Parts as parts
 use Rattle.history.specs.Frames.{Did, Beyond, beyond-then, frame-beyond}
 use Rattle.history.specs.Parts.{Parts}
@@ -279,7 +279,7 @@ module _ (h : Family) (g : Geometry) (e : ℕ) (unit : UnitIs (g .u) e) where
 
   module _ (H : History) (r : Record) (d M : ℕ) (C : Flash) (ram : List ℕ)
       (P : Parts h g H (length (H .records)) (length (H .records)) d (keyFilters g (length (H .records))) M C ram)
-      (room : length (H .records) < recordCapacity g) (key-word : KeyOk (r .key))
+      (room : length (H .records) < recordCapacity g) (few : recordCapacity g < 2 ^ 24) (key-word : KeyOk (r .key))
       (words : (j : ℕ) → j < length (H .records) → KeyOk (recordAt H j .key)) where
     abbrev n : ℕ
     n = length (H .records)
@@ -380,20 +380,34 @@ module _ (h : Family) (g : Geometry) (e : ℕ) (unit : UnitIs (g .u) e) where
         (λ a. let q : j ≡ length (H .records) = omega arith in rw (q, ← last) key-word)
 
     module _ (full : length (H .records) % (8 * g .u) + 1 ≡ 8 * g .u) where
-      key-at : (i : ℕ) → i < 8 * g .u
-          → keyAt keys (kaRam (g .u) + i * 8) ≡ recordAt (withRecord H r) (length (H .records) / (8 * g .u) * (8 * g .u) + i) .key
-      key-at i l =
-          let E = euclid (length (H .records)) (8 * g .u) (omega (arith, pu)) in
-          let at : kaRam (g .u) + i * 8 + 0 * 4 ≡ kaRam (g .u) + i * 8 = omega arith in
-          let k = recordAt (withRecord H r) (length (H .records) / (8 * g .u) * (8 * g .u) + i) .key in
-          rw at at
-          (put-word (g .u) pu (KA g) (kaBlocks g) (omega arith) (omega (arith, pu)) (omega arith) (kaItem H′) n entry C₁ ram₁ (parts₁ .ka)
+      -- the record number of entry i of the page
+      abbrev number : ℕ → ℕ
+      number i = length (H .records) / (8 * g .u) * (8 * g .u) + i
+
+      number-le : (i : ℕ) → i < 8 * g .u → number i < length (H .records) + 1
+      number-le i l = let E = euclid (length (H .records)) (8 * g .u) (omega (arith, pu)) in omega arith
+
+      -- word x of entry i of the page
+      word-at : (i x value : ℕ) → i < 8 * g .u → x < 2 → value < 2 ^ 32
+          → ((b : ℕ) → b < 4 → kaItem H′ (number i) (x * 4 + b) ≡ byteOf value b) → word keys (kaRam (g .u) + i * 8 + x * 4) ≡ value
+      word-at i x value l two fits bytes =
+          put-word (g .u) pu (KA g) (kaBlocks g) (omega arith) (omega (arith, pu)) (omega arith) (kaItem H′) n entry C₁ ram₁ (parts₁ .ka)
           (length-entry (r .key) n) entry-new
           (parts.ka-room h g e unit H′ (n + 1) n d N M C₁ ram₁ parts₁ entry (length-entry (r .key) n) entry-new room)
           (omega (arith, parts₁ .long .read .main-fits)) (omega (arith, parts₁ .long .spare-fits))
           (omega (arith, parts₁ .long .read .ram-fits))
-          i 0 k (omega arith) (omega arith) (words′ (length (H .records) / (8 * g .u) * (8 * g .u) + i) (omega arith))
-          (λ b m. entry-key k (length (H .records) / (8 * g .u) * (8 * g .u) + i) b m))
+          i x value (omega arith) (omega arith) fits bytes
+
+      key-at : (i : ℕ) → i < 8 * g .u → keyAt keys (kaRam (g .u) + i * 8) ≡ recordAt (withRecord H r) (number i) .key
+      key-at i l =
+          let k : Key = recordAt (withRecord H r) (number i) .key in
+          let small : number i < 2 ^ 24 = omega (arith, number-le i l, room, few) in
+          let at : kaRam (g .u) + i * 8 + 0 * 4 ≡ kaRam (g .u) + i * 8 = omega arith in
+          let first : word keys (kaRam (g .u) + i * 8) ≡ k
+          = rw at at (word-at i 0 k l (omega arith) (words′ (number i) (number-le i l) .level-lt) (λ b m. entry-key k (number i) b m)) in
+          let second : word keys (kaRam (g .u) + i * 8 + 4) ≡ number i
+          = word-at i 1 (number i) l (omega arith) (omega (arith, small)) (λ b m. entry-number k (number i) b m) in
+          ap₂ keyIn first second
 
       same : (x : ℕ) → x < filterBits (g .u) → pageFilter h g keys x ≡ keyFilter h g (withRecord H r) (length (H .records) / (8 * g .u)) x
       unfolding pageFilter keyFilter

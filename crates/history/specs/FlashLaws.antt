@@ -10,7 +10,7 @@ use native.Mathlib.Omega.{arith}
 use lib.ListN.{length, getD, replicate, length-set, length-replicate, getD-replicate}
 use lib.Seq.{ext-getD, getD-set-same, getD-set-other}
 use lib.Dec.{eqb}
-use Rattle.memory.specs.Lists.{write, length-write, getD-write-before, getD-write-in, getD-write-after, tab, tab-ext, length-tab, getD-tab}
+use Rattle.memory.specs.Lists.{write, length-write, getD-write-before, getD-write-in, getD-write-after, tabulate, tabulate-ext, length-tabulate, getD-tabulate}
 use Rattle.memory.specs.Numbers.{euclid, div-lt}
 use Rattle.memory.specs.Cases.{lt?, eq?, either}
 use Rattle.layout.specs.Flash.{Op, program, erase, Flash, apply, applyAll, erases, fresh, allFresh}
@@ -50,7 +50,7 @@ module _ (u : ℕ) where
   programs-ext d s zero f g e = refl
   programs-ext d s (suc k) f g e =
       rw (
-        tab-ext (16 * u) (f zero) (g zero) (λ y l. e 0 y (omega arith) l),
+        tabulate-ext (16 * u) (f zero) (g zero) (λ y l. e 0 y (omega arith) l),
         programs-ext d (s + d) k (λ j. f (suc j)) (λ j. g (suc j)) (λ j y l m. e (suc j) y (omega arith) m),
       )
 
@@ -91,7 +91,7 @@ module _ (u : ℕ) where
       → getD (applyAll u (programs u d s k f) c .spare) x 0 ≡ getD (c .spare) x 0
   programs-spare-out d s zero f c x o = refl
   programs-spare-out d s (suc k) f c x o =
-      programs-spare-out d (s + d) k (λ j. f (suc j)) (apply u (program s (tab (16 * u) (f zero))) c) x
+      programs-spare-out d (s + d) k (λ j. f (suc j)) (apply u (program s (tabulate (16 * u) (f zero))) c) x
       (λ j l. let n = o (suc j) (omega arith) in omega arith)
       ∙ getD-set-other (c .spare) s x 0 0 (let n = o 0 (omega arith) in omega arith)
 
@@ -99,8 +99,8 @@ module _ (u : ℕ) where
       → getD (applyAll u (programs u d s k f) c .main) (x * (16 * u) + y) 0 ≡ getD (c .main) (x * (16 * u) + y) 0
   programs-main-out d s zero f c x y h o = refl
   programs-main-out d s (suc k) f c x y h o =
-      let t = length-tab (16 * u) (f zero) in
-      programs-main-out d (s + d) k (λ j. f (suc j)) (apply u (program s (tab (16 * u) (f zero))) c) x y h
+      let t = length-tabulate (16 * u) (f zero) in
+      programs-main-out d (s + d) k (λ j. f (suc j)) (apply u (program s (tabulate (16 * u) (f zero))) c) x y h
       (λ j l. let n = o (suc j) (omega arith) in omega arith)
       ∙ either (lt? x s)
       (λ a. getD-write-before (c .main) (s * (16 * u)) _ (x * (16 * u) + y) 0 (omega (arith, mul-le-mul-right (16 * u) (a .1))))
@@ -114,11 +114,11 @@ module _ (u : ℕ) where
   programs-spare-in d s zero f c j hd h a = absurd (not-suc-le-zero a)
   programs-spare-in d s (suc k) f c zero hd h a =
       let e : s + 0 * d ≡ s = omega arith in
-      rw e (programs-spare-out d (s + d) k (λ j. f (suc j)) (apply u (program s (tab (16 * u) (f zero))) c) s (λ j l. omega arith)
+      rw e (programs-spare-out d (s + d) k (λ j. f (suc j)) (apply u (program s (tabulate (16 * u) (f zero))) c) s (λ j l. omega arith)
       ∙ getD-set-same (c .spare) s 0 0 (omega arith))
   programs-spare-in d s (suc k) f c (suc j) hd h a =
       let e : s + suc j * d ≡ s + d + j * d = omega arith in
-      rw e (programs-spare-in d (s + d) k (λ j. f (suc j)) (apply u (program s (tab (16 * u) (f zero))) c) j hd
+      rw e (programs-spare-in d (s + d) k (λ j. f (suc j)) (apply u (program s (tabulate (16 * u) (f zero))) c) j hd
       (rw (length-set (c .spare) s 0) (omega arith)) (omega arith))
 
   -- byte y of the j-th sector written
@@ -127,18 +127,18 @@ module _ (u : ℕ) where
       → getD (applyAll u (programs u d s k f) c .main) ((s + j * d) * (16 * u) + y) 0 ≡ f j y
   programs-main-in d s zero f c j y hd h a b = absurd (not-suc-le-zero a)
   programs-main-in d s (suc k) f c zero y hd h a b =
-      let t = length-tab (16 * u) (f zero) in
+      let t = length-tabulate (16 * u) (f zero) in
       let e : s + 0 * d ≡ s = omega arith in
       let i : s * (16 * u) + y - s * (16 * u) ≡ y = omega arith in
       let h′ : s * (16 * u) + (16 * u) ≤ length (c .main) = rw e at h in
-      rw e (programs-main-out d (s + d) k (λ j. f (suc j)) (apply u (program s (tab (16 * u) (f zero))) c) s y b (λ j l. omega arith)
-      ∙ getD-write-in (c .main) (s * (16 * u)) (tab (16 * u) (f zero)) (s * (16 * u) + y) 0 (omega arith) (omega arith) (omega arith)
-      ∙ ap (λ (z : ℕ). getD (tab (16 * u) (f zero)) z 0) i ∙ getD-tab (16 * u) (f zero) y 0 b)
+      rw e (programs-main-out d (s + d) k (λ j. f (suc j)) (apply u (program s (tabulate (16 * u) (f zero))) c) s y b (λ j l. omega arith)
+      ∙ getD-write-in (c .main) (s * (16 * u)) (tabulate (16 * u) (f zero)) (s * (16 * u) + y) 0 (omega arith) (omega arith) (omega arith)
+      ∙ ap (λ (z : ℕ). getD (tabulate (16 * u) (f zero)) z 0) i ∙ getD-tabulate (16 * u) (f zero) y 0 b)
   programs-main-in d s (suc k) f c (suc j) y hd h a b =
       let e : s + suc j * d ≡ s + d + j * d = omega arith in
       let h′ : (s + d + j * d) * (16 * u) + (16 * u) ≤ length (c .main) = rw e at h in
-      rw e (programs-main-in d (s + d) k (λ j. f (suc j)) (apply u (program s (tab (16 * u) (f zero))) c) j y hd
-      (rw (length-write (c .main) (s * (16 * u)) (tab (16 * u) (f zero))) h′) (omega arith) b)
+      rw e (programs-main-in d (s + d) k (λ j. f (suc j)) (apply u (program s (tabulate (16 * u) (f zero))) c) j y hd
+      (rw (length-write (c .main) (s * (16 * u)) (tabulate (16 * u) (f zero))) h′) (omega arith) b)
 
   -- they are allowed where each is fresh, and each sector before it in its page is programmed, or is one of the earlier ones
   pub programs-allowed : (d s k : ℕ) (f : ℕ → ℕ → ℕ) (c : Flash) → 0 < d → ((j : ℕ) → j < k → s + j * d < length (c .spare))
@@ -147,7 +147,7 @@ module _ (u : ℕ) where
       → AllAllowed (programs u d s k f) c
   programs-allowed d s zero f c hd h fresh done = tt
   programs-allowed d s (suc k) f c hd h fresh done =
-      let c1 : Flash = apply u (program s (tab (16 * u) (f zero))) c in
+      let c1 : Flash = apply u (program s (tabulate (16 * u) (f zero))) c in
       let z : s + 0 * d ≡ s = omega arith in
       let up : (j : ℕ) → s + suc j * d ≡ s + d + j * d = λ j. omega arith in (
         (
@@ -236,18 +236,18 @@ module _ (u : ℕ) where
   -- ---- sectors in a row are one write of cells
 
   pub row-main : (s k : ℕ) (f : ℕ → ℕ → ℕ) (c : Flash) → 0 < (16 * u) → (s + k) * (16 * u) ≤ length (c .main)
-      → applyAll u (programs u 1 s k f) c .main ≡ write (c .main) (s * (16 * u)) (tab (k * (16 * u)) (λ i. f (i / (16 * u)) (i % (16 * u))))
+      → applyAll u (programs u 1 s k f) c .main ≡ write (c .main) (s * (16 * u)) (tabulate (k * (16 * u)) (λ i. f (i / (16 * u)) (i % (16 * u))))
   row-main s k f c pS fits =
       ext-getD 0 (applyAll u (programs u 1 s k f) c .main)
-      (write (c .main) (s * (16 * u)) (tab (k * (16 * u)) (λ i. f (i / (16 * u)) (i % (16 * u)))))
+      (write (c .main) (s * (16 * u)) (tabulate (k * (16 * u)) (λ i. f (i / (16 * u)) (i % (16 * u)))))
       (apply-main-length (programs u 1 s k f) c ∙ sym (length-write (c .main) (s * (16 * u)) _))
       (λ a h. at a (rw (apply-main-length (programs u 1 s k f) c) at h))
     where
       at : (a : ℕ) → a < length (c .main)
           → getD (applyAll u (programs u 1 s k f) c .main) a 0
-          ≡ getD (write (c .main) (s * (16 * u)) (tab (k * (16 * u)) (λ i. f (i / (16 * u)) (i % (16 * u))))) a 0
+          ≡ getD (write (c .main) (s * (16 * u)) (tabulate (k * (16 * u)) (λ i. f (i / (16 * u)) (i % (16 * u))))) a 0
       at a h =
-          let t = length-tab (k * (16 * u)) (λ i. f (i / (16 * u)) (i % (16 * u))) in
+          let t = length-tabulate (k * (16 * u)) (λ i. f (i / (16 * u)) (i % (16 * u))) in
           either (lt? a (s * (16 * u)))
           (λ b.
           range-out 1 s k s (s + k) f c a pS (λ j l. (omega arith, omega arith)) (inl (b .1))
@@ -259,9 +259,9 @@ module _ (u : ℕ) where
           let e : (s + (a - s * (16 * u)) / (16 * u) * 1) * (16 * u) + (a - s * (16 * u)) % (16 * u) ≡ a = omega arith in
           (rw e at (programs-main-in 1 s k f c ((a - s * (16 * u)) / (16 * u)) ((a - s * (16 * u)) % (16 * u)) (omega arith)
           (omega (arith, mul-le-mul-right (16 * u) j)) j (E .small)))
-          ∙ sym (getD-write-in (c .main) (s * (16 * u)) (tab (k * (16 * u)) (λ i. f (i / (16 * u)) (i % (16 * u)))) a 0 (b .1)
+          ∙ sym (getD-write-in (c .main) (s * (16 * u)) (tabulate (k * (16 * u)) (λ i. f (i / (16 * u)) (i % (16 * u)))) a 0 (b .1)
           (omega arith) h
-          ∙ getD-tab (k * (16 * u)) (λ i. f (i / (16 * u)) (i % (16 * u))) (a - s * (16 * u)) 0 (omega arith)))
+          ∙ getD-tabulate (k * (16 * u)) (λ i. f (i / (16 * u)) (i % (16 * u))) (a - s * (16 * u)) 0 (omega arith)))
           (λ d.
           range-out 1 s k s (s + k) f c a pS (λ j l. (omega arith, omega arith)) (inr (d .1))
           ∙ sym (getD-write-after (c .main) (s * (16 * u)) _ a 0 (omega arith))))

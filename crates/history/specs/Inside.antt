@@ -12,7 +12,7 @@ use lib.Seq.{getD-set-other}
 use lib.Dec.{eqb}
 use borrow.Author.Tests.{eqb-true}
 use Rattle.memory.specs.Cases.{either, bool?, eq?}
-use Rattle.memory.specs.Lists.{length-tab, length-write, getD-write-after}
+use Rattle.memory.specs.Lists.{length-tabulate, length-write, getD-write-after}
 use Rattle.memory.specs.Numbers.{carry}
 use Rattle.layout.specs.Geometry.{sector, page, block}
 use Rattle.layout.specs.Flash.{Flash, Op, program, erase, apply, applyAll, erases, Planned, known, made, wipe, plannedFrom, planOps}
@@ -116,7 +116,7 @@ module _ (u B : ℕ) where
       → PlanInside u B (itemPlan u a n item ram)
   inside-item a blocks n item ram e h =
       inside-if (fills a n) _ (λ f.
-      inside-planned (pageSector u a n (put a n item ram)) 0 4 (λ j l. (omega arith, length-tab (16 * u) _)))
+      inside-planned (pageSector u a n (put a n item ram)) 0 4 (λ j l. (omega arith, length-tabulate (16 * u) _)))
 
 -- ---- one more filter of an index with Z places for full sets
 
@@ -125,7 +125,7 @@ module _ (u e : ℕ) (unit : UnitIs u e) (B : ℕ) (ix : Index) (Z : ℕ) (end :
   four-pos = omega (arith, unit .some)
 
   inside-flush : (t : ℕ) (ram : List ℕ) → t < 16 → PlanInside u B (plannedFrom (flushSector u ix t ram) 0 4)
-  inside-flush t ram h = inside-planned u B (flushSector u ix t ram) 0 4 (λ j l. (omega (arith, end), length-tab (16 * u) _))
+  inside-flush t ram h = inside-planned u B (flushSector u ix t ram) 0 4 (λ j l. (omega (arith, end), length-tabulate (16 * u) _))
 
   -- the set of c + 1 rounds at its place, and that of c rounds on its side
   new-inside : (z c : ℕ) → c < 4 * u → (c + 1 ≡ 4 * u → z < Z) → setBlock u ix z c * 64 + setPages (c + 1) * 4 ≤ B * 64
@@ -145,7 +145,7 @@ module _ (u e : ℕ) (unit : UnitIs u e) (B : ℕ) (ix : Index) (Z : ℕ) (end :
       let o = old-inside c hc in
       inside-append u B _ _
       (inside-planned u B (setSector u ix z c) 0 (setPages (c + 1) * 4)
-      (λ j l. (omega (arith, n), λ main. length-tab (16 * u) (setByte u ix main z c j))))
+      (λ j l. (omega (arith, n), λ main. length-tabulate (16 * u) (setByte u ix main z c j))))
       (inside-append u B _ _ (inside-planned u B (λ j. wipe (ix .first + j)) 0 1 (λ j l. omega (arith, end)))
       (inside-planned u B (λ j. wipe (sideBlock u ix c + j)) 0 (setBlocks c) (λ j l. omega (arith, o))))
 

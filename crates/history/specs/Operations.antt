@@ -4,7 +4,7 @@ use mathlib.Core.List.{List, [], _∷_, _++_}
 use Prim.Native.Nat.{ℕ, zero, suc, _+_, _*_, _/_}
 use lib.ListN.{getD}
 use lib.Dec.{eqb}
-use Rattle.memory.specs.Lists.{tab}
+use Rattle.memory.specs.Lists.{tabulate}
 use Rattle.layout.specs.Geometry.{Geometry, sectorsPerPage, sectorsPerBlock, sector}
 use Rattle.layout.specs.Flash.{Flash, Op, program, erases, applyAll}
 use Rattle.layout.specs.Hash.{Family}
@@ -18,7 +18,7 @@ module _ (u : ℕ) where
   -- k sectors, the j-th being s + j * d; byte y of the j-th is f j y
   abbrev pub programs : ℕ → ℕ → ℕ → (ℕ → ℕ → ℕ) → List Op
   programs d s zero f = []
-  programs d s (suc k) f = program s (tab (sector u) (f zero)) ∷ programs d (s + d) k (λ j. f (suc j))
+  programs d s (suc k) f = program s (tabulate (sector u) (f zero)) ∷ programs d (s + d) k (λ j. f (suc j))
 
   -- the page that item n fills
   abbrev pub pageOps : Area → ℕ → List ℕ → List Op

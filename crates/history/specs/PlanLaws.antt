@@ -10,7 +10,7 @@ use native.Mathlib.Omega.{arith}
 use lib.ListN.{getD}
 use lib.Dec.{eqb}
 use Rattle.memory.specs.Cases.{either}
-use Rattle.memory.specs.Lists.{tab, length-tab, getD-write-before, getD-write-after}
+use Rattle.memory.specs.Lists.{tabulate, length-tabulate, getD-write-before, getD-write-after}
 use Rattle.layout.specs.Geometry.{sector}
 use Rattle.layout.specs.Flash.{Flash, Op, program, erase, apply, applyAll, erases, Planned, known, made, wipe, plannedFrom, opOn, planOps}
 use Rattle.layout.specs.Items.{Area, put, fills, itemPlan}
@@ -43,16 +43,16 @@ module _ (u : ℕ) where
   -- ---- k in a row, the j-th on sector or block `at j`
 
   pub known-ops : (d s k : ℕ) (at : ℕ → ℕ) (f : ℕ → ℕ → ℕ) → ((j : ℕ) → at j ≡ s + j * d) → (c : Flash)
-      → planOps u (plannedFrom (λ j. known (at j) (tab (sector u) (f j))) 0 k) c ≡ programs u d s k f
+      → planOps u (plannedFrom (λ j. known (at j) (tabulate (sector u) (f j))) 0 k) c ≡ programs u d s k f
   known-ops d s zero at f is c = refl
   known-ops d s (suc k) at f is c =
       let first : at 0 ≡ s = is 0 ∙ omega arith in
-      ap (λ (ps : List Planned). program (at 0) (tab (sector u) (f 0)) ∷ planOps u ps (apply u (program (at 0) (tab (sector u) (f 0))) c))
-      (planned-later (λ j. known (at j) (tab (sector u) (f j))) 0 k)
-      ∙ ap (λ (os : List Op). program (at 0) (tab (sector u) (f 0)) ∷ os)
+      ap (λ (ps : List Planned). program (at 0) (tabulate (sector u) (f 0)) ∷ planOps u ps (apply u (program (at 0) (tabulate (sector u) (f 0))) c))
+      (planned-later (λ j. known (at j) (tabulate (sector u) (f j))) 0 k)
+      ∙ ap (λ (os : List Op). program (at 0) (tabulate (sector u) (f 0)) ∷ os)
       (known-ops d (s + d) k (λ j. at (suc j)) (λ j. f (suc j)) (λ j. is (suc j) ∙ omega arith)
-      (apply u (program (at 0) (tab (sector u) (f 0))) c))
-      ∙ ap (λ (m : ℕ). program m (tab (sector u) (f 0)) ∷ programs u d (s + d) k (λ j. f (suc j))) first
+      (apply u (program (at 0) (tabulate (sector u) (f 0))) c))
+      ∙ ap (λ (m : ℕ). program m (tabulate (sector u) (f 0)) ∷ programs u d (s + d) k (λ j. f (suc j))) first
 
   pub wipe-ops : (b k : ℕ) (at : ℕ → ℕ) → ((j : ℕ) → at j ≡ b + j) → (c : Flash)
       → planOps u (plannedFrom (λ j. wipe (at j)) 0 k) c ≡ erases b k
@@ -69,12 +69,12 @@ module _ (u : ℕ) where
       → (s + k) * sector u ≤ hi
       → ((main main′ : List ℕ) → ((x : ℕ) → (x < lo) ⊎ (hi ≤ x) → getD main x 0 ≡ getD main′ x 0) → (j y : ℕ) → j < k → y < sector u
       → f main j y ≡ f main′ j y)
-      → (c : Flash) → planOps u (plannedFrom (λ j. made (at j) (λ main. tab (sector u) (f main j))) 0 k) c ≡ programs u 1 s k (f (c .main))
+      → (c : Flash) → planOps u (plannedFrom (λ j. made (at j) (λ main. tabulate (sector u) (f main j))) 0 k) c ≡ programs u 1 s k (f (c .main))
   made-ops lo hi s zero at f is low high apart c = refl
   made-ops lo hi s (suc k) at f is low high apart c =
       let first : at 0 ≡ s = is 0 ∙ omega arith in
       ap (λ (ps : List Planned). program (at 0) bytes ∷ planOps u ps next)
-      (planned-later (λ j. made (at j) (λ main. tab (sector u) (f main j))) 0 k)
+      (planned-later (λ j. made (at j) (λ main. tabulate (sector u) (f main j))) 0 k)
       ∙ ap (λ (os : List Op). program (at 0) bytes ∷ os)
       (made-ops lo hi (s + 1) k (λ j. at (suc j)) (λ main j. f main (suc j)) (λ j. is (suc j) ∙ omega arith) (omega (arith, low))
       (omega (arith, high))
@@ -84,7 +84,7 @@ module _ (u : ℕ) where
       ∙ ap (λ (m : ℕ). program m bytes ∷ programs u 1 (s + 1) k (λ j. f (c .main) (suc j))) first
     where
       bytes : List ℕ
-      bytes = tab (sector u) (f (c .main) 0)
+      bytes = tabulate (sector u) (f (c .main) 0)
 
       next : Flash
       next = apply u (program (at 0) bytes) c
@@ -95,7 +95,7 @@ module _ (u : ℕ) where
           either o
           (λ a. getD-write-before (c .main) (at 0 * sector u) bytes x 0 (omega (arith, a, low, here)))
           (λ a. getD-write-after (c .main) (at 0 * sector u) bytes x 0
-          (omega (arith, a, high, here, length-tab (sector u) (f (c .main) 0))))
+          (omega (arith, a, high, here, length-tabulate (sector u) (f (c .main) 0))))
 
   -- ---- the page that item n fills
 

@@ -1,5 +1,5 @@
 -- RAMs that agree on a page: they plan the same out of it. An item and a filter leave the other pages as they are.
-use mathlib.Core.Path.{_≡_, refl, sym, ap, _∙_}
+use mathlib.Core.Path.{_≡_, refl, sym, ap, ap₂, _∙_}
 use mathlib.Core.Logic.{_⊎_, inl, inr}
 use mathlib.Core.Bool.{Bool, cond}
 use mathlib.Core.List.{List, [], _++_}
@@ -9,14 +9,15 @@ use native.Mathlib.Omega.{arith}
 use lib.ListN.{length, getD, replicate, length-replicate}
 use lib.Dec.{eqb}
 use Rattle.memory.specs.Cases.{either, bool?}
-use Rattle.memory.specs.Lists.{tab, tab-ext, length-write, write-same, getD-write-before, getD-write-after, length-pieces, pieces-same}
+use Rattle.memory.specs.Lists.{tabulate, tabulate-ext, length-write, write-same, getD-write-before, getD-write-after, length-pieces, pieces-same}
 use Rattle.memory.specs.Ranges.{any-ext, memb}
+use Rattle.memory.specs.Words.{word}
 use Rattle.layout.specs.Geometry.{Geometry, sector, page, kaRam}
 use Rattle.layout.specs.Flash.{Planned, known, plannedFrom}
 use Rattle.layout.specs.Hash.{Family}
 use Rattle.layout.specs.Items.{Area, put, fills, itemPlan, itemRam, zeroPage}
 use Rattle.layout.specs.Index.{Index, inSka, inL1, inSet, inFull, withFilter, buildPlan, flushAndBuild, filterPlan, filterRam}
-use Rattle.layout.specs.Keys.{Key, keyAt}
+use Rattle.layout.specs.Keys.{Key, keyIn, keyAt}
 use Rattle.layout.specs.Calls.{keyPositions, pageFilter}
 use Rattle.history.specs.SkaLaws.{filter-out, filter-length, zero-out}
 
@@ -27,10 +28,10 @@ pub record SamePage (u at : ℕ) (r r′ : List ℕ) : Type 0 where
 
 -- sectors with equal bytes
 sectors-ext : (u i k : ℕ) (at : ℕ → ℕ) (f g : ℕ → ℕ → ℕ) → ((j y : ℕ) → j < i + k → y < sector u → f j y ≡ g j y)
-    → plannedFrom (λ j. known (at j) (tab (sector u) (f j))) i k ≡ plannedFrom (λ j. known (at j) (tab (sector u) (g j))) i k
+    → plannedFrom (λ j. known (at j) (tabulate (sector u) (f j))) i k ≡ plannedFrom (λ j. known (at j) (tabulate (sector u) (g j))) i k
 sectors-ext u i zero at f g e = refl
 sectors-ext u i (suc k) at f g e =
-    rw (tab-ext (sector u) (f i) (g i) (λ y l. e i y (omega arith) l), sectors-ext u (suc i) k at f g (λ j y l m. e j y (omega arith) m))
+    rw (tabulate-ext (sector u) (f i) (g i) (λ y l. e i y (omega arith) l), sectors-ext u (suc i) k at f g (λ j y l m. e j y (omega arith) m))
 
 module _ (u : ℕ) where
   pub same-then : (at : ℕ) (r s t : List ℕ) → SamePage u at r s → SamePage u at s t → SamePage u at r t
@@ -132,14 +133,20 @@ pub page-filter-same : (h : Family) (g : Geometry) (r r′ : List ℕ) → SameP
 unfolding pageFilter
 page-filter-same h g r r′ p = λ q x. bit x q
   where
-    byte : (i b : ℕ) → i < 8 * g .u → b < 4 → getD r (kaRam (g .u) + i * 8 + b) 0 ≡ getD r′ (kaRam (g .u) + i * 8 + b) 0
-    byte i b l m = p .bytes (kaRam (g .u) + i * 8 + b) (omega arith) (omega arith)
+    -- a word of the page
+    word-same : (at : ℕ) → kaRam (g .u) ≤ at → at + 4 ≤ kaRam (g .u) + page (g .u) → word r at ≡ word r′ at
+    word-same at lo hi =
+        rw (
+          p .bytes at (omega arith) (omega arith),
+          p .bytes (at + 1) (omega arith) (omega arith),
+          p .bytes (at + 2) (omega arith) (omega arith),
+          p .bytes (at + 3) (omega arith) (omega arith),
+        )
 
     key : (i : ℕ) → i < 8 * g .u → keyAt r (kaRam (g .u) + i * 8) ≡ keyAt r′ (kaRam (g .u) + i * 8)
     key i l =
-        let z : kaRam (g .u) + i * 8 + 0 ≡ kaRam (g .u) + i * 8 = omega arith in
-        let first = rw z at (byte i 0 l (omega arith)) in
-        rw (first, byte i 1 l (omega arith), byte i 2 l (omega arith), byte i 3 l (omega arith))
+        ap₂ keyIn (word-same (kaRam (g .u) + i * 8) (omega arith) (omega arith))
+        (word-same (kaRam (g .u) + i * 8 + 4) (omega arith) (omega arith))
 
     bit : (x : ℕ) → pageFilter h g r x ≡ pageFilter h g r′ x
     bit x = any-ext _ _ (8 * g .u) (λ i l. ap (λ (k : Key). memb x (keyPositions h g k)) (key i l))

@@ -13,7 +13,7 @@ use Rattle.layout.specs.Flash.{Op, program, erase}
 use Rattle.layout.specs.Hash.{Family}
 use Rattle.layout.specs.Refusals as refusal
 use Rattle.layout.specs.Keys.{Key, KeyOk}
-use Rattle.layout.specs.Calls.{Volume, Call, insert, update, delete, lookup, Outcome, accepted, hit, miss, refused, Result, call}
+use Rattle.layout.specs.Calls.{Volume, Call, insert, update, delete, lookup, keyOf, Outcome, accepted, hit, miss, refused, Result, call}
 use Rattle.layout.specs.FiniteMap.{Map, Reply, accepts, hits, misses, refuses, Step, mapOf}
 use Rattle.layout.specs.Items.{recordBytes}
 use Rattle.history.specs.Image.{History, recordAt, mainImage, spareImage, ramImage}
@@ -23,10 +23,7 @@ use Rattle.history.specs.Live.{findLive, withRecord, withoutLive, Nodup}
 
 -- the key of a call is allowed; nothing is asked of its other arguments
 abbrev pub KeyWord : Call → Type 0
-KeyWord (insert r) = KeyOk (r .key)
-KeyWord (update r) = KeyOk (r .key)
-KeyWord (delete key) = KeyOk key
-KeyWord (lookup key) = KeyOk key
+KeyWord c = KeyOk (keyOf c)
 
 abbrev pub KeyWords : List Call → Type 0
 KeyWords [] = Unit {0}

@@ -202,7 +202,8 @@ module _ (h : Family) (sizes : Sizes) (ok : SizesSound sizes) (can : allowed siz
           let X : Changed h g (withRecord H r) (n + 1) d (deletionFilters g d) C ram
           (planOps (unitOf sizes) (insertionPlan h g n (r .key) (recordBytes r) ram) C)
           (insertionRam h g n (r .key) (recordBytes r) ram)
-          = insertion-changes h g (ok .e) (units.unit sizes ok) H r d (deletionFilters g d) C ram (I .parts) room word (I .keys) in
+          = insertion-changes h g (ok .e) (units.unit sizes ok) H r d (deletionFilters g d) C ram (I .parts) room
+          (units.few-records sizes ok) word (I .keys) in
           commit-done (withRecord H r) (n + 1) d (insertionPlan h g n (r .key) (recordBytes r) ram) _
           (insertionRam h g n (r .key) (recordBytes r) ram) refl (length-record r) refl
           (X .grown) (X .allowed) (X .beyond) (X .fresh (C .spare) (λ x o. refl))
@@ -267,7 +268,7 @@ module _ (h : Family) (sizes : Sizes) (ok : SizesSound sizes) (can : allowed siz
           let X : Changed h g (withRecord (withDeletion H j) r) (n + 1) (d + 1) (deletionFilters g (d + 1)) C₁ ram₁
           (planOps (unitOf sizes) (insertionPlan h g n (r .key) (recordBytes r) ram₁) C₁) (insertionRam h g n (r .key) (recordBytes r) ram₁)
           = insertion-changes h g (ok .e) (units.unit sizes ok) (withDeletion H j) r (d + 1) (deletionFilters g (d + 1)) C₁ ram₁
-          (removed .grown) room word (I .keys) in
+          (removed .grown) room (units.few-records sizes ok) word (I .keys) in
           let both : planOps (unitOf sizes) (deletionPlan h g d j ram ++ insertionPlan h g n (r .key) (recordBytes r) ram) C ≡ ops
           ++ planOps (unitOf sizes) (insertionPlan h g n (r .key) (recordBytes r) ram₁) C₁
           = ops-append (unitOf sizes) (deletionPlan h g d j ram) (insertionPlan h g n (r .key) (recordBytes r) ram) C

@@ -1,5 +1,5 @@
 -- A volume that holds the image of a history: its search finds the history's live records, by bounds those of an earlier one.
-use mathlib.Core.Path.{_≡_, refl, sym, ap, _∙_}
+use mathlib.Core.Path.{_≡_, refl, sym, ap, ap₂, _∙_}
 use mathlib.Core.Bool.{true, false, cond, or-true}
 use mathlib.Core.Option.{none, some, Option·map}
 use mathlib.Core.List.{List, [], _∷_}
@@ -12,15 +12,15 @@ use lib.Dec.{eqb}
 use borrow.Author.Tests.{lt-leb, le-ltb}
 use Rattle.memory.specs.Cases.{either, bool?, lt?, eq?}
 use Rattle.memory.specs.Numbers.{euclid}
-use Rattle.memory.specs.Ranges.{any-ext, any-at, memb, any-memb, allOf-true, memb-tab-all}
-use Rattle.memory.specs.Lists.{tab, is-tab}
-use Rattle.memory.specs.Words.{bytes4, byteOf, words-byte}
+use Rattle.memory.specs.Ranges.{any-ext, any-at, memb, any-memb, allOf-true, memb-tabulate-all}
+use Rattle.memory.specs.Lists.{tabulate, is-tabulate}
+use Rattle.memory.specs.Words.{bytes4, byteOf}
 use Rattle.layout.specs.Keys.{Key, KeyOk, sameKey, keyBytes, keyIn, numberIn}
 use Rattle.layout.specs.Geometry.{Geometry, geometry, allowed, page, block, filterBits, entriesPerPage, kaBlocks, fullSets, recordCapacity}
 use Rattle.layout.specs.Geometry.{deletionCapacity, deletionSets, workRam, Sizes, unitOf, stateOf}
 use Rattle.layout.specs.Flash.{Flash}
 use Rattle.layout.specs.Hash.{Family, positions}
-use Rattle.layout.specs.Items.{Record, RA, KA, DA, itemWord, itemPlace, bytesAt, recordBytes, entryBytes}
+use Rattle.layout.specs.Items.{Record, RA, KA, DA, itemWord, itemPlace, bytesAt, recordBytes}
 use Rattle.layout.specs.Index.{filterBit}
 use Rattle.layout.specs.Search.{found, isFound}
 use Rattle.layout.specs.Calls.{Volume, keyIndex, keyFilters, keyPositions, badState, tooShort, isDeleted, entryWord, tryAt, maybeIn}
@@ -34,20 +34,16 @@ use Rattle.history.specs.ScanLaws.{search-all, search-opened, scan-live,
 use Rattle.history.specs.AreaLaws.{read-word, read-bytes}
 use Rattle.history.specs.IndexLaws.{read-filter}
 use Rattle.history.specs.Parts.{Parts}
-use Rattle.laws.specs.ItemLaws.{length-record, entry-key, deletion-number}
+use Rattle.laws.specs.ItemLaws.{length-record, entry-key, entry-number, deletion-number}
 use Rattle.laws.specs.SetLaws.{places-suffice, deletion-places-suffice}
 use Rattle.laws.specs.Lengths.{not-short}
 use Rattle.laws.specs.Sound.{SizesSound}
 use Rattle.laws.specs.Sound as units
 
--- ---- the words of entries and deletions, and a record by its bytes
+-- ---- a record by its bytes
 
-entry-number : (key : Key) (j b : ℕ) → b < 4 → getD (entryBytes key j) (1 * 4 + b) 0 ≡ byteOf j b
-unfolding entryBytes
-entry-number key j b h = words-byte (key ∷ j ∷ []) 1 b (omega arith) h
-
-tab-record : (r : Record) → tab 16 (λ b. getD (recordBytes r) b 0) ≡ recordBytes r
-tab-record r = sym (is-tab (recordBytes r) 16 (λ b. getD (recordBytes r) b 0) (length-record r) (λ i h. refl))
+tabulate-record : (r : Record) → tabulate 16 (λ b. getD (recordBytes r) b 0) ≡ recordBytes r
+tabulate-record r = sym (is-tabulate (recordBytes r) 16 (λ b. getD (recordBytes r) b 0) (length-record r) (λ i h. refl))
 
 -- ---- the image of a history, as an invariant
 
@@ -83,28 +79,36 @@ module _ (h : Family) (sizes : Sizes) (ok : SizesSound sizes) where
     abbrev v : Volume
     v = volumeOf sizes H C ram
 
-    -- record numbers are 32-bit numbers
+    -- record numbers are numbers of three bytes
+    n-few : length (H .records) < 2 ^ 24
+    n-few = omega (arith, I .n-cap, units.few-records sizes ok)
+
     pub n-word : length (H .records) < 2 ^ 32
-    n-word =
-        let a : (sizes .raBlocks) * (unitOf sizes) ≤ 4096 * (unitOf sizes) = mul-le-mul-right (unitOf sizes) (ok .R-le) in
-        omega (arith, I .n-cap, units.u-le sizes ok)
+    n-word = omega (arith, n-few)
 
     ka-room : length (H .records) * 8 ≤ kaBlocks g * block (unitOf sizes)
     ka-room =
         let half : (sizes .raBlocks) ≤ ((sizes .raBlocks) + 1) / 2 * 2 = omega arith in
         omega (arith, I .n-cap, mul-le-mul-right (unitOf sizes) half)
 
-    pub key-at : (j : ℕ) → j < length (H .records) → keyIn (entryWord g v j 0) (entryWord g v j 1) ≡ recordAt H j .key
-    key-at j l =
+    -- word x of entry j
+    word-at : (j x value : ℕ) → j < length (H .records) → x < 2 → value < 2 ^ 32
+        → ((b : ℕ) → b < 4 → kaItem H j (x * 4 + b) ≡ byteOf value b) → entryWord g v j x ≡ value
+    word-at j x value l two fits bytes =
         read-word (unitOf sizes) pu (KA g) (kaBlocks g) (omega arith) (omega (arith, pu)) (omega arith) (kaItem H) n (C .main)
-        (C .spare) ram (I .parts .ka) ka-room
-        j 0 (recordAt H j .key) l (omega arith) (I .keys j l) (λ b m. entry-key (recordAt H j .key) j b m)
+        (C .spare) ram (I .parts .ka) ka-room j x value l (omega arith) fits bytes
+
+    level-at : (j : ℕ) → j < length (H .records) → entryWord g v j 0 ≡ recordAt H j .key
+    level-at j l = word-at j 0 (recordAt H j .key) l (omega arith) (I .keys j l .level-lt) (λ b m. entry-key (recordAt H j .key) j b m)
+
+    second-at : (j : ℕ) → j < length (H .records) → entryWord g v j 1 ≡ j
+    second-at j l = word-at j 1 j l (omega arith) (omega (arith, n-few)) (λ b m. entry-number (recordAt H j .key) j b m)
+
+    pub key-at : (j : ℕ) → j < length (H .records) → keyIn (entryWord g v j 0) (entryWord g v j 1) ≡ recordAt H j .key
+    key-at j l = ap₂ keyIn (level-at j l) (second-at j l)
 
     pub number-at : (j : ℕ) → j < length (H .records) → numberIn (entryWord g v j 1) ≡ j
-    number-at j l =
-        read-word (unitOf sizes) pu (KA g) (kaBlocks g) (omega arith) (omega (arith, pu)) (omega arith) (kaItem H) n (C .main)
-        (C .spare) ram (I .parts .ka) ka-room
-        j 1 j l (omega arith) (omega (arith, n-word)) (λ b m. entry-number (recordAt H j .key) j b m)
+    number-at j l = ap numberIn (second-at j l)
 
     pub deletion-at : (i : ℕ) → i < length (H .deleted) → itemWord (unitOf sizes) (DA g) d (C .main) ram i 0 ≡ getD (H .deleted) i 0
     deletion-at i l =
@@ -126,7 +130,7 @@ module _ (h : Family) (sizes : Sizes) (ok : SizesSound sizes) where
     pub position-lt : (bytes : List ℕ) (x : ℕ) → memb x (positions h (g .k) (g .u) bytes) ≡ true → x < filterBits (unitOf sizes)
     unfolding positions
     position-lt bytes x q =
-        memb-tab-all (λ y. y < 64 * (unitOf sizes)) (g .k)
+        memb-tabulate-all (λ y. y < 64 * (unitOf sizes)) (g .k)
         (λ j. h 0 bytes % 4 * (16 * (unitOf sizes)) + h (j + 1) bytes % (16 * (unitOf sizes)))
         (λ j l.
         let a : h 0 bytes % 4 * (16 * (unitOf sizes)) + h (j + 1) bytes % (16 * (unitOf sizes)) < 4 * (16 * (unitOf sizes))
@@ -276,7 +280,7 @@ module _ (h : Family) (sizes : Sizes) (ok : SizesSound sizes) where
     record-is j l =
         read-bytes (unitOf sizes) pu (RA g) (sizes .raBlocks) (omega arith) (omega (arith, pu)) (omega arith) (raItem H) n (C .main)
         (C .spare) ram (I .parts .ra) (omega (arith, I .n-cap)) j l
-        ∙ tab-record (recordAt H j)
+        ∙ tabulate-record (recordAt H j)
 
     -- refusals 1 and 2 do not apply
     pub state-good : allowed sizes ≡ true → badState (v .state) ≡ false

@@ -11,7 +11,7 @@ use Rattle.memory.specs.Words.{word}
 use Rattle.memory.specs.Cases.{bool?, either}
 use Rattle.memory.specs.Ranges.{any}
 use Rattle.memory.specs.Candidate.{candidate, candidate-open, candidate-shut, candidate-low, candidate-ext}
-use Rattle.layout.specs.Keys.{wordSize}
+use Rattle.layout.specs.Keys.{wordSize, Key, sameKey, keyAt}
 use Rattle.layout.specs.Geometry.{deletionsPerPage}
 use Rattle.layout.specs.Items.{entrySize}
 
@@ -27,12 +27,12 @@ isWord s at j i = eqb (word s (at + i * wordSize)) j
 abbrev pub hasWord : List ℕ → ℕ → ℕ → ℕ → Bool
 hasWord s at n j = any (isWord s at j) n
 
--- has entry i from byte `at` on the key, its first word
-unfoldable pub hasKey : List ℕ → ℕ → ℕ → ℕ → Bool
-hasKey s at key i = eqb (word s (at + i * entrySize)) key
+-- has entry i from byte `at` on the key
+unfoldable pub hasKey : List ℕ → ℕ → Key → ℕ → Bool
+hasKey s at key i = sameKey (keyAt s (at + i * entrySize)) key
 
 -- the newest of n entries with the key, plus one
-abbrev pub lastEntry : List ℕ → ℕ → ℕ → ℕ → ℕ
+abbrev pub lastEntry : List ℕ → ℕ → ℕ → Key → ℕ
 lastEntry s at n key = candidate (hasKey s at key) n
 
 -- ---- some number passes: one more each time, and two ranges, one after the other
@@ -94,38 +94,33 @@ pub word-no : (s : List ℕ) (at j i r : ℕ) → r ≡ word s (at + i * 4) → 
 unfolding isWord
 word-no s at j i r e h = ne-eqb _ _ (λ q. h (e ∙ q))
 
-pub key-yes : (s : List ℕ) (at key i r : ℕ) → r ≡ word s (at + i * 8) → r ≡ key → hasKey s at key i ≡ true
+pub key-is : (s : List ℕ) (at i : ℕ) (key : Key) (r : Bool) → r ≡ sameKey (keyAt s (at + i * 8)) key → r ≡ hasKey s at key i
 unfolding hasKey
-key-yes s at key i r e h = eq-eqb _ _ (sym e ∙ h)
-
-pub key-no : (s : List ℕ) (at key i r : ℕ) → r ≡ word s (at + i * 8) → (r ≡ key → ⊥) → hasKey s at key i ≡ false
-unfolding hasKey
-key-no s at key i r e h = ne-eqb _ _ (λ q. h (e ∙ q))
+key-is s at i key r e = e
 
 -- an entry's key is the first of its two words
-key-word : (s : List ℕ) (at key i : ℕ) → hasKey s at key i ≡ isWord s at key (i * 2)
-unfolding hasKey isWord
-key-word s at key i =
+other-word : (s : List ℕ) (at : ℕ) (key : Key) (i : ℕ) → isWord s at key (i * 2) ≡ false → hasKey s at key i ≡ false
+unfolding hasKey isWord sameKey
+other-word s at key i t =
     let e : at + i * 8 ≡ at + i * 2 * 4 = omega arith in
-    rw e
+    rw (e, t)
 
 -- no word of n entries is the number, so none has it as its key
-pub no-word : (s : List ℕ) (at key n : ℕ) → hasWord s at (n * 2) key ≡ false → any (hasKey s at key) n ≡ false
+pub no-word : (s : List ℕ) (at : ℕ) (key : Key) (n : ℕ) → hasWord s at (n * 2) key ≡ false → any (hasKey s at key) n ≡ false
 unfolding any
 no-word s at key zero t = refl
 no-word s at key (suc n) t =
     let e : suc n * 2 ≡ suc (suc (n * 2)) = omega arith in
     let u : (isWord s at key (suc (n * 2)) || (isWord s at key (n * 2) || hasWord s at (n * 2) key)) ≡ false = rw e at t in
-    let q : hasKey s at key n ≡ isWord s at key (n * 2) = key-word s at key n in
     either (bool? (isWord s at key (suc (n * 2))))
     (λ h. let z : true ≡ false = rw h at u in cc)
     (λ h. let v : (isWord s at key (n * 2) || hasWord s at (n * 2) key) ≡ false = rw h at u in
     either (bool? (isWord s at key (n * 2)))
     (λ g. let z : true ≡ false = rw g at v in cc)
-    (λ g. let w : hasWord s at (n * 2) key ≡ false = rw g at v in rw (q, g) (no-word s at key n w)))
+    (λ g. let w : hasWord s at (n * 2) key ≡ false = rw g at v in rw (other-word s at key n g) (no-word s at key n w)))
 
 -- entries counted from a later one
-pub key-later : (s : List ℕ) (at key m i : ℕ) → hasKey s at key (m + i) ≡ hasKey s (at + m * 8) key i
+pub key-later : (s : List ℕ) (at : ℕ) (key : Key) (m i : ℕ) → hasKey s at key (m + i) ≡ hasKey s (at + m * 8) key i
 unfolding hasKey
 key-later s at key m i =
     let e : at + (m + i) * 8 ≡ at + m * 8 + i * 8 = omega arith in
@@ -164,7 +159,7 @@ block-no s at j m k e f = words-sum s at j m k ∙ rw (e, f)
 -- ---- entries in blocks
 
 -- m entries, and k behind them among whose words the key is not
-pub entries-no : (s : List ℕ) (at key m k : ℕ) → hasWord s (at + m * 8) (k * 2) key ≡ false
+pub entries-no : (s : List ℕ) (at : ℕ) (key : Key) (m k : ℕ) → hasWord s (at + m * 8) (k * 2) key ≡ false
     → lastEntry s at (m + k) key ≡ lastEntry s at m key
 entries-no s at key m k t =
     candidate-low (hasKey s at key) m k

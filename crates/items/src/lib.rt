@@ -5,13 +5,15 @@ ghost use mathlib.Core.Logic.{_≢_};
 ghost use Prim.Native.Nat.{_+_, _*_, _≤_, _<_};
 ghost use lib.ListN.{length};
 ghost use Rattle.memory.specs.Lent.{before};
-ghost use Rattle.layout.specs.Keys.{wordSize};
+ghost use Rattle.layout.specs.Keys.{wordSize, sameKey, keyAt};
 ghost use Rattle.layout.specs.Geometry.{page, entriesPerPage};
 ghost use Rattle.layout.specs.Items.{entrySize};
 ghost use Rattle.laws.specs.Units.{UnitSound};
+ghost use Rattle.keys.specs.Key.{keyIs};
 ghost use Rattle.items.specs.Scans.{wordsPerPage, hasWord, lastEntry};
 use geometry::Chip;
 use geometry::areas;
+use keys::Key;
 
 // Words that are compared at once: in pages of one and two units, and in larger ones.
 const FEW: usize = 16;
@@ -97,15 +99,25 @@ pub fn has_word(at: usize, n: usize, j: u32, s: &[u8]) -> bool
 
 // ---- entries with a key
 
+// Has the entry from byte `at` on the key.
+fn is_key(at: usize, key: Key, s: &[u8]) -> bool
+    requires { ⌜ at + entrySize ≤ length (now s) ⌝ }
+    ensures { λ r. ⌜ r ≡ sameKey (keyAt (before s) at) (keyIs key) ⌝ }
+{
+    let first = words::get32(s, at);
+    let second = words::get32(s, at + areas::WORD_SIZE);
+    keys::same(keys::key_in(first, second), key)
+}
+
 // The newest of the n entries with the key, plus one, an entry at a time; 0 if there is none.
-fn last_key(at: usize, n: usize, key: u32, s: &[u8]) -> usize
+fn last_key(at: usize, n: usize, key: Key, s: &[u8]) -> usize
     requires { ⌜ at + n * entrySize ≤ length (now s) ⌝ }
-    ensures { λ r. ⌜ r ≡ lastEntry (before s) at n key ⌝ }
+    ensures { λ r. ⌜ r ≡ lastEntry (before s) at n (keyIs key) ⌝ }
 {
     let mut k = n;
     while k > 0 {
         let e = k - 1;
-        if words::get32(s, at + e * areas::ENTRY_SIZE) == key {
+        if is_key(at + e * areas::ENTRY_SIZE, key, s) {
             return k;
         }
         k = e;
@@ -115,11 +127,11 @@ fn last_key(at: usize, n: usize, key: u32, s: &[u8]) -> usize
 
 // The same, after a pass over all words of the entries: it takes their numbers for keys too, but it has no exit and reads without a gap,
 // and nearly always it finds none.
-fn find_few(at: usize, count: usize, key: u32, s: &[u8]) -> usize
+fn find_few(at: usize, count: usize, key: Key, s: &[u8]) -> usize
     requires { ⌜ at + count * entrySize ≤ length (now s) ⌝ }
-    ensures { λ r. ⌜ r ≡ lastEntry (before s) at count key ⌝ }
+    ensures { λ r. ⌜ r ≡ lastEntry (before s) at count (keyIs key) ⌝ }
 {
-    if !has_word(at, count * 2, key, s) {
+    if !has_word(at, count * 2, key.level, s) {
         return 0;
     }
     last_key(at, count, key, s)
@@ -127,9 +139,9 @@ fn find_few(at: usize, count: usize, key: u32, s: &[u8]) -> usize
 
 // The newest of the entries with the key, plus one, by runs from the newest on: the pass over a run has no exit, and what lies before the
 // run with the key is not read.
-pub fn find_entry(at: usize, count: usize, key: u32, s: &[u8]) -> usize
+pub fn find_entry(at: usize, count: usize, key: Key, s: &[u8]) -> usize
     requires { ⌜ at + count * entrySize ≤ length (now s) ⌝ }
-    ensures { λ r. ⌜ r ≡ lastEntry (before s) at count key ⌝ }
+    ensures { λ r. ⌜ r ≡ lastEntry (before s) at count (keyIs key) ⌝ }
 {
     let mut k = count;
     while k > RUN {
@@ -175,12 +187,12 @@ pub fn page_has(chip: Chip, at: usize, j: u32, s: &[u8]) -> bool
 
 // The newest entry of a full page with the key, plus one; 0 if there is none. In pages of more than four units it is looked for from the
 // newest 64 words on that have the key.
-pub fn find_in_page(chip: Chip, at: usize, key: u32, s: &[u8]) -> usize
+pub fn find_in_page(chip: Chip, at: usize, key: Key, s: &[u8]) -> usize
     requires { ⌜ UnitSound (chip .unit) × (at + page (chip .unit) ≤ length (now s)) ⌝ }
-    ensures { λ r. ⌜ r ≡ lastEntry (before s) at (entriesPerPage (chip .unit)) key ⌝ }
+    ensures { λ r. ⌜ r ≡ lastEntry (before s) at (entriesPerPage (chip .unit)) (keyIs key) ⌝ }
 {
     if chip.unit < 5 {
-        if small_has(chip, at, key, s) {
+        if small_has(chip, at, key.level, s) {
             return last_key(at, chip.entries_per_page(), key, s);
         }
         return 0;
@@ -188,7 +200,7 @@ pub fn find_in_page(chip: Chip, at: usize, key: u32, s: &[u8]) -> usize
     let mut b = chip.page_size() / MANY_BYTES;
     while b > 0 {
         let c = b - 1;
-        if many_have(at + c * MANY_BYTES, key, s) {
+        if many_have(at + c * MANY_BYTES, key.level, s) {
             return last_key(at, b * MANY_ENTRIES, key, s);
         }
         b = c;

@@ -16,7 +16,6 @@ use Rattle.geometry.specs.Indexes.{indexOf}
 use Rattle.geometry.specs.declared.sets.Index.{Index}
 use Rattle.plan.specs.Plans.{recordIn, entryIn}
 use Rattle.memory.specs.Booleans.{cond-pos, cond-neg}
-use Rattle.memory.specs.Numbers.{euclid}
 use Rattle.kept.specs.Kept.{filtersKept, entered}
 use Rattle.kept.specs.Appended.{recordAppended}
 
@@ -59,12 +58,6 @@ filters-fit g S ska F n fourths ram inside some few room size long =
     let u : ℕ = g .chip .unit in
     let a : n * u ≤ n * 32 = mul-le-mul-left n (S .unit .1 .most) in
     ((S .unit .1 .most, some, few, room), (omega (arith, a, size), omega (arith, inside, long)))
-
--- two filters for each page of q items are no more than the items
-pub pairs-le : (d q : ℕ) → 2 ≤ q → 2 * (d / q) ≤ d
-pairs-le d q h =
-    let w = euclid d q (omega arith) in
-    omega (arith, w .whole, mul-le-mul-left (d / q) h)
 
 -- ---- item i of an area, kept as y, and n filters where it fills its page; `a`, `ix` and `F′` are what code computes
 

@@ -5,7 +5,7 @@ use Prim.Native.Nat.{ℕ, zero, suc, _+_, _-_, _*_, _≤_, _<_}
 use native.Mathlib.Nat.{mul-le-mul-right}
 use native.Mathlib.Omega.{arith}
 use lib.ListN.{length, getD, take, drop, replicate}
-use Rattle.memory.specs.Lists.{pieces, tab, write, tab-part}
+use Rattle.memory.specs.Lists.{pieces, tabulate, write, tabulate-part}
 use Rattle.layout.specs.Geometry.{sector, page, fourthSize}
 use Rattle.layout.specs.Items.{zeroPage}
 use Rattle.layout.specs.Index.{inSka}
@@ -17,12 +17,12 @@ piecesOf u piece at k fourths ram = pieces piece (sector u) at k (λ i y. getD f
 
 -- one more piece at the end
 pub pieces-more : {A : Type 0} (L d at k : ℕ) (f : ℕ → ℕ → A) (l : List A)
-    → pieces L d at (suc k) f l ≡ write (pieces L d at k f l) (at + k * d) (tab L (f k))
+    → pieces L d at (suc k) f l ≡ write (pieces L d at k f l) (at + k * d) (tabulate L (f k))
 unfolding pieces
 pieces-more L d at zero f l = let e : at + 0 * d ≡ at = omega arith in rw e
 pieces-more L d at (suc k) f l =
     let e : at + suc k * d ≡ at + d + k * d = omega arith in
-    rw e (pieces-more L d (at + d) k (λ j. f (suc j)) (write l at (tab L (f zero))))
+    rw e (pieces-more L d (at + d) k (λ j. f (suc j)) (write l at (tabulate L (f zero))))
 
 -- a page zeroed; `at` and `size` are what code computes
 pub zero-at : (u place at size : ℕ) (ram : List ℕ) → at ≡ place → size ≡ page u → write ram at (replicate size 0) ≡ zeroPage u place ram
@@ -50,11 +50,11 @@ module _ (u piece at : ℕ) where
       let s : i + 1 ≡ suc i = omega arith in
       let n : i * piece + piece - i * piece ≡ piece = omega arith in
       let f : ℕ → ℕ → ℕ = λ i y. getD fourths (i * piece + y) 0 in
-      let t : take piece (drop (i * piece) fourths) ≡ tab piece (f i)
-      = sym (tab-part fourths (i * piece) piece (in-fourths i (length fourths) h fits)) in
-      let b′ : ram′ ≡ write ram (at + i * sector u) (tab piece (f i)) = rw (n, o, t) at b in
+      let t : take piece (drop (i * piece) fourths) ≡ tabulate piece (f i)
+      = sym (tabulate-part fourths (i * piece) piece (in-fourths i (length fourths) h fits)) in
+      let b′ : ram′ ≡ write ram (at + i * sector u) (tabulate piece (f i)) = rw (n, o, t) at b in
       rw s
-      (b′ ∙ ap (λ (l : List ℕ). write l (at + i * sector u) (tab piece (f i))) a ∙ sym (pieces-more piece (sector u) at i f ram₀))
+      (b′ ∙ ap (λ (l : List ℕ). write l (at + i * sector u) (tabulate piece (f i))) a ∙ sym (pieces-more piece (sector u) at i f ram₀))
 
   pub all-pieces : (k : ℕ) (fourths ram₀ ram : List ℕ) → k ≡ 4 → ram ≡ piecesOf u piece at k fourths ram₀
       → ram ≡ withFourths u piece at fourths ram₀

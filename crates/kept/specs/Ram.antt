@@ -13,6 +13,7 @@ use Rattle.memory.specs.Cases.{either, bool?}
 use Rattle.memory.specs.Lists.{write, length-write, getD-write-before, write-same, length-pieces, pieces-out}
 use Rattle.memory.specs.Ranges.{memb, any-ext}
 use Rattle.memory.specs.Words.{word}
+use Rattle.layout.specs.Keys.{Key, keyIn, keyAt}
 use Rattle.layout.specs.Geometry.{Geometry, page, sector, fourthSize, deletionsPerPage, kaRam, ramSize}
 use Rattle.layout.specs.Hash.{Family}
 use Rattle.layout.specs.Items.{RA, KA, DA, fills, put, itemRam, zeroPage, deletionBytes, entryBytes}
@@ -29,7 +30,8 @@ use Rattle.kept.specs.Kept.{filtersKept, deletionKept, entered, recordKe
 
 -- ---- a record, its entry and its filter
 
-module _ (h : Family) (g : Geometry) (n key : ℕ) (bytes new filters ram : List ℕ) (G : RecordGiven h g n key bytes new filters ram) where
+module _ (h : Family) (g : Geometry) (n : ℕ) (key : Key) (bytes new filters ram : List ℕ)
+    (G : RecordGiven h g n key bytes new filters ram) where
   abbrev F : ℕ
   F = keyFilters g n
 
@@ -131,20 +133,22 @@ word-same l l′ x e =
     let e₀ : getD l x 0 ≡ getD l′ x 0 = rw z at (e 0 (omega arith)) in
     rw (e₀, e 1 (omega arith), e 2 (omega arith), e 3 (omega arith))
 
-module _ (h : Family) (g : Geometry) (n key : ℕ) (ram ram′ : List ℕ) where
+module _ (h : Family) (g : Geometry) (n : ℕ) (key : Key) (ram ram′ : List ℕ) where
   -- RAMs that agree up to the page of deletions
   filter-same : length ram ≡ length ram′ → ((y : ℕ) → y < 2 * page (g .u) → getD ram y 0 ≡ getD ram′ y 0)
       → (x : ℕ) → newFilter h g n key ram x ≡ newFilter h g n key ram′ x
   unfolding pageFilter put
   filter-same size same x =
       let at : ℕ = KA g .ram + n % KA g .perPage * KA g .size in
-      any-ext (λ i. memb x (keyPositions h g (word (write ram at (entryBytes key n)) (kaRam (g .u) + i * 8))))
-      (λ i. memb x (keyPositions h g (word (write ram′ at (entryBytes key n)) (kaRam (g .u) + i * 8)))) (8 * g .u)
-      (λ i l. ap (λ (k : ℕ). memb x (keyPositions h g k))
-      (word-same (write ram at (entryBytes key n)) (write ram′ at (entryBytes key n)) (kaRam (g .u) + i * 8)
-      (λ y k.
-      let inside : kaRam (g .u) + i * 8 + y < 2 * page (g .u) = omega (arith, l, k) in
-      write-same ram ram′ at (entryBytes key n) (kaRam (g .u) + i * 8 + y) 0 size (same (kaRam (g .u) + i * 8 + y) inside))))
+      let item : List ℕ = entryBytes key n in
+      let words : (z : ℕ) → z + 4 ≤ 2 * page (g .u) → word (write ram at item) z ≡ word (write ram′ at item) z
+      = λ z m. word-same (write ram at item) (write ram′ at item) z
+      (λ y k. write-same ram ram′ at item (z + y) 0 size (same (z + y) (omega (arith, m, k)))) in
+      any-ext (λ i. memb x (keyPositions h g (keyAt (write ram at item) (kaRam (g .u) + i * 8))))
+      (λ i. memb x (keyPositions h g (keyAt (write ram′ at item) (kaRam (g .u) + i * 8)))) (8 * g .u)
+      (λ i l. ap (λ (k : Key). memb x (keyPositions h g k))
+      (ap (λ (w : ℕ). keyIn w (word (write ram at item) (kaRam (g .u) + i * 8 + 4))) (words (kaRam (g .u) + i * 8) (omega (arith, l)))
+      ∙ ap (λ (w : ℕ). keyIn (word (write ram′ at item) (kaRam (g .u) + i * 8)) w) (words (kaRam (g .u) + i * 8 + 4) (omega (arith, l)))))
 
 -- a deletion and its filters are kept behind them
 module _ (u : ℕ) (ix : Index) (F n : ℕ) (fourths ram : List ℕ) (behind : 2 * page u ≤ ix .ska) where
@@ -197,8 +201,8 @@ module _ (g : Geometry) (d : ℕ) (new filters ram : List ℕ) where
 
 -- ---- the RAM of a change
 
-pub kept-is : (h : Family) (g : Geometry) (j key : ℕ) (bytes new filters ram : List ℕ) → 0 < g .u → ramSize g ≤ length ram → (e : Slots)
-    → Given h g j key bytes new filters ram e → kept g new filters ram e ≡ ramOf g h j key bytes ram e
+pub kept-is : (h : Family) (g : Geometry) (j : ℕ) (key : Key) (bytes new filters ram : List ℕ) → 0 < g .u → ramSize g ≤ length ram
+    → (e : Slots) → Given h g j key bytes new filters ram e → kept g new filters ram e ≡ ramOf g h j key bytes ram e
 kept-is h g j key bytes new filters ram pos long (Delete d) G = deletion-kept h g pos d j new filters ram long G
 kept-is h g j key bytes new filters ram pos long (Insert n) G = record-kept h g n key bytes new filters ram G
 kept-is h g j key bytes new filters ram pos long (Update d n) G =

@@ -80,7 +80,7 @@ fn keep_deletion(g: Geometry, d: usize, new: &[u8], filters: &[u8], ram: &mut [u
     keep_filters(
         g.chip,
         sets::deletion_index(g),
-        2 * (d / deletions.per_page),
+        sets::deletion_filters(g, d),
         2,
         &filters[0..plan::ENTRY_FILTER_AT],
         ram,

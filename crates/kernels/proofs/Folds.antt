@@ -1,6 +1,6 @@
 -- Bits that are shown so far, and a word or a bit more below them.
-use mathlib.Core.Path.{_≡_, refl, sym, ap, _∙_}
-use mathlib.Core.Bool.{Bool, true, false, _&&_, _||_}
+use mathlib.Core.Path.{_≡_, sym, ap, _∙_}
+use mathlib.Core.Bool.{Bool, false, _&&_, or-false}
 use mathlib.Core.List.{List}
 use Prim.Native.Nat.{ℕ, zero, suc, _+_, _*_, _-_, _%_, _^_, _≤_, _<_}
 use native.Mathlib.Nat.{mul-le-mul-right, mul-le-mul-left}
@@ -9,24 +9,21 @@ use lib.Bits.{bitOr}
 use lib.ListN.{getD}
 use lib.Pow.{pow-pos}
 use borrow.Author.Tests.{lt-ltb, le-ltb}
-use Rattle.memory.specs.Bits.{bit, bit-or}
+use Rattle.memory.specs.Bits.{bit, bit-or, bit-shl, bit-shl-low}
 use Rattle.memory.specs.Cases.{either, lt?}
 use Rattle.kernels.specs.Rows.{allIn, Words}
 use Rattle.kernels.specs.Blocks.{Shows, Squeezed}
-use Rattle.kernels.proofs.Bits.{bit-shl, bit-shl-low}
 use Rattle.kernels.proofs.Filters.{all-from}
 
-or-false : (t : Bool) → (t || false) ≡ t
-or-false true = refl
-or-false false = refl
-
 -- a word has several filters
-pub two-le : (e w : ℕ) → 0 < e → w ≡ 2 ^ e → 2 ≤ w
-two-le zero w h q = absurd (omega arith)
-two-le (suc e) w h q = omega (arith, pow-pos e)
+pub eight-le : (e w : ℕ) → 2 < e → w ≡ 2 ^ e → 8 ≤ w
+eight-le zero w h q = absurd (omega arith)
+eight-le (suc zero) w h q = absurd (omega arith)
+eight-le (suc (suc zero)) w h q = absurd (omega arith)
+eight-le (suc (suc (suc e))) w h q = omega (arith, pow-pos e)
 
-pub per-le : (e w per : ℕ) → 0 < e → w ≡ 2 ^ e → per * w ≡ 64 → per ≤ 32
-per-le e w per h q word = omega (arith, mul-le-mul-left per (two-le e w h q))
+pub per-le : (e w per : ℕ) → 2 < e → w ≡ 2 ^ e → per * w ≡ 64 → per ≤ 32
+per-le e w per h q word = omega (arith, mul-le-mul-left per (eight-le e w h q))
 
 -- n bits are shown from b on, and s shows d below them
 module _ (f : ℕ → Bool) (b d n r s : ℕ) (fits : n + d ≤ 64) (R : (i : ℕ) → i < n → bit r i ≡ f (b + d + i))

@@ -7,8 +7,8 @@ use native.Mathlib.Omega.{arith}
 use lib.Bits.{bitAnd, bitOr, and-high}
 use lib.Dec.{eqb}
 use lib.Pow.{pow-pos, pow-lt, pow-add, pow-mono}
-use Rattle.memory.specs.Bits.{bit, bit-is, bit-or}
-use Rattle.kernels.proofs.Bits.{bit-over, bit-shl}
+use Rattle.memory.specs.Bits.{bit, bit-is, bit-or, bit-shl}
+use Rattle.kernels.proofs.Bits.{bit-over}
 use Rattle.kernels.proofs.Folds.{below}
 
 -- a byte's bit s in its place

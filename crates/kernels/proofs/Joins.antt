@@ -6,11 +6,10 @@ use native.Mathlib.Omega.{arith}
 use lib.Bits.{bitAnd, bitOr, and-le-l, and-le-r}
 use lib.Dec.{ltb}
 use borrow.Author.Tests.{lt-ltb, le-ltb}
-use Rattle.memory.specs.Bits.{bit, bit-shr, bit-or}
+use Rattle.memory.specs.Bits.{bit, bit-shr, bit-or, bit-and}
 use Rattle.memory.specs.Booleans.{eq-of-beq}
 use Rattle.memory.specs.Cases.{either, lt?}
 use Rattle.kernels.specs.Blocks.{Squeezed}
-use Rattle.kernels.specs.Conjunction.{bit-and}
 use Rattle.kernels.proofs.Bits.{bit-over}
 
 -- of every G bits of m the lowest c are set, the first n by computing
@@ -163,36 +162,6 @@ squeezed-2 x r0 r1 r2 r3 r4 h e0 e1 e2 e3 e4 =
 pub first-4 : Lows 1229782938247303441 4 1
 unfolding isLow bit
 first-4 i h = low-at 1229782938247303441 4 1 64 i refl h
-
-lows-4-0 : Lows 217020518514230019 8 2
-unfolding isLow bit
-lows-4-0 i h = low-at 217020518514230019 8 2 64 i refl h
-
-lows-4-1 : Lows 4222189076152335 16 4
-unfolding isLow bit
-lows-4-1 i h = low-at 4222189076152335 16 4 64 i refl h
-
-lows-4-2 : Lows 1095216660735 32 8
-unfolding isLow bit
-lows-4-2 i h = low-at 1095216660735 32 8 64 i refl h
-
-lows-4-3 : Lows 65535 64 16
-unfolding isLow bit
-lows-4-3 i h = low-at 65535 64 16 64 i refl h
-
-pub squeezed-4 : (x r0 r1 r2 r3 : ℕ) → x < 2 ^ 64 → r0 ≡ bitAnd (bitOr (bitAnd x 1229782938247303441) ((bitAnd x 1229782938247303441) / 2 ^ 3)) 217020518514230019 → r1 ≡ bitAnd (bitOr r0 (r0 / 2 ^ 6)) 4222189076152335 → r2 ≡ bitAnd (bitOr r1 (r1 / 2 ^ 12)) 1095216660735 → r3 ≡ bitAnd (bitOr r2 (r2 / 2 ^ 24)) 65535 → Squeezed 4 x r3
-squeezed-4 x r0 r1 r2 r3 h e0 e1 e2 e3 =
-    let s = picked 4 x 1229782938247303441 first-4 (λ i l t. omega arith) in
-    let h0 = and-small x 1229782938247303441 h in
-    let s0 : Spread 2 8 (λ i. bit x (i * 4)) r0 = rw e0 (joined 1 4 2 8 3 (λ i. bit x (i * 4)) (bitAnd x 1229782938247303441) 217020518514230019 h0 s lows-4-0 (λ i l t. (omega arith, omega arith, omega arith)) (λ i l t u. (omega arith, omega arith, omega arith, omega arith))) in
-    let k0 : r0 < 2 ^ 64 = omega (arith, e0, and-le-r (bitOr (bitAnd x 1229782938247303441) ((bitAnd x 1229782938247303441) / 2 ^ 3)) 217020518514230019) in
-    let s1 : Spread 4 16 (λ i. bit x (i * 4)) r1 = rw e1 (joined 2 8 4 16 6 (λ i. bit x (i * 4)) r0 4222189076152335 k0 s0 lows-4-1 (λ i l t. (omega arith, omega arith, omega arith)) (λ i l t u. (omega arith, omega arith, omega arith, omega arith))) in
-    let k1 : r1 < 2 ^ 64 = omega (arith, e1, and-le-r (bitOr r0 (r0 / 2 ^ 6)) 4222189076152335) in
-    let s2 : Spread 8 32 (λ i. bit x (i * 4)) r2 = rw e2 (joined 4 16 8 32 12 (λ i. bit x (i * 4)) r1 1095216660735 k1 s1 lows-4-2 (λ i l t. (omega arith, omega arith, omega arith)) (λ i l t u. (omega arith, omega arith, omega arith, omega arith))) in
-    let k2 : r2 < 2 ^ 64 = omega (arith, e2, and-le-r (bitOr r1 (r1 / 2 ^ 12)) 1095216660735) in
-    let s3 : Spread 16 64 (λ i. bit x (i * 4)) r3 = rw e3 (joined 8 32 16 64 24 (λ i. bit x (i * 4)) r2 65535 k2 s2 lows-4-3 (λ i l t. (omega arith, omega arith, omega arith)) (λ i l t u. (omega arith, omega arith, omega arith, omega arith))) in
-    let k3 : r3 < 2 ^ 64 = omega (arith, e3, and-le-r (bitOr r2 (r2 / 2 ^ 24)) 65535) in
-    all-of 4 x r3 16 s3 (λ i l. omega arith) (λ i l. omega arith)
 
 -- ---- w = 8
 

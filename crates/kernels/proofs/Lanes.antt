@@ -6,24 +6,12 @@ use native.Mathlib.Nat.{mod-lt}
 use native.Mathlib.Omega.{arith}
 use lib.Bits.{bitAnd, bitOr, and-block, and-mask}
 use lib.Pow.{pow-pos, split}
-use Rattle.memory.specs.Bits.{bit, bit-ext, bit-zero, bit-low, bit-high, bit-mod, bit-shr, bit-or}
+use Rattle.memory.specs.Bits.{bit, bit-ext, bit-zero, bit-low, bit-high, bit-mod, bit-shr, bit-or, bit-and}
 use Rattle.memory.specs.Cases.{bool?, either, lt?}
-use Rattle.memory.specs.Ranges.{any, any-at, any-ext}
-use Rattle.kernels.specs.Conjunction.{bit-and}
+use Rattle.memory.specs.Ranges.{any, any-ext, any-no, no-any}
 use Rattle.kernels.proofs.Bits.{bit-over, bit-top}
 
--- ---- whether any passes
-
-pub any-no : (f : ℕ → Bool) (n : ℕ) → ((i : ℕ) → i < n → f i ≡ false) → any f n ≡ false
-unfolding any
-any-no f zero h = refl
-any-no f (suc n) h = rw (h n (omega arith)) (any-no f n (λ i k. h i (omega arith)))
-
-pub no-any : (f : ℕ → Bool) (n i : ℕ) → any f n ≡ false → i < n → f i ≡ false
-no-any f n i e h =
-    either (bool? (f i))
-    (λ t. let z : true ≡ false = sym (any-at f n i h t) ∙ e in cc)
-    (λ t. t)
+-- ---- whether any bit is set
 
 -- a number that is not 0 has a bit
 some-bit : (k x : ℕ) → x < 2 ^ k → 0 < x → any (bit x) k ≡ true

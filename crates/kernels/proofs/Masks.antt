@@ -8,16 +8,14 @@ use native.Mathlib.Omega.{arith}
 use lib.Bits.{bitAnd, bitOr, bitXor, and-lt}
 use lib.Dec.{ltb}
 use borrow.Author.Tests.{lt-ltb, le-ltb}
-use Rattle.memory.specs.Bits.{bit, bitIn, bit-ext, bit-or, bit-shr}
+use Rattle.memory.specs.Bits.{bit, bitIn, bit-ext, bit-or, bit-shr, bit-and, bit-shl, bit-shl-low}
+use Rattle.memory.specs.Words.{Word64}
 use Rattle.memory.specs.Cases.{bool?, either, lt?}
-use Rattle.memory.specs.Ranges.{any, any-ext}
-use Rattle.kernels.specs.Conjunction.{bit-and}
-use Rattle.kernels.specs.Rows.{Word}
+use Rattle.memory.specs.Ranges.{any, any-ext, any-no, no-any}
 use Rattle.kernels.specs.Blocks.{Open}
 use Rattle.kernels.specs.Masks.{hasMask, Shut}
-use Rattle.kernels.proofs.Bits.{bit-shl, bit-shl-low, bit-over}
+use Rattle.kernels.proofs.Bits.{bit-over}
 use Rattle.kernels.proofs.Flips.{flip}
-use Rattle.kernels.proofs.Lanes.{any-no, no-any}
 
 -- ---- the bits of a mask that a word lacks
 
@@ -52,11 +50,11 @@ not-kept x m hx hm n =
 -- ---- four filters of 16 bits in a word
 
 pub lacks : (bytes : List ℕ) (at m mask w d z j : ℕ)
-    → ((i b : ℕ) → i < 4 → b < 16 → bit mask (16 * i + b) ≡ bit m b) → Word bytes (at + j * 8) w
+    → ((i b : ℕ) → i < 4 → b < 16 → bit mask (16 * i + b) ≡ bit m b) → Word64 bytes (at + j * 8) w
     → ((i : ℕ) → i < 64 → bit d i ≡ (bit mask i && not (bit w i)))
     → ((i : ℕ) → i < 4 → bit z (16 * i + 15) ≡ any (λ b. bit d (16 * i + b)) 16)
     → (i : ℕ) → i < 4 → bit z (16 * i + 15) ≡ not (hasMask bytes at 16 m (4 * j + i))
-unfolding Word hasMask
+unfolding Word64 hasMask
 lacks bytes at m mask w d z j M W D Z i h =
     Z i h
     ∙ (any-ext (λ b. bit d (16 * i + b)) (λ b. bit m b && not (bitIn bytes at ((4 * j + i) * 16 + b))) 16 own
@@ -108,9 +106,9 @@ module _ (gate : ℕ → Bool) (q r z : ℕ) (small : r < 2 ^ 64) (room : q < 16
 
 -- ---- a filter of 64 bits, a bit more below those of later words
 
-pub word-has : (bytes : List ℕ) (at m k x b : ℕ) → Word bytes (at + k * 8) x
+pub word-has : (bytes : List ℕ) (at m k x b : ℕ) → Word64 bytes (at + k * 8) x
     → bit b 0 ≡ not (any (λ i. bit m i && not (bit x i)) 64) → bit b 0 ≡ hasMask bytes at 64 m k
-unfolding Word hasMask
+unfolding Word64 hasMask
 word-has bytes at m k x b W e =
     e ∙ ap not (any-ext (λ i. bit m i && not (bit x i)) (λ i. bit m i && not (bitIn bytes at (k * 64 + i))) 64 own)
   where
@@ -132,8 +130,3 @@ open-more gate k k1 n n1 r b ek en small own R (suc i) h =
     let u : bit ((r * 2 ^ 1) % 2 ^ 64) (suc i) ≡ bit r i = rw s at (bit-shl r 1 64 i (omega arith)) in
     rw (bit-or ((r * 2 ^ 1) % 2 ^ 64) b (suc i), u, bit-over 1 b (suc i) small (omega arith), same-lt i n (suc i) n1 (omega arith) en)
     (or-false (bit r i) ∙ (R i (omega arith) ∙ ap (λ (y : ℕ). ltb i n && gate y) z))
-
--- none yet
-pub open-none : (gate : ℕ → Bool) (k n : ℕ) → n ≡ 0 → Open gate k n 0
-unfolding Open
-open-none gate k n e i h = rw (le-ltb i n (omega arith)) (bit-over 0 0 i (omega arith) (omega arith))

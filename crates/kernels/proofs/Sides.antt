@@ -5,11 +5,9 @@ use Prim.Native.Nat.{ℕ, _+_, _*_, _-_, _%_, _^_, _<_}
 use native.Mathlib.Omega.{arith}
 use lib.Bits.{bitAnd, bitOr}
 use borrow.Author.Tests.{lt-ltb, le-ltb}
-use Rattle.memory.specs.Bits.{bit, bit-or}
+use Rattle.memory.specs.Bits.{bit, bit-or, bit-and, bit-shl, bit-shl-low}
 use Rattle.memory.specs.Cases.{either, lt?}
 use Rattle.kernels.specs.Blocks.{Squeezed}
-use Rattle.kernels.specs.Conjunction.{bit-and}
-use Rattle.kernels.proofs.Bits.{bit-shl, bit-shl-low}
 use Rattle.kernels.proofs.Joins.{first-4}
 
 -- ---- halves

@@ -1,5 +1,3 @@
 pub mod Rows
 pub mod Blocks
-pub mod Conjunction
 pub mod Masks
-pub mod Exchanges

@@ -1,7 +1,8 @@
 // Fast passes over rows of bits: which filters have all of their bits, as the bits of words.
 ghost use mathlib.Core.Path.{_≡_};
-ghost use mathlib.Core.Bool.{Bool, true, false, _&&_, _||_, not};
-ghost use Prim.Native.Nat.{ℕ, _+_, _-_, _*_, _/_, _%_, _^_, _≤_, _<_, min};
+ghost use mathlib.Core.Bool.{true, false, _&&_, _||_, not};
+ghost use mathlib.Core.Logic.{_≢_};
+ghost use Prim.Native.Nat.{ℕ, _+_, _-_, _*_, _/_, _%_, _^_, _≤_, _<_};
 ghost use lib.Bits.{bitAnd, bitOr};
 ghost use lib.Count.{leadingZeros};
 ghost use lib.Dec.{ltb, eqb};
@@ -9,26 +10,13 @@ ghost use lib.ListN.{length, getD};
 ghost use Rattle.memory.specs.Bits.{bit, bitIn};
 ghost use Rattle.memory.specs.Lent.{before};
 ghost use Rattle.memory.specs.Ranges.{any};
-ghost use Rattle.kernels.specs.Rows.{allIn, Word, Words};
+ghost use Rattle.kernels.specs.Rows.{allIn, Words};
 ghost use Rattle.kernels.specs.Blocks.{Shows, Open, Upto, OpenBlock, Squeezed, BlockIn, GroupIn};
-ghost use Rattle.kernels.specs.Exchanges.{Apart, Exchanged};
-ghost use Rattle.kernels.specs.Masks.{hasMask, Shut};
+ghost use Rattle.kernels.specs.Masks.{hasMask, Had, Lacked};
+use words::bits;
+use words::numbers;
 
 // ---- words of 64 bits
-
-fn wide(x: u32) -> u64
-    ensures { λ r. ⌜ r ≡ x ⌝ }
-{
-    x as u64
-}
-
-// The eight bytes from `at` on, the lowest first: one load.
-fn get64(at: usize, s: &[u8]) -> u64
-    requires { ⌜ at + 8 ≤ length (now s) ⌝ }
-    ensures { λ r. ⌜ Word (before s) at r ⌝ }
-{
-    wide(words::get32(s, at)) + wide(words::get32(s, at + 4)) * 4294967296
-}
 
 // The zero bits above the highest set bit.
 fn zeros(y: u64) -> usize
@@ -71,53 +59,36 @@ pub fn without(bits: u64, f: usize) -> u64
 
 // ---- permutations of a word's bits
 
-// The bits that m has change places with those s further up.
-fn exchanged(x: u64, s: usize, m: u64) -> u64
-    requires { ⌜ (s < 64) × Apart s m ⌝ }
-    ensures { λ r. ⌜ Exchanged s m x r ⌝ }
-{
-    let d = (x ^ (x >> s)) & m;
-    let e = x ^ d;
-    e ^ (d << s)
-}
-
 // Bit 16 i + j becomes bit 4 j + i.
 fn interleaved(x: u64) -> u64
     ensures { λ r. ⌜ ((i j : ℕ) → i < 4 → j < 16 → bit r (4 * j + i) ≡ bit x (16 * i + j)) ⌝ }
 {
-    let a = exchanged(x, 30, 0x0000_0000_cccc_cccc);
-    let b = exchanged(a, 15, 0x0000_aaaa_0000_aaaa);
-    let c = exchanged(b, 24, 0x0000_0000_ff00_ff00);
-    exchanged(c, 12, 0x0000_f0f0_0000_f0f0)
+    let a = bits::exchanged(x, 30, 0x0000_0000_cccc_cccc);
+    let b = bits::exchanged(a, 15, 0x0000_aaaa_0000_aaaa);
+    let c = bits::exchanged(b, 24, 0x0000_0000_ff00_ff00);
+    bits::exchanged(c, 12, 0x0000_f0f0_0000_f0f0)
 }
 
 // Bit 4 i + j becomes bit 16 j + i.
-fn fourths(x: u64) -> u64
+fn by_fours(x: u64) -> u64
     ensures { λ r. ⌜ ((i j : ℕ) → i < 16 → j < 4 → bit r (16 * j + i) ≡ bit x (4 * i + j)) ⌝ }
 {
-    let a = exchanged(x, 12, 0x0000_f0f0_0000_f0f0);
-    let b = exchanged(a, 24, 0x0000_0000_ff00_ff00);
-    let c = exchanged(b, 15, 0x0000_aaaa_0000_aaaa);
-    exchanged(c, 30, 0x0000_0000_cccc_cccc)
+    let a = bits::exchanged(x, 12, 0x0000_f0f0_0000_f0f0);
+    let b = bits::exchanged(a, 24, 0x0000_0000_ff00_ff00);
+    let c = bits::exchanged(b, 15, 0x0000_aaaa_0000_aaaa);
+    bits::exchanged(c, 30, 0x0000_0000_cccc_cccc)
 }
 
 // Which of n filters, four to a word, are not shut.
 pub fn having(x: u64, n: usize) -> u64
     requires { ⌜ (0 < n) × (n ≤ 64) ⌝ }
-    ensures { λ r. ⌜ ((gate : ℕ → Bool) → Shut gate ((n + 3) / 4) x → Open gate 0 n r) ⌝ }
+    ensures { λ r. ⌜ Had x n r ⌝ }
 {
     let r = interleaved(x >> (16 - (n + 3) / 4));
     lowest(0xffff_ffff_ffff_ffff ^ r, n)
 }
 
 // ---- filters of whole bytes: a bit out of each
-
-// Which bit of its byte bit x of a row is.
-fn bit_place(x: usize) -> usize
-    ensures { λ r. ⌜ (r ≡ x % 8) × (r < 8) ⌝ }
-{
-    x % 8
-}
 
 // The bit of a byte that the mask has, in its place.
 fn masked(at: usize, mask: u64, bytes: &[u8]) -> u64
@@ -133,7 +104,7 @@ pub fn byte_bits(at: usize, low: usize, step: usize, n: usize, bytes: &[u8]) -> 
         × ((i : ℕ) → i < n → at + i * step < length (now bytes)) ⌝ }
     ensures { λ r. ⌜ (r < 2 ^ n) × ((i : ℕ) → i < n → bit r i ≡ bit (getD (before bytes) (at + i * step) 0) (low % 8)) ⌝ }
 {
-    let s = bit_place(low);
+    let s = numbers::bit_place(low);
     let mask: u64 = 1 << s;
     let mut r: u64 = 0;
     let mut o = at + n * step;
@@ -150,7 +121,7 @@ fn eight_bits(at: usize, low: usize, step: usize, bytes: &[u8]) -> u64
     requires { ⌜ at + 7 * step < length (now bytes) ⌝ }
     ensures { λ r. ⌜ (r < 256) × ((i : ℕ) → i < 8 → bit r i ≡ bit (getD (before bytes) (at + i * step) 0) (low % 8)) ⌝ }
 {
-    let s = bit_place(low);
+    let s = numbers::bit_place(low);
     let mask: u64 = 1 << s;
     let h = masked(at + 7 * step, mask, bytes);
     let g = masked(at + 6 * step, mask, bytes);
@@ -190,9 +161,9 @@ fn join(y: u64, s: usize, m: u64) -> u64
     (y | (y >> s)) & m
 }
 
-// Every w-th bit of a word, side by side.
+// Every w-th bit of a word, side by side; not at w = 4, which `quarters` does.
 fn squeeze(x: u64, w: usize) -> u64
-    requires { ⌜ ((e : ℕ) × (0 < e) × (e < 7) × (w ≡ 2 ^ e)) ⌝ }
+    requires { ⌜ ((e : ℕ) × (0 < e) × (e < 7) × (w ≡ 2 ^ e)) × (w ≢ 4) ⌝ }
     ensures { λ r. ⌜ Squeezed w x r ⌝ }
 {
     if w == 2 {
@@ -201,12 +172,6 @@ fn squeeze(x: u64, w: usize) -> u64
         let c = join(b, 4, 0x00ff_00ff_00ff_00ff);
         let d = join(c, 8, 0x0000_ffff_0000_ffff);
         return join(d, 16, 0x0000_0000_ffff_ffff);
-    }
-    if w == 4 {
-        let a = join(x & 0x1111_1111_1111_1111, 3, 0x0303_0303_0303_0303);
-        let b = join(a, 6, 0x000f_000f_000f_000f);
-        let c = join(b, 12, 0x0000_00ff_0000_00ff);
-        return join(c, 24, 0x0000_0000_0000_ffff);
     }
     if w == 8 {
         let a = join(x & 0x0101_0101_0101_0101, 7, 0x0003_0003_0003_0003);
@@ -240,7 +205,7 @@ fn quarters(a: u64, b: u64, c: u64, d: u64) -> u64
     let m: u64 = 0x1111_1111_1111_1111;
     let x = ((d & m) << 1) | (c & m);
     let y = (x << 1) | (b & m);
-    fourths((y << 1) | (a & m))
+    by_fours((y << 1) | (a & m))
 }
 
 // Which pairs of bits have one that is set: bit 2i for bits 2i and 2i + 1.
@@ -255,7 +220,7 @@ fn field_at(at: usize, low: usize, bytes: &[u8]) -> u64
     requires { ⌜ (at + 8 ≤ length (now bytes)) × (low < 64) ⌝ }
     ensures { λ r. ⌜ ((i : ℕ) → low + i < 64 → bit r i ≡ bitIn (before bytes) at (low + i)) ⌝ }
 {
-    get64(at, bytes) >> low
+    words::get64(bytes, at) >> low
 }
 
 // Eight words of a row.
@@ -317,7 +282,7 @@ fn more_words(
     low: &[usize],
     bytes: &[u8],
 ) -> u64
-    requires { ⌜ ((e : ℕ) × (0 < e) × (e < 7) × (w ≡ 2 ^ e)) × (64 / w * w ≡ 64)
+    requires { ⌜ ((e : ℕ) × (2 < e) × (e < 7) × (w ≡ 2 ^ e)) × (64 / w * w ≡ 64)
         × (n * 8 * (64 / w) ≤ 64) × (n ≤ 8) × (q < 2 ^ 60) ⌝ }
     requires { ⌜ ((b : ℕ) → b < n → BlockIn (now at) (now low) count (q + b * 8) (length (now bytes)))
         × ((i : ℕ) → i < count → getD (now low) i 0 < w) ⌝ }
@@ -358,16 +323,6 @@ fn passed(
     lowest(a, m)
 }
 
-// The lesser of two numbers.
-fn lesser(a: usize, b: usize) -> usize
-    ensures { λ r. ⌜ r ≡ min a b ⌝ }
-{
-    if a < b {
-        return a;
-    }
-    b
-}
-
 // Eight words: n filters from `first` on, at w = 8 and more, 64 of them to a word.
 fn wide_block(
     w: usize,
@@ -384,7 +339,7 @@ fn wide_block(
     let mut r = [0u64; 8];
     let mut j = 0;
     while j < (n + 63) / 64 {
-        let m = lesser(64, n - j * 64);
+        let m = numbers::lesser(64, n - j * 64);
         let y = passed(w, first + j * 64, m, count, at, low, bytes);
         r[j] = y;
         j += 1;
@@ -400,7 +355,7 @@ fn part(f: [u64; 8], n: usize) -> [u64; 8]
     let mut r = [0u64; 8];
     let mut j = 0;
     while j < (n + 63) / 64 {
-        let m = lesser(64, n - j * 64);
+        let m = numbers::lesser(64, n - j * 64);
         let y = lowest(f[j], m);
         r[j] = y;
         j += 1;
@@ -538,14 +493,13 @@ fn four_times(m: u64) -> u64
 // Which filters of 16 bits, four to a word, lack a bit of the mask: those of n words, after the ones of `start`.
 pub fn lacking(start: u64, m: u64, at: usize, n: usize, bytes: &[u8]) -> u64
     requires { ⌜ (m < 65536) × (at + n * 8 ≤ length (now bytes)) ⌝ }
-    ensures { λ r. ⌜ ((gate : ℕ → Bool) (q : ℕ) → q + n ≤ 16 → Shut gate q start
-        → ((g : ℕ) → g < 4 * n → gate (4 * q + g) ≡ hasMask (before bytes) at 16 m g) → Shut gate (q + n) r) ⌝ }
+    ensures { λ r. ⌜ Lacked start m at n (before bytes) r ⌝ }
 {
     let mask = four_times(m);
     let mut r = start;
     let mut j = 0;
     while j < n {
-        let d = missing(get64(at + j * 8, bytes), mask);
+        let d = missing(words::get64(bytes, at + j * 8), mask);
         let z = nonzero(d);
         r = (r >> 1) | z;
         j += 1;
@@ -572,7 +526,7 @@ pub fn words_with(m: u64, at: usize, n: usize, bytes: &[u8]) -> u64
     let mut k = n;
     while k > 0 {
         k -= 1;
-        let b = has_mask(get64(at + k * 8, bytes), m);
+        let b = has_mask(words::get64(bytes, at + k * 8), m);
         r = (r << 1) | b;
     }
     r

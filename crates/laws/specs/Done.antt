@@ -10,6 +10,11 @@ use Rattle.memory.specs.Cases.{either, bool?}
 use Rattle.layout.specs.Flash.{Flash, Op, apply, Planned, known, made, wipe, plannedFrom, opOn, planOps, fresh}
 use Rattle.layout.specs.Later.{freshPlan, laterPlan}
 
+-- a plan's operations are as many as it plans
+pub ops-length : (u : ℕ) (ps : List Planned) (c : Flash) → length (planOps u ps c) ≡ length ps
+ops-length u [] c = refl
+ops-length u (p ∷ ps) c = ap suc (ops-length u ps (apply u (opOn p c) c))
+
 -- how many count as done
 unfoldable pub doneCount : List ℕ → List Planned → ℕ
 doneCount spare [] = 0

@@ -22,11 +22,15 @@ pub length-deletion : (j : ℕ) → length (deletionBytes j) ≡ 4
 unfolding deletionBytes
 length-deletion j = length-words (j ∷ [])
 
--- ---- bytes of a key
+-- ---- the bytes of words
 
 pub entry-key : (key : Key) (j b : ℕ) → b < 4 → getD (entryBytes key j) (0 * 4 + b) 0 ≡ byteOf key b
 unfolding entryBytes
 entry-key key j b h = words-byte (key ∷ j ∷ []) 0 b (omega arith) h
+
+pub entry-number : (key : Key) (j b : ℕ) → b < 4 → getD (entryBytes key j) (1 * 4 + b) 0 ≡ byteOf j b
+unfolding entryBytes
+entry-number key j b h = words-byte (key ∷ j ∷ []) 1 b (omega arith) h
 
 pub deletion-number : (j b : ℕ) → b < 4 → getD (deletionBytes j) (0 * 4 + b) 0 ≡ byteOf j b
 unfolding deletionBytes

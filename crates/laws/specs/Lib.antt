@@ -2,6 +2,9 @@ pub mod SetLaws
 pub mod Apart
 pub mod ItemLaws
 pub mod SearchLaws
+pub mod Walks
+pub mod WalkLaws
+pub mod TopBits
 pub mod Units
 pub mod Sound
 pub mod Lengths

@@ -3,14 +3,14 @@ use mathlib.Core.Path.{_≡_, refl, sym, ap, _∙_}
 use mathlib.Core.List.{List, [], _∷_, _++_}
 use Prim.Native.Nat.{ℕ, _-_, _<_}
 use lib.ListN.{length, getD, take, replicate, List·getD-append}
-use Rattle.memory.specs.Lists.{length-tab}
+use Rattle.memory.specs.Lists.{length-tabulate}
 use Rattle.layout.specs.Hash.{Family, positions}
 
 module _ (h : Family) (k u : ℕ) (bytes : List ℕ) where
   -- exactly k of them
   pub length-positions : length (positions h k u bytes) ≡ k
   unfolding positions
-  length-positions = length-tab k _
+  length-positions = length-tabulate k _
 
   abbrev pub positionArray : List ℕ
   positionArray = positions h k u bytes ++ replicate (8 - k) 0

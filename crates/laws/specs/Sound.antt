@@ -2,12 +2,13 @@
 use mathlib.Core.Path.{_≡_, refl}
 use mathlib.Core.Bool.{true, _&&_, and-eq-true-iff}
 use Prim.Native.Nat.{ℕ, _*_, _^_, _≤_, _<_}
+use native.Mathlib.Nat.{mul-le-mul-right}
 use native.Mathlib.Omega.{arith}
 use lib.Dec.{leb}
 use borrow.Author.Tests.{leb-true}
-use Rattle.memory.specs.Lists.{tab, tabFrom}
-use Rattle.memory.specs.Ranges.{memb, memb-tab-all}
-use Rattle.layout.specs.Geometry.{Sizes, unitOf, sectorSizes, allowed}
+use Rattle.memory.specs.Lists.{tabulate, tabulateFrom}
+use Rattle.memory.specs.Ranges.{memb, memb-tabulate-all}
+use Rattle.layout.specs.Geometry.{Sizes, geometry, unitOf, sectorSizes, allowed, recordCapacity}
 use Rattle.laws.specs.Units.{UnitIs, unit-is}
 
 pub record SizesSound (sizes : Sizes) : Type 0 where
@@ -22,8 +23,8 @@ pub record SizesSound (sizes : Sizes) : Type 0 where
   pub k-le : (sizes .hashCount) ≤ 8
 
 -- the table's sizes are 16 times the first six powers of two
-table-is : sectorSizes ≡ tab 6 (λ e. 16 * 2 ^ e)
-unfolding tab tabFrom
+table-is : sectorSizes ≡ tabulate 6 (λ e. 16 * 2 ^ e)
+unfolding tabulate tabulateFrom
 table-is = refl
 
 abbrev SizeIs : ℕ → Type 0
@@ -35,7 +36,7 @@ sound sizes q =
     let p = and-eq-true-iff (memb (sizes .sectorSize) sectorSizes) _ .0 q in
     let m : memb (sizes .sectorSize) sectorSizes ≡ true = p .0 in
     let s : SizeIs (sizes .sectorSize)
-    = memb-tab-all SizeIs 6 (λ e. 16 * 2 ^ e) (λ e l. (e, l, refl)) (sizes .sectorSize) (rw table-is at m) in
+    = memb-tabulate-all SizeIs 6 (λ e. 16 * 2 ^ e) (λ e l. (e, l, refl)) (sizes .sectorSize) (rw table-is at m) in
     let r = and-eq-true-iff ((leb 1 (sizes .raBlocks)) && (leb (sizes .raBlocks) 4096)) _ .0 (p .1) in
     let rR = and-eq-true-iff (leb 1 (sizes .raBlocks)) _ .0 (r .0) in
     let t = and-eq-true-iff ((leb 1 (sizes .daBlocks)) && (leb (sizes .daBlocks) 4096)) _ .0 (r .1) in
@@ -62,3 +63,9 @@ module _ (sizes : Sizes) (ok : SizesSound sizes) where
 
   pub u-le : unitOf sizes ≤ 32
   u-le = unit .most
+
+  -- every record number is a number of three bytes
+  pub few-records : recordCapacity (geometry sizes) < 2 ^ 24
+  few-records =
+      let a : sizes .raBlocks * unitOf sizes ≤ 4096 * unitOf sizes = mul-le-mul-right (unitOf sizes) (ok .R-le) in
+      omega (arith, a, u-le)

@@ -8,7 +8,7 @@ use Prim.Native.Nat.{ℕ, _+_, _*_}
 use lib.ListN.{length, getD, replicate, set}
 use lib.Dec.{eqb}
 use lib.Count.{onesIn}
-use Rattle.memory.specs.Lists.{write, tab, tabFrom}
+use Rattle.memory.specs.Lists.{write, tabulate, tabulateFrom}
 use Rattle.memory.specs.Bits.{num, bit, pack}
 use Rattle.memory.specs.Power.{log2up}
 use Rattle.memory.specs.Ranges.{any, memb}
@@ -165,7 +165,7 @@ sevenKeys = write (replicate 384 0) 64 (wordsBytes (1 ∷ 0 ∷ 2 ∷ 1 ∷ 3 �
 pub new-entry-set :
     let filter : ℕ → ℕ = λ x. num (newFilter fnvFamily g 7 8 sevenKeys x) in
     filter 52 ∷ filter 58 ∷ filter 61 ∷ filter 11 ∷ filter 53 ∷ [] ≡ 1 ∷ 1 ∷ 1 ∷ 1 ∷ 0 ∷ []
-unfolding write wordsBytes put entryBytes pageFilter any memb positions tab tabFrom fnvFrom
+unfolding write wordsBytes put entryBytes pageFilter any memb positions tabulate tabulateFrom fnvFrom
 new-entry-set = refl
 
 -- ---- "built out of L1 and set i-1", "page p holds bits pw to pw+w-1": at S = 16 bit 40 of filter 14 of the round, slot 6 of flush 1, is the

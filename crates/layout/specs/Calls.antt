@@ -35,6 +35,13 @@ pub data Call : Type 0 where
   delete : Key → Call
   lookup : Key → Call
 
+-- the key that it names
+abbrev pub keyOf : Call → Key
+keyOf (insert r) = r .key
+keyOf (update r) = r .key
+keyOf (delete key) = key
+keyOf (lookup key) = key
+
 pub data Outcome : Type 0 where
   accepted : Outcome
   -- the record's place and its 16 bytes

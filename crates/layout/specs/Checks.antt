@@ -7,12 +7,12 @@ use Prim.Native.Nat.{ℕ, suc, _+_, _*_}
 use lib.ListN.{length, getD, take, drop, replicate}
 use lib.Dec.{eqb}
 use lib.Count.{onesIn}
-use Rattle.memory.specs.Lists.{write, tab, tabFrom, pieces}
+use Rattle.memory.specs.Lists.{write, tabulate, tabulateFrom, pieces}
 use Rattle.memory.specs.Bits.{num, bit, pack}
 use Rattle.memory.specs.Power.{log2up}
 use Rattle.memory.specs.Words.{bytes4, wordsBytes}
 use Rattle.memory.specs.Ranges.{any, memb, allOf}
-use Rattle.layout.specs.Keys.{sameKey}
+use Rattle.layout.specs.Keys.{Key, sameKey}
 use Rattle.layout.specs.Geometry.{State, Geometry, sizesOf, stateOf, geometry, allowed, indexBlock, sector, page, block}
 use Rattle.layout.specs.Flash.{flashOf, Op, program, erase, fresh, allFresh, apply, Planned, known, made, wipe, planOps}
 use Rattle.layout.specs.Hash.{fnvFrom, fnvFamily, positions}
@@ -137,10 +137,10 @@ pub programmed : apply 1 (program 2 (replicate 16 7)) (flashOf (replicate 64 255
 programmed = refl
 
 -- a set's sector takes its bytes when it is programmed: the second sees what the first left
-pub made-late : planOps 1 (made 0 (λ main. replicate 16 1) ∷ made 1 (λ main. tab 16 (λ y. getD main 0 0 + y)) ∷ [])
+pub made-late : planOps 1 (made 0 (λ main. replicate 16 1) ∷ made 1 (λ main. tabulate 16 (λ y. getD main 0 0 + y)) ∷ [])
     (flashOf (replicate 64 255) (replicate 4 255))
-    ≡ program 0 (replicate 16 1) ∷ program 1 (tab 16 (λ y. 1 + y)) ∷ []
-unfolding write tab tabFrom
+    ≡ program 0 (replicate 16 1) ∷ program 1 (tabulate 16 (λ y. 1 + y)) ∷ []
+unfolding write tabulate tabulateFrom
 made-late = refl
 
 -- ---- the search
@@ -187,7 +187,7 @@ nine =
       ram = write (replicate 384 0) 128 (wordsBytes (2 ∷ []));
     }
 
-abbrev among : ℕ → ℕ → ℕ → Option Stop
+abbrev among : ℕ → ℕ → Key → Option Stop
 among n₀ d₀ key = searchAt fnvFamily (geometry (sizesOf 16 1 1 3)) nine n₀ d₀ key .stop
 
 -- the last of the first n₀ entries is on flash by now; a deletion of later does not count, nor does a record
@@ -223,14 +223,14 @@ testOf d₀ j = testDeletion fnvFamily (geometry (sizesOf 16 1 1 3)) tested d₀
 pub deletion-tests : testOf 17 5 ∷ testOf 17 3 ∷ testOf 17 12 ∷ testOf 17 0 ∷ testOf 17 33 ∷ testOf 16 5 ∷ testOf 8 12 ∷ testOf 8 3 ∷ []
     ≡ reply (some (found 5)) 0 ∷ reply (some (found 3)) 1 ∷ reply (some (found 12)) 1 ∷ reply none 0 ∷ reply none 1 ∷ reply none 0
     ∷ reply none 0 ∷ reply (some (found 3)) 0 ∷ []
-unfolding write wordsBytes itemWord scan searchPages tryDeletion maybeDeleted testDeletion allOf filterBit bitAt bit positions tab tabFrom
+unfolding write wordsBytes itemWord scan searchPages tryDeletion maybeDeleted testDeletion allOf filterBit bitAt bit positions tabulate tabulateFrom
     fnvFrom
 deletion-tests = refl
 
 -- the numbers 3, 5 and 12 of its entries are deleted, 0 is not: of the four tests two open the page
 pub da-pages : daPagesAt fnvFamily (geometry (sizesOf 16 1 1 3)) tested 20 17 7 ≡ 2
 unfolding write wordsBytes sameKey itemWord scan scanCost searchPages tryDeletion maybeDeleted testDeletion tryAt tryCost daPagesAt allOf
-    filterBit bitAt bit positions tab tabFrom fnvFrom
+    filterBit bitAt bit positions tabulate tabulateFrom fnvFrom
 da-pages = refl
 
 -- a lookup tells both counts, that of key 7 those of its search in RAM alone; with all bits set in the SKA page, one of key 9 opens both
@@ -243,7 +243,7 @@ bothCounts key =
 
 pub lookup-counts : bothCounts 7 ∷ bothCounts 9 ∷ [] ≡ (0 ∷ 2 ∷ []) ∷ (2 ∷ 0 ∷ []) ∷ []
 unfolding write wordsBytes sameKey itemWord scan scanCost searchPages pagesCost tryDeletion maybeDeleted testDeletion tryAt tryCost maybeIn
-    searchAt daPagesAt lookupAfter allOf filterBit bitAt bit positions tab tabFrom fnvFrom
+    searchAt daPagesAt lookupAfter allOf filterBit bitAt bit positions tabulate tabulateFrom fnvFrom
 lookup-counts = refl
 
 -- "opening a page only if its filter, .. has all three bits": filter 0 of one, in RAM, has bits 2, 5 and 11
@@ -265,7 +265,7 @@ filled =
     (write (replicate 384 0) 128 (wordsBytes (1 ∷ 2 ∷ 3 ∷ 4 ∷ 17 ∷ 18 ∷ 19 ∷ 20 ∷ 9 ∷ 10 ∷ 11 ∷ 12 ∷ 25 ∷ 26 ∷ 27 ∷ [])))
 
 pub filters-put : drop 128 filled ≡ replicate 192 0 ++ pairPage
-unfolding write wordsBytes deletionBytes put pieces pack halfFilter any memb positions tab tabFrom fnvFrom deletionRam
+unfolding write wordsBytes deletionBytes put pieces pack halfFilter any memb positions tabulate tabulateFrom fnvFrom deletionRam
 filters-put = refl
 
 -- full pages alone have filters
@@ -366,23 +366,23 @@ deletions = refl
 -- ---- the positions of a key: three at S = 16, 512 and 64, one and eight at S = 16
 
 pub positions-7 : positions fnvFamily 3 1 (bytes4 7) ≡ 11 ∷ 2 ∷ 5 ∷ []
-unfolding positions tab tabFrom fnvFrom
+unfolding positions tabulate tabulateFrom fnvFrom
 positions-7 = refl
 
 pub positions-7-one : positions fnvFamily 1 1 (bytes4 7) ≡ 11 ∷ []
-unfolding positions tab tabFrom fnvFrom
+unfolding positions tabulate tabulateFrom fnvFrom
 positions-7-one = refl
 
 pub positions-7-eight : positions fnvFamily 8 1 (bytes4 7) ≡ 11 ∷ 2 ∷ 5 ∷ 4 ∷ 7 ∷ 14 ∷ 1 ∷ 0 ∷ []
-unfolding positions tab tabFrom fnvFrom
+unfolding positions tabulate tabulateFrom fnvFrom
 positions-7-eight = refl
 
 pub positions-7-wide : positions fnvFamily 3 32 (bytes4 7) ≡ 315 ∷ 98 ∷ 261 ∷ []
-unfolding positions tab tabFrom fnvFrom
+unfolding positions tabulate tabulateFrom fnvFrom
 positions-7-wide = refl
 
 pub positions-bytes : positions fnvFamily 3 4 (bytes4 16909060) ≡ 232 ∷ 213 ∷ 230 ∷ []
-unfolding positions tab tabFrom fnvFrom
+unfolding positions tabulate tabulateFrom fnvFrom
 positions-bytes = refl
 
 -- ---- a filter: some bits of that of a page with the keys 1 to 8, and its bytes in slot 2 of the SKA page
@@ -394,7 +394,7 @@ abbrev pageBit : ℕ → ℕ
 pageBit x = num (pageFilter fnvFamily (geometry (sizesOf 16 1 1 3)) keyPage x)
 
 pub filter-bits : pageBit 0 ∷ pageBit 1 ∷ pageBit 52 ∷ pageBit 53 ∷ [] ≡ 0 ∷ 1 ∷ 1 ∷ 0 ∷ []
-unfolding write wordsBytes pageFilter any memb positions tab tabFrom fnvFrom
+unfolding write wordsBytes pageFilter any memb positions tabulate tabulateFrom fnvFrom
 filter-bits = refl
 
 -- the two filters of a DA page with the numbers 1 to 16, "first half first"
@@ -409,12 +409,12 @@ halfBit i x = num (halfFilter fnvFamily (geometry (sizesOf 16 1 1 3)) i numberPa
 pub half-bits : halfBit 0 0 ∷ halfBit 0 1 ∷ halfBit 0 3 ∷ halfBit 0 61 ∷ halfBit 0 62 ∷ halfBit 1 0 ∷ halfBit 1 1 ∷ halfBit 1 3
     ∷ halfBit 1 61 ∷ halfBit 1 62 ∷ []
     ≡ 0 ∷ 1 ∷ 0 ∷ 1 ∷ 0 ∷ 0 ∷ 0 ∷ 1 ∷ 0 ∷ 1 ∷ []
-unfolding write wordsBytes halfFilter any memb positions tab tabFrom fnvFrom
+unfolding write wordsBytes halfFilter any memb positions tabulate tabulateFrom fnvFrom
 half-bits = refl
 
 pub filter-bytes : take 32 (withFilter 1 (record { first = 0; ska = 0 }) 2 (λ x. memb x (0 ∷ 9 ∷ 18 ∷ 31 ∷ [])) (replicate 64 7))
     ≡ 7 ∷ 7 ∷ 7 ∷ 7 ∷ 1 ∷ 2 ∷ 7 ∷ 7 ∷ 7 ∷ 7 ∷ 7 ∷ 7 ∷ 7 ∷ 7 ∷ 7 ∷ 7 ∷ 7 ∷ 7 ∷ 7 ∷ 7 ∷ 4 ∷ 128 ∷ 7 ∷ 7 ∷ 7 ∷ 7 ∷ 7 ∷ 7 ∷ 7 ∷ 7 ∷ 7 ∷ 7 ∷ []
-unfolding pieces write tab tabFrom pack memb
+unfolding pieces write tabulate tabulateFrom pack memb
 filter-bytes = refl
 
 -- two filters of four bits to a row of two bytes: bit 3 of the second is bit 7, past the filters there are zeros

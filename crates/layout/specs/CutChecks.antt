@@ -5,7 +5,7 @@ use mathlib.Core.List.{List, [], _∷_, _++_}
 use Prim.Native.Nat.{ℕ, _+_, _*_}
 use lib.ListN.{length, getD, replicate, set}
 use lib.Count.{onesIn}
-use Rattle.memory.specs.Lists.{write, tab, tabFrom, pieces}
+use Rattle.memory.specs.Lists.{write, tabulate, tabulateFrom, pieces}
 use Rattle.memory.specs.Bits.{num}
 use Rattle.memory.specs.Ranges.{memb}
 use Rattle.memory.specs.Words.{wordsBytes}
@@ -283,7 +283,7 @@ pub goes-on : resumedBy 0 ∷ resumedBy 1 ∷ resumedBy 2 ∷ resumedBy 3 ∷ []
 unfolding restartFor callAgain judgeFirst badState allowed memb tooShort pages pendingIn headerWord header headerBytes wordsBytes write
     call changeBy commit allFresh commitLater laterPlan freshPlan fresh onesIn insertionPlan insertionRam deletionPlan searchAt
     searchPages scan tryAt itemWord
-    sameKey recordBytes entryBytes put pieces tab tabFrom
+    sameKey recordBytes entryBytes put pieces tabulate tabulateFrom
 goes-on = refl
 
 -- what is told of it with b steps: whether all were done, and how many; a restart stores no intent
@@ -306,5 +306,5 @@ pub cut-steps : toldOf (restartCut fnvFamily 1 waiting) ∷ toldOf (restartCut f
     ≡ (0 ∷ 1 ∷ []) ∷ (1 ∷ 3 ∷ []) ∷ (0 ∷ 0 ∷ []) ∷ (0 ∷ 2 ∷ []) ∷ (1 ∷ 23 ∷ []) ∷ []
 unfolding restartFor callFor formatFor callAgain judgeFirst badState allowed memb tooShort pages pendingIn headerWord header headerBytes
     wordsBytes write call format formatted changeBy commit allFresh commitLater laterPlan freshPlan fresh onesIn insertionPlan insertionRam
-    deletionPlan searchAt searchPages scan tryAt itemWord sameKey recordBytes entryBytes put pieces tab tabFrom
+    deletionPlan searchAt searchPages scan tryAt itemWord sameKey recordBytes entryBytes put pieces tabulate tabulateFrom
 cut-steps = refl

@@ -5,6 +5,7 @@ use Prim.Native.Nat.{ℕ, zero, suc, _+_, _-_, _*_, _/_, _%_}
 use lib.ListN.{length, getD}
 use Rattle.memory.specs.Bits.{num}
 use Rattle.memory.specs.Power.{log2up}
+use Rattle.layout.specs.Keys.{Key}
 use Rattle.layout.specs.Geometry.{Geometry, sizesOf, geometry, blocks, indexBlock, recordCapacity, sectorSizes, sector, page}
 use Rattle.layout.specs.Geometry.{recordsPerPage, entriesPerPage, filterBits, block, deletionsPerPage, deletionsPerFilter}
 use Rattle.layout.specs.Geometry.{fourthSize, sideBlocks, fullSets, deletionSets, ramSize, deletionCapacity}
@@ -77,11 +78,11 @@ abbrev entriesInRam : ℕ → ℕ
 entriesInRam zero = 0
 entriesInRam (suc j) = num (itemPlace 1 (KA g16) 1023 j .inRam) + entriesInRam j
 
-abbrev oneMore : Family → ℕ → List ℕ → List Planned
+abbrev oneMore : Family → Key → List ℕ → List Planned
 oneMore h key bytes = insertionPlan h g16 1023 key bytes []
 
 -- the last line's insert is of any record, whatever the hash functions
-abbrev pub examples : Family → ℕ → List ℕ → List Line
+abbrev pub examples : Family → Key → List ℕ → List Line
 examples h key bytes =
     -- FNV-1a of nothing, and of the letter a
     line (fnv1a []) 0x811C9DC5
@@ -125,7 +126,7 @@ examples h key bytes =
     ∷ line (getD (blocksOf (oneMore h key bytes)) 0 0) (indexBlock g16)
     ∷ []
 
-pub examples-hold : (h : Family) (key : ℕ) (bytes : List ℕ) → computed (examples h key bytes) ≡ expected (examples h key bytes)
+pub examples-hold : (h : Family) (key : Key) (bytes : List ℕ) → computed (examples h key bytes) ≡ expected (examples h key bytes)
 unfolding fnvFrom log2up insertionPlan flushAndBuild
 examples-hold h key bytes = refl
 

@@ -2,7 +2,7 @@
 use mathlib.Core.List.{List, [], _∷_}
 use Prim.Native.Nat.{ℕ, _+_, _*_, _%_, _^_}
 use lib.Bits.{bitXor}
-use Rattle.memory.specs.Lists.{tab}
+use Rattle.memory.specs.Lists.{tabulate}
 use Rattle.layout.specs.Geometry.{sector}
 
 -- "exclusive-or, then multiply by 16777619, keeping 32 bits", from h over the bytes
@@ -24,4 +24,4 @@ fnvFamily j bytes = fnv1a (j ∷ bytes)
 
 -- the k positions of some bytes: "(h0 mod 4) × S + (hj mod S) for j = 1, 2, 3"; §2: with k "wherever 01 says three"
 unfoldable pub positions : Family → ℕ → ℕ → List ℕ → List ℕ
-positions h k u bytes = tab k (λ j. h 0 bytes % 4 * sector u + h (j + 1) bytes % sector u)
+positions h k u bytes = tabulate k (λ j. h 0 bytes % 4 * sector u + h (j + 1) bytes % sector u)

@@ -5,7 +5,7 @@ use mathlib.Core.List.{List, [], _++_}
 use Prim.Native.Nat.{ℕ, zero, suc, _+_, _-_, _*_, _/_, _%_, _^_}
 use lib.ListN.{getD}
 use lib.Dec.{ltb, eqb}
-use Rattle.memory.specs.Lists.{pieces, tab}
+use Rattle.memory.specs.Lists.{pieces, tabulate}
 use Rattle.memory.specs.Bits.{bit, pack}
 use Rattle.memory.specs.Power.{log2up}
 use Rattle.layout.specs.Geometry.{sectorsPerPage, pagesPerBlock, sectorsPerBlock}
@@ -141,7 +141,7 @@ module _ (u : ℕ) where
     -- sector i of flush t: sector t mod 4 of page 4i + floor(t/4), which is sector t + 16 i of L1
     abbrev pub flushSector : ℕ → List ℕ → ℕ → Planned
     flushSector t ram i =
-        known (ix .first * sectorsPerBlock + t + i * flushesPerRound) (tab (sector u) (λ y. getD ram (ix .ska + (i * sector u + y)) 0))
+        known (ix .first * sectorsPerBlock + t + i * flushesPerRound) (tabulate (sector u) (λ y. getD ram (ix .ska + (i * sector u + y)) 0))
 
     -- byte y of the j-th sector of set number c + 2, "built out of L1 and set i-1" as their bits stand
     unfoldable pub setByte : List ℕ → ℕ → ℕ → ℕ → ℕ → ℕ
@@ -155,7 +155,7 @@ module _ (u : ℕ) where
 
     -- sector j of the next set, with the bits as they stand when it is programmed
     abbrev pub setSector : ℕ → ℕ → ℕ → Planned
-    setSector z c j = made (setBlock z c * sectorsPerBlock + j) (λ main. tab (sector u) (setByte main z c j))
+    setSector z c j = made (setBlock z c * sectorsPerBlock + j) (λ main. tabulate (sector u) (setByte main z c j))
 
     -- "set pages, each rising; last the erases, L1, then the blocks of set i-1"; last of an index: since §5 a call may have two
     abbrev pub buildPlan : ℕ → ℕ → List Planned

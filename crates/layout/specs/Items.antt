@@ -4,7 +4,7 @@ use mathlib.Core.List.{List, [], _∷_}
 use Prim.Native.Nat.{ℕ, _+_, _*_, _/_, _%_}
 use lib.ListN.{getD, replicate}
 use lib.Dec.{ltb, eqb}
-use Rattle.memory.specs.Lists.{write, part, tab}
+use Rattle.memory.specs.Lists.{write, part, tabulate}
 use Rattle.memory.specs.Words.{word, wordsBytes}
 use Rattle.layout.specs.Keys.{wordSize, Key}
 use Rattle.layout.specs.Geometry.{Geometry, sectorsPerPage, sectorsPerBlock, sector, page, block}
@@ -101,7 +101,7 @@ fills a n = eqb (n % a .perPage + 1) (a .perPage)
 abbrev pub pageSector : ℕ → Area → ℕ → List ℕ → ℕ → Planned
 pageSector u a n ram j =
     known (a .first * sectorsPerBlock + n / a .perPage * sectorsPerPage + j)
-    (tab (sector u) (λ y. getD ram (a .ram + (j * sector u + y)) 0))
+    (tabulate (sector u) (λ y. getD ram (a .ram + (j * sector u + y)) 0))
 
 -- a RAM page from byte `at` on zeroed
 abbrev pub zeroPage : ℕ → ℕ → List ℕ → List ℕ

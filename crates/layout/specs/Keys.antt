@@ -15,8 +15,8 @@ abbrev pub Key : Type 0
 Key = ℕ
 
 -- "All 2^32 keys are allowed"
-abbrev pub KeyOk : Key → Type 0
-KeyOk k = k < 2 ^ 32
+pub record KeyOk (k : Key) : Type 0 where
+  pub level-lt : k < 2 ^ 32
 
 -- do two keys name the same level
 unfoldable pub sameKey : Key → Key → Bool

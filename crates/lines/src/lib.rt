@@ -1,4 +1,4 @@
-// What a line of a script does to a volume: its request is performed and answered, and the volume is passed on to the next line.
+// What a line of a script does to a volume: its command is performed and answered, and the volume is passed on to the next line.
 // Document 01, "Replay program".
 ghost use mathlib.Core.Path.{_≡_};
 ghost use Prim.Native.Nat.{_≤_};
@@ -6,47 +6,49 @@ ghost use lib.ListN.{length};
 ghost use Rattle.memory.specs.Lent.{before, after};
 ghost use Rattle.layout.specs.Items.{recordOf};
 ghost use Rattle.layout.specs.Calls.{lookup};
+ghost use Rattle.keys.specs.Key.{keyIs};
 ghost use Rattle.state.specs.Contract.{recordIs, volume, given};
-ghost use Rattle.script.specs.Lines.{call};
-ghost use Rattle.script.specs.Values.{requestOf, answerOf};
+ghost use Rattle.script.specs.Lines.{lineKey, call};
+ghost use Rattle.script.specs.Values.{commandOf, answerOf};
 ghost use Rattle.script.specs.Script.{perform};
-ghost use Rattle.lines.specs.Contract.{replyOf, changeAnswer, afterLine, answerLine};
+ghost use Rattle.lines.specs.Contract.{performedOf, changeAnswer, afterLine, answerLine};
 use geometry::Sizes;
 use geometry::areas;
-use script::Request;
+use keys::Key;
+use script::Command;
 use script::answers::Answer;
 use state::Change;
 use state::Record;
 use state::State;
 
-// ---- requests
+// ---- commands
 
-// The state after a request, and its answer.
-pub struct Reply {
+// The state after a command, and its answer.
+pub struct Performed {
     pub state: State,
     pub answer: Answer,
 }
 
 // A change is answered by n and d, or by the number of its refusal.
-fn after_change(c: Change) -> Reply
+fn after_change(c: Change) -> Performed
     ensures { λ r. ⌜ r ≡ record { state = c .state; answer = changeAnswer c } ⌝ }
 {
     let s = c.state;
     if c.refusal == state::ACCEPTED {
-        return Reply {
+        return Performed {
             state: s,
             answer: Answer::Ok(s.records, s.deletions),
         };
     }
-    Reply {
+    Performed {
         state: s,
         answer: Answer::No(c.refusal),
     }
 }
 
 // The answer to a lookup; a hit's moves are its record's second word.
-fn lookup<'a>(s: State, key: u32, main: &'a [u8], spare: &[u8], ram: &'a [u8]) -> Answer
-    ensures { λ r. ⌜ answerOf r ≡ perform (given s main spare ram) (call (lookup key)) .answer ⌝ }
+fn lookup<'a>(s: State, key: Key, main: &'a [u8], spare: &[u8], ram: &'a [u8]) -> Answer
+    ensures { λ r. ⌜ answerOf r ≡ perform (given s main spare ram) (call (lookup (keyIs key))) .answer ⌝ }
 {
     let mut numbers = [0u64; 4];
     let bytes = lookup::lookup(s, key, main, spare, ram, &mut numbers);
@@ -62,10 +64,11 @@ fn lookup<'a>(s: State, key: u32, main: &'a [u8], spare: &[u8], ram: &'a [u8]) -
     Answer::Hit(words::get32(bytes, areas::MOVES_AT), count)
 }
 
-// A line's record: goal and free word are 0.
-fn level(key: u32, moves: u32) -> Record
-    ensures { λ r. ⌜ recordIs r ≡ recordOf key moves 0 0 ⌝ }
+// The record of a line: its goal and free word are 0.
+fn level(number: u32, moves: u32) -> Record
+    ensures { λ r. ⌜ recordIs r ≡ recordOf (lineKey number) moves 0 0 ⌝ }
 {
+    let key = Key { level: number };
     Record {
         key,
         moves,
@@ -74,12 +77,12 @@ fn level(key: u32, moves: u32) -> Record
     }
 }
 
-// A request on a volume.
-pub fn perform(s: State, q: Request, main: &mut [u8], spare: &mut [u8], ram: &mut [u8]) -> Reply
-    ensures { λ r. ⌜ replyOf r (after main) (after spare) (after ram) ≡ perform (given s main spare ram) (requestOf q) ⌝ }
+// A command on a volume.
+pub fn perform(s: State, q: Command, main: &mut [u8], spare: &mut [u8], ram: &mut [u8]) -> Performed
+    ensures { λ r. ⌜ performedOf r (after main) (after spare) (after ram) ≡ perform (given s main spare ram) (commandOf q) ⌝ }
 {
     match q {
-        Request::Format(sector_size, ra_blocks, da_blocks) => {
+        Command::Format(sector_size, ra_blocks, da_blocks) => {
             let sizes = Sizes {
                 sector_size,
                 ra_blocks,
@@ -89,26 +92,26 @@ pub fn perform(s: State, q: Request, main: &mut [u8], spare: &mut [u8], ram: &mu
             let c = format::format(s, sizes, main, spare, ram);
             return after_change(c);
         }
-        Request::Insert(key, moves) => {
-            let record = level(key, moves);
+        Command::Insert(number, moves) => {
+            let record = level(number, moves);
             let c = calls::insert(s, record, main, spare, ram);
             return after_change(c);
         }
-        Request::Update(key, moves) => {
-            let record = level(key, moves);
+        Command::Update(number, moves) => {
+            let record = level(number, moves);
             let c = calls::update(s, record, main, spare, ram);
             return after_change(c);
         }
-        Request::Delete(key) => {
-            let c = calls::delete(s, key, main, spare, ram);
+        Command::Delete(number) => {
+            let c = calls::delete(s, Key { level: number }, main, spare, ram);
             return after_change(c);
         }
-        Request::Lookup(key) => {
-            let answer = lookup(s, key, main, spare, ram);
-            return Reply { state: s, answer };
+        Command::Lookup(number) => {
+            let answer = lookup(s, Key { level: number }, main, spare, ram);
+            return Performed { state: s, answer };
         }
-        Request::Bad => {
-            return Reply {
+        Command::Bad => {
+            return Performed {
                 state: s,
                 answer: Answer::Bad,
             };
@@ -124,7 +127,7 @@ pub struct LineReply {
     pub length: usize,
 }
 
-// A line on a volume: the request is performed and its answer written at the start of `out`.
+// A line on a volume: the command is performed and its answer written at the start of `out`.
 pub fn answer_line(
     s: State,
     line: &[u8],
@@ -151,13 +154,13 @@ pub fn answer_line(
 // ---- the volume between lines
 
 // A volume between two lines: its state. The bytes are lent beside it.
-pub struct Volume {
+pub struct Held {
     pub state: State,
 }
 
 // A line on the volume, which is passed on from one line to the next.
 pub fn answer_on(
-    v: &mut Volume,
+    v: &mut Held,
     line: &[u8],
     main: &mut [u8],
     spare: &mut [u8],
@@ -187,7 +190,7 @@ pub fn answer_next(
     ensures { λ r. ⌜ afterLine r (after main) (after spare) (after ram) (after out)
         ≡ answerLine (given s main spare ram) (before line) (before out) ⌝ }
 {
-    let mut v = Volume { state: s };
+    let mut v = Held { state: s };
     let n = answer_on(&mut v, line, main, spare, ram, out);
     LineReply {
         state: v.state,

@@ -11,7 +11,7 @@ use Rattle.layout.specs.Geometry as layout
 use Rattle.layout.specs.Hash.{fnvFamily}
 use Rattle.layout.specs.Refusals as refusal
 use Rattle.layout.specs.Search.{Stop, found, corrupt}
-use Rattle.layout.specs.Calls.{Volume, Call, Outcome, accepted, hit, miss, refused, Result, refuse, badState, tooShort, judgeFirst, search}
+use Rattle.layout.specs.Calls.{keyOf, Volume, Call, Outcome, accepted, hit, miss, refused, Result, refuse, badState, tooShort, judgeFirst, search}
 use Rattle.layout.specs.Header.{pages, onPages, kindIn, intended}
 use Rattle.layout.specs.Budgets as budgets
 use Rattle.layout.specs.Budgets.{Step, callSteps, resultOf, callFor, callCut}
@@ -19,12 +19,12 @@ use Rattle.layout.specs.Several.{putCall}
 use Rattle.laws.specs.StepLaws.{last-length, taken-enough}
 use Rattle.geometry.specs.Shape.{geometryFor}
 use Rattle.geometry.specs.declared.Geometry.{Geometry}
+use Rattle.keys.specs.Key.{keyIs}
 use Rattle.state.specs.Contract.{recordIs, callOf, CutEffect, cutOf}
 use Rattle.state.specs.declared.Record.{Record}
 use Rattle.state.specs.declared.Request.the-variants.{Update}
 use Rattle.calls.specs.declared.Resolved.{Resolved}
 use Rattle.calls.specs.declared.Resolved.the-variants.{Refused, Absent, Live}
-use Rattle.calls.specs.Request.{keyOf}
 use Rattle.calls.specs.Resolve.{stopped, resolvedOf}
 use Rattle.tab.specs.Grammar.{Row}
 use Rattle.load.specs.Contract.{rowRequest}
@@ -33,7 +33,7 @@ use Rattle.load.specs.LoadLaws.{row-result}
 use Rattle.calls.specs.Few.{few-ops}
 
 -- the level is the row's, whichever it is
-pub row-key : (r : Record) (o : Resolved) → keyOf (rowRequest r o) ≡ r .key
+pub row-key : (r : Record) (o : Resolved) → keyOf (callOf (rowRequest r o)) ≡ keyIs (r .key)
 row-key r (Refused i) = refl
 row-key r (Absent g) = refl
 row-key r (Live g j) = refl
@@ -59,26 +59,26 @@ module _ (b : ℕ) (v : Volume) (r : Record) where
   alike i c d e = refused-cut b i v c (e c) ∙ sym (refused-cut b i v d (e d))
 
   -- else both go by the same search
-  searched : (g : Geometry) (o : Option Stop) → search fnvFamily (layout.geometry (v .state .sizes)) (onPages v) (r .key) .stop ≡ o
+  searched : (g : Geometry) (o : Option Stop) → search fnvFamily (layout.geometry (v .state .sizes)) (onPages v) (keyIs (r .key)) .stop ≡ o
       → callOf (rowRequest r (stopped g o)) ≡ putCall fnvFamily (onPages v) (recordIs r)
   unfolding putCall
   searched g none e = rw e
   searched g (some corrupt) e = rw e
   searched g (some (found j)) e = rw e
 
-  pub row-cut : cutFor (callOf (rowRequest r (resolvedOf v (r .key)))) ≡ cutFor (putCall fnvFamily (onPages v) (recordIs r))
+  pub row-cut : cutFor (callOf (rowRequest r (resolvedOf v (keyIs (r .key))))) ≡ cutFor (putCall fnvFamily (onPages v) (recordIs r))
   unfolding judgeFirst
   row-cut = by (badState (v .state)) short idle refl refl refl
     where
       by : (a t k : Bool) → badState (v .state) ≡ a → short ≡ t → idle ≡ k
-          → cutFor (callOf (rowRequest r (resolvedOf v (r .key)))) ≡ cutFor (putCall fnvFamily (onPages v) (recordIs r))
+          → cutFor (callOf (rowRequest r (resolvedOf v (keyIs (r .key))))) ≡ cutFor (putCall fnvFamily (onPages v) (recordIs r))
       by true t k ea et ek = alike refusal.badState _ _ (λ x. rw ea)
       by false true k ea et ek = alike refusal.tooShort _ _ (λ x. rw (ea, et))
       by false false false ea et ek = alike refusal.pending _ _ (λ x. rw (ea, et, ek))
       by false false true ea et ek =
           let g : Geometry = geometryFor (v .state .sizes) in
-          let met : Option Stop = search fnvFamily (layout.geometry (v .state .sizes)) (onPages v) (r .key) .stop in
-          let is : resolvedOf v (r .key) ≡ stopped g met = rw (ea, et, ek) in
+          let met : Option Stop = search fnvFamily (layout.geometry (v .state .sizes)) (onPages v) (keyIs (r .key)) .stop in
+          let is : resolvedOf v (keyIs (r .key)) ≡ stopped g met = rw (ea, et, ek) in
           ap (λ (o : Resolved). cutFor (callOf (rowRequest r o))) is ∙ ap cutFor (searched g met refl)
 
 -- ---- with a budget that is enough
@@ -89,7 +89,7 @@ budget = 18446744073709551615
 
 few : (v : Volume) (r : Row) → length (resultOf fnvFamily v (rowCall fnvFamily (onPages v) r) .ops) + 2 ≤ budget
 few v r =
-    rw (row-result fnvFamily v r) (few-ops v (Update (record { key = r .level; moves = r .moves; goal = r .goal; free = 0 })))
+    rw (row-result fnvFamily v r) (few-ops v (Update (record { key = record { level = r .level }; moves = r .moves; goal = r .goal; free = 0 })))
 
 enough : (v : Volume) (r : Row)
     → callFor fnvFamily budget v (rowCall fnvFamily (onPages v) r) ≡ rowWhole fnvFamily v r

@@ -6,6 +6,7 @@ use Prim.Native.Nat.{ℕ}
 use lib.Dec.{eqb}
 use Rattle.layout.specs.Geometry.{geometry}
 use Rattle.layout.specs.Hash.{Family}
+use Rattle.layout.specs.Keys.{Key}
 use Rattle.layout.specs.Items.{Record, recordOf}
 use Rattle.layout.specs.Refusals as refusal
 use Rattle.layout.specs.Calls.{Volume, Call, Outcome, accepted, refused, Result, badState, tooShort, call}
@@ -15,9 +16,13 @@ use Rattle.layout.specs.Several.{Several, ended, goOn, putCall}
 use Rattle.tab.specs.Grammar.{Row}
 use Rattle.tab.specs.Reader.{Read, body, rowsOf}
 
+-- the key of the level that a row names
+abbrev pub rowKey : Row → Key
+rowKey r = r .level
+
 -- "the free word is 0"
 abbrev pub rowRecord : Row → Record
-rowRecord r = recordOf (r .level) (r .moves) (r .goal) 0
+rowRecord r = recordOf (rowKey r) (r .moves) (r .goal) 0
 
 -- how a load ends where no row is left to read: at the end of the tab, or at a line that is no row
 abbrev pub endOf : List ℕ → Outcome

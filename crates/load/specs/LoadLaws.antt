@@ -12,7 +12,7 @@ use Rattle.layout.specs.Geometry.{Geometry, geometry}
 use Rattle.layout.specs.Hash.{Family}
 use Rattle.layout.specs.Search.{Stop, found, corrupt}
 use Rattle.layout.specs.Calls.{Volume, insert, update, Outcome, accepted, hit, miss, refused, Result, refuse, badState, tooShort, judgeFirst}
-use Rattle.layout.specs.Calls.{search, insertAfter, updateAfter, answer, call}
+use Rattle.layout.specs.Calls.{keyOf, search, insertAfter, updateAfter, answer, call}
 use Rattle.layout.specs.Header.{onPages, kindIn}
 use Rattle.layout.specs.Budgets.{resultOf}
 use Rattle.layout.specs.Refusals as refusal
@@ -20,7 +20,8 @@ use Rattle.layout.specs.Several.{Several, ended, goOn, isLive, putCall}
 use Rattle.tab.specs.Grammar.{lf, cr, Row, Reading}
 use Rattle.tab.specs.Reader.{body}
 use Rattle.tab.specs.Agree.{reading-is, reading-only, reading-empty, line-end-unread, return-line-end-unread}
-use Rattle.load.specs.Load.{rowRecord, endOf, rowCall, loadRowsBy, loadLinesBy, loadRows, loadLines, load, rowWhole, loadWhole}
+use Rattle.load.specs.Load.{rowKey, rowRecord, endOf, rowCall, loadRowsBy, loadLinesBy, loadRows, loadLines, load, rowWhole}
+use Rattle.load.specs.Load.{loadWhole}
 
 -- neither 1 nor 2 applies
 abbrev pub Judged : Volume → Type 0
@@ -37,7 +38,7 @@ module _ (h : Family) where
     shape = geometry (v .state .sizes)
 
     abbrev met : Option Stop
-    met = search h shape v (r .level) .stop
+    met = search h shape v (rowKey r) .stop
 
     put : (t : Bool) → answer h shape v (cond t (update (rowRecord r)) (insert (rowRecord r)))
         ≡ cond t (updateAfter h shape v (rowRecord r) met) (insertAfter h shape v (rowRecord r) met)
@@ -49,6 +50,15 @@ module _ (h : Family) where
     alike none = refl
     alike (some corrupt) = refl
     alike (some (found j)) = refl
+
+    -- the key of its call, whichever it is
+    put-key : (t : Bool) → keyOf (cond t (update (rowRecord r)) (insert (rowRecord r))) ≡ rowKey r
+    put-key true = refl
+    put-key false = refl
+
+    pub row-key : keyOf (rowCall h v r) ≡ rowKey r
+    unfolding putCall
+    row-key = put-key (isLive met)
 
     row-answer : answer h shape v (rowCall h v r) ≡ answer h shape v (update (rowRecord r))
     unfolding putCall

@@ -12,13 +12,15 @@ ghost use Rattle.load.specs.Load.{loadReadBy, rowWhole, loadWhole};
 ghost use Rattle.load.specs.Contract.{rowRequest, loadedBy, Judged};
 use calls::Resolved;
 use geometry::Geometry;
-use reader::Header;
-use reader::Parsed;
+use keys::Key;
 use state::Cut;
 use state::Judgement;
 use state::Record;
 use state::Request;
 use state::State;
+use tab::reader;
+use tab::reader::AfterHeader;
+use tab::reader::Parsed;
 
 // The answer of a load: a refusal's number or `ACCEPTED`, the rows that were loaded, and the state after them.
 #[repr(C)]
@@ -86,7 +88,8 @@ fn load_rows(
                     state,
                 };
             }
-            Parsed::Numbers(key, moves, goal, next) => {
+            Parsed::Numbers(level, moves, goal, next) => {
+                let key = Key { level };
                 let record = Record {
                     key,
                     moves,
@@ -135,14 +138,14 @@ pub fn load(s: State, tab: &[u8], main: &mut [u8], spare: &mut [u8], ram: &mut [
                 };
             }
             match reader::header_at(tab) {
-                Header::Missing => {
+                AfterHeader::Missing => {
                     return Loaded {
                         refusal: state::MALFORMED,
                         rows: 0,
                         state: s,
                     };
                 }
-                Header::Lines(next) => {
+                AfterHeader::Lines(next) => {
                     return load_rows(g, s, tab, next, main, spare, ram);
                 }
             }

@@ -5,18 +5,16 @@ use mathlib.Core.Option.{Option, none, some}
 use mathlib.Core.List.{List, [], _∷_}
 use Prim.Native.Nat.{ℕ, zero, suc}
 use lib.ListN.{length}
-use Rattle.memory.specs.Cases.{either, bool?}
-use Rattle.layout.specs.Geometry.{geometry}
 use Rattle.layout.specs.Hash.{Family}
 use Rattle.layout.specs.Keys.{KeyOk}
-use Rattle.layout.specs.Calls.{Volume, Call, Outcome, accepted, hit, miss, refused, search, call}
+use Rattle.layout.specs.Calls.{Volume, Call, Outcome, accepted, hit, miss, refused, call}
 use Rattle.history.specs.Runs.{KeyWord, KeyWords, after}
-use Rattle.layout.specs.Several.{Several, goOn, isLive, putCall}
+use Rattle.layout.specs.Several.{Several, goOn}
 use Rattle.tab.specs.Grammar.{Row}
 use Rattle.tab.specs.Reader.{GotLine, body, row, rowsIn, rowsOf, continue}
 use Rattle.tab.specs.Agree.{row-sound}
-use Rattle.load.specs.Load.{endOf, rowCall, loadRowsBy, loadRows, loadLines, load}
-use Rattle.load.specs.LoadLaws.{Judged}
+use Rattle.load.specs.Load.{rowKey, endOf, rowCall, loadRowsBy, loadRows, loadLines, load}
+use Rattle.load.specs.LoadLaws.{Judged, row-key}
 
 -- a call that is refused is the last
 abbrev pub accepts : Outcome → Call → List Call → List Call
@@ -84,15 +82,14 @@ module _ (h : Family) where
   unfolding load
   load-done v text J = rw (J .0, J .1) (lines-same v (body text) .1)
 
-  -- ---- their keys are 32-bit numbers
+  -- ---- their keys are allowed
 
   abbrev pub RowWords : List Row → Type 0
   RowWords [] = Unit {0}
-  RowWords (r ∷ rs) = KeyOk (r .level) × RowWords rs
+  RowWords (r ∷ rs) = KeyOk (rowKey r) × RowWords rs
 
-  pub row-word : (v : Volume) (r : Row) → KeyOk (r .level) → KeyWord (rowCall h v r)
-  unfolding putCall
-  row-word v r w = either (bool? (isLive (search h (geometry (v .state .sizes)) v (r .level) .stop))) (λ c. rw c w) (λ c. rw c w)
+  pub row-word : (v : Volume) (r : Row) → KeyOk (rowKey r) → KeyWord (rowCall h v r)
+  row-word v r w = rw (row-key h v r) w
 
   accepts-words : (o : Outcome) (c : Call) (cs : List Call) → KeyWord c → KeyWords cs → KeyWords (accepts o c cs)
   accepts-words accepted c cs w ws = (w, ws)
@@ -115,7 +112,7 @@ module _ (h : Family) where
       go : (o : Option GotLine) → row text ≡ o → ((next : List ℕ) → RowWords (rowsIn k next .rows))
           → RowWords (continue text o (rowsIn k) .rows)
       go none e ih = tt
-      go (some g) e ih = (row-sound text g e .says .first .decimal .below, ih (g .next))
+      go (some g) e ih = (record { level-lt = row-sound text g e .says .first .decimal .below }, ih (g .next))
 
   lines-words : (v : Volume) (o : Option (List ℕ)) → KeyWords (linesCalls v o)
   lines-words v none = tt

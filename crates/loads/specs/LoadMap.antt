@@ -26,7 +26,7 @@ use Rattle.history.specs.Reached.{mapAfter, Reached, reach-call, reach-says, re
 use Rattle.tab.specs.Grammar.{Row, Reading}
 use Rattle.tab.specs.Reader.{body, rowsOf}
 use Rattle.tab.specs.Agree.{reading-only}
-use Rattle.load.specs.Load.{rowRecord, endOf, rowCall, loadRowsBy, loadRows, loadLines, load}
+use Rattle.load.specs.Load.{rowKey, rowRecord, endOf, rowCall, loadRowsBy, loadRows, loadLines, load}
 use Rattle.load.specs.LoadLaws.{Judged}
 use Rattle.loads.specs.LoadCalls as calls
 use Rattle.loads.specs.LoadCalls.{rowCalls, linesCalls, tabCalls, RowWords, row-word, read-words}
@@ -39,7 +39,7 @@ callIf none r = insert r
 callIf (some l) r = update r
 
 abbrev pub mapCall : Map → Row → Call
-mapCall m r = callIf (find (m .levels) (r .level)) (rowRecord r)
+mapCall m r = callIf (find (m .levels) (rowKey r)) (rowRecord r)
 
 -- how a load ends, "the answer gives their number and the refusal", and the map then
 pub record MapLoaded : Type 0 where
@@ -107,7 +107,7 @@ found-reply g m r (some l) e =
 
 row-reply : (g : Geometry) (m : Map) (r : Row) → LoadReply (mapRow g m r .says)
 unfolding mapRow
-row-reply g m r = found-reply g m (rowRecord r) (find (m .levels) (r .level)) refl
+row-reply g m r = found-reply g m (rowRecord r) (find (m .levels) (rowKey r)) refl
 
 on-reply : (a : Reply) (m : Map) (t : MapLoaded) → LoadReply a → LoadReply (t .says) → LoadReply (mapOn a m t .says)
 on-reply accepts m t p q = q
@@ -164,16 +164,16 @@ module _ (h : Family) (sizes : Sizes) where
   pub row-call-is : (v : Volume) (m : Map) (r : Row) → Reached h sizes v m → rowCall h v r ≡ mapCall m r
   unfolding putCall
   row-call-is v m r X =
-      rw (stops v m (r .level) X, X .live .same (r .level)) (by-live (X .H) (rowRecord r) (findLive (X .H) (r .level)))
+      rw (stops v m (rowKey r) X, X .live .same (rowKey r)) (by-live (X .H) (rowRecord r) (findLive (X .H) (rowKey r)))
 
   -- a row's call answers as the map does, and reaches the map's next
-  row-says : (v : Volume) (m : Map) (r : Row) → Reached h sizes v m → KeyOk (r .level)
+  row-says : (v : Volume) (m : Map) (r : Row) → Reached h sizes v m → KeyOk (rowKey r)
       → replyOf (call h v (rowCall h v r) .outcome) ≡ mapRow g m r .says
   unfolding mapRow
   row-says v m r X w =
       reach-says h sizes v m (rowCall h v r) X (row-word h v r w) ∙ ap (λ (c : Call). mapOf g m c .says) (row-call-is v m r X)
 
-  row-reached : (v : Volume) (m : Map) (r : Row) → Reached h sizes v m → KeyOk (r .level)
+  row-reached : (v : Volume) (m : Map) (r : Row) → Reached h sizes v m → KeyOk (rowKey r)
       → Reached h sizes (call h v (rowCall h v r) .volume) (mapRow g m r .next)
   unfolding mapRow
   row-reached v m r X w =
@@ -262,5 +262,5 @@ module _ (h : Family) (sizes : Sizes) where
   lines-map v m (some lines) X =
       rows-map v m (rowsOf lines .rows) (endSays (rowsOf lines .rest)) X (read-words h (length lines) lines)
 
-  pub tab-map : (v : Volume) (m : Map) (text : List ℕ) → Reached h sizes v m → mapTab g m text .map ≡ mapAfter g m (tabCalls h v text)
-  tab-map v m text X = lines-map v m (body text) X
+  pub tabulate-map : (v : Volume) (m : Map) (text : List ℕ) → Reached h sizes v m → mapTab g m text .map ≡ mapAfter g m (tabCalls h v text)
+  tabulate-map v m text X = lines-map v m (body text) X

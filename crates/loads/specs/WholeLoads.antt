@@ -33,7 +33,7 @@ use Rattle.cuts.specs.Several.{wholeTurn, cutTurn, turnsAfter, turnsOps, turnsB
 use Rattle.tab.specs.Grammar.{Row}
 use Rattle.tab.specs.Reader.{GotLine, body, row, rowsIn, rowsOf, continue}
 use Rattle.tab.specs.Agree.{row-sound}
-use Rattle.load.specs.Load.{endOf, rowCall, loadRowsBy, loadRows, loadLinesBy, loadLines, load, rowWhole, loadWhole}
+use Rattle.load.specs.Load.{rowKey, endOf, rowCall, loadRowsBy, loadRows, loadLinesBy, loadLines, load, rowWhole, loadWhole}
 use Rattle.loads.specs.LoadCalls.{accepts, rowCalls, linesCalls, tabCalls}
 use Rattle.loads.specs.LoadMap.{MapLoaded, mapTab, LoadAgrees}
 use Rattle.loads.specs.Moves.{Move, one, tab, MoveWords, afterMoves, callsOf, MovesAgree, calls-leave, demand-3-answers}
@@ -188,12 +188,12 @@ module _ (h : Family) where
   -- all numbers of the rows are 32-bit numbers
   abbrev RowNumbers : List Row → Type 0
   RowNumbers [] = Unit {0}
-  RowNumbers (r ∷ rs) = (KeyOk (r .level) × (r .moves < 2 ^ 32) × (r .goal < 2 ^ 32)) × RowNumbers rs
+  RowNumbers (r ∷ rs) = (KeyOk (rowKey r) × (r .moves < 2 ^ 32) × (r .goal < 2 ^ 32)) × RowNumbers rs
 
-  row-numbers : (v : Volume) (r : Row) → KeyOk (r .level) × (r .moves < 2 ^ 32) × (r .goal < 2 ^ 32) → Numbers (rowCall h v r)
+  row-numbers : (v : Volume) (r : Row) → KeyOk (rowKey r) × (r .moves < 2 ^ 32) × (r .goal < 2 ^ 32) → Numbers (rowCall h v r)
   unfolding putCall
   row-numbers v r n =
-      either (bool? (isLive (search h (geometry (v .state .sizes)) v (r .level) .stop)))
+      either (bool? (isLive (search h (geometry (v .state .sizes)) v (rowKey r) .stop)))
       (λ c. rw c (n .0, n .1, n .2, omega arith)) (λ c. rw c (n .0, n .1, n .2, omega arith))
 
   accepts-numbers : (o : Outcome) (c : Call) (cs : List Call) → Numbers c → CallNumbers cs → CallNumbers (accepts o c cs)
@@ -219,7 +219,7 @@ module _ (h : Family) where
       go none e ih = tt
       go (some g) e ih =
           let S = row-sound text g e .says in
-          ((S .first .decimal .below, S .second .decimal .below, S .third .decimal .below), ih (g .next))
+          ((record { level-lt = S .first .decimal .below }, S .second .decimal .below, S .third .decimal .below), ih (g .next))
 
   lines-numbers : (v : Volume) (o : Option (List ℕ)) → CallNumbers (linesCalls h v o)
   lines-numbers v none = tt

@@ -7,7 +7,7 @@ use Prim.Native.Nat.{ℕ, _+_, _≤_}
 use native.Mathlib.Omega.{arith}
 use lib.ListN.{length, take, drop}
 use Rattle.memory.specs.Bits.{num}
-use Rattle.memory.specs.Lists.{tab-part}
+use Rattle.memory.specs.Lists.{tabulate-part}
 use Rattle.layout.specs.Items.{Place, bytesAt}
 use Rattle.layout.specs.Hash.{Family}
 use Rattle.layout.specs.Calls.{Volume, Outcome, accepted, hit, miss, refused, lookup}
@@ -116,11 +116,11 @@ module _ (h : Family) (v : Volume) (key : ℕ) (f : LookupResult) (is : f ≡ lo
     part-in-ram i =
         let t : at-hit .0 .inRam ≡ true = num-true (at-hit .0 .inRam) (sym (numbers .1) ∙ i) in
         let n = there-inside true t in
-        (n .1, sym (tab-part (v .ram) (f .offset) 16 (n .1)) ∙ sym (n .0) ∙ sym (ap partOf (at-hit .2)), sym (where-is true t))
+        (n .1, sym (tabulate-part (v .ram) (f .offset) 16 (n .1)) ∙ sym (n .0) ∙ sym (ap partOf (at-hit .2)), sym (where-is true t))
 
     pub part-in-main : f .«in_ram» ≢ 1
         → (f .offset + 16 ≤ length (v .flash .main)) × (take 16 (drop (f .offset) (v .flash .main)) ≡ partOf (callWhole h v (lookup key) .outcome)) × ((m .0, f .offset + m .1) ≡ whereOf m r (callWhole h v (lookup key) .outcome))
     part-in-main i =
         let t : at-hit .0 .inRam ≡ false = num-false (at-hit .0 .inRam) (λ e. i (numbers .1 ∙ e)) in
         let n = there-inside false t in
-        (n .1, sym (tab-part (v .flash .main) (f .offset) 16 (n .1)) ∙ sym (n .0) ∙ sym (ap partOf (at-hit .2)), sym (where-is false t))
+        (n .1, sym (tabulate-part (v .flash .main) (f .offset) 16 (n .1)) ∙ sym (n .0) ∙ sym (ap partOf (at-hit .2)), sym (where-is false t))

@@ -8,6 +8,7 @@ use Prim.Native.Nat.{ℕ}
 use lib.Dec.{eqb}
 use lib.ListN.{getD}
 use Rattle.memory.specs.Bits.{eqb-num}
+use Rattle.layout.specs.Keys.{Key}
 use Rattle.layout.specs.Hash.{Family}
 use Rattle.layout.specs.Items.{Place, bytesAt}
 use Rattle.layout.specs.Calls.{Volume, lookup, Outcome, hit, miss, refused}
@@ -37,7 +38,7 @@ resultEffect v r bytes = lookupEffect v (r .refusal) (r .found) (r .count) (plac
 abbrev pub findEffect : Volume → LookupResult → Effect
 findEffect v r = resultEffect v r (bytesAt (v .flash .main) (v .ram) (placeOf r) 16)
 
-module _ (h : Family) (v : Volume) (key : ℕ) where
+module _ (h : Family) (v : Volume) (key : Key) where
   pub find-effect : findEffect v (lookupOf (callWhole h v (lookup key))) ≡ effectOf (callWhole h v (lookup key))
   find-effect =
       whole-cases h v key (λ r. findEffect v (lookupOf r) ≡ effectOf r)

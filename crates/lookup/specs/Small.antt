@@ -1,6 +1,6 @@
 -- The numbers of a lookup other than the pages of deletions have 32 bits, so that a caller may narrow them.
 use mathlib.Core.Bool.{Bool, false, not}
-use mathlib.Core.Option.{Option, none, some}
+use mathlib.Core.Option.{Option}
 use mathlib.Core.Path.{_≡_}
 use Prim.Native.Nat.{ℕ, _*_, _/_, _%_, _≤_, _<_}
 use native.Mathlib.Nat.{mul-le-mul, mul-le-mul-left, div-mul-le-self}
@@ -8,13 +8,14 @@ use native.Mathlib.Omega.{arith}
 use lib.Dec.{ltb}
 use borrow.Author.Tests.{ltb-false, not-false}
 use Rattle.memory.specs.Booleans.{or-eq-false-iff}
+use Rattle.layout.specs.Keys.{Key}
 use Rattle.layout.specs.Geometry as layout
 use Rattle.layout.specs.Hash.{Family}
-use Rattle.layout.specs.Search.{Stop, Found, ramFirst, scan, searchPages}
+use Rattle.layout.specs.Search.{Stop, scan, searchPages}
 use Rattle.layout.specs.Calls.{Volume, lookup, badState, keyPositions, tryAt, maybeIn, searchAt, search}
 use Rattle.layout.specs.Header.{onPages}
 use Rattle.layout.specs.Budgets.{callWhole}
-use Rattle.laws.specs.SearchLaws.{opened-le}
+use Rattle.laws.specs.SearchLaws.{opened-le, ram-first-most}
 use Rattle.laws.specs.Sound.{sound, pu, u-le}
 use Rattle.lookup.specs.declared.LookupResult.{LookupResult}
 use Rattle.lookup.specs.Results.{lookupOf}
@@ -27,16 +28,12 @@ pub record Small (r : LookupResult) : Type 0 where
   pub count : r .count < 4294967296
 
 -- no more pages of entries are opened than there are
-module _ (h : Family) (v : Volume) (key : ℕ) where
+module _ (h : Family) (v : Volume) (key : Key) where
   abbrev g : layout.Geometry
   g = layout.geometry (v .state .sizes)
 
   abbrev q : ℕ
   q = layout.entriesPerPage (g .u)
-
-  ram-most : (s : Option Stop) (f : Found) → ramFirst s f .opened ≤ f .opened
-  ram-most none f = omega arith
-  ram-most (some r) f = omega arith
 
   opened-most : badState (v .state) ≡ false → search h g v key .opened ≤ 8388608
   unfolding searchAt badState
@@ -51,7 +48,7 @@ module _ (h : Family) (v : Volume) (key : ℕ) where
       let one : 1 ≤ q = omega (arith, pu (v .state .sizes) ok) in
       omega (
         arith,
-        ram-most (scan try (n * q) (v .state .records % q)) (searchPages gate try q n),
+        ram-first-most (scan try (n * q) (v .state .records % q)) (searchPages gate try q n),
         opened-le gate try q n,
         mul-le-mul-left n one,
         div-mul-le-self (v .state .records) q,
@@ -60,7 +57,7 @@ module _ (h : Family) (v : Volume) (key : ℕ) where
       )
 
 -- in the pages of a volume
-module _ (h : Family) (v : Volume) (key : ℕ) where
+module _ (h : Family) (v : Volume) (key : Key) where
   pub lookup-small : Small (lookupOf (callWhole h v (lookup key)))
   lookup-small =
       whole-cases h v key (λ r. Small (lookupOf r))

@@ -12,7 +12,8 @@ use lib.Dec.{ltb, eqb}
 use borrow.Author.Tests.{ltb-false, not-false}
 use Rattle.memory.specs.Booleans.{or-eq-false-iff}
 use Rattle.memory.specs.Cases.{either, lt?}
-use Rattle.memory.specs.Lists.{part, tab-ext}
+use Rattle.memory.specs.Lists.{part, tabulate-ext}
+use Rattle.layout.specs.Keys.{Key}
 use Rattle.layout.specs.Geometry as layout
 use Rattle.layout.specs.Hash.{Family}
 use Rattle.layout.specs.Items.{Place, bytesAt, source}
@@ -34,7 +35,7 @@ Inside main ram p b = (b ≡ bytesAt main ram p 16) × (p .at + 16 ≤ length (s
 part-of-ram : (ram : List ℕ) (at : ℕ) → at + 16 ≤ length (pages ram) → part (pages ram) at 16 ≡ part ram at 16
 unfolding pages
 part-of-ram ram at h =
-    tab-ext 16 (λ (y : ℕ). getD (take (length ram - 64) ram) (at + y) 0) (λ (y : ℕ). getD ram (at + y) 0)
+    tabulate-ext 16 (λ (y : ℕ). getD (take (length ram - 64) ram) (at + y) 0) (λ (y : ℕ). getD ram (at + y) 0)
     (λ i k. getD-take (length ram - 64) ram (at + i) 0 (omega (arith, h, k, length-pages ram)))
 
 pub inside-ram : (main ram : List ℕ) (p : Place) → p .at + 16 ≤ length (source main (pages ram) p)
@@ -75,7 +76,7 @@ module _ (v : Volume) where
       → Inside (v .flash .main) (v .ram) (recordPlace g v j) (bytesAt (v .flash .main) (pages (v .ram)) (recordPlace g v j) 16)
   hit-inside good j = inside-ram (v .flash .main) (v .ram) (recordPlace g v j) (place-inside good j)
 
-module _ (h : Family) (v : Volume) (key : ℕ) where
+module _ (h : Family) (v : Volume) (key : Key) where
   -- what the search met
   abbrev pub missed : Result
   missed =

@@ -5,11 +5,13 @@ ghost use Rattle.layout.specs.Hash.{fnvFamily};
 ghost use Rattle.layout.specs.Calls.{lookup, answer};
 ghost use Rattle.layout.specs.Budgets.{callWhole};
 ghost use Rattle.geometry.specs.Shape.{shape};
+ghost use Rattle.keys.specs.Key.{keyIs};
 ghost use Rattle.state.specs.Contract.{volume, given};
 ghost use Rattle.state.specs.Judge.{VolumeFits};
 ghost use Rattle.lookup.specs.Results.{lookupOf, answerNumbers, partOf, whereOf};
 use geometry::Geometry;
 use geometry::areas;
+use keys::Key;
 use search::End;
 use state::Judgement;
 use state::State;
@@ -39,9 +41,9 @@ fn refuse_lookup(i: u32) -> LookupResult
     }
 }
 
-fn find_in(g: Geometry, s: State, key: u32, main: &[u8], spare: &[u8], ram: &[u8]) -> LookupResult
+fn find_in(g: Geometry, s: State, key: Key, main: &[u8], spare: &[u8], ram: &[u8]) -> LookupResult
     requires { ⌜ VolumeFits (volume s (now main) (now spare) (now ram)) g ⌝ }
-    ensures { λ r. ⌜ r ≡ lookupOf (answer fnvFamily (shape g) (given s main spare ram) (lookup key)) ⌝ }
+    ensures { λ r. ⌜ r ≡ lookupOf (answer fnvFamily (shape g) (given s main spare ram) (lookup (keyIs key))) ⌝ }
 {
     let n = s.records as usize;
     let f = search::search(search::all(g, n, s.deletions as usize), key, main, ram);
@@ -89,15 +91,15 @@ fn find_in(g: Geometry, s: State, key: u32, main: &[u8], spare: &[u8], ram: &[u8
 }
 
 // Where a level's record lies, in numbers.
-pub fn find(s: State, key: u32, main: &[u8], spare: &[u8], ram: &[u8]) -> LookupResult
-    ensures { λ r. ⌜ r ≡ lookupOf (callWhole fnvFamily (given s main spare ram) (lookup key)) ⌝ }
+pub fn find(s: State, key: Key, main: &[u8], spare: &[u8], ram: &[u8]) -> LookupResult
+    ensures { λ r. ⌜ r ≡ lookupOf (callWhole fnvFamily (given s main spare ram) (lookup (keyIs key))) ⌝ }
 {
     match header::judge(s, main, spare, ram) {
         Judgement::Refused(i) => {
             return refuse_lookup(i);
         }
         Judgement::Good(g) => {
-            let n = ram.len() - state::HEADER_SIZE;
+            let n = state::pages_end(ram);
             return find_in(g, s, key, main, spare, &ram[0..n]);
         }
     }
@@ -107,16 +109,16 @@ pub fn find(s: State, key: u32, main: &[u8], spare: &[u8], ram: &[u8]) -> Lookup
 // whether there is a record, the count, and the pages of deletions opened.
 pub fn lookup<'a>(
     s: State,
-    key: u32,
+    key: Key,
     main: &'a [u8],
     spare: &[u8],
     ram: &'a [u8],
     numbers: &mut [u64; 4],
 ) -> &'a [u8]
-    ensures part { λ r. ⌜ (now r ≡ partOf (callWhole fnvFamily (given s main spare ram) (lookup key) .outcome))
+    ensures part { λ r. ⌜ (now r ≡ partOf (callWhole fnvFamily (given s main spare ram) (lookup (keyIs key)) .outcome))
         × (r .ptr ≡ whereOf ((main .entry) .ptr) ((ram .entry) .ptr)
-        (callWhole fnvFamily (given s main spare ram) (lookup key) .outcome)) ⌝ }
-    ensures numbers { λ r. ⌜ after numbers ≡ answerNumbers (lookupOf (callWhole fnvFamily (given s main spare ram) (lookup key))) ⌝ }
+        (callWhole fnvFamily (given s main spare ram) (lookup (keyIs key)) .outcome)) ⌝ }
+    ensures numbers { λ r. ⌜ after numbers ≡ answerNumbers (lookupOf (callWhole fnvFamily (given s main spare ram) (lookup (keyIs key)))) ⌝ }
 {
     let f = find(s, key, main, spare, ram);
     *numbers = [

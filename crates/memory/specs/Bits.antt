@@ -1,18 +1,18 @@
 -- Bits of a number, and a number from its bits.
 use mathlib.Core.Path.{_≡_, refl, sym, ap, ap₂, _∙_}
 use mathlib.Core.Logic.{_≢_}
-use mathlib.Core.Bool.{Bool, true, false, _||_}
+use mathlib.Core.Bool.{Bool, true, false, _&&_, _||_, xor}
 use mathlib.Core.List.{List}
-use Prim.Native.Nat.{ℕ, zero, suc, _+_, _*_, _/_, _%_, _^_, _<_, max}
+use Prim.Native.Nat.{ℕ, zero, suc, _+_, _*_, _-_, _/_, _%_, _^_, _≤_, _<_, min, max}
 use native.Mathlib.Nat.{le-of-suc-le-suc, not-suc-le-zero, mod-lt, div-div-eq-div-mul, div-one, pow-suc, mul-comm}
 use native.Mathlib.Omega.{arith}
 use lib.Arith.{digits-div, digits-mod}
-use lib.Bits.{bitOr, or-step, block-half, block-odd}
+use lib.Bits.{bitAnd, bitOr, bitXor, and-step, or-step, xor-step, differ, block-half, block-odd}
 use lib.Dec.{eqb}
 use lib.ListN.{getD}
 use lib.Pow.{split, pow-pos}
 use borrow.Author.Tests.{eqb-true, eqb-false}
-use Rattle.memory.specs.Cases.{bool?, either}
+use Rattle.memory.specs.Cases.{bool?, either, lt?}
 
 -- bit i of n, by halves; `bit-is` has it in closed form
 unfoldable pub bit : ℕ → ℕ → Bool
@@ -122,7 +122,62 @@ bit-mod n m i h = sym (ap (λ (y : ℕ). bit y i) (sym (split n m)) ∙ bit-low 
 pub bit-shr : (x k i : ℕ) → bit (x / 2 ^ k) i ≡ bit x (k + i)
 bit-shr x k i = sym (ap (λ (y : ℕ). bit y (k + i)) (sym (split x k)) ∙ bit-high k (x / 2 ^ k) (x % 2 ^ k) i (mod-lt x (pow-pos k)))
 
--- ---- a disjunction, bit by bit
+-- shifts to the left
+pub bit-shl : (x k m i : ℕ) → k + i < m → bit (x * 2 ^ k % 2 ^ m) (k + i) ≡ bit x i
+bit-shl x k m i h =
+    let e : x * 2 ^ k ≡ x * 2 ^ k + 0 = omega arith in
+    bit-mod (x * 2 ^ k) m (k + i) h ∙ (ap (λ (y : ℕ). bit y (k + i)) e ∙ bit-high k x 0 i (omega (arith, pow-pos k)))
+
+pub bit-shl-low : (x k m i : ℕ) → i < k → i < m → bit (x * 2 ^ k % 2 ^ m) i ≡ false
+bit-shl-low x k m i h l =
+    let e : x * 2 ^ k ≡ x * 2 ^ k + 0 = omega arith in
+    bit-mod (x * 2 ^ k) m i l ∙ (ap (λ (y : ℕ). bit y i) e ∙ (bit-low k x 0 i h ∙ bit-zero i))
+
+-- ---- bytes, lowest first, as a number
+
+-- the number of n bytes f 0, f 1, ..
+unfoldable pub number : (ℕ → ℕ) → ℕ → ℕ
+number f zero = 0
+number f (suc n) = number (λ k. f (suc k)) n * 2 ^ 8 + f zero
+
+pub bit-number : (f : ℕ → ℕ) → ((k : ℕ) → f k < 256) → (n i : ℕ) → i < 8 * n → bit (number f n) i ≡ bit (f (i / 8)) (i % 8)
+unfolding number
+bit-number f all zero i h = absurd (omega arith)
+bit-number f all (suc n) i h =
+    either (lt? i 8)
+    (λ l.
+    let d : i / 8 ≡ 0 = omega arith in
+    let m : i % 8 ≡ i = omega arith in
+    rw (d, m) (bit-low 8 (number (λ k. f (suc k)) n) (f zero) i (l .1)))
+    (λ l.
+    let e : i ≡ 8 + (i - 8) = omega arith in
+    let d : i / 8 ≡ suc ((i - 8) / 8) = omega arith in
+    let m : i % 8 ≡ (i - 8) % 8 = omega arith in
+    rw (d, m) (ap (λ (z : ℕ). bit (number (λ k. f (suc k)) n * 2 ^ 8 + f zero) z) e
+    ∙ (bit-high 8 (number (λ k. f (suc k)) n) (f zero) (i - 8) (all zero)
+    ∙ bit-number (λ k. f (suc k)) (λ k. all (suc k)) n (i - 8) (omega arith))))
+
+-- ---- a conjunction, a disjunction and a difference, bit by bit
+
+min-and : (a b : ℕ) → a < 2 → b < 2 → eqb (min a b) 1 ≡ (eqb a 1 && eqb b 1)
+min-and zero zero h l = refl
+min-and zero (suc zero) h l = refl
+min-and zero (suc (suc b)) h l = absurd (omega arith)
+min-and (suc zero) zero h l = refl
+min-and (suc zero) (suc zero) h l = refl
+min-and (suc zero) (suc (suc b)) h l = absurd (omega arith)
+min-and (suc (suc a)) b h l = absurd (omega arith)
+
+pub bit-and : (a b i : ℕ) → bit (bitAnd a b) i ≡ (bit a i && bit b i)
+unfolding bit
+bit-and a b zero =
+    let s = and-step a b in
+    let e : bitAnd a b % 2 ≡ min (a % 2) (b % 2) = omega arith in
+    ap (λ (y : ℕ). eqb y 1) e ∙ min-and (a % 2) (b % 2) (omega arith) (omega arith)
+bit-and a b (suc i) =
+    let s = and-step a b in
+    let e : bitAnd a b / 2 ≡ bitAnd (a / 2) (b / 2) = omega arith in
+    ap (λ (y : ℕ). bit y i) e ∙ bit-and (a / 2) (b / 2) i
 
 max-or : (a b : ℕ) → a < 2 → b < 2 → eqb (max a b) 1 ≡ (eqb a 1 || eqb b 1)
 max-or zero zero h l = refl
@@ -143,3 +198,28 @@ bit-or a b (suc i) =
     let s = or-step a b in
     let e : bitOr a b / 2 ≡ bitOr (a / 2) (b / 2) = omega arith in
     ap (λ (y : ℕ). bit y i) e ∙ bit-or (a / 2) (b / 2) i
+
+differ-xor : (a b : ℕ) → a < 2 → b < 2 → (differ a b < 2) × (eqb (differ a b) 1 ≡ xor (eqb a 1) (eqb b 1))
+unfolding xor
+differ-xor zero zero h l = (omega arith, refl)
+differ-xor zero (suc zero) h l = (omega arith, refl)
+differ-xor zero (suc (suc b)) h l = absurd (omega arith)
+differ-xor (suc zero) zero h l = (omega arith, refl)
+differ-xor (suc zero) (suc zero) h l = (omega arith, refl)
+differ-xor (suc zero) (suc (suc b)) h l = absurd (omega arith)
+differ-xor (suc (suc a)) b h l = absurd (omega arith)
+
+pub bit-xor : (a b i : ℕ) → bit (bitXor a b) i ≡ xor (bit a i) (bit b i)
+unfolding bit
+bit-xor a b zero =
+    let d = differ-xor (a % 2) (b % 2) (omega arith) (omega arith) in
+    ap (λ (y : ℕ). eqb y 1) (digit (bitXor a b) (bitXor (a / 2) (b / 2)) (differ (a % 2) (b % 2)) (xor-step a b) (d .0)) ∙ d .1
+  where
+    digit : (x y d : ℕ) → x ≡ y * 2 + d → d < 2 → x % 2 ≡ d
+    digit x y d e l = omega arith
+bit-xor a b (suc i) =
+    let d = differ-xor (a % 2) (b % 2) (omega arith) (omega arith) in
+    ap (λ (y : ℕ). bit y i) (half (bitXor a b) (bitXor (a / 2) (b / 2)) (differ (a % 2) (b % 2)) (xor-step a b) (d .0)) ∙ bit-xor (a / 2) (b / 2) i
+  where
+    half : (x y d : ℕ) → x ≡ y * 2 + d → d < 2 → x / 2 ≡ y
+    half x y d e l = omega arith

@@ -68,53 +68,53 @@ module _ {ℓ} {A : Type ℓ} where
 
   -- ---- a list by its elements: n elements, element i being f i
 
-  unfoldable pub tabFrom : ℕ → ℕ → (ℕ → A) → List A
-  tabFrom k zero f = []
-  tabFrom k (suc n) f = f k ∷ tabFrom (suc k) n f
+  unfoldable pub tabulateFrom : ℕ → ℕ → (ℕ → A) → List A
+  tabulateFrom k zero f = []
+  tabulateFrom k (suc n) f = f k ∷ tabulateFrom (suc k) n f
 
-  unfoldable pub tab : ℕ → (ℕ → A) → List A
-  tab n f = tabFrom zero n f
+  unfoldable pub tabulate : ℕ → (ℕ → A) → List A
+  tabulate n f = tabulateFrom zero n f
 
-  length-tabFrom : (k n : ℕ) (f : ℕ → A) → length (tabFrom k n f) ≡ n
-  unfolding tabFrom
-  length-tabFrom k zero f = refl
-  length-tabFrom k (suc n) f = ap suc (length-tabFrom (suc k) n f)
+  length-tabulateFrom : (k n : ℕ) (f : ℕ → A) → length (tabulateFrom k n f) ≡ n
+  unfolding tabulateFrom
+  length-tabulateFrom k zero f = refl
+  length-tabulateFrom k (suc n) f = ap suc (length-tabulateFrom (suc k) n f)
 
-  getD-tabFrom : (k n : ℕ) (f : ℕ → A) (i : ℕ) (d : A) → i < n → getD (tabFrom k n f) i d ≡ f (k + i)
-  unfolding tabFrom
-  getD-tabFrom k zero f i d h = absurd (not-suc-le-zero h)
-  getD-tabFrom k (suc n) f zero d h = let e : k ≡ k + zero = omega arith in ap f e
-  getD-tabFrom k (suc n) f (suc i) d h =
-      let e : suc k + i ≡ k + suc i = omega arith in getD-tabFrom (suc k) n f i d (le-of-suc-le-suc h) ∙ ap f e
+  getD-tabulateFrom : (k n : ℕ) (f : ℕ → A) (i : ℕ) (d : A) → i < n → getD (tabulateFrom k n f) i d ≡ f (k + i)
+  unfolding tabulateFrom
+  getD-tabulateFrom k zero f i d h = absurd (not-suc-le-zero h)
+  getD-tabulateFrom k (suc n) f zero d h = let e : k ≡ k + zero = omega arith in ap f e
+  getD-tabulateFrom k (suc n) f (suc i) d h =
+      let e : suc k + i ≡ k + suc i = omega arith in getD-tabulateFrom (suc k) n f i d (le-of-suc-le-suc h) ∙ ap f e
 
-  pub length-tab : (n : ℕ) (f : ℕ → A) → length (tab n f) ≡ n
-  unfolding tab
-  length-tab n f = length-tabFrom zero n f
+  pub length-tabulate : (n : ℕ) (f : ℕ → A) → length (tabulate n f) ≡ n
+  unfolding tabulate
+  length-tabulate n f = length-tabulateFrom zero n f
 
-  pub getD-tab : (n : ℕ) (f : ℕ → A) (i : ℕ) (d : A) → i < n → getD (tab n f) i d ≡ f i
-  unfolding tab
-  getD-tab n f i d h = let e : zero + i ≡ i = omega arith in getD-tabFrom zero n f i d h ∙ ap f e
+  pub getD-tabulate : (n : ℕ) (f : ℕ → A) (i : ℕ) (d : A) → i < n → getD (tabulate n f) i d ≡ f i
+  unfolding tabulate
+  getD-tabulate n f i d h = let e : zero + i ≡ i = omega arith in getD-tabulateFrom zero n f i d h ∙ ap f e
 
-pub tab-ext : {A : Type 0} (n : ℕ) (f g : ℕ → A) → ((i : ℕ) → i < n → f i ≡ g i) → tab n f ≡ tab n g
-unfolding tab tabFrom
-tab-ext zero f g h = refl
-tab-ext (suc n) f g h =
-    ext-getD (f zero) (tab (suc n) f) (tab (suc n) g) (length-tab (suc n) f ∙ sym (length-tab (suc n) g))
-    (λ i l. let b : i < suc n = rw length-tab at l in getD-tab (suc n) f i (f zero) b ∙ h i b ∙ sym (getD-tab (suc n) g i (f zero) b))
+pub tabulate-ext : {A : Type 0} (n : ℕ) (f g : ℕ → A) → ((i : ℕ) → i < n → f i ≡ g i) → tabulate n f ≡ tabulate n g
+unfolding tabulate tabulateFrom
+tabulate-ext zero f g h = refl
+tabulate-ext (suc n) f g h =
+    ext-getD (f zero) (tabulate (suc n) f) (tabulate (suc n) g) (length-tabulate (suc n) f ∙ sym (length-tabulate (suc n) g))
+    (λ i l. let b : i < suc n = rw length-tabulate at l in getD-tabulate (suc n) f i (f zero) b ∙ h i b ∙ sym (getD-tabulate (suc n) g i (f zero) b))
 
 -- a list is the table of its elements
-pub is-tab : (l : List ℕ) (n : ℕ) (f : ℕ → ℕ) → length l ≡ n → ((i : ℕ) → i < n → getD l i 0 ≡ f i) → l ≡ tab n f
-is-tab l n f e h =
-    ext-getD 0 l (tab n f) (e ∙ sym (length-tab n f)) (λ i k. let b : i < n = omega arith in h i b ∙ sym (getD-tab n f i 0 b))
+pub is-tabulate : (l : List ℕ) (n : ℕ) (f : ℕ → ℕ) → length l ≡ n → ((i : ℕ) → i < n → getD l i 0 ≡ f i) → l ≡ tabulate n f
+is-tabulate l n f e h =
+    ext-getD 0 l (tabulate n f) (e ∙ sym (length-tabulate n f)) (λ i k. let b : i < n = omega arith in h i b ∙ sym (getD-tabulate n f i 0 b))
 
 -- the n bytes from `at` on
 abbrev pub part : List ℕ → ℕ → ℕ → List ℕ
-part l at n = tab n (λ k. getD l (at + k) 0)
+part l at n = tabulate n (λ k. getD l (at + k) 0)
 
 -- the same as a cut
-pub tab-part : (l : List ℕ) (a n : ℕ) → a + n ≤ length l → tab n (λ y. getD l (a + y) 0) ≡ take n (drop a l)
-tab-part l a n h =
-    sym (is-tab (take n (drop a l)) n (λ y. getD l (a + y) 0) (simp (length-take, length-drop) (omega arith))
+pub tabulate-part : (l : List ℕ) (a n : ℕ) → a + n ≤ length l → tabulate n (λ y. getD l (a + y) 0) ≡ take n (drop a l)
+tabulate-part l a n h =
+    sym (is-tabulate (take n (drop a l)) n (λ y. getD l (a + y) 0) (simp (length-take, length-drop) (omega arith))
     (λ i k. getD-take n (drop a l) i 0 k ∙ getD-drop a l i 0))
 
 -- ---- a list that is filled from its start on: its first i elements are those of f
@@ -168,13 +168,13 @@ write-append (x ∷ xs) (suc n) a b =
 
 unfoldable pub pieces : {A : Type 0} → ℕ → ℕ → ℕ → ℕ → (ℕ → ℕ → A) → List A → List A
 pieces L d at zero f l = l
-pieces L d at (suc k) f l = pieces L d (at + d) k (λ j. f (suc j)) (write l at (tab L (f zero)))
+pieces L d at (suc k) f l = pieces L d (at + d) k (λ j. f (suc j)) (write l at (tabulate L (f zero)))
 
 pub length-pieces : {A : Type 0} (L d at k : ℕ) (f : ℕ → ℕ → A) (l : List A) → length (pieces L d at k f l) ≡ length l
 unfolding pieces
 length-pieces L d at zero f l = refl
 length-pieces L d at (suc k) f l =
-    length-pieces L d (at + d) k (λ j. f (suc j)) (write l at (tab L (f zero))) ∙ length-write l at (tab L (f zero))
+    length-pieces L d (at + d) k (λ j. f (suc j)) (write l at (tabulate L (f zero))) ∙ length-write l at (tabulate L (f zero))
 
 pub pieces-out : {A : Type 0} (L d at k : ℕ) (f : ℕ → ℕ → A) (l : List A) (x : ℕ) (z : A)
     → ((j : ℕ) → j < k → (x < at + j * d) ⊎ (at + j * d + L ≤ x))
@@ -182,11 +182,11 @@ pub pieces-out : {A : Type 0} (L d at k : ℕ) (f : ℕ → ℕ → A) (l : List
 unfolding pieces
 pieces-out L d at zero f l x z o = refl
 pieces-out L d at (suc k) f l x z o =
-    let t = length-tab L (f zero) in
-    pieces-out L d (at + d) k (λ j. f (suc j)) (write l at (tab L (f zero))) x z (λ j h.
+    let t = length-tabulate L (f zero) in
+    pieces-out L d (at + d) k (λ j. f (suc j)) (write l at (tabulate L (f zero))) x z (λ j h.
     let e : at + suc j * d ≡ at + d + j * d = omega arith in rw e at (o (suc j) (omega arith)))
-    ∙ ⊎-elim (λ a. getD-write-before l at (tab L (f zero)) x z (omega arith))
-    (λ a. getD-write-after l at (tab L (f zero)) x z (omega arith)) (o 0 (omega arith))
+    ∙ ⊎-elim (λ a. getD-write-before l at (tabulate L (f zero)) x z (omega arith))
+    (λ a. getD-write-after l at (tabulate L (f zero)) x z (omega arith)) (o 0 (omega arith))
 
 pub pieces-same : {A : Type 0} (L d at k : ℕ) (f : ℕ → ℕ → A) (l l′ : List A) (x : ℕ) (z : A) → length l ≡ length l′
     → getD l x z ≡ getD l′ x z
@@ -194,8 +194,8 @@ pub pieces-same : {A : Type 0} (L d at k : ℕ) (f : ℕ → ℕ → A) (l l′ 
 unfolding pieces
 pieces-same L d at zero f l l′ x z n e = e
 pieces-same L d at (suc k) f l l′ x z n e =
-    pieces-same L d (at + d) k (λ j. f (suc j)) (write l at (tab L (f zero))) (write l′ at (tab L (f zero))) x z
-    (length-write l at (tab L (f zero)) ∙ n ∙ sym (length-write l′ at (tab L (f zero)))) (write-same l l′ at (tab L (f zero)) x z n e)
+    pieces-same L d (at + d) k (λ j. f (suc j)) (write l at (tabulate L (f zero))) (write l′ at (tabulate L (f zero))) x z
+    (length-write l at (tabulate L (f zero)) ∙ n ∙ sym (length-write l′ at (tabulate L (f zero)))) (write-same l l′ at (tabulate L (f zero)) x z n e)
 
 pub pieces-in : {A : Type 0} (L d at k : ℕ) (f : ℕ → ℕ → A) (l : List A) (j y : ℕ) (z : A) → L ≤ d → at + j * d + L ≤ length l → j < k
     → y < L
@@ -203,13 +203,13 @@ pub pieces-in : {A : Type 0} (L d at k : ℕ) (f : ℕ → ℕ → A) (l : List 
 unfolding pieces
 pieces-in L d at zero f l j y z g h a b = absurd (not-suc-le-zero a)
 pieces-in L d at (suc k) f l zero y z g h a b =
-    let t = length-tab L (f zero) in
+    let t = length-tabulate L (f zero) in
     let e : at + 0 * d + y ≡ at + y = omega arith in
     let s : at + y - at ≡ y = omega arith in
-    rw e (pieces-out L d (at + d) k (λ j. f (suc j)) (write l at (tab L (f zero))) (at + y) z (λ j h′. inl (omega arith))
-    ∙ getD-write-in l at (tab L (f zero)) (at + y) z (omega arith) (omega arith) (omega arith)
-    ∙ ap (λ (n : ℕ). getD (tab L (f zero)) n z) s ∙ getD-tab L (f zero) y z b)
+    rw e (pieces-out L d (at + d) k (λ j. f (suc j)) (write l at (tabulate L (f zero))) (at + y) z (λ j h′. inl (omega arith))
+    ∙ getD-write-in l at (tabulate L (f zero)) (at + y) z (omega arith) (omega arith) (omega arith)
+    ∙ ap (λ (n : ℕ). getD (tabulate L (f zero)) n z) s ∙ getD-tabulate L (f zero) y z b)
 pieces-in L d at (suc k) f l (suc j) y z g h a b =
     let e : at + suc j * d + y ≡ at + d + j * d + y = omega arith in
-    rw e (pieces-in L d (at + d) k (λ j. f (suc j)) (write l at (tab L (f zero))) j y z g
-    (rw (length-write l at (tab L (f zero))) (omega arith)) (omega arith) b)
+    rw e (pieces-in L d (at + d) k (λ j. f (suc j)) (write l at (tabulate L (f zero))) j y z g
+    (rw (length-write l at (tabulate L (f zero))) (omega arith)) (omega arith) b)

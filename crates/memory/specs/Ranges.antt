@@ -1,7 +1,7 @@
--- The last index below n that passes a test, whether any does; a list of numbers and what is in it.
-use mathlib.Core.Path.{_≡_, refl, _∙_}
+-- The last index below n that passes a test, whether any does and whether all do; a list of numbers and what is in it.
+use mathlib.Core.Path.{_≡_, refl, sym, _∙_}
 use mathlib.Core.Logic.{⊎-elim}
-use mathlib.Core.Bool.{Bool, true, false, _&&_, _||_, cond, false≢true}
+use mathlib.Core.Bool.{Bool, true, false, _&&_, _||_, cond, false≢true, and-eq-true-iff}
 use mathlib.Core.List.{List, [], _∷_}
 use mathlib.Core.Option.{Option, none, some}
 use Prim.Native.Nat.{ℕ, zero, suc, _<_}
@@ -11,7 +11,7 @@ use lib.Dec.{eqb}
 use lib.ListN.{length, getD}
 use borrow.Author.Tests.{eq-eqb}
 use Rattle.memory.specs.Cases.{bool?, lt?, eq?, either}
-use Rattle.memory.specs.Lists.{tab, length-tab, getD-tab}
+use Rattle.memory.specs.Lists.{tabulate, length-tabulate, getD-tabulate}
 
 unfoldable pub last : (ℕ → Bool) → ℕ → Option ℕ
 last f zero = none
@@ -62,6 +62,29 @@ unfolding any
 any-ext f g zero h = refl
 any-ext f g (suc n) h = rw (h n (omega arith), any-ext f g n (λ i k. h i (omega arith)))
 
+pub any-no : (f : ℕ → Bool) (n : ℕ) → ((i : ℕ) → i < n → f i ≡ false) → any f n ≡ false
+unfolding any
+any-no f zero h = refl
+any-no f (suc n) h = rw (h n (omega arith)) (any-no f n (λ i k. h i (omega arith)))
+
+pub no-any : (f : ℕ → Bool) (n i : ℕ) → any f n ≡ false → i < n → f i ≡ false
+no-any f n i e h =
+    either (bool? (f i))
+    (λ t. let z : true ≡ false = sym (any-at f n i h t) ∙ e in cc)
+    (λ t. t)
+
+-- does each i below n pass
+unfoldable pub all : (ℕ → Bool) → ℕ → Bool
+all f zero = true
+all f (suc n) = f n && all f n
+
+pub all-at : (f : ℕ → Bool) (n i : ℕ) → all f n ≡ true → i < n → f i ≡ true
+unfolding all
+all-at f zero i e h = absurd (not-suc-le-zero h)
+all-at f (suc n) i e h =
+    let p = and-eq-true-iff (f n) (all f n) .0 e in
+    either (lt? i n) (λ l. all-at f n i (p .1) (l .1)) (λ l. let q : i ≡ n = omega arith in rw q (p .0))
+
 -- is x in the list
 unfoldable pub memb : ℕ → List ℕ → Bool
 memb x [] = false
@@ -106,6 +129,6 @@ memb-all P (y ∷ ys) h x m =
     (λ e. rw (← (e .1)) (h 0 (omega arith)))
     (λ e. memb-all P ys (λ i l. h (suc i) (omega arith)) x (rw (e .0) at m))
 
--- every number of a tab comes from an index: what holds of each f j holds of each member
-pub memb-tab-all : (P : ℕ → Type 0) (k : ℕ) (f : ℕ → ℕ) → ((j : ℕ) → j < k → P (f j)) → (x : ℕ) → memb x (tab k f) ≡ true → P x
-memb-tab-all P k f h = memb-all P (tab k f) (λ i l. let s : i < k = rw (length-tab k f) at l in rw (getD-tab k f i 0 s) (h i s))
+-- every number of a tabulate comes from an index: what holds of each f j holds of each member
+pub memb-tabulate-all : (P : ℕ → Type 0) (k : ℕ) (f : ℕ → ℕ) → ((j : ℕ) → j < k → P (f j)) → (x : ℕ) → memb x (tabulate k f) ≡ true → P x
+memb-tabulate-all P k f h = memb-all P (tabulate k f) (λ i l. let s : i < k = rw (length-tabulate k f) at l in rw (getD-tabulate k f i 0 s) (h i s))

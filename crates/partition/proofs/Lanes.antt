@@ -7,7 +7,7 @@ use native.Mathlib.Omega.{arith}
 use lib.ListN.{length}
 use lib.Pow.{pow-pos}
 use borrow.Author.Tests.{lt-ltb, le-ltb}
-use Rattle.memory.specs.Lists.{tab, tab-ext}
+use Rattle.memory.specs.Lists.{tabulate, tabulate-ext}
 use Rattle.memory.specs.Numbers.{div-of}
 use Rattle.fields.specs.Sources.{fieldByte, Aligned, Near, Whole, Run}
 use Rattle.fields.specs.Lanes.{laneOf, columnOf, few, lane-aligned, lane-reaches, lane-byte}
@@ -50,10 +50,10 @@ module _ (main : List ℕ) (r : PageSource) (F : SourceFits (length main) r) whe
       (whole-lane (r .w) y Y, whole-lane (r .w) n N),
     )
 
-    pub lane-bytes : r .w < 8 → (out : List ℕ) → out ≡ tab n (λ i. fieldByte shared (laneOf (r .l1)) (8 * r .w) (y + i))
-        → out ≡ tab n (λ i. fieldByte main (r .l1) (r .w) (y + i))
+    pub lane-bytes : r .w < 8 → (out : List ℕ) → out ≡ tabulate n (λ i. fieldByte shared (laneOf (r .l1)) (8 * r .w) (y + i))
+        → out ≡ tabulate n (λ i. fieldByte main (r .l1) (r .w) (y + i))
     lane-bytes h out e =
-        e ∙ tab-ext n _ _ (λ i l.
+        e ∙ tabulate-ext n _ _ (λ i l.
         ap (λ (v : List ℕ). fieldByte v (laneOf (r .l1)) (8 * r .w) (y + i)) (S .column h)
         ∙ lane-byte main (r .l1) (r .w) (F .l1-aligned) h (F .l1-bytes) (y + i) (room i l))
 

@@ -7,7 +7,7 @@ use native.Mathlib.Omega.{arith}
 use lib.ListN.{length, take, drop, replicate, length-take, length-drop}
 use Rattle.memory.specs.Cases.{lt?, either}
 use borrow.Author.Tests.{lt-ltb, le-ltb}
-use Rattle.memory.specs.Lists.{Done, tab, tab-ext}
+use Rattle.memory.specs.Lists.{Done, tabulate, tabulate-ext}
 use Rattle.memory.specs.Numbers.{euclid, div-lt}
 use Rattle.layout.specs.Index.{Index}
 use Rattle.laws.specs.SetLaws.{unit-pos}
@@ -21,9 +21,9 @@ use Rattle.partition.specs.Reach.{SourceFits}
 -- sectors of a page, one after another, are its bytes from the first sector on
 pub sectors-are : (u e : ℕ) (pow : u ≡ 2 ^ e) (ix : Index) (main : List ℕ) (z c : ℕ) (hc : c < 4 * u) (j n : ℕ) (r : PageSource) → r ≡ pageSource u ix c (j / 4)
     → j % 4 * (16 * u) + n ≤ 4 * (16 * u)
-    → tab n (λ i. pageByte main r (j % 4 * (16 * u) + i)) ≡ tab n (setBytes u ix main z c j)
+    → tabulate n (λ i. pageByte main r (j % 4 * (16 * u) + i)) ≡ tabulate n (setBytes u ix main z c j)
 sectors-are u e pow ix main z c hc j n r b room =
-    rw b (tab-ext n _ _ (λ i h.
+    rw b (tabulate-ext n _ _ (λ i h.
     let p = unit-pos u e pow in
     let E = euclid i (16 * u) (omega arith) in
     let l : i / (16 * u) < 4 - j % 4 = div-lt i (16 * u) (4 - j % 4) (omega arith) (less (j % 4) (16 * u) i (omega arith) (omega arith)) in
@@ -134,17 +134,17 @@ module _ (main : List ℕ) (r : PageSource) (y n a b from : ℕ) (F : SourceFits
     abbrev l₃ : List ℕ
     l₃ = take b l₂ ++ (z ++ drop (n - b) (drop b l₂))
 
-    pub made : p ≡ tab (length (take (a - 0) (drop 0 l))) (λ i. fieldByte main (r .old) (r .w) (y + i))
-        → q ≡ tab (length (take (b - a) (drop a l₁))) (λ i. fieldByte main (r .l1) (r .w) (from + i))
+    pub made : p ≡ tabulate (length (take (a - 0) (drop 0 l))) (λ i. fieldByte main (r .old) (r .w) (y + i))
+        → q ≡ tabulate (length (take (b - a) (drop a l₁))) (λ i. fieldByte main (r .l1) (r .w) (from + i))
         → z ≡ replicate (length (take (n - b) (drop b l₂))) 0
-        → l₃ ≡ tab n f
+        → l₃ ≡ tabulate n f
     made old l1 none =
         let o = order in
         let n₁ : length l₁ ≡ n = table-length l p 0 a (λ i. fieldByte main (r .old) (r .w) (y + i)) (omega arith) (omega arith) old ∙ size in
         let d₁ : Done f l₁ a = table-more l p 0 a (λ i. fieldByte main (r .old) (r .w) (y + i)) (omega arith) (omega arith) old f (λ k h. absurd (omega arith)) (λ j h. let e : 0 + j ≡ j = omega arith in rw e (old-byte j (omega arith))) in
         let n₂ : length l₂ ≡ n = table-length l₁ q a b (λ i. fieldByte main (r .l1) (r .w) (from + i)) (o .0) (omega arith) l1 ∙ n₁ in
         let d₂ : Done f l₂ b = table-more l₁ q a b (λ i. fieldByte main (r .l1) (r .w) (from + i)) (o .0) (omega arith) l1 f d₁ (λ j h. l1-byte j h) in
-        let t : z ≡ tab (length (take (n - b) (drop b l₂))) (λ i. 0) = none ∙ zeros (length (take (n - b) (drop b l₂))) in
+        let t : z ≡ tabulate (length (take (n - b) (drop b l₂))) (λ i. 0) = none ∙ zeros (length (take (n - b) (drop b l₂))) in
         let n₃ : length l₃ ≡ n = table-length l₂ z b n (λ i. 0) (o .1) (omega arith) t ∙ n₂ in
         done-all f l₃ n n n₃ (omega arith) (table-more l₂ z b n (λ i. 0) (o .1) (omega arith) t f d₂ (λ j h. no-byte j h))
 
@@ -165,7 +165,7 @@ module _ (main : List ℕ) (r : PageSource) (y n a b from : ℕ) (F : SourceFits
         let z : a - 0 ≡ a = sub-zero a in
         (whole-eight (r .w) y Y, rw (e, z) (whole-eight (r .w) a a-whole))
 
-    module _ (p : List ℕ) (old : p ≡ tab (length (take (a - 0) (drop 0 l))) (λ i. fieldByte main (r .old) (r .w) (y + i))) where
+    module _ (p : List ℕ) (old : p ≡ tabulate (length (take (a - 0) (drop 0 l))) (λ i. fieldByte main (r .old) (r .w) (y + i))) where
       abbrev left : List ℕ
       left = take 0 l ++ (p ++ drop (a - 0) (drop 0 l))
 

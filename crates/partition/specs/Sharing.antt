@@ -9,7 +9,7 @@ use lib.ListN.{length, getD}
 use lib.Pow.{pow-pos}
 use borrow.Author.Tests.{lt-ltb}
 use Rattle.memory.specs.Cases.{lt?, either}
-use Rattle.memory.specs.Lists.{tab, length-tab}
+use Rattle.memory.specs.Lists.{tabulate, length-tabulate}
 use Rattle.memory.specs.Numbers.{euclid, div-lt}
 use Rattle.memory.specs.Power.{log2up}
 use Rattle.layout.specs.Geometry.{sector, page, block}
@@ -30,7 +30,7 @@ shares-made main r old e = record { size = size; column = λ h. rw (lt-ltb (r .w
     size : length (sharedBytes main r old) ≡ 128
     size =
         either (lt? (r .w) 8)
-        (λ a. rw (a .0) (length-tab 128 (columnByte main (r .l1 .at + r .l1 .low / 8) (r .l1 .step / 8) (r .w))))
+        (λ a. rw (a .0) (length-tabulate 128 (columnByte main (r .l1 .at + r .l1 .low / 8) (r .l1 .step / 8) (r .w))))
         (λ a. rw (a .0) e)
 
 power-narrow : (k w : ℕ) → w ≡ 2 ^ k → w < 8 → Narrow w
@@ -82,5 +82,5 @@ module _ (u e : ℕ) (U : UnitIs u e) (ix : Index) (c : ℕ) (hc : c < 4 * u) wh
           let N = narrow h in
           let b : p / (8 / w) ≡ q / (8 / w) = rw (lt-ltb w 8 h) at beside in
           let e : at p ≡ at q = at-is p N ∙ (rw b (sym (at-is q N))) in
-          ap (λ (a : ℕ). tab 128 (columnByte main a (sector u / 8) w)) e
+          ap (λ (a : ℕ). tabulate 128 (columnByte main a (sector u / 8) w)) e
           ∙ column-same main main′ (at q) (sector u / 8) w N (λ r l. same (at q + r * (sector u / 8)) (at-in q r hq N l))

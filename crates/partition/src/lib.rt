@@ -3,7 +3,7 @@ ghost use mathlib.Core.Path.{_≡_};
 ghost use Prim.Native.Nat.{ℕ, _+_, _-_, _*_, _/_, _<_, _≤_, min};
 ghost use lib.ListN.{length};
 ghost use Rattle.memory.specs.Lent.{before, after};
-ghost use Rattle.memory.specs.Lists.{tab};
+ghost use Rattle.memory.specs.Lists.{tabulate};
 ghost use Rattle.layout.specs.Geometry.{sectorsPerPage, sector, block, sideBlocks};
 ghost use Rattle.layout.specs.Index.{setPages, setWidth, fullBlock};
 ghost use Rattle.laws.specs.Units.{UnitSound};
@@ -16,6 +16,7 @@ use fields::Source;
 use geometry::Chip;
 use geometry::sets;
 use geometry::sets::Set;
+use words::numbers;
 
 // Bytes that the filters of a round have in a page, for each bit of a filter there.
 const ROUND_BYTES: usize = sets::FILTERS_PER_ROUND / 8;
@@ -74,23 +75,7 @@ fn page_source(chip: Chip, set: Set, p: usize) -> PageSource
 fn below(e: usize, y: usize, n: usize) -> usize
     ensures { λ r. ⌜ r ≡ min n (e - y) ⌝ }
 {
-    if e <= y {
-        return 0;
-    }
-    if e - y < n {
-        return e - y;
-    }
-    n
-}
-
-// How far byte y lies behind byte e; 0 where it lies before it.
-fn behind(y: usize, e: usize) -> usize
-    ensures { λ r. ⌜ r ≡ y - e ⌝ }
-{
-    if y <= e {
-        return 0;
-    }
-    y - e
+    numbers::lesser(n, numbers::less(e, y))
 }
 
 // ---- L1's bytes for pages that take less than a byte of each filter: made once for all that share that byte
@@ -129,7 +114,7 @@ fn l1_bytes(r: PageSource, y: usize, main: &[u8], shared: &[u8], out: &mut [u8])
     requires { ⌜ SourceFits (length (now main)) r × Shares (now main) r (now shared) ⌝ }
     requires { ⌜ Whole (r .w) y × Whole (r .w) (length (now out)) ⌝ }
     requires { ⌜ ((i : ℕ) → i < length (now out) → y + i < roundBytes * r .w) ⌝ }
-    ensures { λ _. ⌜ after out ≡ tab (length (before out)) (λ (i : ℕ). fieldByte (before main) (r .l1) (r .w) (y + i)) ⌝ }
+    ensures { λ _. ⌜ after out ≡ tabulate (length (before out)) (λ (i : ℕ). fieldByte (before main) (r .l1) (r .w) (y + i)) ⌝ }
 {
     let w = r.w;
     let s = r.l1;
@@ -151,14 +136,14 @@ fn l1_bytes(r: PageSource, y: usize, main: &[u8], shared: &[u8], out: &mut [u8])
 fn page_bytes(r: PageSource, y: usize, main: &[u8], shared: &[u8], out: &mut [u8])
     requires { ⌜ SourceFits (length (now main)) r × Shares (now main) r (now shared) ⌝ }
     requires { ⌜ Whole (r .w) y × Whole (r .w) (length (now out)) ⌝ }
-    ensures { λ _. ⌜ after out ≡ tab (length (before out)) (λ (i : ℕ). pageByte (before main) r (y + i)) ⌝ }
+    ensures { λ _. ⌜ after out ≡ tabulate (length (before out)) (λ (i : ℕ). pageByte (before main) r (y + i)) ⌝ }
 {
     let w = r.w;
     let old = r.old;
     let n = out.len();
     let a = below(r.split, y, n);
     let b = below(r.end, y, n);
-    let from = behind(y, r.split);
+    let from = numbers::less(y, r.split);
     fields::field_run(main, old, w, y, &mut out[0..a]);
     l1_bytes(r, from, main, shared, &mut out[a..b]);
     words::fill(&mut out[b..n], 0);
@@ -171,7 +156,7 @@ pub fn set_sectors(chip: Chip, set: Set, j: usize, main: &[u8], shared: &[u8], o
     requires { ⌜ fullBlock (chip .unit) (indexOf (set .index)) 0 * block (chip .unit) ≤ length (now main) ⌝ }
     requires { ⌜ Shares (now main) (pageSource (chip .unit) (indexOf (set .index)) (set .rounds) (j / sectorsPerPage)) (now shared) ⌝ }
     requires { ⌜ InPage (sector (chip .unit)) j (length (now out)) ⌝ }
-    ensures { λ _. ⌜ after out ≡ tab (length (before out))
+    ensures { λ _. ⌜ after out ≡ tabulate (length (before out))
         (setBytes (chip .unit) (indexOf (set .index)) (before main) (set .«full_sets») (set .rounds) j) ⌝ }
 {
     let r = page_source(chip, set, j / Chip::SECTORS_PER_PAGE);

@@ -5,7 +5,7 @@ use mathlib.Core.List.{List, [], _∷_, _++_}
 use Prim.Native.Nat.{ℕ, zero, suc, _+_, _*_}
 use native.Mathlib.Omega.{arith}
 use lib.ListN.{getD}
-use Rattle.memory.specs.Lists.{tab}
+use Rattle.memory.specs.Lists.{tabulate}
 use Rattle.layout.specs.Geometry.{sector}
 use Rattle.layout.specs.Flash.{Flash, apply, fresh, allFresh, Planned, known, made, wipe, plannedFrom, opOn, planOps}
 use Rattle.layout.specs.Index.{flushesPerRound, setByte}
@@ -121,7 +121,7 @@ module _ (spare : List ℕ) (u : ℕ) where
 
   -- the bytes of sector j
   abbrev bytes : ℕ → List ℕ → ℕ → List ℕ
-  bytes at l j = tab (sector u) (λ y. getD l (at + (j * sector u + y)) 0)
+  bytes at l j = tabulate (sector u) (λ y. getD l (at + (j * sector u + y)) 0)
 
   page-ask : (q : Page) (item ram : List ℕ) (n : ℕ) → Asks (plannedFrom (filledPage u q item ram) 0 n) (freshRun spare 1 (q .sector) n)
   page-ask q item ram n =
@@ -133,7 +133,7 @@ module _ (spare : List ℕ) (u : ℕ) where
       let y : s .flush .first + 0 * 16 ≡ s .flush .first = omega arith in
       let z : s .set .first + 0 ≡ s .set .first = omega arith in
       let made-of : ℕ → List ℕ → List ℕ
-      = λ j main. tab (sector u) (setByte u (indexOf (s .next .index)) main (s .next .«full_sets») (s .next .rounds) j) in
+      = λ j main. tabulate (sector u) (setByte u (indexOf (s .next .index)) main (s .next .«full_sets») (s .next .rounds) j) in
       four-ask (plannedFrom (flushed u (flushOf s) fourths ram) 0 (s .flush .count))
       (plannedFrom (nextSet u (s .next) (s .set .first)) 0 (s .set .count))
       (plannedFrom (wiped (s .l1 .first)) 0 (s .l1 .count))

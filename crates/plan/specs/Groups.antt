@@ -9,7 +9,7 @@ use native.Mathlib.Omega.{arith}
 use lib.ListN.{length, getD, replicate, take, drop, length-take, length-drop, length-append}
 use lib.Dec.{ltb}
 use Rattle.memory.specs.Cases.{either}
-use Rattle.memory.specs.Lists.{tab, is-tab, tab-ext, length-tab, write, getD-write-before, getD-write-after}
+use Rattle.memory.specs.Lists.{tabulate, is-tabulate, tabulate-ext, length-tabulate, write, getD-write-before, getD-write-after}
 use Rattle.memory.specs.Numbers.{euclid, div-of, mod-of}
 use Rattle.layout.specs.Geometry.{sectorsPerPage, sector, block}
 use Rattle.layout.specs.Flash.{Flash, Planned, flashOf, program, apply, plannedFrom}
@@ -93,20 +93,20 @@ module _ (u : ℕ) (set : Set) (s n main spare : ℕ) (F : NextFits u set s n ma
 
   -- bytes outside the sectors stay
   row-out : (m : List ℕ) (j k x : ℕ) (f : ℕ → ℕ) → (x < (s + j) * sector u) ⊎ ((s + (j + k)) * sector u ≤ x)
-      → getD m x 0 ≡ getD (write m ((s + j) * sector u) (tab (k * sector u) f)) x 0
+      → getD m x 0 ≡ getD (write m ((s + j) * sector u) (tabulate (k * sector u) f)) x 0
   row-out m j k x f o =
       sym (either o
-      (λ a. getD-write-before m ((s + j) * sector u) (tab (k * sector u) f) x 0 a)
-      (λ a. getD-write-after m ((s + j) * sector u) (tab (k * sector u) f) x 0 (rw (length-tab (k * sector u) f) (omega arith))))
+      (λ a. getD-write-before m ((s + j) * sector u) (tabulate (k * sector u) f) x 0 a)
+      (λ a. getD-write-after m ((s + j) * sector u) (tabulate (k * sector u) f) x 0 (rw (length-tabulate (k * sector u) f) (omega arith))))
 
   -- the set's next sector is made of the same bytes
   row-same : (m : List ℕ) (j k : ℕ) (f : ℕ → ℕ) → j + k < n → (y : ℕ) → y < sector u
-      → setByte u ix (write m ((s + j) * sector u) (tab (k * sector u) f)) (set .«full_sets») (set .rounds) (j + k) y
+      → setByte u ix (write m ((s + j) * sector u) (tabulate (k * sector u) f)) (set .«full_sets») (set .rounds) (j + k) y
       ≡ setByte u ix m (set .«full_sets») (set .rounds) (j + k) y
   row-same m j k f h y l =
       let p = ap (λ (m : ℕ). m * sector u) (F .place (omega arith)) in
       let U = F .unit in
-      sym (set-byte-same u (U .0) (U .1 .power) ix (set .«full_sets») (set .rounds) (F .rounds) m (write m ((s + j) * sector u) (tab (k * sector u) f))
+      sym (set-byte-same u (U .0) (U .1 .power) ix (set .«full_sets») (set .rounds) (F .rounds) m (write m ((s + j) * sector u) (tabulate (k * sector u) f))
       (λ x o. row-out m j k x f (either o
       (λ a. inl (omega (arith, p, a, mul-le-mul-right (sector u) (let t : s ≤ s + j = omega arith in t))))
       (λ a. inr (omega (arith, p, a, mul-le-mul-right (sector u) (let t : s + (j + k) ≤ s + setPages (set .rounds + 1) * 4 = omega (arith, h, F .sectors) in t))))))
@@ -114,7 +114,7 @@ module _ (u : ℕ) (set : Set) (s n main spare : ℕ) (F : NextFits u set s n ma
 
   -- the flash after k sectors from sector j on
   abbrev left : Flash → ℕ → ℕ → Flash
-  left c j k = programmedRow u (s + j) k (tab (k * sector u) (bytes (c .main) j)) c
+  left c j k = programmedRow u (s + j) k (tabulate (k * sector u) (bytes (c .main) j)) c
 
   own : (c : Flash) (j k : ℕ) → j + k < n → (y : ℕ) → y < sector u
       → setByte u ix (left c j k .main) (set .«full_sets») (set .rounds) (j + k) y ≡ bytes (c .main) j (k * sector u + y)
@@ -124,20 +124,20 @@ module _ (u : ℕ) (set : Set) (s n main spare : ℕ) (F : NextFits u set s n ma
 
   one : (c : Flash) (j k : ℕ) → j + k < n
       → doneOne u (nextSet u set s (j + k)) (left c j k)
-      ≡ apply u (program (s + j + k) (tab (sector u) (λ y. bytes (c .main) j (k * sector u + y)))) (left c j k)
+      ≡ apply u (program (s + j + k) (tabulate (sector u) (λ y. bytes (c .main) j (k * sector u + y)))) (left c j k)
   one c j k h =
       let e : s + (j + k) ≡ s + j + k = omega arith in
-      rw e (ap (λ (v : List ℕ). apply u (program (s + j + k) v) (left c j k)) (tab-ext (sector u) _ _ (own c j k h)))
+      rw e (ap (λ (v : List ℕ). apply u (program (s + j + k) v) (left c j k)) (tabulate-ext (sector u) _ _ (own c j k h)))
 
   -- k sectors from sector j on, one after another, are a row
   pub row-done : (c : Flash) (j k : ℕ) → j + k ≤ n
-      → done u (plannedFrom (nextSet u set s) j k) c ≡ programmedRow u (s + j) k (tab (k * sector u) (bytes (c .main) j)) c
+      → done u (plannedFrom (nextSet u set s) j k) c ≡ programmedRow u (s + j) k (tabulate (k * sector u) (bytes (c .main) j)) c
   row-done c j zero h = λ i. flashOf (none-main i) (none-spare i)
     where
-      none-main : c .main ≡ write (c .main) ((s + j) * sector u) (tab (0 * sector u) (bytes (c .main) j))
+      none-main : c .main ≡ write (c .main) ((s + j) * sector u) (tabulate (0 * sector u) (bytes (c .main) j))
       none-main =
           let e : 0 * sector u ≡ 0 = omega arith in
-          let t : [] ≡ tab 0 (bytes (c .main) j) = is-tab [] 0 (bytes (c .main) j) refl (λ i l. absurd (omega arith)) in
+          let t : [] ≡ tabulate 0 (bytes (c .main) j) = is-tabulate [] 0 (bytes (c .main) j) refl (λ i l. absurd (omega arith)) in
           rw (e, ← t) (sym (write-none (c .main) ((s + j) * sector u)))
 
       none-spare : c .spare ≡ write (c .spare) (s + j) (replicate 0 0)
@@ -241,15 +241,15 @@ in-page u n k s O e d = record {
 module _ (u : ℕ) (set : Set) (s n main spare : ℕ) (F : NextFits u set s n main spare) where
   pub page-is : (p : Span) → p .to ≡ n → p .from < p .to → (m sp ys rest : List ℕ) (k size : ℕ) {x : Flash} → length ys ≡ size
       → size ≡ (p .to - p .from) * sector u
-      → ys ≡ tab k (setBytes u (indexOf (set .index)) m (set .«full_sets») (set .rounds) (p .from))
+      → ys ≡ tabulate k (setBytes u (indexOf (set .index)) m (set .«full_sets») (set .rounds) (p .from))
       → x ≡ programmedRow u (s + p .from) (p .to - p .from) (take (size - 0) (drop 0 (ys ++ rest))) (flashOf m sp)
       → x ≡ runOf u (nextSet u set s) p (flashOf m sp)
   page-is p e h m sp ys rest k size l z t q =
-      let d : k ≡ (p .to - p .from) * sector u = sym (length-tab k _) ∙ (sym (ap length t) ∙ (l ∙ z)) in
+      let d : k ≡ (p .to - p .from) * sector u = sym (length-tabulate k _) ∙ (sym (ap length t) ∙ (l ∙ z)) in
       q
       ∙ (ap (λ (v : List ℕ). programmedRow u (s + p .from) (p .to - p .from) v (flashOf m sp))
       (made-are ys rest size l
-      ∙ (t ∙ ap (λ (i : ℕ). tab i (setBytes u (indexOf (set .index)) m (set .«full_sets») (set .rounds) (p .from))) d))
+      ∙ (t ∙ ap (λ (i : ℕ). tabulate i (setBytes u (indexOf (set .index)) m (set .«full_sets») (set .rounds) (p .from))) d))
       ∙ sym (row-done u set s n main spare F (flashOf m sp) (p .from) (p .to - p .from) (omega arith)))
 
 -- ---- a turn of a loop over such spans

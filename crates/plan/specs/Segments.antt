@@ -8,11 +8,11 @@ use native.Mathlib.Omega.{arith}
 use lib.ListN.{length, getD, take, drop, length-take, length-drop, length-append, List·getD-append}
 use lib.Seq.{getD-take, getD-drop, getD-append-add}
 use Rattle.memory.specs.Cases.{either, lt?}
-use Rattle.memory.specs.Lists.{tab, is-tab, tab-ext, write, getD-write-before, getD-write-in, pieces-in, pieces-out}
+use Rattle.memory.specs.Lists.{tabulate, is-tabulate, tabulate-ext, write, getD-write-before, getD-write-in, pieces-in, pieces-out}
 use Rattle.layout.specs.Geometry.{sector, page}
 use Rattle.layout.specs.Flash.{Planned, known, made, wipe}
 use Rattle.layout.specs.Index.{Index, flushesPerRound, setByte}
-use Rattle.memory.specs.Lists.{tab-part}
+use Rattle.memory.specs.Lists.{tabulate-part}
 use Rattle.geometry.specs.Indexes.{indexOf}
 use Rattle.filter.specs.Fourths.{withFourths}
 use Rattle.plan.specs.declared.Page.{Page}
@@ -22,13 +22,13 @@ use Rattle.geometry.specs.declared.sets.Set.{Set}
 module _ (u : ℕ) where
   -- sector j of a page from sector s on, and of a flush, with the bytes of the RAM page at `at`; sector j of a set
   abbrev pub pageFrom : ℕ → ℕ → List ℕ → ℕ → Planned
-  pageFrom s at ram j = known (s + j) (tab (sector u) (λ y. getD ram (at + (j * sector u + y)) 0))
+  pageFrom s at ram j = known (s + j) (tabulate (sector u) (λ y. getD ram (at + (j * sector u + y)) 0))
 
   abbrev pub flushFrom : ℕ → ℕ → List ℕ → ℕ → Planned
-  flushFrom s at ram j = known (s + j * flushesPerRound) (tab (sector u) (λ y. getD ram (at + (j * sector u + y)) 0))
+  flushFrom s at ram j = known (s + j * flushesPerRound) (tabulate (sector u) (λ y. getD ram (at + (j * sector u + y)) 0))
 
   abbrev pub setFrom : ℕ → Index → ℕ → ℕ → ℕ → Planned
-  setFrom s ix z c j = made (s + j) (λ main. tab (sector u) (setByte u ix main z c j))
+  setFrom s ix z c j = made (s + j) (λ main. tabulate (sector u) (setByte u ix main z c j))
 
   -- the RAM with an item over the end of its page at `at`, and with new fourths over the ends of the sectors of a SKA page
   abbrev pub withItem : ℕ → List ℕ → List ℕ → List ℕ
@@ -52,10 +52,10 @@ wiped b j = wipe (b + j)
 
 -- ---- a body and a tail, by their bytes
 
-joined-tab : (body tail : List ℕ) (k n : ℕ) (f : ℕ → ℕ) → length body ≡ k → k + length tail ≡ n → ((y : ℕ) → y < k → getD body y 0 ≡ f y)
-    → ((y : ℕ) → y < length tail → getD tail y 0 ≡ f (k + y)) → body ++ tail ≡ tab n f
-joined-tab body tail k n f size whole low high =
-    is-tab (body ++ tail) n f (length-append body tail ∙ omega (arith, size, whole))
+joined-tabulate : (body tail : List ℕ) (k n : ℕ) (f : ℕ → ℕ) → length body ≡ k → k + length tail ≡ n → ((y : ℕ) → y < k → getD body y 0 ≡ f y)
+    → ((y : ℕ) → y < length tail → getD tail y 0 ≡ f (k + y)) → body ++ tail ≡ tabulate n f
+joined-tabulate body tail k n f size whole low high =
+    is-tabulate (body ++ tail) n f (length-append body tail ∙ omega (arith, size, whole))
     (λ y l. either (lt? y k)
     (λ q. List·getD-append body tail 0 y (omega (arith, size, q .1)) ∙ low y (q .1))
     (λ q.
@@ -79,22 +79,22 @@ module _ (u at : ℕ) (item ram : List ℕ) (short : length item ≤ sector u) (
 
   -- `size` and `off` are what code computes
   module _ (size : ℕ) (size-is : size ≡ sector u) (j off : ℕ) (off-is : off ≡ j * sector u) where
-    pub page-low : j + 1 < 4 → take (at + off + size - (at + off)) (drop (at + off) ram) ≡ tab (sector u) (byte j)
+    pub page-low : j + 1 < 4 → take (at + off + size - (at + off)) (drop (at + off) ram) ≡ tabulate (sector u) (byte j)
     page-low h =
         let m = mul-le-mul-right (sector u) h in
         let e : at + j * sector u + sector u - (at + j * sector u) ≡ sector u = omega arith in
         rw (size-is, off-is, e)
-        (sym (tab-part ram (at + j * sector u) (sector u) (omega (arith, m, fits)))
-        ∙ tab-ext (sector u) (λ y. getD ram (at + j * sector u + y) 0) (byte j) (λ y l. old-byte j y (omega (arith, m, l, short))))
+        (sym (tabulate-part ram (at + j * sector u) (sector u) (omega (arith, m, fits)))
+        ∙ tabulate-ext (sector u) (λ y. getD ram (at + j * sector u + y) 0) (byte j) (λ y l. old-byte j y (omega (arith, m, l, short))))
 
     pub page-last : j < 4 → 4 ≤ j + 1
-        → take (at + off + (size - length item) - (at + off)) (drop (at + off) ram) ++ item ≡ tab (sector u) (byte j)
+        → take (at + off + (size - length item) - (at + off)) (drop (at + off) ram) ++ item ≡ tabulate (sector u) (byte j)
     page-last h k =
         let j3 : j ≡ 3 = omega arith in
         let m : j * sector u ≡ 3 * sector u = ap (λ (x : ℕ). x * sector u) j3 in
         let e : at + j * sector u + (sector u - length item) - (at + j * sector u) ≡ sector u - length item = omega arith in
         rw (size-is, off-is, e)
-        (joined-tab (take (sector u - length item) (drop (at + j * sector u) ram)) item (sector u - length item) (sector u) (byte j)
+        (joined-tabulate (take (sector u - length item) (drop (at + j * sector u) ram)) item (sector u - length item) (sector u) (byte j)
         (simp (length-take, length-drop) (omega (arith, m, fits)))
         (omega (arith, short))
         (λ y l.
@@ -133,7 +133,7 @@ module _ (u : ℕ) (f : Flush) (fourths ram : List ℕ) (short : f .piece ≤ se
   -- `size` and `off` are what code computes
   pub flush-sector : (size off j : ℕ) → size ≡ sector u → off ≡ j * sector u → j < 4
       → take (f .at + off + (size - f .piece) - (f .at + off)) (drop (f .at + off) ram)
-      ++ take (j * f .piece + f .piece - j * f .piece) (drop (j * f .piece) fourths) ≡ tab (sector u) (flush-byte j)
+      ++ take (j * f .piece + f .piece - j * f .piece) (drop (j * f .piece) fourths) ≡ tabulate (sector u) (flush-byte j)
   flush-sector size off j size-is off-is h =
       let m = mul-le-mul-right (sector u) h in
       let n : length (take (f .piece) (drop (j * f .piece) fourths)) ≡ f .piece
@@ -141,7 +141,7 @@ module _ (u : ℕ) (f : Flush) (fourths ram : List ℕ) (short : f .piece ≤ se
       let a : f .at + j * sector u + (sector u - f .piece) - (f .at + j * sector u) ≡ sector u - f .piece = omega arith in
       let d : j * f .piece + f .piece - j * f .piece ≡ f .piece = omega arith in
       rw (size-is, off-is, a, d)
-      (joined-tab (take (sector u - f .piece) (drop (f .at + j * sector u) ram)) (take (f .piece) (drop (j * f .piece) fourths))
+      (joined-tabulate (take (sector u - f .piece) (drop (f .at + j * sector u) ram)) (take (f .piece) (drop (j * f .piece) fourths))
       (sector u - f .piece) (sector u) (flush-byte j)
       (simp (length-take, length-drop) (omega (arith, m, fits)))
       (omega (arith, n, short))

@@ -2,7 +2,7 @@
 // read.
 ghost use mathlib.Core.Path.{_≡_};
 ghost use mathlib.Core.List.{List};
-ghost use Prim.Native.Nat.{ℕ, _+_, _-_, _*_, _/_, _^_, _<_, _≤_};
+ghost use Prim.Native.Nat.{ℕ, _+_, _*_, _/_, _^_, _<_, _≤_};
 ghost use lib.ListN.{length};
 ghost use Rattle.memory.specs.Lent.{before};
 ghost use Rattle.layout.specs.Geometry.{sectorsPerPage, sector};
@@ -28,6 +28,7 @@ use geometry::Geometry;
 use geometry::areas;
 use geometry::sets;
 use geometry::sets::Set;
+use words::numbers;
 
 // ---- a plan
 
@@ -96,20 +97,10 @@ impl Span {
         ensures { λ r. ⌜ r ≡ behind self n ⌝ }
     {
         Span {
-            from: less(self.from, n),
-            to: less(self.to, n),
+            from: numbers::less(self.from, n),
+            to: numbers::less(self.to, n),
         }
     }
-}
-
-// x - n, and 0 where n is more.
-fn less(x: usize, n: usize) -> usize
-    ensures { λ r. ⌜ r ≡ x - n ⌝ }
-{
-    if x <= n {
-        return 0;
-    }
-    x - n
 }
 
 // ---- segments

@@ -11,19 +11,16 @@ use lib.ListN.{length, drop}
 use lib.Seq.{getD-take, getD-drop}
 use borrow.Author.Tests.{lt-ltb, le-ltb}
 use Rattle.memory.specs.Bits.{pack}
-use Rattle.memory.specs.Lists.{tab, getD-tab}
+use Rattle.memory.specs.Lists.{tabulate, getD-tabulate}
 use Rattle.memory.specs.Numbers.{div-of, mod-of}
 use Rattle.layout.specs.Geometry.{Geometry, sector, fourthSize, ramSize}
-use Rattle.layout.specs.Flash.{Flash, Planned, allFresh, planOps}
+use Rattle.layout.specs.Flash.{Planned}
 use Rattle.layout.specs.Hash.{Family}
 use Rattle.layout.specs.Items.{Record, recordBytes}
 use Rattle.layout.specs.Calls.{newFilter, newHalf}
 use Rattle.laws.specs.ItemLaws.{length-record}
-use Rattle.laws.specs.Done.{doneCount}
 use Rattle.filter.specs.Fourths.{FourthsOf}
 use Rattle.plan.specs.Plans.{deletionFourths, entryFourths, planned, plannedCount, planned-count}
-use Rattle.plan.specs.Fresh.{planFresh, plan-fresh}
-use Rattle.plan.specs.Done.{planDone, plan-done}
 use Rattle.planning.specs.declared.Slots.{Slots}
 use Rattle.planning.specs.declared.Slots.the-variants.{Delete, Insert, Update}
 use Rattle.planning.specs.New.{newBytes, deletion-part, record-part, entry-part}
@@ -49,7 +46,7 @@ fourth-byte u n B i f y h k =
 
 -- the fourths of two filters with the bits B, then those of one with the bits C
 abbrev filtersOf : ℕ → (ℕ → ℕ → Bool) → (ℕ → ℕ → Bool) → List ℕ
-filtersOf u B C = tab 768 (λ x. cond (ltb x 512) (fourthByte u 2 B x) (fourthByte u 1 C (x - 512)))
+filtersOf u B C = tabulate 768 (λ x. cond (ltb x 512) (fourthByte u 2 B x) (fourthByte u 1 C (x - 512)))
 
 module _ (u : ℕ) (B C : ℕ → ℕ → Bool) (most : u ≤ 32) where
   deletion-fourths : FourthsOf u 2 B (deletionFourths (filtersOf u B C))
@@ -58,7 +55,7 @@ module _ (u : ℕ) (B C : ℕ → ℕ → Bool) (most : u ≤ 32) where
       let l : x < 512 = omega (arith, mul-le-mul-right (2 * (2 * u)) a, mul-le-mul-right (2 * u) b, c, most) in
       let t : cond (ltb x 512) (fourthByte u 2 B x) (fourthByte u 1 C (x - 512)) ≡ fourthByte u 2 B x = rw (lt-ltb x 512 l) in
       getD-take 512 (drop 0 (filtersOf u B C)) x 0 l
-      ∙ getD-tab 768 (λ x. cond (ltb x 512) (fourthByte u 2 B x) (fourthByte u 1 C (x - 512))) x 0 (omega (arith, l))
+      ∙ getD-tabulate 768 (λ x. cond (ltb x 512) (fourthByte u 2 B x) (fourthByte u 1 C (x - 512))) x 0 (omega (arith, l))
       ∙ t ∙ fourth-byte u 2 B i f y b c
 
   entry-fourths : FourthsOf u 1 C (entryFourths (filtersOf u B C))
@@ -69,7 +66,7 @@ module _ (u : ℕ) (B C : ℕ → ℕ → Bool) (most : u ≤ 32) where
       let t : cond (ltb (512 + x) 512) (fourthByte u 2 B (512 + x)) (fourthByte u 1 C (512 + x - 512)) ≡ fourthByte u 1 C x
       = rw (le-ltb (512 + x) 512 (omega arith), z) in
       getD-take 256 (drop 512 (filtersOf u B C)) x 0 l ∙ getD-drop 512 (filtersOf u B C) x 0
-      ∙ getD-tab 768 (λ x. cond (ltb x 512) (fourthByte u 2 B x) (fourthByte u 1 C (x - 512))) (512 + x) 0 (omega (arith, l))
+      ∙ getD-tabulate 768 (λ x. cond (ltb x 512) (fourthByte u 2 B x) (fourthByte u 1 C (x - 512))) (512 + x) 0 (omega (arith, l))
       ∙ t ∙ fourth-byte u 1 C i f y b c
 
 -- ---- a change with them
@@ -131,7 +128,7 @@ edit-some h g pos most j r ram long e =
     (someNew h g pos most j r ram long e, someFilters h g pos most j r ram long e, some-planned h g pos most j r ram long e)
 
 -- the unit of its numbers
-unit-is : (g : Geometry) (e : Slots) → numbersOf g e .chip .unit ≡ g .u
+pub unit-is : (g : Geometry) (e : Slots) → numbersOf g e .chip .unit ≡ g .u
 unit-is g (Delete d) = refl
 unit-is g (Insert n) = refl
 unit-is g (Update d n) = refl
@@ -140,20 +137,6 @@ module _ (h : Family) (g : Geometry) (pos : 0 < g .u) (most : g .u ≤ 32) (j : 
     (e : Slots) where
   abbrev plan : List Planned
   plan = planOf g h j (r .key) (recordBytes r) ram e
-
-  -- are its sectors fresh
-  pub edit-fresh : (spare : List ℕ) (c : Flash) → planFresh spare (numbersOf g e) ≡ allFresh spare (planOps (g .u) plan c)
-  edit-fresh spare c =
-      let s = edit-some h g pos most j r ram long e in
-      plan-fresh spare (numbersOf g e) (s .0) (s .1) ram c
-      ∙ ap (λ (u : ℕ). allFresh spare (planOps u (planned (numbersOf g e) (s .0) (s .1) ram) c)) (unit-is g e)
-      ∙ ap (λ (l : List Planned). allFresh spare (planOps (g .u) l c)) (s .2)
-
-  -- how many of its operations count as done
-  pub edit-done : (spare : List ℕ) → planDone spare (numbersOf g e) ≡ doneCount spare plan
-  edit-done spare =
-      let s = edit-some h g pos most j r ram long e in
-      plan-done spare (numbersOf g e) (s .0) (s .1) ram ∙ ap (doneCount spare) (s .2)
 
   -- how many there are
   pub edit-length : length plan ≡ plannedCount (numbersOf g e)

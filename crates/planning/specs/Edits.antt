@@ -8,6 +8,7 @@ use lib.ListN.{length}
 use borrow.Author.Tests.{eqb-true, eq-eqb}
 use Rattle.memory.specs.Cases.{either, bool?}
 use Rattle.memory.specs.Numbers.{euclid, mod-of}
+use Rattle.layout.specs.Keys.{Key}
 use Rattle.layout.specs.Geometry.{Geometry, recordCapacity, deletionCapacity, ramSize}
 use Rattle.layout.specs.Flash.{Planned}
 use Rattle.layout.specs.Hash.{Family}
@@ -43,7 +44,7 @@ module _ (g : Geometry) where
   programsIn (Update d n) = fills (DA g) d || fills (RA g) n
 
   -- the layout's plan and RAM, of the deletion of record j and of a record with its key and bytes
-  module _ (h : Family) (j key : ℕ) (bytes ram : List ℕ) where
+  module _ (h : Family) (j : ℕ) (key : Key) (bytes ram : List ℕ) where
     abbrev pub planOf : Slots → List Planned
     planOf (Delete d) = deletionPlan h g d j ram
     planOf (Insert n) = insertionPlan h g n key bytes ram
@@ -62,13 +63,13 @@ pub record DeletionGiven (h : Family) (g : Geometry) (d j : ℕ) (new filters ra
   pub filters-are : fills (DA g) d ≡ true → FourthsOf (g .u) 2 (λ i. newHalf h g d j i ram) (deletionFourths filters)
 
 -- of record n and its entry; the filter where the entry fills its page
-pub record RecordGiven (h : Family) (g : Geometry) (n key : ℕ) (bytes new filters ram : List ℕ) : Type 0 where
+pub record RecordGiven (h : Family) (g : Geometry) (n : ℕ) (key : Key) (bytes new filters ram : List ℕ) : Type 0 where
   pub size : length bytes ≡ 16
   pub record-is : recordIn new ≡ bytes
   pub entry-is : entryIn new ≡ entryBytes key n
   pub filter-is : fills (KA g) n ≡ true → FourthsOf (g .u) 1 (λ i. newFilter h g n key ram) (entryFourths filters)
 
-module _ (h : Family) (g : Geometry) (j key : ℕ) (bytes new filters ram : List ℕ) where
+module _ (h : Family) (g : Geometry) (j : ℕ) (key : Key) (bytes new filters ram : List ℕ) where
   abbrev pub Given : Slots → Type 0
   Given (Delete d) = DeletionGiven h g d j new filters ram
   Given (Insert n) = RecordGiven h g n key bytes new filters ram
@@ -102,7 +103,7 @@ entry-then-record g n pos e =
     = mod-of n (4 * g .u) (n / (8 * g .u) * 2 + 1) (4 * g .u - 1) (omega (arith, w .whole, a, pos)) (omega (arith, pos)) in
     eq-eqb (n % (4 * g .u) + 1) (4 * g .u) (omega (arith, r, pos))
 
-module _ (h : Family) (g : Geometry) (pos : 0 < g .u) (j key : ℕ) (bytes ram : List ℕ) where
+module _ (h : Family) (g : Geometry) (pos : 0 < g .u) (j : ℕ) (key : Key) (bytes ram : List ℕ) where
   deletion-none : (d : ℕ) → fills (DA g) d ≡ false → deletionPlan h g d j ram ≡ []
   unfolding deletionPlan
   deletion-none d e = rw e

@@ -9,6 +9,7 @@ use lib.ListN.{length}
 use borrow.Author.Tests.{eqb-true}
 use Rattle.memory.specs.Booleans.{cond-pos, cond-neg}
 use Rattle.memory.specs.Lists.{write}
+use Rattle.layout.specs.Keys.{Key}
 use Rattle.layout.specs.Geometry.{Geometry, sector, page, fourthSize, ramSize}
 use Rattle.layout.specs.Flash.{Planned, plannedFrom}
 use Rattle.layout.specs.Hash.{Family}
@@ -154,7 +155,7 @@ module _ (h : Family) (g : Geometry) (d j : ℕ) (new filters ram : List ℕ) (p
 
 -- ---- a record and its entry
 
-module _ (h : Family) (g : Geometry) (n key : ℕ) (bytes new filters ram : List ℕ) (size : length bytes ≡ 16)
+module _ (h : Family) (g : Geometry) (n : ℕ) (key : Key) (bytes new filters ram : List ℕ) (size : length bytes ≡ 16)
     (record-is : recordIn new ≡ bytes) (entry-is : entryIn new ≡ entryBytes key n)
     (filter-is : fills (KA g) n ≡ true → FourthsOf (g .u) 1 (λ i. newFilter h g n key ram) (entryFourths filters)) where
   abbrev K : ℕ

@@ -5,7 +5,6 @@ ghost use Rattle.layout.specs.Geometry.{recordCapacity, deletionCapacity};
 ghost use Rattle.layout.specs.Items as layout;
 ghost use Rattle.layout.specs.Items.{RA, KA, DA};
 ghost use Rattle.layout.specs.Index.{inL1, inFull};
-ghost use Rattle.layout.specs.Calls.{deletionFilters};
 ghost use Rattle.laws.specs.Units.{UnitSound};
 ghost use Rattle.geometry.specs.Shape.{shape, Sound, area, AreaSound};
 ghost use Rattle.planning.specs.Numbers.{none, pageOf, noSummary, flushSegment, flushSummary, setSummary, summaryAt};
@@ -158,15 +157,6 @@ fn no_entries(g: Geometry) -> Summary
     no_summary(sets::key_index(g), g.chip.fourth_size())
 }
 
-// Filters of the pages before that of deletion d, two of each.
-fn deletion_filters(g: Geometry, d: usize) -> usize
-    requires { ⌜ Sound g × (d < deletionCapacity (shape g)) ⌝ }
-    ensures { λ r. ⌜ r ≡ deletionFilters (shape g) d ⌝ }
-{
-    let per_page = g.deletions_per_page();
-    2 * (d / per_page)
-}
-
 // What deletion d adds; the second of its page's filters is the last.
 fn deletion_summary(g: Geometry, d: usize) -> Summary
     requires { ⌜ Sound g × (d < deletionCapacity (shape g)) ⌝ }
@@ -175,7 +165,7 @@ fn deletion_summary(g: Geometry, d: usize) -> Summary
     if !deletion_fills(g, d) {
         return no_deletions(g);
     }
-    let filters = deletion_filters(g, d);
+    let filters = sets::deletion_filters(g, d);
     summary(
         g.chip,
         sets::deletion_index(g),

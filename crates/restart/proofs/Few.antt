@@ -31,8 +31,8 @@ module _ (v : Volume) where
           (cond k2 (changing (update (recordOf a b c d)))
           (cond k3 (changing (delete a)) (cond k4 (formatting (sizesOf a b c d)) unknown)))))
       of a b c d true k1 k2 k3 k4 = omega arith
-      of a b c d false true k2 k3 k4 = few-again v (Insert (record { key = a; moves = b; goal = c; free = d }))
-      of a b c d false false true k3 k4 = few-again v (Update (record { key = a; moves = b; goal = c; free = d }))
-      of a b c d false false false true k4 = few-again v (Delete a)
+      of a b c d false true k2 k3 k4 = few-again v (Insert (record { key = record { level = a }; moves = b; goal = c; free = d }))
+      of a b c d false false true k3 k4 = few-again v (Update (record { key = record { level = a }; moves = b; goal = c; free = d }))
+      of a b c d false false false true k4 = few-again v (Delete (record { level = a }))
       of a b c d false false false false true = omega (arith, few-format (pendingOn v) (sizesOf a b c d))
       of a b c d false false false false false = omega arith

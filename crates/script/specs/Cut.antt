@@ -7,7 +7,7 @@ use native.Mathlib.Omega.{arith}
 use lib.ListN.{length, take, length-take}
 use lib.Seq.{take-all}
 use Rattle.memory.specs.Cases.{either, le?, eq?}
-use Rattle.script.specs.Lines.{bad, number, lengthen, fields, twoNumbers, threeNumbers, wordsRequest, request}
+use Rattle.script.specs.Lines.{bad, number, lengthen, fields, twoNumbers, threeNumbers, wordsCommand, command}
 use Rattle.script.specs.ReadNumber.{number-long}
 
 -- ---- the words are as long as the line
@@ -64,7 +64,7 @@ three-long c x y z h =
     (λ a. three-long-after c x y z (omega arith))
     (λ a. rw (number-long x (a .1)))
 
-long-words : (ws : List (List ℕ)) → 35 < total ws → wordsRequest ws ≡ bad
+long-words : (ws : List (List ℕ)) → 35 < total ws → wordsCommand ws ≡ bad
 unfolding total
 long-words [] h = refl
 long-words ([] ∷ ws) h = refl
@@ -76,13 +76,13 @@ long-words ((c ∷ []) ∷ x ∷ y ∷ z ∷ []) h = three-long c x y z (omega a
 long-words ((c ∷ []) ∷ x ∷ y ∷ z ∷ w ∷ ws) h = refl
 
 -- `f 4294967295 4294967295 4294967295` has 34 bytes
-pub long : (l : List ℕ) → 34 < length l → request l ≡ bad
-unfolding request
+pub long : (l : List ℕ) → 34 < length l → command l ≡ bad
+unfolding command
 long l h = long-words (fields l) (omega (arith, total-fields l))
 
 -- a reader needs to keep no more than 64 bytes of a line
-pub cut : (l : List ℕ) → request (take 64 l) ≡ request l
+pub cut : (l : List ℕ) → command (take 64 l) ≡ command l
 cut l =
     either (le? (length l) 64)
-    (λ h. ap request (take-all 64 l (h .1)))
+    (λ h. ap command (take-all 64 l (h .1)))
     (λ h. long (take 64 l) (omega (arith, length-take 64 l)) ∙ sym (long l (omega arith)))

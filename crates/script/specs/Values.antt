@@ -1,4 +1,4 @@
--- The code's numbers, requests and answers as the definitions have them.
+-- The code's numbers, commands and answers as the definitions have them.
 use mathlib.Core.Option.{Option, none, some}
 use Prim.Native.Nat.{ℕ}
 use Rattle.layout.specs.Items.{recordOf}
@@ -7,8 +7,8 @@ use Rattle.script.specs.Lines as lines
 use Rattle.script.specs.Answers as answers
 use Rattle.script.specs.declared.Number.{Number}
 use Rattle.script.specs.declared.Number.the-variants.{No, Value}
-use Rattle.script.specs.declared.Request.{Request}
-use Rattle.script.specs.declared.Request.the-variants.{Bad, Format, Insert, Update, Delete, Lookup}
+use Rattle.script.specs.declared.Command.{Command}
+use Rattle.script.specs.declared.Command.the-variants.{Bad, Format, Insert, Update, Delete, Lookup}
 use Rattle.script.specs.declared.answers.Answer.{Answer}
 use Rattle.script.specs.declared.answers.Answer.the-variants as answer
 
@@ -17,13 +17,13 @@ numberOf No = none
 numberOf (Value v) = some v
 
 -- "goal and free word are 0"
-abbrev pub requestOf : Request → lines.Request
-requestOf Bad = lines.bad
-requestOf (Format S R D) = lines.format S R D
-requestOf (Insert key moves) = lines.call (insert (recordOf key moves 0 0))
-requestOf (Update key moves) = lines.call (update (recordOf key moves 0 0))
-requestOf (Delete key) = lines.call (delete key)
-requestOf (Lookup key) = lines.call (lookup key)
+abbrev pub commandOf : Command → lines.Command
+commandOf Bad = lines.bad
+commandOf (Format S R D) = lines.format S R D
+commandOf (Insert key moves) = lines.call (insert (recordOf (lines.lineKey key) moves 0 0))
+commandOf (Update key moves) = lines.call (update (recordOf (lines.lineKey key) moves 0 0))
+commandOf (Delete key) = lines.call (delete (lines.lineKey key))
+commandOf (Lookup key) = lines.call (lookup (lines.lineKey key))
 
 abbrev pub answerOf : Answer → answers.Answer
 answerOf (answer.Ok n d) = answers.ok n d

@@ -7,12 +7,12 @@ ghost use Prim.Native.Nat.{_+_, _≤_, _<_};
 ghost use lib.ListN.{length, take, drop};
 ghost use Rattle.memory.specs.Lent.{before};
 ghost use Rattle.text.specs.Text.{digitsFrom};
-ghost use Rattle.script.specs.Lines.{small, number, fields, oneNumber, twoNumbers, threeNumbers, letterRequest, request};
+ghost use Rattle.script.specs.Lines.{small, number, fields, oneNumber, twoNumbers, threeNumbers, letterCommand, command};
 ghost use Rattle.script.specs.FirstWord.{wordLength};
-ghost use Rattle.script.specs.Values.{numberOf, requestOf};
+ghost use Rattle.script.specs.Values.{numberOf, commandOf};
 
 // What a line asks for.
-pub enum Request {
+pub enum Command {
     Bad,
     Format(u32, u32, u32),
     Insert(u32, u32),
@@ -68,60 +68,60 @@ fn read_number(word: &[u8]) -> Number
     read_digits(word)
 }
 
-// ---- requests
+// ---- commands
 
 // `d key` and `l key`.
-fn one_number(letter: u8, x: Number) -> Request
-    ensures { λ r. ⌜ requestOf r ≡ oneNumber letter (numberOf x) ⌝ }
+fn one_number(letter: u8, x: Number) -> Command
+    ensures { λ r. ⌜ commandOf r ≡ oneNumber letter (numberOf x) ⌝ }
 {
     let Number::Value(key) = x else {
-        return Request::Bad;
+        return Command::Bad;
     };
     if letter == b'd' {
-        return Request::Delete(key);
+        return Command::Delete(key);
     }
     if letter == b'l' {
-        return Request::Lookup(key);
+        return Command::Lookup(key);
     }
-    Request::Bad
+    Command::Bad
 }
 
 // `i key moves` and `u key moves`.
-fn two_numbers(letter: u8, x: Number, y: Number) -> Request
-    ensures { λ r. ⌜ requestOf r ≡ twoNumbers letter (numberOf x) (numberOf y) ⌝ }
+fn two_numbers(letter: u8, x: Number, y: Number) -> Command
+    ensures { λ r. ⌜ commandOf r ≡ twoNumbers letter (numberOf x) (numberOf y) ⌝ }
 {
     let Number::Value(key) = x else {
-        return Request::Bad;
+        return Command::Bad;
     };
     let Number::Value(moves) = y else {
-        return Request::Bad;
+        return Command::Bad;
     };
     if letter == b'i' {
-        return Request::Insert(key, moves);
+        return Command::Insert(key, moves);
     }
     if letter == b'u' {
-        return Request::Update(key, moves);
+        return Command::Update(key, moves);
     }
-    Request::Bad
+    Command::Bad
 }
 
 // `f S R D`.
-fn three_numbers(letter: u8, x: Number, y: Number, z: Number) -> Request
-    ensures { λ r. ⌜ requestOf r ≡ threeNumbers letter (numberOf x) (numberOf y) (numberOf z) ⌝ }
+fn three_numbers(letter: u8, x: Number, y: Number, z: Number) -> Command
+    ensures { λ r. ⌜ commandOf r ≡ threeNumbers letter (numberOf x) (numberOf y) (numberOf z) ⌝ }
 {
     let Number::Value(s) = x else {
-        return Request::Bad;
+        return Command::Bad;
     };
     let Number::Value(r) = y else {
-        return Request::Bad;
+        return Command::Bad;
     };
     let Number::Value(d) = z else {
-        return Request::Bad;
+        return Command::Bad;
     };
     if letter == b'f' {
-        return Request::Format(s, r, d);
+        return Command::Format(s, r, d);
     }
-    Request::Bad
+    Command::Bad
 }
 
 // ---- words
@@ -158,8 +158,8 @@ fn after_space(line: &[u8], n: usize) -> &[u8]
 }
 
 // What a letter asks for with the words after it.
-fn parse_words(letter: u8, words: &[u8]) -> Request
-    ensures { λ r. ⌜ requestOf r ≡ letterRequest letter (fields (before words)) ⌝ }
+fn parse_words(letter: u8, words: &[u8]) -> Command
+    ensures { λ r. ⌜ commandOf r ≡ letterCommand letter (fields (before words)) ⌝ }
 {
     let a = word_length(words);
     let x = number_in(words, a);
@@ -175,22 +175,22 @@ fn parse_words(letter: u8, words: &[u8]) -> Request
     let third = after_space(second, b);
     let c = word_length(third);
     if c < third.len() {
-        return Request::Bad;
+        return Command::Bad;
     }
     let z = number_in(third, c);
     three_numbers(letter, x, y, z)
 }
 
 // A letter and up to three numbers, between single spaces; any other line is bad.
-pub fn parse_line(line: &[u8]) -> Request
-    ensures { λ r. ⌜ requestOf r ≡ request (before line) ⌝ }
+pub fn parse_line(line: &[u8]) -> Command
+    ensures { λ r. ⌜ commandOf r ≡ command (before line) ⌝ }
 {
     let n = word_length(line);
     if n != 1 {
-        return Request::Bad;
+        return Command::Bad;
     }
     if line.len() == 1 {
-        return Request::Bad;
+        return Command::Bad;
     }
     let words = after_space(line, 1);
     parse_words(line[0], words)

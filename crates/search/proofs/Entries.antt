@@ -38,17 +38,7 @@ unfolding scan
 scan-end try lo zero h = refl
 scan-end try lo (suc e) h = absurd (omega arith)
 
--- the same entries, counted from another number
-pub scan-same : (try try′ : ℕ → Option Stop) (lo lo′ m : ℕ) → ((k : ℕ) → k < m → try (lo + k) ≡ try′ (lo′ + k)) → scan try lo m ≡ scan try′ lo′ m
-unfolding scan
-scan-same try try′ lo lo′ zero same = refl
-scan-same try try′ lo lo′ (suc m) same = rw (same m (omega arith), scan-same try try′ lo lo′ m (λ k l. same k (omega arith)))
-
 -- ---- what it costs
-
-pub unless-most : (o : Option Stop) (c : ℕ) → unlessEnded o c ≤ c
-unless-most none c = omega arith
-unless-most (some r) c = omega arith
 
 module _ (try : ℕ → Option Stop) (cost : ℕ → ℕ) where
   cost-from : (f : ℕ → Bool) (lo m : ℕ) → ((i : ℕ) → i < m → f i ≡ false → (try (lo + i) ≡ none) × (cost (lo + i) ≡ 0))
@@ -74,19 +64,6 @@ module _ (try : ℕ → Option Stop) (cost : ℕ → ℕ) where
   cost-end lo zero h = refl
   cost-end lo (suc e) h = absurd (omega arith)
 
-  -- each entry at most m
-  pub cost-most : (m : ℕ) → ((i : ℕ) → cost i ≤ m) → (lo k : ℕ) → scanCost try cost lo k ≤ k * m
-  unfolding scanCost
-  cost-most m h lo zero = omega arith
-  cost-most m h lo (suc k) = omega (arith, h (lo + k), unless-most (try (lo + k)) (scanCost try cost lo k), cost-most m h lo k)
-
-pub cost-same : (try try′ : ℕ → Option Stop) (cost cost′ : ℕ → ℕ) (lo lo′ m : ℕ) → ((k : ℕ) → k < m → try (lo + k) ≡ try′ (lo′ + k))
-    → ((k : ℕ) → k < m → cost (lo + k) ≡ cost′ (lo′ + k)) → scanCost try cost lo m ≡ scanCost try′ cost′ lo′ m
-unfolding scanCost
-cost-same try try′ cost cost′ lo lo′ zero same price = refl
-cost-same try try′ cost cost′ lo lo′ (suc m) same price =
-    rw (same m (omega arith), price m (omega arith), cost-same try try′ cost cost′ lo lo′ m (λ k l. same k (omega arith)) (λ k l. price k (omega arith)))
-
 -- ---- entries in a row of bytes
 
 -- entries lo to lo + count - 1 lie in a row from byte `from` on
@@ -101,11 +78,11 @@ pub record Left (bytes : List ℕ) (from : ℕ) (key : Key) (try : ℕ → Optio
   pub rest : scan try lo count ≡ scan try lo e
   pub paid : base + scanCost try cost lo count ≡ sum + scanCost try cost lo e
 
-pub left-none : (bytes : List ℕ) (from : ℕ) (key : Key) (try : ℕ → Option Stop) (cost : ℕ → ℕ) (lo count base e sum : ℕ)
+pub left-none : {bytes : List ℕ} {from : ℕ} {key : Key} {try : ℕ → Option Stop} {cost : ℕ → ℕ} {lo count base e sum : ℕ}
     → Left bytes from key try cost lo count base e sum → e ≤ 0 → (scan try lo count ≡ none) × (sum ≡ base + scanCost try cost lo count)
-left-none bytes from key try cost lo count base e sum L h = (L .rest ∙ scan-end try lo e h, omega (arith, L .paid, cost-end try cost lo e h))
+left-none {try = try} {cost = cost} {lo = lo} {e = e} L h = (L .rest ∙ scan-end try lo e h, omega (arith, L .paid, cost-end try cost lo e h))
 
-module _ (bytes : List ℕ) (from count n : ℕ) (key : Key) (deleted : ℕ → Bool) (test : ℕ → ℕ) (try : ℕ → Option Stop) (cost : ℕ → ℕ) (lo : ℕ)
+module _ {bytes : List ℕ} {from count n : ℕ} {key : Key} {deleted : ℕ → Bool} {test : ℕ → ℕ} {try : ℕ → Option Stop} {cost : ℕ → ℕ} {lo : ℕ}
     (S : Same bytes from count n key deleted test try cost lo) where
   other-key : (k : ℕ) → k < count → hasKey bytes from key k ≡ false → (try (lo + k) ≡ none) × (cost (lo + k) ≡ 0)
   unfolding hasKey sameKey
@@ -131,7 +108,7 @@ module _ (bytes : List ℕ) (from count n : ℕ) (key : Key) (deleted : ℕ → 
         paid = rw is (ap (λ (x : ℕ). base + x) (skipped-cost count (omega arith)));
       }
 
-  module _ (base e sum j : ℕ) (L : Left bytes from key try cost lo count base e sum) (some-left : 0 < e)
+  module _ {base e sum j : ℕ} (L : Left bytes from key try cost lo count base e sum) (some-left : 0 < e)
       (number : j ≡ numberIn (word bytes (from + (e - 1) * 8 + 4))) where
     abbrev outcome : Option Stop
     outcome = cond (leb n j) (some corrupt) (cond (deleted j) none (some (found j)))

@@ -1,47 +1,21 @@
 -- The pages of a word of bits, one after another: what is left of them at each, and what a search has found in them.
-use mathlib.Core.Path.{_≡_, refl, sym, ap, _∙_}
-use mathlib.Core.Bool.{Bool, true, false, _&&_, not}
+use mathlib.Core.Path.{_≡_, refl, sym, _∙_}
+use mathlib.Core.Bool.{Bool, true, false, _&&_, true≢false, and-eq-true-iff}
 use mathlib.Core.Option.{Option, none, some}
 use Prim.Native.Nat.{ℕ, zero, suc, _+_, _*_, _-_, _≤_, _<_}
 use native.Mathlib.Omega.{arith}
-use lib.Dec.{ltb, eqb}
-use borrow.Author.Tests.{lt-ltb, le-ltb, ne-eqb}
-use Rattle.memory.specs.Bits.{bit, bit-zero}
-use Rattle.memory.specs.Candidate.{candidate, candidate-le, candidate-open, candidate-shut, candidate-opens, candidate-skip, candidate-top}
+use lib.Dec.{ltb}
+use borrow.Author.Tests.{lt-ltb, le-ltb, ltb-true}
+use Rattle.memory.specs.Bits.{bit}
+use Rattle.memory.specs.Candidate.{candidate, candidate-le, candidate-open, candidate-shut, candidate-opens, candidate-skip}
 use Rattle.memory.specs.Cases.{bool?, lt?, eq?, either}
 use Rattle.layout.specs.Search.{Stop, reply, scan, scanCost, searchPages, pagesCost}
+use Rattle.laws.specs.TopBits.{Top, Cleared, BitsLeft, all-left, none-left, top-both, top-gap, top-left}
+use Rattle.laws.specs.WalkLaws.{Pages, pages-few, pages-skip, pages-most, pages-ended, pages-vain}
 use Rattle.search.specs.Tries.{newestOf, openedOf}
-use Rattle.search.proofs.Pages.{Pages, pages-few, pages-skip, pages-most, pages-ended, pages-vain}
-
-never : true ≡ false → ⊥
-never z = let o : _≡_ {A = ℕ} 0 1 = cc in omega arith
-
--- both tests of two hold
-both : (a b : Bool) → (a && b) ≡ true → (a ≡ true) × (b ≡ true)
-both true true e = (refl, refl)
-both true false e = absurd (never (sym e))
-both false b e = absurd (never (sym e))
 
 shut-left : (a b : Bool) → a ≡ false → (a && b) ≡ false
 shut-left a b e = rw e
-
--- ---- the bits of a word
-
--- bit f, the highest that is set, is cleared
-module _ (bits f : ℕ) (above : (i : ℕ) → f < i → i < 64 → bit bits i ≡ false) (r : ℕ)
-    (is : (i : ℕ) → i < 64 → bit r i ≡ (not (eqb i f) && bit bits i)) where
-  cleared : (i : ℕ) → i < 64 → f ≤ i → bit r i ≡ false
-  cleared i k l =
-      either (eq? i f)
-      (λ t. is i k ∙ rw (t .0))
-      (λ t. let ne = t .1 in is i k ∙ rw (t .0) (above i (omega arith) k))
-
-  -- so that the highest is a lower one
-  pub cleared-less : f < 64 → bit bits f ≡ true → candidate (bit r) 64 < candidate (bit bits) 64
-  cleared-less h set =
-      let a : candidate (bit bits) 64 ≡ suc f = candidate-top (bit bits) 64 f h set above in
-      let b : candidate (bit r) 64 ≡ candidate (bit r) f = candidate-skip (bit r) 64 f (omega arith) (λ i l k. cleared i k l) in
-      omega (arith, a, b, candidate-le (bit r) f)
 
 -- ---- pages to be opened, and their newest entries
 
@@ -98,14 +72,13 @@ module _ (set : ℕ → Bool) (entry : ℕ → ℕ) where
 
   -- the newest is to be opened
   pub newest-set : (n : ℕ) → 0 < newestOf set entry n → set (newestOf set entry n - 1) ≡ true
-  newest-set n p = let f = newestOf set entry n - 1 in both (set f) (ltb 0 (entry f)) (candidate-opens gate n p) .0
+  newest-set n p = let f = newestOf set entry n - 1 in and-eq-true-iff (set f) (ltb 0 (entry f)) .0 (candidate-opens gate n p) .0
 
   -- and has an entry
   pub newest-some : (n : ℕ) → 0 < newestOf set entry n → 0 < entry (newestOf set entry n - 1)
   newest-some n p =
       let f = newestOf set entry n - 1 in
-      let t = both (set f) (ltb 0 (entry f)) (candidate-opens gate n p) .1 in
-      either (lt? 0 (entry f)) (λ s. s .1) (λ s. absurd (never (sym t ∙ s .0)))
+      ltb-true 0 (entry f) (and-eq-true-iff (set f) (ltb 0 (entry f)) .0 (candidate-opens gate n p) .1)
 
   pub newest-le : (n : ℕ) → newestOf set entry n ≤ n
   newest-le n = candidate-le gate n
@@ -119,93 +92,59 @@ module _ (bits : ℕ) (entry : ℕ → ℕ) where
   abbrev pub newest : ℕ → ℕ
   newest m = newestOf (bit bits) entry m
 
-  -- `opened` pages were opened in vain
+  -- `opened` pages were opened in vain, those of bits m and above
   pub record Vain (left opened : ℕ) : Type 0 where
     pub m : ℕ
-    pub most : m ≤ 64
-    pub shown : (i : ℕ) → i < 64 → bit left i ≡ (ltb i m && bit bits i)
+    pub shown : BitsLeft bits left m
     pub opened-is : count 64 ≡ opened + count m
     pub newest-is : newest 64 ≡ newest m
 
   pub vain-first : Vain bits 0
-  vain-first =
-      record {
-        m = 64;
-        most = omega arith;
-        shown = λ i k. rw (lt-ltb i 64 k);
-        opened-is = omega arith;
-        newest-is = refl;
-      }
+  vain-first = record { m = 64; shown = all-left bits; opened-is = omega arith; newest-is = refl }
 
-  module _ (left opened : ℕ) (T : Vain left opened) where
-    pub vain-few : opened ≤ 64
-    vain-few = omega (arith, T .opened-is, opened-le (bit bits) entry 64)
+module _ {bits : ℕ} {entry : ℕ → ℕ} {left opened : ℕ} (T : Vain bits entry left opened) where
+  pub vain-few : opened ≤ 64
+  vain-few = omega (arith, T .opened-is, opened-le (bit bits) entry 64)
 
-    not-left : (i : ℕ) → i < T .m → bit left i ≡ false → bit bits i ≡ false
-    not-left i h e = (rw (lt-ltb i (T .m) h) at (sym (T .shown i (omega (arith, T .most))))) ∙ e
+  -- none is left
+  module _ (z : left ≡ 0) where
+    none-set : (i : ℕ) → 0 ≤ i → i < T .m → bit bits i ≡ false
+    none-set i a b = none-left (T .shown) z i b
 
-    -- none is left
-    module _ (z : left ≡ 0) where
-      none-set : (i : ℕ) → 0 ≤ i → i < T .m → bit bits i ≡ false
-      none-set i a b = not-left i b (rw z (bit-zero i))
+    pub vain-newest : newest bits entry 64 ≡ 0
+    vain-newest = T .newest-is ∙ newest-skip (bit bits) entry (T .m) 0 (omega arith) none-set ∙ newest-end (bit bits) entry
 
-      pub vain-newest : newest 64 ≡ 0
-      vain-newest = T .newest-is ∙ newest-skip (bit bits) entry (T .m) 0 (omega arith) none-set ∙ newest-end (bit bits) entry
+    pub vain-opened : opened ≡ count bits entry 64
+    vain-opened =
+        let a : count bits entry (T .m) ≡ 0 = opened-skip (bit bits) entry (T .m) 0 (omega arith) none-set ∙ opened-end (bit bits) entry in
+        omega (arith, T .opened-is)
 
-      pub vain-opened : opened ≡ count 64
-      vain-opened =
-          let a : count (T .m) ≡ 0 = opened-skip (bit bits) entry (T .m) 0 (omega arith) none-set ∙ opened-end (bit bits) entry in
-          omega (arith, T .opened-is)
+  -- bit f is the highest left
+  module _ (f : ℕ) (top : Top left f) where
+    here : (f < T .m) × (bit bits f ≡ true)
+    here = top-both (T .shown) f top
 
-    -- bit f is the highest left, and is cleared
-    module _ (f : ℕ) (f-lt : f < 64) (is-set : bit left f ≡ true) (above : (i : ℕ) → f < i → i < 64 → bit left i ≡ false) where
-      pub top-both : (f < T .m) × (bit bits f ≡ true)
-      top-both =
-          let e = both (ltb f (T .m)) (bit bits f) (sym (T .shown f f-lt) ∙ is-set) in
-          either (lt? f (T .m)) (λ t. (t .1, e .1)) (λ t. absurd (never (sym (e .0) ∙ t .0)))
+    opened-here : count bits entry (T .m) ≡ count bits entry (suc f)
+    opened-here = opened-skip (bit bits) entry (T .m) (suc f) (here .0) (top-gap (T .shown) f top)
 
-      gap : (i : ℕ) → suc f ≤ i → i < T .m → bit bits i ≡ false
-      gap i a b = not-left i b (above i a (omega (arith, T .most)))
+    newest-here : newest bits entry (T .m) ≡ newest bits entry (suc f)
+    newest-here = newest-skip (bit bits) entry (T .m) (suc f) (here .0) (top-gap (T .shown) f top)
 
-      opened-here : count (T .m) ≡ count (suc f)
-      opened-here = opened-skip (bit bits) entry (T .m) (suc f) (top-both .0) gap
+    pub vain-next : (r : ℕ) → Cleared left f r → entry f ≡ 0 → Vain bits entry r (opened + 1)
+    vain-next r is z =
+        record {
+          m = f;
+          shown = top-left (T .shown) f top r is;
+          opened-is = omega (arith, T .opened-is, opened-here, opened-vain (bit bits) entry f (here .1) z);
+          newest-is = T .newest-is ∙ newest-here ∙ candidate-shut (gate (bit bits) entry) f (gate-vain (bit bits) entry f z);
+        }
 
-      newest-here : newest (T .m) ≡ newest (suc f)
-      newest-here = newest-skip (bit bits) entry (T .m) (suc f) (top-both .0) gap
+    module _ (p : 0 < entry f) where
+      pub some-newest : newest bits entry 64 ≡ suc f
+      some-newest = T .newest-is ∙ newest-here ∙ candidate-open (gate (bit bits) entry) f (gate-some (bit bits) entry f (here .1) p)
 
-      module _ (r : ℕ) (is : (i : ℕ) → i < 64 → bit r i ≡ (not (eqb i f) && bit left i)) where
-        pub top-left : (i : ℕ) → i < 64 → bit r i ≡ (ltb i f && bit bits i)
-        top-left i k =
-            either (lt? i f)
-            (λ t.
-            let l = t .1 in
-            is i k ∙ rw (ne-eqb i f (λ e. absurd (omega arith)), t .0) (T .shown i k ∙ rw (lt-ltb i (T .m) (omega (arith, top-both .0)))))
-            (λ t.
-            let l = t .1 in
-            is i k ∙ over i k l ∙ sym (ap (λ (x : Bool). x && bit bits i) (t .0)))
-          where
-            over : (i : ℕ) → i < 64 → f ≤ i → (not (eqb i f) && bit left i) ≡ false
-            over i k l =
-                either (eq? i f)
-                (λ t. rw (t .0))
-                (λ t. let ne = t .1 in rw (t .0) (above i (omega arith) k))
-
-        pub vain-next : entry f ≡ 0 → Vain r (opened + 1)
-        vain-next z =
-            record {
-              m = f;
-              most = omega arith;
-              shown = top-left;
-              opened-is = omega (arith, T .opened-is, opened-here, opened-vain (bit bits) entry f (top-both .1) z);
-              newest-is = T .newest-is ∙ newest-here ∙ candidate-shut (gate (bit bits) entry) f (gate-vain (bit bits) entry f z);
-            }
-
-        module _ (p : 0 < entry f) where
-          pub some-newest : newest 64 ≡ suc f
-          some-newest = T .newest-is ∙ newest-here ∙ candidate-open (gate (bit bits) entry) f (gate-some (bit bits) entry f (top-both .1) p)
-
-          pub some-opened : opened + 1 ≡ count 64
-          some-opened = omega (arith, T .opened-is, opened-here, opened-some (bit bits) entry f (top-both .1) p)
+      pub some-opened : opened + 1 ≡ count bits entry 64
+      some-opened = omega (arith, T .opened-is, opened-here, opened-some (bit bits) entry f (here .1) p)
 
 -- ---- what a search has found in them
 
@@ -251,10 +190,10 @@ module _ (gated : ℕ → Bool) (try : ℕ → Option Stop) (cost : ℕ → ℕ)
                 let e : from + (suc m - 1) ≡ from + m = omega arith in
                 rw e record {
                   low = omega (arith, P .low);
-                  few = omega (arith, pages-few gated try cost q N k sum p P);
-                  most = pages-most gated try cost q N k sum p P (from + m) l o gap;
-                  ended = pages-ended gated try cost q N k sum p P (from + m) l o gap;
-                  vain = pages-vain gated try cost q N k sum p P (from + m) l o gap;
+                  few = omega (arith, pages-few P);
+                  most = pages-most P (from + m) l o gap;
+                  ended = pages-ended P (from + m) l o gap;
+                  vain = pages-vain P (from + m) l o gap;
                 };
           })
           (λ s.
@@ -263,7 +202,7 @@ module _ (gated : ℕ → Bool) (try : ℕ → Option Stop) (cost : ℕ → ℕ)
           let c : k + openedOf set entry (suc m) ≡ k + 1 + openedOf set entry m = omega (arith, opened-vain set entry m t z) in
           let e = other m t (omega (arith, P .low)) z in
           let s : sum + scanCost try cost ((from + m) * q) q ≡ sum = omega (arith, e .1) in
-          let v = rw s at (pages-vain gated try cost q N k sum p P (from + m) l o gap (e .0)) in
+          let v = rw s at (pages-vain P (from + m) l o gap (e .0)) in
           rw (w, c) (rest (k + 1) sum (from + m) v (omega arith) (omega arith) (λ i h. lower i h (omega arith))))
 
       passed : set m ≡ false → Through (k + openedOf set entry (suc m)) sum (newestOf set entry (suc m))
@@ -275,7 +214,7 @@ module _ (gated : ℕ → Bool) (try : ℕ → Option Stop) (cost : ℕ → ℕ)
           (λ s.
           let l = s .1 in
           let shut : gated (from + m) ≡ false = (rw (s .0) at (sym (shown m (omega arith)))) ∙ t in
-          let v = pages-skip gated try cost q N k sum p P (from + m) (omega arith) (λ i c d. (let e : i ≡ from + m = omega arith in rw e shut)) in
+          let v = pages-skip P (from + m) (omega arith) (λ i c d. (let e : i ≡ from + m = omega arith in rw e shut)) in
           rw (w, c) (rest k sum (from + m) v (omega arith) (omega arith) (λ i h. lower i h (omega arith))))
           (λ s.
           let l = s .1 in
@@ -285,9 +224,8 @@ module _ (gated : ℕ → Bool) (try : ℕ → Option Stop) (cost : ℕ → ℕ)
       one-more =
           either (bool? (set m))
           (λ t.
-          let B = both (ltb (from + m) p) (gated (from + m)) (sym (shown m (omega arith)) ∙ t) in
-          let l : from + m < p = either (lt? (from + m) p) (λ s. s .1) (λ s. absurd (never (sym (B .0) ∙ s .0))) in
-          opened-one t (B .1) l (λ i c d. absurd (omega arith)))
+          let B = and-eq-true-iff (ltb (from + m) p) (gated (from + m)) .0 (sym (shown m (omega arith)) ∙ t) in
+          opened-one t (B .1) (ltb-true (from + m) p (B .0)) (λ i c d. absurd (omega arith)))
           (λ t. passed t)
 
     pub through : (m : ℕ) → Goes m
@@ -311,7 +249,7 @@ above f (suc n) i h t =
     (λ s. rw s (omega arith))
     (λ s.
     either (eq? i n)
-    (λ e. let z : f n ≡ true = rw (e .1) at t in absurd (never (sym z ∙ s)))
+    (λ e. let z : f n ≡ true = rw (e .1) at t in absurd (true≢false (sym z ∙ s)))
     (λ e. let ne = e .1 in rw s (above f n i (omega arith) t)))
 
 abbrev pub measure : ℕ → ℕ

@@ -1,13 +1,14 @@
 -- Entries of a view on flash and in RAM, its gates by blocks of filters, the test of a number, and parts of a ready volume.
 use mathlib.Core.Path.{_≡_, refl, sym, ap, _∙_}
-use mathlib.Core.Bool.{Bool, true, false, cond}
+use mathlib.Core.Bool.{Bool, true, false, _&&_, cond}
 use mathlib.Core.Option.{Option, none, some}
 use mathlib.Core.List.{List}
 use Prim.Native.Nat.{ℕ, _+_, _-_, _*_, _/_, _%_, _≤_, _<_}
-use native.Mathlib.Nat.{mul-le-mul, mul-le-mul-left, mul-le-mul-right, div-mul-le-self}
+use native.Mathlib.Nat.{mul-le-mul, mul-le-mul-left, mul-le-mul-right, div-mul-le-self, mod-lt}
 use native.Mathlib.Omega.{arith}
 use lib.Dec.{leb}
 use lib.ListN.{length}
+use Rattle.memory.specs.Bits.{bit}
 use Rattle.memory.specs.Cases.{bool?, lt?, either}
 use Rattle.memory.specs.Numbers.{euclid, div-lt}
 use Rattle.memory.specs.Words.{word}
@@ -20,21 +21,21 @@ use Rattle.layout.specs.Search.{Stop, Found, isFound, found, reply, ramFirst, s
 use Rattle.layout.specs.Search.{scanCost, pagesCost, entryCost, unlessEnded}
 use Rattle.layout.specs.Calls.{keyIndex, keyPositions, numberPositions, maybeDeleted, tryDeletion, testDeletion}
 use Rattle.layout.specs.Calls.{tryAt, tryCost, maybeIn, searchAt, daPagesAt}
-use Rattle.laws.specs.SearchLaws.{opened-le}
+use Rattle.laws.specs.SearchLaws.{opened-le, ram-first-most}
+use Rattle.laws.specs.WalkLaws.{scan-same, cost-same, cost-most, full-mono, pages-cost, same-order, Shown}
 use Rattle.geometry.specs.Shape.{shape}
 use Rattle.geometry.specs.Bounds.{deletion-capacity-le, record-capacity-le}
 use Rattle.items.specs.Reading.{page-word, ram-word}
-use Rattle.kernels.specs.Blocks.{OpenBlock}
+use Rattle.kernels.specs.Blocks.{Upto}
 use Rattle.filter.specs.Blocks.{BlockAt}
 use Rattle.filter.specs.declared.groups.Block.{Block}
 use Rattle.deletions.specs.Test as tests
 use Rattle.deletions.specs.Test.{testedOf}
 use Rattle.deletions.specs.declared.Tested.{Tested}
 use Rattle.search.specs.declared.View.{View}
-use Rattle.search.specs.Find.{viewed, Ready, tryOf, costOf, tryIn, costIn, deletedOf, testCost, pagesBelow, costBelow, deletionsOf}
+use Rattle.search.specs.Find.{viewed, ViewFits, tryOf, costOf, tryIn, costIn, deletedOf, testCost, pagesBelow, costBelow, deletionsOf}
 use Rattle.search.specs.Tries.{pageStart, entryIn}
-use Rattle.search.proofs.Entries.{Same, scan-same, cost-same, cost-most, left-first, left-none}
-use Rattle.search.proofs.Pages.{pages-cost}
+use Rattle.search.proofs.Entries.{Same, left-first, left-none}
 
 -- ---- a view's entries
 
@@ -75,8 +76,7 @@ module _ (v : View) (main ram : List ℕ) (key : Key) where
       → (scan (tryOf v main ram key) (p * perPage v) (perPage v) ≡ none) × (scanCost (tryOf v main ram key) (costOf v main ram key) (p * perPage v) (perPage v) ≡ 0)
   vain-page p h z =
       let S = same-flash p (pageStart (v .g) p) (perPage v) h (omega arith) refl in
-      let L = left-first main (pageStart (v .g) p) (perPage v) (v .n0) key (deletedOf v main ram) (testCost v main ram) (tryOf v main ram key) (costOf v main ram key) (p * perPage v) S 0 0 (sym z) in
-      let e = left-none main (pageStart (v .g) p) key (tryOf v main ram key) (costOf v main ram key) (p * perPage v) (perPage v) 0 0 0 L (omega arith) in
+      let e = left-none (left-first S 0 0 (sym z)) (omega arith) in
       (e .0, omega (arith, e .1))
 
   -- entries of the page that is not full
@@ -116,9 +116,14 @@ module _ (v : View) (main ram : List ℕ) (key : Key) where
   -- a block shows the gates of its pages
   pub block-shows : (below : ℕ) (ps : List ℕ) (b : Block)
       → BlockAt (v .g .chip .unit) (keyIndex (shape (v .g))) main ram (pages v) below ps b
-      → OpenBlock (maybeIn (shape (v .g)) (viewed v main ram) ps) (b .start) (below - b .start) (b .words)
-  unfolding maybeIn
-  block-shows below ps b B = B .shown
+      → Shown bit 64 (b .start) below (b .words) (maybeIn (shape (v .g)) (viewed v main ram) ps)
+  unfolding maybeIn Upto
+  block-shows below ps b B w h i k =
+      let f : ℕ = b .start + w * 64 + i in
+      let a : b .start + (w * 64 + i) ≡ f = omega arith in
+      (rw a at (B .shown w h i k))
+      ∙ ap (λ (t : Bool). t && maybeIn (shape (v .g)) (viewed v main ram) ps f)
+      (same-order (w * 64 + i) (below - b .start) f below (λ l. omega arith) (λ l. omega (arith, B .start-lt)))
 
   -- the entries past the last full page first
   pub search-is : (s : Option Stop) → s ≡ scan (tryOf v main ram key) (pagesThen v * perPage v) (v .n0 % perPage v)
@@ -167,20 +172,20 @@ module _ (v : View) (main ram : List ℕ) (j : ℕ) (r : Tested)
   pub tested-opened : r .opened ≡ testCost v main ram j
   tested-opened = ap (λ (f : Found). f .opened) is
 
-module _ (v : View) (main ram : List ℕ) where
-  -- its deletions can be tested
-  pub test-ready : Ready v main ram → tests.Ready (deletionsOf v) main ram
-  test-ready R = record { sound = R .sound; read = R .read; cap = R .d-cap; bound = R .d0-le }
+-- its deletions can be tested
+pub test-ready : {v : View} {main ram : List ℕ} → ViewFits v main ram → tests.DeletionsFit (deletionsOf v) main ram
+test-ready R = record { sound = R .sound; read = R .read; cap = R .d-cap; bound = R .d0-le }
 
-  -- a test reads nothing of the records
-  pub test-viewed : (j : ℕ) → testDeletion fnvFamily (shape (v .g)) (tests.held (deletionsOf v) main ram) (v .d0) j
-      ≡ testDeletion fnvFamily (shape (v .g)) (viewed v main ram) (v .d0) j
-  unfolding testDeletion tryDeletion maybeDeleted
-  test-viewed j = refl
+-- a test reads nothing of the records
+pub test-viewed : (v : View) (main ram : List ℕ) (j : ℕ)
+    → testDeletion fnvFamily (shape (v .g)) (tests.held (deletionsOf v) main ram) (v .d0) j
+    ≡ testDeletion fnvFamily (shape (v .g)) (viewed v main ram) (v .d0) j
+unfolding testDeletion tryDeletion maybeDeleted
+test-viewed v main ram j = refl
 
 -- ---- a ready volume
 
-module _ (v : View) (main ram : List ℕ) (R : Ready v main ram) where
+module _ {v : View} {main ram : List ℕ} (R : ViewFits v main ram) where
   -- eight full pages to a block of records
   pages-le : pages v ≤ 8 * v .g .ra
   pages-le =
@@ -192,10 +197,7 @@ module _ (v : View) (main ram : List ℕ) (R : Ready v main ram) where
 
   -- those of the view are among them
   pub pages-then : pagesThen v ≤ pages v
-  pages-then =
-      let E = euclid (v .n) (8 * v .g .chip .unit) (omega (arith, R .sound .unit .1 .some)) in
-      let h : v .n0 < (pages v + 1) * (8 * v .g .chip .unit) = omega (arith, R .n0-le, E .whole, E .small) in
-      omega (arith, div-lt (v .n0) (8 * v .g .chip .unit) (pages v + 1) (omega (arith, R .sound .unit .1 .some)) h)
+  pages-then = full-mono (v .n0) (v .n) (perPage v) (omega (arith, R .sound .unit .1 .some)) (R .n0-le)
 
   -- a full page lies within the flash
   pub page-in : (p : ℕ) → p < pages v
@@ -207,9 +209,7 @@ module _ (v : View) (main ram : List ℕ) (R : Ready v main ram) where
 
   -- entries past the last full page are fewer than a page's
   pub slots-lt : v .n0 % perPage v < perPage v
-  slots-lt =
-      let E = euclid (v .n0) (perPage v) (omega (arith, R .sound .unit .1 .some)) in
-      omega arith
+  slots-lt = mod-lt (v .n0) (omega (arith, R .sound .unit .1 .some))
 
   -- full sets
   pub sets-le : inFull (v .g .chip .unit) (pages v) ≤ layout.fullSets (shape (v .g))
@@ -227,7 +227,16 @@ module _ (v : View) (main ram : List ℕ) (R : Ready v main ram) where
   -- the pages that a test opens are at most as many as the deletions
   test-most : (j : ℕ) → testCost v main ram j ≤ 33554432
   unfolding testDeletion
-  test-most j = omega (arith, first-most (scan try (v .d0 / q * q) (v .d0 % q)) (searchPages gate try q (v .d0 / q)), opened-le gate try q (v .d0 / q), quotient, R .d0-le, R .d-cap, deletion-capacity-le (v .g) (R .sound))
+  test-most j =
+      omega (
+        arith,
+        ram-first-most (scan try (v .d0 / q * q) (v .d0 % q)) (searchPages gate try q (v .d0 / q)),
+        opened-le gate try q (v .d0 / q),
+        quotient,
+        R .d0-le,
+        R .d-cap,
+        deletion-capacity-le (v .g) (R .sound),
+      )
     where
       gate : ℕ → Bool
       gate = maybeDeleted (shape (v .g)) (viewed v main ram) (numberPositions fnvFamily (shape (v .g)) j)
@@ -243,10 +252,6 @@ module _ (v : View) (main ram : List ℕ) (R : Ready v main ram) where
           let some : 1 ≤ layout.deletionsPerPage (v .g .chip .unit) = omega (arith, R .sound .unit .1 .some) in
           let a : v .d0 / q * 1 ≤ v .d0 / q * q = mul-le-mul-left (v .d0 / q) some in
           omega (arith, a, div-mul-le-self (v .d0) q)
-
-      first-most : (s : Option Stop) (f : Found) → ramFirst s f .opened ≤ f .opened
-      first-most none f = omega arith
-      first-most (some r) f = omega arith
 
   records-most : v .n0 ≤ 8388608
   records-most = omega (arith, R .n0-le, R .n-cap, record-capacity-le (v .g) (R .sound))

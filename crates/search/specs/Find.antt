@@ -3,9 +3,8 @@ use mathlib.Core.Path.{_≡_, sym}
 use mathlib.Core.Bool.{Bool}
 use mathlib.Core.Option.{Option, none, some}
 use mathlib.Core.List.{List, []}
-use Prim.Native.Nat.{ℕ, _+_, _*_, _/_, _≤_, _<_}
+use Prim.Native.Nat.{ℕ, _+_, _*_, _/_, _≤_}
 use native.Mathlib.Omega.{arith}
-use lib.ListN.{getD}
 use Rattle.memory.specs.Words.{word}
 use Rattle.layout.specs.Keys.{wordSize, Key, keyAt, numberIn}
 use Rattle.layout.specs.Geometry as layout
@@ -48,7 +47,7 @@ abbrev pub viewed : View → List ℕ → List ℕ → Volume
 viewed v main ram = record { state = layout.stateOf (layout.sizesOf 0 0 0 0) (v .n) (v .d); flash = flashOf main []; ram = ram }
 
 -- the lent bytes hold a volume of a sound geometry, of which no more is searched than there is
-pub record Ready (v : View) (main ram : List ℕ) : Type 0 where
+pub record ViewFits (v : View) (main ram : List ℕ) : Type 0 where
   pub sound : Sound (v .g)
   pub read : Readable (shape (v .g)) main ram
   pub n-cap : v .n ≤ layout.recordCapacity (shape (v .g))
@@ -61,7 +60,7 @@ pub record Ready (v : View) (main ram : List ℕ) : Type 0 where
 module _ (w : Volume) (g : Geometry) (v : View) (is : v ≡ whole g (w .state .records) (w .state .deletions)) where
   pub ready-whole : Sound g → Readable (shape g) (w .flash .main) (w .ram)
       → w .state .records ≤ layout.recordCapacity (shape g) → w .state .deletions ≤ layout.deletionCapacity (shape g)
-      → Ready v (w .flash .main) (w .ram)
+      → ViewFits v (w .flash .main) (w .ram)
   ready-whole sound read n-cap d-cap =
       rw is record {
         sound = sound;
@@ -123,17 +122,6 @@ abbrev pub costBelow : View → List ℕ → List ℕ → Key → List ℕ → �
 costBelow v main ram key ps below =
     find.pagesCost (maybeIn (shape (v .g)) (viewed v main ram) ps) (tryOf v main ram key) (costOf v main ram key)
     (layout.entriesPerPage (v .g .chip .unit)) below
-
--- what is found in all by a search that ended so after k pages, if it ended nowhere with what the search of older pages finds
-abbrev pub onward : Option find.Stop → ℕ → find.Found → find.Found
-onward none k older = find.reply (older .stop) (k + older .opened)
-onward (some r) k older = find.reply (some r) k
-
--- there are 1 to 8 positions, and they lie within a filter
-pub record Low (g : Geometry) (count : ℕ) (ps : List ℕ) : Type 0 where
-  pub some : 1 ≤ count
-  pub few : count ≤ 8
-  pub within : (i : ℕ) → i < count → getD ps i 0 < layout.filterBits (g .chip .unit)
 
 -- its deletions, as a test takes them
 abbrev pub deletionsOf : View → Deletions

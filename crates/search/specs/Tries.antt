@@ -46,18 +46,21 @@ entryOf g key from main i = entryIn g key main (from + i)
 abbrev pub newestIn : Geometry → Key → ℕ → ℕ → List ℕ → ℕ
 newestIn g key from bits main = newestOf (bit bits) (entryOf g key from main) 64
 
--- what came of them; the bits left are those below the newest's
+-- the bits left of a word are those below the newest's, and so many pages were opened
+pub record NewestAt (g : Geometry) (key : Key) (from bits : ℕ) (main : List ℕ) (rest count : ℕ) : Type 0 where
+  pub left : (i : ℕ) → i < 64 → bit rest i ≡ (ltb i (newestIn g key from bits main - 1) && bit bits i)
+  pub opened : count ≡ openedOf (bit bits) (entryOf g key from main) 64
+
+-- what came of them
 pub record OpenedAt (g : Geometry) (key : Key) (from bits : ℕ) (main : List ℕ) (r : Opened) : Type 0 where
-  pub left : (i : ℕ) → i < 64 → bit (r .bits) i ≡ (ltb i (newestIn g key from bits main - 1) && bit bits i)
-  pub opened : r .opened ≡ openedOf (bit bits) (entryOf g key from main) 64
+  pub pages : NewestAt g key from bits main (r .bits) (r .opened)
   pub none : newestIn g key from bits main ≡ 0 → (r .bits ≡ 0) × (r .entry ≡ 0)
   pub some : 0 < newestIn g key from bits main
       → (r .page ≡ newestIn g key from bits main - 1) × (r .entry ≡ entryOf g key from main (newestIn g key from bits main - 1))
 
 -- the same by the first byte of the newest
 pub record TriedAt (g : Geometry) (key : Key) (from bits : ℕ) (main : List ℕ) (r : Tried) : Type 0 where
-  pub left : (i : ℕ) → i < 64 → bit (r .bits) i ≡ (ltb i (newestIn g key from bits main - 1) && bit bits i)
-  pub opened : r .opened ≡ openedOf (bit bits) (entryOf g key from main) 64
+  pub pages : NewestAt g key from bits main (r .bits) (r .opened)
   pub none : newestIn g key from bits main ≡ 0 → (r .bits ≡ 0) × (r .start ≡ 0) × (r .entry ≡ 0)
   pub some : 0 < newestIn g key from bits main
       → (r .start ≡ pageStart g (from + (newestIn g key from bits main - 1)))

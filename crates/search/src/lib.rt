@@ -11,15 +11,19 @@ ghost use Rattle.layout.specs.Items.{entrySize};
 ghost use Rattle.layout.specs.Hash.{fnvFamily};
 ghost use Rattle.layout.specs.Calls.{searchAt, daPagesAt};
 ghost use Rattle.layout.specs.Search.{scan, scanCost, unlessEnded};
+ghost use Rattle.laws.specs.Walks.{onward, Low};
 ghost use Rattle.geometry.specs.Shape.{shape, Sound};
-ghost use Rattle.search.specs.Find.{stopOf, foundOf, whole, viewed, Ready, tryOf, costOf, tryIn, costIn};
-ghost use Rattle.search.specs.Find.{pagesBelow, costBelow, onward, Low, filtersOf, deletionsOf};
+ghost use Rattle.keys.specs.Key.{keyIs};
+ghost use Rattle.search.specs.Find.{stopOf, foundOf, whole, viewed, ViewFits, tryOf, costOf, tryIn, costIn};
+ghost use Rattle.search.specs.Find.{pagesBelow, costBelow, filtersOf, deletionsOf};
 ghost use Rattle.search.specs.Tries.{pageStart, PagesIn, OpenedAt, TriedAt};
 use deletions::Deletions;
 use filter::Filters;
 use geometry::Geometry;
 use geometry::areas;
 use geometry::sets;
+use keys::Key;
+use words::numbers;
 
 // What is searched: of the n records and d deletions of a volume the first n0 and the first d0. Where they lie goes
 // by n and d.
@@ -60,18 +64,12 @@ pub struct Found {
 
 // ---- an entry
 
-fn wide(x: u32) -> usize
-    ensures { λ r. ⌜ r ≡ x ⌝ }
-{
-    x as usize
-}
-
 // The record number of entry k of those from byte `at` on.
 fn number_at(at: usize, k: usize, s: &[u8]) -> u32
     requires { ⌜ at + k * entrySize + entrySize ≤ length (now s) ⌝ }
     ensures { λ r. ⌜ r ≡ numberIn (word (before s) (at + k * entrySize + wordSize)) ⌝ }
 {
-    words::get32(s, at + k * areas::ENTRY_SIZE + areas::NUMBER_AT)
+    keys::number_in(words::get32(s, at + k * areas::ENTRY_SIZE + areas::NUMBER_AT))
 }
 
 // The deletions that a record number is tested against. They are made for each test: a view handed on would be copied for each block.
@@ -97,24 +95,24 @@ struct Ended {
 // The newest live one of `count` entries, which lie in `page` from byte `start` on.
 fn in_page(
     v: View,
-    key: u32,
+    key: Key,
     start: usize,
     count: usize,
     page: &[u8],
     main: &[u8],
     ram: &[u8],
 ) -> Ended
-    requires { ⌜ Ready v (now main) (now ram) × (start + count * entrySize ≤ length (now page)) × (count ≤ v .n0) ⌝ }
-    ensures { λ r. ⌜ stopOf (r .end) ≡ scan (tryIn v (before main) (before ram) key (before page) start) 0 count ⌝ }
-    ensures pages { λ r. ⌜ r .«da_pages» ≡ scanCost (tryIn v (before main) (before ram) key (before page) start)
-        (costIn v (before main) (before ram) key (before page) start) 0 count ⌝ }
+    requires { ⌜ ViewFits v (now main) (now ram) × (start + count * entrySize ≤ length (now page)) × (count ≤ v .n0) ⌝ }
+    ensures { λ r. ⌜ stopOf (r .end) ≡ scan (tryIn v (before main) (before ram) (keyIs key) (before page) start) 0 count ⌝ }
+    ensures pages { λ r. ⌜ r .«da_pages» ≡ scanCost (tryIn v (before main) (before ram) (keyIs key) (before page) start)
+        (costIn v (before main) (before ram) (keyIs key) (before page) start) 0 count ⌝ }
 {
     let mut da_pages: u64 = 0;
     let mut e = items::find_entry(start, count, key, page);
     while e > 0 {
         let k = e - 1;
         let j = number_at(start, k, page);
-        if wide(j) >= v.n0 {
+        if numbers::usize_of_u32(j) >= v.n0 {
             return Ended {
                 end: End::Corrupt,
                 da_pages,
@@ -145,11 +143,11 @@ fn page_start(g: Geometry, p: usize) -> usize
 }
 
 // Those of the page that n0 records do not fill: in RAM, unless it has been filled since.
-fn in_open(v: View, key: u32, main: &[u8], ram: &[u8]) -> Ended
-    requires { ⌜ Ready v (now main) (now ram) ⌝ }
-    ensures { λ r. ⌜ stopOf (r .end) ≡ scan (tryOf v (before main) (before ram) key)
+fn in_open(v: View, key: Key, main: &[u8], ram: &[u8]) -> Ended
+    requires { ⌜ ViewFits v (now main) (now ram) ⌝ }
+    ensures { λ r. ⌜ stopOf (r .end) ≡ scan (tryOf v (before main) (before ram) (keyIs key))
         (v .n0 / entriesPerPage (v .g .chip .unit) * entriesPerPage (v .g .chip .unit)) (v .n0 % entriesPerPage (v .g .chip .unit)) ⌝ }
-    ensures pages { λ r. ⌜ r .«da_pages» ≡ scanCost (tryOf v (before main) (before ram) key) (costOf v (before main) (before ram) key)
+    ensures pages { λ r. ⌜ r .«da_pages» ≡ scanCost (tryOf v (before main) (before ram) (keyIs key)) (costOf v (before main) (before ram) (keyIs key))
         (v .n0 / entriesPerPage (v .g .chip .unit) * entriesPerPage (v .g .chip .unit)) (v .n0 % entriesPerPage (v .g .chip .unit)) ⌝ }
 {
     let per_page = v.g.entries_per_page();
@@ -181,7 +179,7 @@ fn key_filters(v: View) -> Filters
 
 // What was found in a block of pages: where the search ended in it, the pages of entries and of deletions opened, and the block's
 // first page.
-struct Walk {
+struct BlockFound {
     end: End,
     opened: u32,
     da_pages: u64,
@@ -199,9 +197,9 @@ struct Opened {
 
 // The newest page with an entry of the key, of those from page `from` on whose bits are set; the pages before it are
 // opened in vain. It is a function because its loop calls nothing that stays a call, and so keeps its values in registers.
-fn next_page(g: Geometry, key: u32, from: usize, bits: u64, main: &[u8]) -> Opened
+fn next_page(g: Geometry, key: Key, from: usize, bits: u64, main: &[u8]) -> Opened
     requires { ⌜ Sound g × (from ≤ 32768) × PagesIn g from bits (now main) ⌝ }
-    ensures { λ r. ⌜ OpenedAt g key from bits (before main) r ⌝ }
+    ensures { λ r. ⌜ OpenedAt g (keyIs key) from bits (before main) r ⌝ }
 {
     let mut left = bits;
     let mut opened: u32 = 0;
@@ -237,9 +235,9 @@ struct Tried {
 }
 
 // The newest page with an entry of the key, by its first byte: that is made again here, since the loop would have to keep it for each page.
-fn next_with_key(g: Geometry, key: u32, from: usize, bits: u64, main: &[u8]) -> Tried
+fn next_with_key(g: Geometry, key: Key, from: usize, bits: u64, main: &[u8]) -> Tried
     requires { ⌜ Sound g × (from ≤ 32768) × PagesIn g from bits (now main) ⌝ }
-    ensures { λ r. ⌜ TriedAt g key from bits (before main) r ⌝ }
+    ensures { λ r. ⌜ TriedAt g (keyIs key) from bits (before main) r ⌝ }
 {
     let p = next_page(g, key, from, bits, main);
     let opened = p.opened;
@@ -266,20 +264,20 @@ fn next_with_key(g: Geometry, key: u32, from: usize, bits: u64, main: &[u8]) -> 
 // opened, newest first. A word of the block has 64 filters; words past the last filter are not looked at.
 fn in_block(
     v: View,
-    key: u32,
+    key: Key,
     ps: [u32; 8],
     count: usize,
     below: usize,
     main: &[u8],
     ram: &[u8],
-) -> Walk
-    requires { ⌜ Ready v (now main) (now ram) × Low (v .g) count ps ⌝ }
+) -> BlockFound
+    requires { ⌜ ViewFits v (now main) (now ram) × Low (v .g .chip .unit) count ps ⌝ }
     requires { ⌜ (0 < below) × (below ≤ v .n0 / entriesPerPage (v .g .chip .unit)) ⌝ }
     ensures start { λ r. ⌜ r .start < below ⌝ }
-    ensures found { λ r. ⌜ pagesBelow v (before main) (before ram) key (take count ps) below
-        ≡ onward (stopOf (r .end)) (r .opened) (pagesBelow v (before main) (before ram) key (take count ps) (r .start)) ⌝ }
-    ensures pages { λ r. ⌜ costBelow v (before main) (before ram) key (take count ps) below
-        ≡ r .«da_pages» + unlessEnded (stopOf (r .end)) (costBelow v (before main) (before ram) key (take count ps) (r .start)) ⌝ }
+    ensures found { λ r. ⌜ pagesBelow v (before main) (before ram) (keyIs key) (take count ps) below
+        ≡ onward (stopOf (r .end)) (r .opened) (pagesBelow v (before main) (before ram) (keyIs key) (take count ps) (r .start)) ⌝ }
+    ensures pages { λ r. ⌜ costBelow v (before main) (before ram) (keyIs key) (take count ps) below
+        ≡ r .«da_pages» + unlessEnded (stopOf (r .end)) (costBelow v (before main) (before ram) (keyIs key) (take count ps) (r .start)) ⌝ }
 {
     let b = filter::block_below(key_filters(v), below, ps, count, main, ram);
     let first = b.start;
@@ -300,7 +298,7 @@ fn in_block(
             'entries: while e > 0 {
                 let k = e - 1;
                 let j = number_at(start, k, main);
-                if wide(j) >= v.n0 {
+                if numbers::usize_of_u32(j) >= v.n0 {
                     end = End::Corrupt;
                     break 'filters;
                 }
@@ -314,7 +312,7 @@ fn in_block(
             }
         }
     }
-    Walk {
+    BlockFound {
         end,
         opened,
         da_pages,
@@ -323,12 +321,12 @@ fn in_block(
 }
 
 // Full pages, a block of filters after another, the newest first, for any `count` positions, 1 to 8.
-fn in_pages(v: View, key: u32, ps: [u32; 8], count: usize, main: &[u8], ram: &[u8]) -> Found
-    requires { ⌜ Ready v (now main) (now ram) × Low (v .g) count ps ⌝ }
+fn in_pages(v: View, key: Key, ps: [u32; 8], count: usize, main: &[u8], ram: &[u8]) -> Found
+    requires { ⌜ ViewFits v (now main) (now ram) × Low (v .g .chip .unit) count ps ⌝ }
     ensures { λ r. ⌜ foundOf r
-        ≡ pagesBelow v (before main) (before ram) key (take count ps) (v .n0 / entriesPerPage (v .g .chip .unit)) ⌝ }
+        ≡ pagesBelow v (before main) (before ram) (keyIs key) (take count ps) (v .n0 / entriesPerPage (v .g .chip .unit)) ⌝ }
     ensures pages { λ r. ⌜ r .«da_pages»
-        ≡ costBelow v (before main) (before ram) key (take count ps) (v .n0 / entriesPerPage (v .g .chip .unit)) ⌝ }
+        ≡ costBelow v (before main) (before ram) (keyIs key) (take count ps) (v .n0 / entriesPerPage (v .g .chip .unit)) ⌝ }
 {
     let mut opened: u32 = 0;
     let mut da_pages: u64 = 0;
@@ -366,11 +364,11 @@ fn in_pages(v: View, key: u32, ps: [u32; 8], count: usize, main: &[u8], ram: &[u
 
 // ---- all of it
 
-pub fn search(v: View, key: u32, main: &[u8], ram: &[u8]) -> Found
-    requires { ⌜ Ready v (now main) (now ram) ⌝ }
-    ensures found { λ r. ⌜ foundOf r ≡ searchAt fnvFamily (shape (v .g)) (viewed v (before main) (before ram)) (v .n0) (v .d0) key ⌝ }
+pub fn search(v: View, key: Key, main: &[u8], ram: &[u8]) -> Found
+    requires { ⌜ ViewFits v (now main) (now ram) ⌝ }
+    ensures found { λ r. ⌜ foundOf r ≡ searchAt fnvFamily (shape (v .g)) (viewed v (before main) (before ram)) (v .n0) (v .d0) (keyIs key) ⌝ }
     ensures pages { λ r. ⌜ r .«da_pages»
-        ≡ daPagesAt fnvFamily (shape (v .g)) (viewed v (before main) (before ram)) (v .n0) (v .d0) key ⌝ }
+        ≡ daPagesAt fnvFamily (shape (v .g)) (viewed v (before main) (before ram)) (v .n0) (v .d0) (keyIs key) ⌝ }
 {
     let o = in_open(v, key, main, ram);
     let da_pages = o.da_pages;
@@ -385,7 +383,7 @@ pub fn search(v: View, key: u32, main: &[u8], ram: &[u8]) -> Found
                 }; // without a full page there is no filter, and the key is not hashed
             }
             let count = v.g.hashes;
-            let ps = fnv::positions(v.g.chip, count, key);
+            let ps = fnv::positions(v.g.chip, count, fnv::of_key(key));
             let f = in_pages(v, key, ps, count, main, ram);
             let end = f.end;
             let opened = f.opened;

@@ -9,14 +9,9 @@ use Rattle.layout.specs.Calls.{Volume, Result, refuse, badState, tooShort, judg
 use Rattle.laws.specs.Lengths.{not-short}
 use Rattle.geometry.specs.Shape.{geometryFor, shape}
 use Rattle.geometry.specs.declared.Geometry.{Geometry}
-use Rattle.state.specs.Contract.{Effect, effectOf, outcomeOf}
 use Rattle.state.specs.Judge.{judgementOf, judgementOfNew, VolumeFits}
 use Rattle.state.specs.declared.Judgement.{Judgement}
 use Rattle.state.specs.declared.Judgement.the-variants.{Good, Refused}
-
--- what a refusal shows
-abbrev pub refusedEffect : Volume → ℕ → Effect
-refusedEffect v i = record { outcome = outcomeOf i; count = 0; left = v }
 
 -- the number of a refusal, 0 for none
 abbrev pub number : Judgement → ℕ
@@ -34,9 +29,6 @@ pub record Refusal (v : Volume) (i : ℕ) (r : Result) : Type 0 where
 
 pub refusal-of : (v : Volume) (k i : ℕ) → k ≡ i → eqb k 0 ≡ false → Refusal v i (refuse v k)
 refusal-of v k i e c = rw (← e) (record { is = refl; some = c })
-
-pub refused-effect : (v : Volume) (i : ℕ) (r : Result) → Refusal v i r → refusedEffect v i ≡ effectOf r
-refused-effect v i r p = rw (p .is, p .some)
 
 module _ (v : Volume) (x : Result) (i : ℕ) where
   -- in their order

@@ -15,6 +15,7 @@ use Rattle.layout.specs.Budgets as budgets
 use Rattle.layout.specs.Budgets.{Step, Memory, memory}
 use Rattle.laws.specs.LentFlash.{flashBefore, flashAfter}
 use Rattle.geometry.specs.Shape.{sizesIs}
+use Rattle.keys.specs.Key.{keyIs}
 use Rattle.state.specs.declared.State.{State}
 use Rattle.state.specs.declared.Record.{Record}
 use Rattle.state.specs.declared.Change.{Change}
@@ -27,13 +28,13 @@ abbrev pub stateIs : State → layout.State
 stateIs s = layout.stateOf (sizesIs (s .sizes)) (s .records) (s .deletions)
 
 abbrev pub recordIs : Record → items.Record
-recordIs r = items.recordOf (r .key) (r .moves) (r .goal) (r .free)
+recordIs r = items.recordOf (keyIs (r .key)) (r .moves) (r .goal) (r .free)
 
 -- the layout's call
 abbrev pub callOf : Request → Call
 callOf (Insert r) = insert (recordIs r)
 callOf (Update r) = update (recordIs r)
-callOf (Delete key) = delete key
+callOf (Delete key) = delete (keyIs key)
 
 -- the volume that is handed in: state, main area, spare area and RAM
 abbrev pub volume : State → List ℕ → List ℕ → List ℕ → Volume

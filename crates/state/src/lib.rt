@@ -2,12 +2,14 @@
 // and 2. Document 01, "The chip and the desk" and "Calls"; document 02, request 8: answers of calls with a budget of steps.
 ghost use mathlib.Core.Path.{_≡_};
 ghost use mathlib.Core.Bool.{_||_, cond};
+ghost use Prim.Native.Nat.{_-_, _≤_};
+ghost use lib.ListN.{length};
 ghost use lib.Dec.{ltb};
 ghost use Rattle.memory.specs.Bits.{num};
 ghost use Rattle.memory.specs.Lent.{before};
 ghost use Rattle.layout.specs.Geometry.{recordCapacity, deletionCapacity};
 ghost use Rattle.layout.specs.Calls.{tooShort};
-ghost use Rattle.layout.specs.Header.{pages, onPages};
+ghost use Rattle.layout.specs.Header.{headerSize, pages, onPages};
 ghost use Rattle.laws.specs.LentFlash.{flashBefore};
 ghost use Rattle.geometry.specs.Shape.{sizesIs, shape, Sound};
 ghost use Rattle.state.specs.Contract.{given};
@@ -15,6 +17,7 @@ ghost use Rattle.state.specs.Judge.{judgementOf, judgementOfNew, GoodFit
 use geometry::Geometry;
 use geometry::Shaped;
 use geometry::Sizes;
+use keys::Key;
 
 // ---- values
 
@@ -28,7 +31,7 @@ pub struct State {
 
 // A level's key, moves, goal and free word.
 pub struct Record {
-    pub key: u32,
+    pub key: Key,
     pub moves: u32,
     pub goal: u32,
     pub free: u32,
@@ -38,7 +41,7 @@ pub struct Record {
 pub enum Request {
     Insert(Record),
     Update(Record),
-    Delete(u32),
+    Delete(Key),
 }
 
 // The answer of a changing call: a refusal's number or `ACCEPTED`, and the state after it.
@@ -69,6 +72,17 @@ pub const ENOUGH: usize = 18446744073709551615;
 
 // Bytes of the header, which are the last of the RAM.
 pub const HEADER_SIZE: usize = 64;
+
+// Bytes of the RAM behind its pages.
+const TAIL_SIZE: usize = HEADER_SIZE;
+
+// Where the pages of the RAM end, by its own end, however long it is.
+pub fn pages_end(ram: &[u8]) -> usize
+    requires { ⌜ headerSize ≤ length (now ram) ⌝ }
+    ensures { λ r. ⌜ r ≡ length (before ram) - headerSize ⌝ }
+{
+    ram.len() - TAIL_SIZE
+}
 
 // ---- the answers by name
 
@@ -181,7 +195,7 @@ fn too_short(g: Geometry, main: &[u8], spare: &[u8], ram: &[u8]) -> bool
     if spare.len() < g.spare_size() {
         return true;
     }
-    ram.len() < g.ram_size() + HEADER_SIZE
+    ram.len() < g.ram_size() + TAIL_SIZE
 }
 
 // Judges a state that is handed in.

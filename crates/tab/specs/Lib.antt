@@ -5,3 +5,5 @@ pub mod Agree
 pub mod Checks
 pub mod Places
 pub mod ReaderLaws
+pub mod Lines
+pub mod LineLaws

@@ -1,5 +1,7 @@
 // A field of a tab of levels, by its place in the lent bytes: a number, or a column's name in the header, quoted or not, and what ends it.
 // Document 02, request 1; the grammar is in `specs/Grammar.antt`.
+pub mod reader;
+
 ghost use mathlib.Core.Path.{_≡_};
 ghost use mathlib.Core.Bool.{false};
 ghost use mathlib.Core.List.{List};
@@ -80,12 +82,6 @@ fn end_at(tab: &[u8], at: usize, c: Column) -> Place
 
 // ---- what stands in a field
 
-fn wide(c: u8) -> u64
-    ensures { λ r. ⌜ r ≡ c ⌝ }
-{
-    c as u64
-}
-
 // A number that is read, and the place after it; from 2^32 on there is none.
 fn read_token(v: u64, next: usize) -> Token
     ensures { λ r. ⌜ ((tab : List ℕ) → tokenIn tab r ≡ small (got v (drop next tab))) ⌝ }
@@ -123,7 +119,7 @@ fn decimal_at(tab: &[u8], at: usize) -> Token
         if v > 429496729 {
             return Token::Malformed;
         }
-        v = v * 10 + (wide(c) - 48);
+        v = v * 10 + text::digit_value(c);
         i += 1;
     }
     read_token(v, i)

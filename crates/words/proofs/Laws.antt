@@ -1,5 +1,5 @@
 -- Stores of straight-line code and turns of copying loops, each as a write. Assumes nothing.
-use mathlib.Core.Path.{_≡_, refl, ap}
+use mathlib.Core.Path.{_≡_, refl, ap, _∙_}
 use mathlib.Core.List.{List, [], _∷_, _++_, append-assoc}
 use Prim.Native.Nat.{ℕ, zero, suc, _+_, _<_, _≤_}
 use native.Mathlib.Nat.{not-suc-le-zero, le-of-suc-le-suc}
@@ -10,17 +10,21 @@ use lib.Seq.{sets, sets-eq}
 use Rattle.memory.specs.Lists.{write, write-cut}
 
 -- stores of the elements of vs, one after another from `at` on, are a write of vs
-pub sets-write : (l : List ℕ) (at : ℕ) (vs : List ℕ) → at + length vs ≤ length l → sets l at vs ≡ write l at vs
+sets-write : (l : List ℕ) (at : ℕ) (vs : List ℕ) → at + length vs ≤ length l → sets l at vs ≡ write l at vs
 sets-write l at vs h = rw (sets-eq vs l at h, write-cut l at vs h) (append-assoc (take at l) vs (drop (at + length vs) l))
 
--- four stores
-pub put-four : (l : List ℕ) (at a b c d : ℕ) → at + 4 ≤ length l
-    → set (set (set (set l at a) (at + 1) b) (at + 2) c) (at + 3) d ≡ write l at (a ∷ b ∷ c ∷ d ∷ [])
-put-four l at a b c d h =
-    let e1 : at + 1 ≡ suc at = omega arith in
-    let e2 : at + 2 ≡ suc (suc at) = omega arith in
-    let e3 : at + 3 ≡ suc (suc (suc at)) = omega arith in
-    rw (e1, e2, e3) (sets-write l at (a ∷ b ∷ c ∷ d ∷ []) h)
+-- stores of the elements of vs from at + k on, as straight-line code has them
+abbrev stores : List ℕ → ℕ → ℕ → List ℕ → List ℕ
+stores l at k [] = l
+stores l at k (v ∷ vs) = stores (set l (at + k) v) at (suc k) vs
+
+stores-sets : (vs l : List ℕ) (at k a : ℕ) → a ≡ at + k → stores l at k vs ≡ sets l a vs
+stores-sets [] l at k a e = refl
+stores-sets (v ∷ vs) l at k a e = rw (← e) (stores-sets vs (set l a v) at (suc k) (suc a) (omega arith))
+
+-- the bytes of a number of any width, the first of them at `at`
+pub put-bytes : (l : List ℕ) (at v : ℕ) (vs : List ℕ) → at + length (v ∷ vs) ≤ length l → stores (set l at v) at 1 vs ≡ write l at (v ∷ vs)
+put-bytes l at v vs h = stores-sets vs (set l at v) at 1 (suc at) (omega arith) ∙ sets-write l at (v ∷ vs) h
 
 -- a turn of a loop that copies s over d from the front
 copy-suc : (n : ℕ) (s d : List ℕ) → n < length s → n < length d → set (take n s ++ drop n d) n (getD s n 0) ≡ take (suc n) s ++ drop (suc n) d

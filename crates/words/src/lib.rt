@@ -1,26 +1,23 @@
-// Bytes in a slice: little-endian numbers of four bytes, copies and fills.
+// Bytes in a slice: little-endian numbers of four and of eight bytes, copies and fills. Numbers, and bits of a word.
 ghost use mathlib.Core.Path.{_≡_};
-ghost use Prim.Native.Nat.{_+_, _≤_, _<_};
+ghost use Prim.Native.Nat.{_+_, _*_, _≤_, _<_};
 ghost use lib.ListN.{length, replicate};
 ghost use Rattle.memory.specs.Lists.{write};
-ghost use Rattle.memory.specs.Words.{bytes4, word};
+ghost use Rattle.memory.specs.Words.{bytes4, bytes8, word, wordsBytes, Word64};
 ghost use Rattle.memory.specs.Lent.{before, after};
 
-fn wide(x: u8) -> u32
-    ensures { λ r. ⌜ (r ≡ x) × (r < 256) ⌝ }
-{
-    x as u32
-}
+pub mod bits;
+pub mod numbers;
 
 // The number that four bytes from `at` on make, the lowest first.
 pub fn get32(s: &[u8], at: usize) -> u32
     requires { ⌜ at + 4 ≤ length (now s) ⌝ }
     ensures { λ r. ⌜ r ≡ word (before s) at ⌝ }
 {
-    let a = wide(s[at]);
-    let b = wide(s[at + 1]);
-    let c = wide(s[at + 2]);
-    let d = wide(s[at + 3]);
+    let a = numbers::u32_of_byte(s[at]);
+    let b = numbers::u32_of_byte(s[at + 1]);
+    let c = numbers::u32_of_byte(s[at + 2]);
+    let d = numbers::u32_of_byte(s[at + 3]);
     a + b * 256 + c * 65536 + d * 16777216
 }
 
@@ -36,6 +33,48 @@ pub fn put32(s: &mut [u8], at: usize, x: u32)
     s[at + 1] = (y % 256) as u8;
     s[at + 2] = (z % 256) as u8;
     s[at + 3] = (w % 256) as u8;
+}
+
+// The bytes of words from `at` on, one word after another.
+pub fn put_words(s: &mut [u8], at: usize, ws: &[u32])
+    requires { ⌜ at + length (now ws) * 4 ≤ length (now s) ⌝ }
+    ensures { λ _. ⌜ after s ≡ write (before s) at (wordsBytes (before ws)) ⌝ }
+{
+    let mut i = 0;
+    while i < ws.len() {
+        put32(s, at + i * 4, ws[i]);
+        i += 1;
+    }
+}
+
+// The eight bytes from `at` on, the lowest first: one load.
+pub fn get64(s: &[u8], at: usize) -> u64
+    requires { ⌜ at + 8 ≤ length (now s) ⌝ }
+    ensures { λ r. ⌜ Word64 (before s) at r ⌝ }
+{
+    numbers::u64_of_u32(get32(s, at)) + numbers::u64_of_u32(get32(s, at + 4)) * 4294967296
+}
+
+// The eight bytes of x from `at` on, the lowest first.
+pub fn put64(s: &mut [u8], at: usize, x: u64)
+    requires { ⌜ at + 8 ≤ length (now s) ⌝ }
+    ensures { λ _. ⌜ after s ≡ write (before s) at (bytes8 x) ⌝ }
+{
+    let b = x / 256;
+    let c = b / 256;
+    let d = c / 256;
+    let e = d / 256;
+    let f = e / 256;
+    let g = f / 256;
+    let h = g / 256;
+    s[at] = (x % 256) as u8;
+    s[at + 1] = (b % 256) as u8;
+    s[at + 2] = (c % 256) as u8;
+    s[at + 3] = (d % 256) as u8;
+    s[at + 4] = (e % 256) as u8;
+    s[at + 5] = (f % 256) as u8;
+    s[at + 6] = (g % 256) as u8;
+    s[at + 7] = (h % 256) as u8;
 }
 
 // dst becomes src.

@@ -1,7 +1,7 @@
 -- `unfolding calls` opens every definition that a call, a format or a restart on a volume computes with.
 use Prim.{Unit}
 use lib.Count.{onesIn}
-use Rattle.memory.specs.Lists.{write, tab, tabFrom, pieces}
+use Rattle.memory.specs.Lists.{write, tabulate, tabulateFrom, pieces}
 use Rattle.memory.specs.Bits.{bit, pack}
 use Rattle.memory.specs.Power.{log2up}
 use Rattle.memory.specs.Words.{wordsBytes}
@@ -21,7 +21,7 @@ use Rattle.layout.specs.Header.{pages, header, headerBytes, headerWord, pending
 use Rattle.layout.specs.Budgets.{formatFor, callFor, restartFor}
 
 unfoldable pub calls : Unit {0}
-unfolding write tab tabFrom pieces bit pack log2up wordsBytes any memb allOf allowed onesIn fresh allFresh fnvFrom positions
+unfolding write tabulate tabulateFrom pieces bit pack log2up wordsBytes any memb allOf allowed onesIn fresh allFresh fnvFrom positions
     rowBit rowByte bitAt filterBit setByte flushAndBuild recordBytes entryBytes deletionBytes itemWord put sameKey scan searchPages
     scanCost pagesCost badState tooShort judgeFirst formatted format tryDeletion maybeDeleted testDeletion tryAt tryCost maybeIn searchAt
     daPagesAt halfFilter deletionPlan deletionRam pageFilter insertionPlan insertionRam commit changeBy lookupAfter

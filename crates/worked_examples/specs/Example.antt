@@ -6,7 +6,7 @@ use lib.ListN.{replicate}
 use Rattle.layout.specs.Geometry.{sizesOf, stateOf}
 use Rattle.layout.specs.Calls.{Volume}
 use Rattle.text.specs.Text.{ascii, digitsFrom}
-use Rattle.script.specs.Lines.{number, fields, request}
+use Rattle.script.specs.Lines.{number, fields, command}
 use Rattle.script.specs.Answers.{digits, text}
 use Rattle.script.specs.Script.{perform, endLine, advance, feed, prints}
 use Rattle.worked_examples.specs.Computing.{calls}
@@ -29,5 +29,5 @@ abbrev output : List ℕ
 output = ascii "ok 0 0\nok 1 0\nno 3\nhit 40 0\nok 2 1\nhit 42 0\nok 2 2\nmiss 0\nno 4\n"
 
 pub replay-example : prints (unformatted 0 59392 3712 640) input ≡ output
-unfolding calls digitsFrom number fields request digits text perform endLine advance feed prints
+unfolding calls digitsFrom number fields command digits text perform endLine advance feed prints
 replay-example = refl

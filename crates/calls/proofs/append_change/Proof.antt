@@ -1,5 +1,5 @@
 use borrow.Author.Needs.{needs}
-use mathlib.Core.Path.{_≡_, refl, sym, ap, subst, _∙_}
+use mathlib.Core.Path.{_≡_, refl, sym, ap, _∙_}
 use mathlib.Core.Bool.{true, false}
 use mathlib.Core.List.{List}
 use Prim.Native.Nat.{ℕ, suc, _-_, _≤_}
@@ -18,15 +18,14 @@ use Rattle.geometry.specs.declared.Geometry.{Geometry}
 use Rattle.state.specs.Contract.{stateIs, callOf, Ran}
 use Rattle.state.specs.Judge.{VolumeFits}
 use Rattle.state.specs.declared.Progress.{Progress}
-use Rattle.state.proofs.Refusals.{Refusal}
 use Rattle.changes.specs.Edits.{editIs}
 use Rattle.changes.specs.Tasks.{changeRefusal, changed, taskOn, taskResult}
-use Rattle.changes.proofs.ChangeLaws.{change-full, change-nothing}
+use Rattle.changes.proofs.ChangeLaws.{change-nothing}
 use Rattle.changes.proofs.CarryLaws.{carried-nothing}
 use Rattle.calls.proofs.CallsLaws.{header-fits}
 use Rattle.calls.proofs.FinishLaws.{intent-length, ran-none, ran-all, pages-back}
-use Rattle.calls.proofs.RequestLaws.{change-refused, change-accepted, change-room}
-use Rattle.calls.proofs.RequestLaws.{refused-cut, none-cut, some-cut, told-cut, fits-still, ran-still}
+use Rattle.calls.proofs.RequestLaws.{change-accepted}
+use Rattle.calls.proofs.RequestLaws.{none-cut, some-cut, told-cut, fits-still, ran-still}
 use Rattle.calls.proofs.append_change.Statement.{statement}
 use Rattle.calls.proofs.append_change.Tie as tie
 
@@ -34,70 +33,36 @@ use Rattle.calls.proofs.append_change.Tie as tie
 abbrev handed : tie.Start → Volume
 handed s = taskOn (s .args .t) (s .args .main .now) (s .args .spare .now) (s .args .ram .now)
 
--- ---- 5 and 6
+-- ---- it is accepted: 7 is asked of no sector
 
-room-refusal-requires : tie.Need-room-refusal-requires
-room-refusal-requires c κs = c .before .before .before .before .before .pre .0 .0 .sound
-
-abbrev start-of : tie.After-room-refusal → tie.Start
-start-of i = i .before .before .before .before .before .before
-
-refuse-cut-requires : tie.Need-refuse-cut-requires
-refuse-cut-requires c κs = search needs
-
-returns : tie.Need-returns
-returns c =
-    let i = c .before .before in
-    let s = start-of i in
+none : (s : tie.Start) → 0 ≡ changeRefusal (shape (s .args .t .g)) (onPages (handed s)) (editIs (s .args .t .edit))
+none s =
     let x = s .args in
-    let v = handed s in
-    let j = i .room-refusal .result in
-    let some = c .before .if1 .taken in
-    rw (c .refuse-cut .ensures)
-    (refused-cut v (callOf (x .q)) (x .budget) j (onPages v)
-    (subst (Refusal (onPages v) j) (sym (s .pre .0 .1))
-    (change-refused (shape (x .t .g)) (onPages v) (x .t .edit) j
-    (change-full (shape (x .t .g)) (onPages v) (x .t .edit) j (i .room-refusal .ensures) some) some)))
-
--- ---- a change that is accepted: 7 is asked of no sector
-
-abbrev start-at : tie.Else1 → tie.Start
-start-at a = start-of (a .before)
-
-none : (a : tie.Else1) → let s = start-at a in 0 ≡ changeRefusal (shape (s .args .t .g)) (onPages (handed s)) (editIs (s .args .t .edit))
-none a =
-    let i = a .before in
-    let s = start-of i in
-    let x = s .args in
-    change-nothing (shape (x .t .g)) (onPages (handed s)) (x .t .edit) (i .room-refusal .result) (i .room-refusal .ensures) (a .if1 .left)
-    (s .pre .0 .0 .sound .unit .1 .some) (s .pre .1)
+    change-nothing (shape (x .t .g)) (onPages (handed s)) (x .t .edit) (s .pre .1) (s .pre .0 .0 .sound .unit .1 .some) (s .pre .2)
 
 abbrev whole : tie.Start → Result
 whole s = changed (shape (s .args .t .g)) (onPages (handed s)) (editIs (s .args .t .edit)) 0
 
-accepts : (a : tie.Else1) → let s = start-at a in resultOf fnvFamily (handed s) (callOf (s .args .q)) ≡ whole s
-accepts a =
-    let s = start-at a in
-    s .pre .0 .1 ∙ change-accepted (shape (s .args .t .g)) (onPages (handed s)) (s .args .t .edit) 0 (none a) refl
+accepts : (s : tie.Start) → resultOf fnvFamily (handed s) (callOf (s .args .q)) ≡ whole s
+accepts s = s .pre .0 .1 ∙ change-accepted (shape (s .args .t .g)) (onPages (handed s)) (s .args .t .edit) 0 (none s) refl
 
-returns-2 : tie.Need-returns-2
-returns-2 c =
-    let a = c .before in
-    let s = start-at a in
-    none-cut (handed s) (callOf (s .args .q)) (whole s) (accepts a) refl (s .args .budget) (c .if2 .taken)
+returns : tie.Need-returns
+returns c =
+    let s = c .before .before .before .before .before in
+    none-cut (handed s) (callOf (s .args .q)) (whole s) (accepts s) refl (s .args .budget) (c .if1 .taken)
+
+abbrev start-at : tie.Else1 → tie.Start
+start-at a = a .before .before .before .before .before
 
 intend-requires : tie.Need-intend-requires
 intend-requires c κs =
-    let s = start-at (c .before .before) in
+    let s = start-at (c .before) in
     header-fits (handed s) (s .args .t .g) (s .pre .0 .0)
 
 -- ---- the intent is stored
 
-abbrev accepted-at : tie.After-intend → tie.Else1
-accepted-at n = n .before .before .before
-
 abbrev begun : tie.After-intend → tie.Start
-begun n = start-at (accepted-at n)
+begun n = start-at (n .before .before)
 
 abbrev stored : tie.After-intend → List ℕ
 stored n = n .intend .last .1 .1 .0
@@ -116,19 +81,19 @@ fits n =
 same-length : tie.Need-same-length
 same-length c = search needs
 
-returns-3 : tie.Need-returns-3
-returns-3 c =
+returns-2 : tie.Need-returns-2
+returns-2 c =
     let n = c .before .before .before in
     let s = begun n in
     let x = s .args in
     let chip = flashOf (x .main .now) (x .spare .now) in
-    some-cut (handed s) (callOf (x .q)) (whole s) (accepts (accepted-at n)) refl 0 (x .budget) (c .if3 .taken) (memory chip (stored n))
+    some-cut (handed s) (callOf (x .q)) (whole s) (accepts s) refl 0 (x .budget) (c .if2 .taken) (memory chip (stored n))
     (record { steps = 0; finished = false })
     (ran-none (layout.unitOf (handed s .state .sizes)) (whole s) (memory chip (intended (handed s) (callOf (x .q)))) (memory chip (stored n))
     (ap (memory chip) (n .intend .ensures)))
 
-sub-n : tie.Need-sub-n
-sub-n c = omega (arith, fits (c .before .before .before) .0)
+pages-end-requires : tie.Need-pages-end-requires
+pages-end-requires c κs = omega (arith, fits (c .before .before .before .before) .0)
 
 sub-append : tie.Need-sub-append
 sub-append c = search needs
@@ -140,23 +105,26 @@ part-append-end : tie.Need-part-append-end
 part-append-end c = search needs
 
 -- the pages are lent
-lent : (n : tie.After-intend) → take (length (stored n) - 64 - 0) (drop 0 (stored n)) ≡ pages (stored n)
-lent n = pages-part (stored n) (length (stored n) - 64) refl
+abbrev intent-at : tie.After-pages-end → tie.After-intend
+intent-at e = e .before .before .before .before .before
+
+lent : (e : tie.After-pages-end) → let l = stored (intent-at e) in take (e .pages-end .result - 0) (drop 0 l) ≡ pages l
+lent e = pages-part (stored (intent-at e)) (e .pages-end .result) (e .pages-end .ensures)
 
 append-requires : tie.Need-append-requires
 append-requires c κs =
-    let n = c .before .before .before .before in
-    let a = accepted-at n in
-    let s = start-at a in
-    let x = s .args in
-    let f = fits n .1 in
-    rw (lent n)
-    ((f .sound, change-room (shape (x .t .g)) (onPages (handed s)) (x .t .edit) 0 (none a) refl, f .long .read .ram-fits), s .pre .1)
+    let e = c .before in
+    let s = begun (intent-at e) in
+    let f = fits (intent-at e) .1 in
+    rw (lent e) ((f .sound, s .pre .1, f .long .read .ram-fits), s .pre .2)
 
 -- ---- all of it
 
+abbrev pages-at : tie.After-append → tie.After-pages-end
+pages-at A = A .before .before
+
 abbrev intend-at : tie.After-append → tie.After-intend
-intend-at A = A .before .before .before .before .before
+intend-at A = intent-at (pages-at A)
 
 counted-state-requires : tie.Need-counted-state-requires
 counted-state-requires c κs =
@@ -181,8 +149,8 @@ left C = C .clear .last .1 .0
 budgeted : (C : tie.After-clear) → let b = begun (intend-at (append-at C)) .args .budget in (b ≡ suc (b - 1)) × (1 ≤ b - 1)
 budgeted C =
     let A = append-at C in
-    let more = A .before .before .if3 .left in
-    let some = intend-at A .before .before .if2 .left in
+    let more = pages-at A .before .before .if2 .left in
+    let some = intend-at A .before .before .if1 .left in
     (omega (arith, some), omega (arith, some, more))
 
 abbrev done : Progress
@@ -206,34 +174,31 @@ ran C =
     (ap (λ (g : Geometry). g .chip .unit) (s .pre .0 .0 .is))
     (ran-all (x .t .g .chip .unit) r b chip chip (record { steps = 0; finished = true }) l (A .append .last .1 .0) _
     (carried-nothing (shape (x .t .g)) (taskOn (x .t) (x .main .now) (x .spare .now) (pages l)) (x .t .edit) 0 b
-    (s .pre .0 .0 .sound .unit .1 .some) (omega (arith, budgeted C .1)) (omega arith) (s .pre .1) _
-    (rw (lent n) at (A .append .ensures (x .main .now) (x .spare .now))))
-    (pages-back l (A .append .last .1 .0) (length l - 64) refl) refl (fits n .0) (left C)
+    (s .pre .0 .0 .sound .unit .1 .some) (omega (arith, budgeted C .1)) (omega arith) (s .pre .2) _
+    (rw (lent (pages-at A)) at (A .append .ensures (x .main .now) (x .spare .now))))
+    (pages-back l (A .append .last .1 .0) (pages-at A .pages-end .result) (pages-at A .pages-end .ensures)) refl (fits n .0) (left C)
     (rw (C .before .before .counted-state .ensures) at (C .clear .ensures)))
 
-returns-4 : tie.Need-returns-4
-returns-4 c =
+returns-3 : tie.Need-returns-3
+returns-3 c =
     let C = c .before .before in
     let n = intend-at (append-at C) in
     let s = begun n in
     let x = s .args in
     let N = C .before .before .counted-state in
     told-cut true 2 (N .result) (x .t .state) (x .main .now) (x .spare .now) (left C) (whole s .volume .state) _ (ap stateIs (N .ensures))
-    (some-cut (handed s) (callOf (x .q)) (whole s) (accepts (accepted-at n)) refl (x .budget - 1) (x .budget) (budgeted C .0)
+    (some-cut (handed s) (callOf (x .q)) (whole s) (accepts s) refl (x .budget - 1) (x .budget) (budgeted C .0)
     (memory (flashOf (x .main .now) (x .spare .now)) (left C)) done (ran C))
 
 pub append-change-spec : {M : Type 1} → statement M
 append-change-spec =
     tie.close
     (tie.spec
-    room-refusal-requires
-    refuse-cut-requires
     returns
-    returns-2
     intend-requires
     same-length
-    returns-3
-    sub-n
+    returns-2
+    pages-end-requires
     sub-append
     part-append-start
     part-append-end
@@ -241,4 +206,4 @@ append-change-spec =
     counted-state-requires
     clear-requires
     same-length-2
-    returns-4)
+    returns-3)

@@ -10,6 +10,7 @@ use Rattle.laws.specs.HeaderLaws.{pages-part}
 use Rattle.geometry.specs.declared.Geometry.{Geometry}
 use Rattle.search.specs.Find.{stopOf, ready-whole, search-is}
 use Rattle.search.specs.declared.End.{End}
+use Rattle.keys.specs.Key.{keyIs}
 use Rattle.state.specs.Contract.{volume}
 use Rattle.state.specs.Judge.{VolumeFits, GoodFits}
 use Rattle.state.specs.declared.Judgement.{Judgement}
@@ -41,8 +42,8 @@ geometry c = c .j2 .given .0 .0
 fits : (c : tie.After-j2) → VolumeFits (onPages (handed (start-of c))) (geometry c)
 fits c = subst (GoodFits (onPages (handed (start-of c)))) (c .j2 .given .1) (start-of c .pre)
 
-sub-n : tie.Need-sub-n
-sub-n c =
+pages-end-requires : tie.Need-pages-end-requires
+pages-end-requires c κs =
     let k = c .before in
     header-fits (handed (start-of k)) (geometry k) (fits k)
 
@@ -65,7 +66,7 @@ part-search-end : tie.Need-part-search-end
 part-search-end c = search needs
 
 abbrev known : tie.After-all → tie.After-j2
-known c = c .before .before .before .before
+known c = c .before .before .before .before .before
 
 search-requires : tie.Need-search-requires
 search-requires c κs =
@@ -73,21 +74,21 @@ search-requires c κs =
     let k = known a in
     let s = start-of k in
     let f = fits k in
-    rw (pages-part (s .args .ram .now) (length (s .args .ram .now) - 64) refl)
+    rw (pages-part (s .args .ram .now) (a .before .before .before .pages-end .result) (a .before .before .before .pages-end .ensures))
     (ready-whole (onPages (handed s)) (geometry k) (a .all .result) (a .all .ensures) (f .sound) (f .long .read) (f .n-cap) (f .d-cap))
 
 -- by where the search ended
 resolved : (c : tie.After-search) (end : End) → c .search .result .end ≡ end → let k = known (c .before .before) in
-    resolvedBy (start-of k .args .j) (onPages (handed (start-of k))) (start-of k .args .key) ≡ stopped (geometry k) (stopOf end)
+    resolvedBy (start-of k .args .j) (onPages (handed (start-of k))) (keyIs (start-of k .args .key)) ≡ stopped (geometry k) (stopOf end)
 resolved c end e =
     let a = c .before .before in
     let k = known a in
     let s = start-of k in
     let w = onPages (handed s) in
-    ap (λ (j : Judgement). resolvedBy j w (s .args .key)) (k .j2 .given .1)
+    ap (λ (j : Judgement). resolvedBy j w (keyIs (s .args .key))) (k .j2 .given .1)
     ∙ ap (λ (f : find.Found). stopped (geometry k) (f .stop))
-    (search-is w (geometry k) (a .all .result) (a .all .ensures) fnvFamily (s .args .key) (c .search .result)
-    (rw (pages-part (s .args .ram .now) (length (s .args .ram .now) - 64) refl) at (c .search .ensures .0)))
+    (search-is w (geometry k) (a .all .result) (a .all .ensures) fnvFamily (keyIs (s .args .key)) (c .search .result)
+    (rw (pages-part (s .args .ram .now) (a .before .before .before .pages-end .result) (a .before .before .before .pages-end .ensures)) at (c .search .ensures .0)))
     ∙ ap (λ (t : End). stopped (geometry k) (stopOf t)) e
 
 enum-told : tie.Need-enum-told
@@ -120,7 +121,7 @@ resolve-judged-spec =
     enum-known-j
     returns
     enum-known-j-2
-    sub-n
+    pages-end-requires
     cast-all
     cast-all-2
     all-requires

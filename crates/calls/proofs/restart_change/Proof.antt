@@ -1,12 +1,12 @@
 use borrow.Author.Needs.{needs}
-use mathlib.Core.Path.{_≡_, refl, sym, ap, _∙_}
+use mathlib.Core.Path.{_≡_, refl, sym, ap, subst, _∙_}
 use Prim.Native.Nat.{_<_, _≤_}
 use native.Mathlib.Omega.{arith}
 use lib.ListN.{length}
 use Rattle.layout.specs.Geometry as layout
 use Rattle.layout.specs.Flash.{flashOf}
 use Rattle.layout.specs.Hash.{fnvFamily}
-use Rattle.layout.specs.Calls.{Volume, Call, changePlan, changeBy}
+use Rattle.layout.specs.Calls.{keyOf, Volume, Call, changePlan, changeBy}
 use Rattle.layout.specs.Later.{commitLater, callAgain}
 use Rattle.layout.specs.Header.{pages, onPages}
 use Rattle.layout.specs.Budgets.{pendingOn}
@@ -19,12 +19,13 @@ use Rattle.state.specs.Judge.{VolumeFits}
 use Rattle.state.specs.declared.State.{State}
 use Rattle.planning.specs.Edits.{Room}
 use Rattle.changes.specs.Edits.{editIs, slotsOf}
+use Rattle.changes.specs.Room.{room-told}
 use Rattle.changes.specs.Tasks.{changed}
 use Rattle.changes.specs.declared.Edit.{Edit}
-use Rattle.calls.specs.Resolve.{resolvedBy}
-use Rattle.calls.specs.Request.{keyOf, decisionOf}
+use Rattle.calls.specs.Resolve.{resolvedBy, ResolvedFits}
+use Rattle.calls.specs.Request.{decisionOf}
 use Rattle.calls.specs.declared.Decision.{Decision}
-use Rattle.calls.proofs.AgainLaws.{again-refused, again-changes, room-of, refusal-as, again-full, again-later}
+use Rattle.calls.proofs.AgainLaws.{again-refused, again-changes, refusal-as, again-full, again-later}
 use Rattle.calls.proofs.AgainLaws.{state-either, restart-refused, restart-ran}
 use Rattle.calls.proofs.restart_change.Statement.{statement}
 use Rattle.calls.proofs.restart_change.Tie as tie
@@ -62,13 +63,17 @@ on-is d =
     ap (λ (x : layout.State). record { state = x; flash = flashOf (a .main .now) (a .spare .now); ram = pages (a .ram .now) })
     (state-at d .state-in .ensures)
 
-decided : (d : tie.After-decide) (x : Decision) → d .decide .result ≡ x
-    → decisionOf (start-of d .args .q) (resolvedBy (judge-at d .judge .result) (on d) (keyOf (start-of d .args .q))) ≡ x
-decided d x e =
+resolved : (d : tie.After-decide) → d .before .resolve-judged .result
+    ≡ resolvedBy (judge-at d .judge .result) (on d) (keyOf (callOf (start-of d .args .q)))
+resolved d =
     let R = d .before in
-    let resolved = R .resolve-judged .ensures .0
-    ∙ ap (resolvedBy (judge-at d .judge .result) (on d)) (R .before .before .before .before .key-of .ensures) in
-    ap (decisionOf (start-of d .args .q)) (sym resolved) ∙ sym (d .decide .ensures) ∙ e
+    R .resolve-judged .ensures .0
+    ∙ ap (resolvedBy (judge-at d .judge .result) (on d)) (R .before .before .before .before .key-of .ensures)
+
+decided : (d : tie.After-decide) (x : Decision) → d .decide .result ≡ x
+    → decisionOf (start-of d .args .q) (resolvedBy (judge-at d .judge .result) (on d) (keyOf (callOf (start-of d .args .q)))) ≡ x
+decided d x e =
+    ap (decisionOf (start-of d .args .q)) (sym (resolved d)) ∙ sym (d .decide .ensures) ∙ e
 
 state-in-requires : tie.Need-state-in-requires
 state-in-requires c κs = search needs
@@ -108,8 +113,7 @@ returns c =
     let J = judge-at d in
     rw (c .refuse-cut .ensures)
     (restart-refused (s .args .budget) (handed s) (called d) (s .pre .0) (s .pre .1) (on d) (on-is d) (i .i .given .0 .0)
-    (again-refused (on d) (s .args .q) (i .i .given .0 .0) (J .judge .result) (J .judge .ensures .0) (J .judge .ensures .1)
-    (decided d _ (i .i .given .1))))
+    (again-refused (on d) (s .args .q) (J .judge .result) (J .judge .ensures .0) (i .i .given .0 .0) (decided d _ (i .i .given .1))))
 
 enum-known-g : tie.Need-enum-known-g
 enum-known-g c = search needs
@@ -130,7 +134,8 @@ changes : (k : tie.After-g) → VolumeFits (on (at k)) (geometry k)
 changes k =
     let d = at k in
     let J = judge-at d in
-    again-changes (on d) (start-of d .args .q) (geometry k) (edit k) (J .judge .result) (J .judge .ensures .1) (decided d _ (k .g .given .1))
+    again-changes (on d) (start-of d .args .q) (J .judge .result) (J .judge .ensures .0)
+    (subst (ResolvedFits (on d)) (resolved d) (d .before .resolve-judged .ensures .1)) (geometry k) (edit k) (decided d _ (k .g .given .1))
 
 room-refusal-requires : tie.Need-room-refusal-requires
 room-refusal-requires c κs = changes (c .before) .0 .sound
@@ -167,43 +172,42 @@ room : (c : tie.Else1) → let o = old (at (known c)) in
 room c =
     let r = c .before in
     let o = old (at (known c)) in
-    room-of (shape (geometry (known c))) (o .records) (o .deletions) (r .room-refusal .result) (edit (known c)) (r .room-refusal .ensures)
+    room-told (shape (geometry (known c))) (o .records) (o .deletions) (edit (known c)) (r .room-refusal .result) (r .room-refusal .ensures)
     (c .if1 .left)
+
+plan-of-requires : tie.Need-plan-of-requires
+plan-of-requires c κs = (changes (known c) .0 .sound, room c)
 
 done-requires : tie.Need-done-requires
 done-requires c κs =
-    let f = changes (known (c .before)) .0 in
-    (f .sound, room (c .before), f .long .spare-fits)
+    let p = c .before in
+    let e = p .before in
+    let f = changes (known e) .0 in
+    (f .sound, p .plan-of .ensures, f .long .spare-fits)
+
+abbrev planned-at : tie.After-done → tie.After-plan-of
+planned-at c = c .before .before
 
 -- what counts as done
-done-is : (c : tie.After-done) → let k = known (c .before .before) in
+done-is : (c : tie.After-done) → let k = known (planned-at c .before) in
     c .done .result ≡ doneCount (start-of (at k) .args .spare .now) (changePlan fnvFamily (shape (geometry k)) (on (at k)) (editIs (edit k)))
 done-is c =
-    let k = known (c .before .before) in
+    let k = known (planned-at c .before) in
     let s = start-of (at k) in
     c .done .ensures (s .args .main .now) (pages (s .args .ram .now)) (changes k .0 .long .read .ram-fits)
 
 finish-requires : tie.Need-finish-requires
 finish-requires c κs =
     let D = c .before .before .before in
-    let k = known (D .before .before) in
+    let p = planned-at D in
+    let k = known (p .before) in
     let s = start-of (at k) in
     let few : D .done .result ≤ length (changePlan fnvFamily (shape (geometry k)) (on (at k)) (editIs (edit k)))
-    = rw (done-is D) (done-le (s .args .spare .now) (changePlan fnvFamily (shape (geometry k)) (on (at k)) (editIs (edit k)))) in
-    ((s .pre .0, changes k .0), (room (D .before .before), few))
+    = omega (arith, done-is D, done-le (s .args .spare .now) (changePlan fnvFamily (shape (geometry k)) (on (at k)) (editIs (edit k)))) in
+    ((s .pre .0, changes k .0), (p .plan-of .ensures, few))
 
 abbrev done-at : tie.After-finish → tie.After-done
 done-at c = c .before .before .before .before
-
-counted-state-requires : tie.Need-counted-state-requires
-counted-state-requires c κs =
-    let D = done-at (c .before .before .before .before .before .before) in
-    let k = known (D .before .before) in
-    let f = changes k .0 in
-    let o = old (at k) in
-    let n : o .records < 4294967295 = omega (arith, f .n-cap, record-capacity-le (geometry k) (f .sound)) in
-    let d : o .deletions < 4294967295 = omega (arith, f .d-cap, deletion-capacity-le (geometry k) (f .sound)) in
-    (n, d)
 
 cut-after-requires : tie.Need-cut-after-requires
 cut-after-requires c κs = search needs
@@ -219,10 +223,9 @@ same-length-9 c = search needs
 
 returns-3 : tie.Need-returns-3
 returns-3 c =
-    let n = c .before in
-    let F = n .before .before .before .before .before .before .before in
+    let F = c .before .before .before .before .before .before .before .before in
     let D = done-at F in
-    let e = D .before .before in
+    let e = planned-at D .before in
     let k = known e in
     let d = at k in
     let s = start-of d in
@@ -231,9 +234,9 @@ returns-3 c =
     let is = changes k .1
     ∙ again-later (shape g) (on d) (edit k) (r .room-refusal .result) (r .room-refusal .ensures) (e .if1 .left)
     ∙ ap (changed (shape g) (on d) (editIs (edit k))) (sym (done-is D)) in
-    rw (c .cut-after .ensures, n .counted-state .ensures, state-either (F .finish .result .finished) _ (s .args .s))
+    rw (c .cut-after .ensures, F .finish .ensures .1, state-either (F .finish .result .progress .finished) _ (s .args .s))
     (restart-ran (s .args .budget) (handed s) (called d) (s .pre .0) (s .pre .1) (on d) (on-is d) (g .chip .unit) _
-    (ap (λ (x : Geometry). x .chip .unit) (changes k .0 .is)) is refl _ (F .finish .result) (F .finish .ensures))
+    (ap (λ (x : Geometry). x .chip .unit) (changes k .0 .is)) is refl _ (F .finish .result .progress) (F .finish .ensures .0))
 
 pub restart-change-spec : {M : Type 1} → statement M
 restart-change-spec =
@@ -257,9 +260,9 @@ restart-change-spec =
     same-length-5
     same-length-6
     returns-2
+    plan-of-requires
     done-requires
     finish-requires
-    counted-state-requires
     cut-after-requires
     same-length-7
     same-length-8

@@ -19,7 +19,7 @@ returns : tie.Need-returns
 returns c =
     let f = c .before .fills in
     let a = c .before .before .deletion-area in
-    let d = c .before .before .before .before .args .d in
+    let d = c .before .before .before .before .before .args .d in
     let none = sym (f .ensures ∙ ap (λ (x : Area). fills x d) (a .ensures .0)) ∙ not-taken _ (c .if1 .taken) in
     λ full. absurd (false≢true (sym none ∙ full))
 
@@ -28,15 +28,20 @@ da-ram-requires c κs = search needs
 
 number-filters-requires : tie.Need-number-filters-requires
 number-filters-requires c κs =
-    let s = c .before .before .before .before .before in
-    (s .pre .0 .unit, s .pre .0 .k-most, rw (c .da-ram .ensures) (omega (arith, s .pre .1)))
+    let s = c .before .before .before .before .before .before .before in
+    ((s .pre .0 .unit, s .pre .0 .k-most, rw (c .before .da-ram .ensures) (omega (arith, s .pre .1))), s .pre .2)
+
+same-length : tie.Need-same-length
+same-length c = search needs
 
 returns-2 : tie.Need-returns-2
 returns-2 c =
-    let s = c .before .before .before .before .before .before in
+    let f = c .before .before in
+    let a = f .before .before in
+    let s = a .before .before .before .before .before .before in
     λ full.
     half-fourths (shape (s .args .g)) (s .args .d) (s .args .old) (s .args .ram .now) (s .pre .0 .unit .1 .some) full (omega arith)
-    (omega (arith, s .pre .1)) (c .number-filters .result) (rw (c .before .da-ram .ensures) at (c .number-filters .ensures .0))
+    (omega (arith, s .pre .1)) (f .number-filters .last .1 .1 .1 .1 .1 .0) (rw (a .da-ram .ensures) at (f .number-filters .ensures))
 
 pub deletion-filters-spec : {M : Type 1} → statement M
 deletion-filters-spec =
@@ -47,4 +52,5 @@ deletion-filters-spec =
     returns
     da-ram-requires
     number-filters-requires
+    same-length
     returns-2)

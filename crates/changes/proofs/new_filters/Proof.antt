@@ -1,101 +1,170 @@
 use native.Mathlib.Omega.{arith}
-use mathlib.Core.Path.{refl, ap, _∙_}
-use lib.ListN.{length, replicate}
-use Rattle.memory.specs.Lists.{length-write}
+use mathlib.Core.Path.{_≡_, ap, _∙_}
+use mathlib.Core.List.{List, _++_}
+use Prim.Native.Nat.{ℕ}
+use lib.ListN.{length, take, drop, replicate}
+use Rattle.keys.specs.Key.{keyIs}
+use Rattle.memory.specs.Lists.{write, length-write, length-part, part-back}
 use Rattle.geometry.specs.Shape.{shape}
-use Rattle.changes.proofs.NewLaws.{deletions-put, deletions-stay, entry-put}
+use Rattle.changes.proofs.NewLaws.{part-behind, deletions-put, deletions-stay, entry-put}
 use borrow.Author.Needs.{needs}
 use Rattle.changes.proofs.new_filters.Statement.{statement}
 use Rattle.changes.proofs.new_filters.Tie as tie
 
+-- all of the filters are lent
+long : (s : tie.Start) → length (s .args .filters .now) ≡ 768
+long s = ap length (s .pre .2)
+
+-- zeros where that of an entry goes
+zeros : (s : tie.Start) → take 256 (drop 512 (s .args .filters .now)) ≡ replicate 256 0
+zeros s = ap (λ (l : List ℕ). take 256 (drop 512 l)) (s .pre .2)
+
 enum-known-e : tie.Need-enum-known-e
 enum-known-e c = search needs
 
+sub-deletion-filters : tie.Need-sub-deletion-filters
+sub-deletion-filters c = search needs
+
+part-deletion-filters-start : tie.Need-part-deletion-filters-start
+part-deletion-filters-start c = search needs
+
+part-deletion-filters-end : tie.Need-part-deletion-filters-end
+part-deletion-filters-end c = omega (arith, long (c .before .before .before .before .before))
+
 deletion-filters-requires : tie.Need-deletion-filters-requires
-deletion-filters-requires c κs = search needs
-
-slice-aggregate-copy-at : tie.Need-slice-aggregate-copy-at
-slice-aggregate-copy-at c = search needs
-
-slice-aggregate-copy-at-2 : tie.Need-slice-aggregate-copy-at-2
-slice-aggregate-copy-at-2 c = search needs
-
-copy-at-requires : tie.Need-copy-at-requires
-copy-at-requires c κs = search needs
+deletion-filters-requires c κs =
+    let s = c .before .before .before .before .before .before in
+    (s .pre .0, s .pre .1, length-part (s .args .filters .now) 0 512 (omega (arith, long s)))
 
 enum-known-e-2 : tie.Need-enum-known-e-2
 enum-known-e-2 c = search needs
 
+sub-entry-filter : tie.Need-sub-entry-filter
+sub-entry-filter c = search needs
+
+part-entry-filter-start : tie.Need-part-entry-filter-start
+part-entry-filter-start c = search needs
+
+part-entry-filter-end : tie.Need-part-entry-filter-end
+part-entry-filter-end c = omega (arith, long (c .before .before .before .before .before))
+
 entry-filter-requires : tie.Need-entry-filter-requires
-entry-filter-requires c κs = search needs
-
-slice-aggregate-copy-at-3 : tie.Need-slice-aggregate-copy-at-3
-slice-aggregate-copy-at-3 c = search needs
-
-slice-aggregate-copy-at-4 : tie.Need-slice-aggregate-copy-at-4
-slice-aggregate-copy-at-4 c = search needs
-
-copy-at-requires-2 : tie.Need-copy-at-requires-2
-copy-at-requires-2 c κs = search needs
+entry-filter-requires c κs =
+    let s = c .before .before .before .before .before .before in
+    (s .pre .0, s .pre .1, zeros s)
 
 enum-known-e-3 : tie.Need-enum-known-e-3
 enum-known-e-3 c = search needs
 
+sub-deletion-filters-2 : tie.Need-sub-deletion-filters-2
+sub-deletion-filters-2 c = search needs
+
+part-deletion-filters-start-2 : tie.Need-part-deletion-filters-start-2
+part-deletion-filters-start-2 c = search needs
+
+part-deletion-filters-end-2 : tie.Need-part-deletion-filters-end-2
+part-deletion-filters-end-2 c = omega (arith, long (c .before .before .before .before .before))
+
 deletion-filters-requires-2 : tie.Need-deletion-filters-requires-2
-deletion-filters-requires-2 c κs = search needs
+deletion-filters-requires-2 c κs =
+    let s = c .before .before .before .before .before .before in
+    (s .pre .0, s .pre .1, length-part (s .args .filters .now) 0 512 (omega (arith, long s)))
 
-entry-filter-requires-2 : tie.Need-entry-filter-requires-2
-entry-filter-requires-2 c κs = search needs
+-- ---- what the calls leave
 
-slice-aggregate-copy-at-5 : tie.Need-slice-aggregate-copy-at-5
-slice-aggregate-copy-at-5 c = search needs
-
-slice-aggregate-copy-at-6 : tie.Need-slice-aggregate-copy-at-6
-slice-aggregate-copy-at-6 c = search needs
-
-copy-at-requires-3 : tie.Need-copy-at-requires-3
-copy-at-requires-3 c κs = search needs
-
-slice-aggregate-copy-at-7 : tie.Need-slice-aggregate-copy-at-7
-slice-aggregate-copy-at-7 c = search needs
-
-slice-aggregate-copy-at-8 : tie.Need-slice-aggregate-copy-at-8
-slice-aggregate-copy-at-8 c = search needs
-
-copy-at-requires-4 : tie.Need-copy-at-requires-4
-copy-at-requires-4 c κs = search needs
+same-length : tie.Need-same-length
+same-length c = search needs
 
 returns : tie.Need-returns
 returns c =
-    let k = c .before in
-    let f = k .before .before .before in
-    let x = f .before .before .before .before .before .args in
-    rw (f .before .before .e .given .1)
-    (deletions-put (shape (x .g)) _ (x .old) (x .ram .now) (f .deletion-filters .result) (replicate 768 0) (k .copy-at .last .0)
-    (omega (arith, f .deletion-filters .ok)) refl (k .copy-at .ensures) (f .deletion-filters .ensures))
+    let k = c .before .before in
+    let e = k .before .before .before in
+    let s = e .before .before .before .before in
+    let x = s .args in
+    let D = k .deletion-filters .last .1 .1 .1 .1 .0 in
+    let size = k .deletion-filters .kept .1 .1 .1 .1 .0 ∙ length-part (x .filters .now) 0 512 (omega (arith, long s)) in
+    rw (e .e .given .1)
+    (deletions-put (shape (x .g)) _ (x .old) (x .ram .now) D (x .filters .now) _ size (long s)
+    (part-back (x .filters .now) 0 512 D (omega arith) (omega (arith, long s)) size) (k .deletion-filters .ensures))
+
+same-length-2 : tie.Need-same-length-2
+same-length-2 c = search needs
 
 returns-2 : tie.Need-returns-2
 returns-2 c =
-    let k = c .before in
-    let f = k .before .before .before in
-    let x = f .before .before .before .before .before .args in
-    rw (f .before .before .e2 .given .1)
-    (entry-put (shape (x .g)) _ (x .key) (x .ram .now) (f .entry-filter .result) (replicate 768 0) (k .copy-at2 .last .0)
-    (omega (arith, f .entry-filter .ok)) refl (k .copy-at2 .ensures) (f .entry-filter .ensures))
+    let k = c .before .before in
+    let e = k .before .before .before in
+    let s = e .before .before .before .before in
+    let x = s .args in
+    let E = k .entry-filter .last .1 .1 .1 .1 .0 in
+    let size = k .entry-filter .kept .1 .1 .1 .1 .0 ∙ length-part (x .filters .now) 512 256 (omega (arith, long s)) in
+    rw (e .e2 .given .1)
+    (entry-put (shape (x .g)) _ (keyIs (x .key)) (x .ram .now) E (x .filters .now) _ size (long s)
+    (part-back (x .filters .now) 512 768 E (omega arith) (omega (arith, long s)) size) (k .entry-filter .ensures))
+
+same-length-3 : tie.Need-same-length-3
+same-length-3 c = search needs
+
+-- ---- of both
+
+abbrev start-of : tie.After-deletion-filters2 → tie.Start
+start-of k = k .before .before .before .before .before .before .before
+
+abbrev deleted : tie.After-deletion-filters2 → List ℕ
+deleted k = k .deletion-filters2 .last .1 .1 .1 .1 .0
+
+deletion-size : (k : tie.After-deletion-filters2) → length (deleted k) ≡ 512
+deletion-size k =
+    let s = start-of k in
+    k .deletion-filters2 .kept .1 .1 .1 .1 .0 ∙ length-part (s .args .filters .now) 0 512 (omega (arith, long s))
+
+-- behind the deletion's the zeros are still there
+abbrev left : tie.After-deletion-filters2 → List ℕ
+left k = let l = start-of k .args .filters .now in take 0 l ++ (deleted k ++ drop 512 (drop 0 l))
+
+left-is : (k : tie.After-deletion-filters2) → left k ≡ write (start-of k .args .filters .now) 0 (deleted k)
+left-is k =
+    let s = start-of k in
+    part-back (s .args .filters .now) 0 512 (deleted k) (omega arith) (omega (arith, long s)) (deletion-size k)
+
+left-long : (k : tie.After-deletion-filters2) → length (left k) ≡ 768
+left-long k = let s = start-of k in ap length (left-is k) ∙ length-write (s .args .filters .now) 0 (deleted k) ∙ long s
+
+left-zeros : (k : tie.After-deletion-filters2) → take 256 (drop 512 (left k)) ≡ replicate 256 0
+left-zeros k =
+    let s = start-of k in
+    ap (λ (l : List ℕ). take 256 (drop 512 l)) (left-is k)
+    ∙ part-behind (s .args .filters .now) (deleted k) 0 512 256 (omega (arith, deletion-size k)) (omega (arith, long s)) ∙ zeros s
+
+sub-entry-filter-2 : tie.Need-sub-entry-filter-2
+sub-entry-filter-2 c = search needs
+
+part-entry-filter-start-2 : tie.Need-part-entry-filter-start-2
+part-entry-filter-start-2 c = search needs
+
+part-entry-filter-end-2 : tie.Need-part-entry-filter-end-2
+part-entry-filter-end-2 c = omega (arith, left-long (c .before .before))
+
+entry-filter-requires-2 : tie.Need-entry-filter-requires-2
+entry-filter-requires-2 c κs =
+    let k = c .before .before .before in
+    let s = start-of k in
+    (s .pre .0, s .pre .1, left-zeros k)
 
 returns-3 : tie.Need-returns-3
 returns-3 c =
-    let b = c .before in
-    let a = b .before .before .before .before in
-    let f = a .before .before .before in
-    let h = f .before in
-    let x = h .before .before .before .before .before .args in
-    rw (h .before .before .e3 .given .1) (
-      deletions-stay (shape (x .g)) _ (x .old) (x .ram .now) (h .deletion-filters2 .result) (replicate 768 0) (a .copy-at3 .last .0)
-          (omega (arith, h .deletion-filters2 .ok)) refl (a .copy-at3 .ensures) (h .deletion-filters2 .ensures) (f .entry-filter2 .result)
-          (b .copy-at4 .last .0) (b .copy-at4 .ensures),
-      entry-put (shape (x .g)) _ (x .key) (x .ram .now) (f .entry-filter2 .result) (a .copy-at3 .last .0) (b .copy-at4 .last .0)
-          (omega (arith, f .entry-filter2 .ok)) (ap length (a .copy-at3 .ensures) ∙ length-write (replicate 768 0) 0 (h .deletion-filters2 .result)) (b .copy-at4 .ensures) (f .entry-filter2 .ensures),
+    let f = c .before .before in
+    let k = f .before .before .before .before in
+    let s = start-of k in
+    let x = s .args in
+    let E = f .entry-filter2 .last .1 .1 .1 .1 .0 in
+    let size : length E ≡ 256
+    = f .entry-filter2 .kept .1 .1 .1 .1 .0 ∙ length-part (left k) 512 256 (omega (arith, left-long k)) in
+    let is = part-back (left k) 512 768 E (omega arith) (omega (arith, left-long k)) size in
+    rw (k .before .before .before .e3 .given .1) (
+      deletions-stay (shape (x .g)) _ (x .old) (x .ram .now) (deleted k) (x .filters .now) (left k) (deletion-size k) (long s) (left-is k)
+          (k .deletion-filters2 .ensures) E _ is,
+      entry-put (shape (x .g)) _ (keyIs (x .key)) (x .ram .now) E (left k) _ size (left-long k) is (f .entry-filter2 .ensures),
     )
 
 pub new-filters-spec : {M : Type 1} → statement M
@@ -103,24 +172,27 @@ new-filters-spec =
     tie.close
     (tie.spec
     enum-known-e
+    sub-deletion-filters
+    part-deletion-filters-start
+    part-deletion-filters-end
     deletion-filters-requires
-    slice-aggregate-copy-at
-    slice-aggregate-copy-at-2
-    copy-at-requires
     enum-known-e-2
+    sub-entry-filter
+    part-entry-filter-start
+    part-entry-filter-end
     entry-filter-requires
-    slice-aggregate-copy-at-3
-    slice-aggregate-copy-at-4
-    copy-at-requires-2
     enum-known-e-3
+    sub-deletion-filters-2
+    part-deletion-filters-start-2
+    part-deletion-filters-end-2
     deletion-filters-requires-2
+    sub-entry-filter-2
+    part-entry-filter-start-2
+    part-entry-filter-end-2
     entry-filter-requires-2
-    slice-aggregate-copy-at-5
-    slice-aggregate-copy-at-6
-    copy-at-requires-3
-    slice-aggregate-copy-at-7
-    slice-aggregate-copy-at-8
-    copy-at-requires-4
+    same-length
     returns
+    same-length-2
     returns-2
+    same-length-3
     returns-3)

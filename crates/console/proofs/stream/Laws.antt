@@ -13,10 +13,10 @@ use lib.ListN.{length, getD, take, drop, take-append-drop, drop-of-length-le}
 use lib.Seq.{drop-cons}
 use Rattle.memory.specs.Lists.{write}
 use Rattle.layout.specs.Calls.{Volume}
-use Rattle.script.specs.Lines.{request}
+use Rattle.script.specs.Lines.{command}
 use Rattle.script.specs.Answers.{text}
 use Rattle.script.specs.AnswerLaws.{text-length}
-use Rattle.script.specs.Script.{Reply, perform}
+use Rattle.script.specs.Script.{Performed, perform}
 use Rattle.lines.specs.Contract.{AfterLine, answerLine}
 use Rattle.console.specs.Buffers.{Buffers, endLine, addByte, nextByte, feed}
 
@@ -41,14 +41,14 @@ write-part [] (suc m) n t h = write-front n [] t h
 write-part (x ∷ xs) (suc m) n t h = ap (λ (r : List ℕ). x ∷ r) (write-part xs m n t h)
 
 answer-line-is : (v : Volume) (line out : List ℕ)
-    → let r : Reply = perform v (request line) in
+    → let r : Performed = perform v (command line) in
     answerLine v line out ≡ record { length = length (text (r .answer)); volume = r .volume; out = write out 0 (text (r .answer)) }
 unfolding answerLine
 answer-line-is v line out = refl
 
 pub line-short : (v : Volume) (line out : List ℕ) (l : AfterLine) → l ≡ answerLine v line out → l .length ≤ 32
 line-short v line out l e =
-    let a = perform v (request line) .answer in
+    let a = perform v (command line) .answer in
     let h : l .length ≡ length (text a) = ap (λ (x : AfterLine). x .length) (e ∙ answer-line-is v line out) in
     omega (arith, text-length a)
 
@@ -64,7 +64,7 @@ pub line-ends : (k : Buffers) (l : AfterLine)
     }) (endLine k)
 unfolding endLine
 line-ends k l e =
-    let r : Reply = perform (k .volume) (request (take (k .fill) (k .buffer))) in
+    let r : Performed = perform (k .volume) (command (take (k .fill) (k .buffer))) in
     let n : k .printed + 32 - k .printed ≡ 32 = omega arith in
     let out = take (k .printed + 32 - k .printed) (drop (k .printed) (k .out)) in
     let f = e ∙ answer-line-is (k .volume) (take (k .fill - 0) (k .buffer)) out in

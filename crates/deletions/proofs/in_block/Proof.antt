@@ -1,6 +1,6 @@
 -- What is left of the search at each word of a block.
 use native.Mathlib.Omega.{arith}
-use mathlib.Core.Path.{_≡_}
+use mathlib.Core.Path.{_≡_, ap}
 use mathlib.Core.Bool.{Bool}
 use mathlib.Core.Option.{Option}
 use mathlib.Core.List.{List}
@@ -8,34 +8,23 @@ use Prim.Native.Nat.{ℕ, _+_, _*_, _-_, _/_, _≤_, _<_}
 use lib.ListN.{take}
 use Rattle.layout.specs.Geometry as layout
 use Rattle.layout.specs.Calls.{deletionIndex, deletionFilters, maybeDeleted}
-use Rattle.layout.specs.Search.{Stop}
+use Rattle.layout.specs.Search.{Stop, found}
+use Rattle.laws.specs.WalkLaws.{Pages, Part, part-few, part-ended, part-next, free, lesser, Shown}
+use Rattle.laws.specs.WalkLaws.{Words, words-first, words-next, words-left, words-end}
 use Rattle.geometry.specs.Shape.{shape}
 use Rattle.geometry.specs.Bounds.{product-le, deletion-capacity-le}
 use Rattle.filter.specs.Blocks.{BlockAt}
 use Rattle.filter.specs.declared.groups.Block.{Block}
-use Rattle.deletions.specs.declared.Deletions.{Deletions}
-use Rattle.deletions.specs.Test.{held, Ready}
-use Rattle.deletions.specs.Walk.{stopOf, tryOf, pagesBelow, onward}
-use Rattle.deletions.proofs.Pages.{Pages, pages-first, part-few, part-met, part-next}
-use Rattle.deletions.proofs.Volume.{perPage, pages, pageAt, lesser, first-lt, first-few, word-in}
-use Rattle.deletions.proofs.Volume.{word-part, pages-few, pages-then, page-in, sets-le, index-fits}
+use Rattle.deletions.specs.Test.{held, DeletionsFit}
+use Rattle.deletions.specs.Walk.{testStop, tryHeld, eitherBit}
+use Rattle.deletions.proofs.Volume.{perPage, pages, pageAt, first-lt, first-few, block-shows, word-in, word-part}
+use Rattle.deletions.proofs.Volume.{pages-few, pages-then, page-in, sets-le, index-fits}
 use Rattle.deletions.proofs.in_block.Statement.{statement}
 use Rattle.deletions.proofs.in_block.Tie as tie
 
--- the block is one of the deletions' filters
-abbrev Known : Deletions → List ℕ → List ℕ → ℕ → List ℕ → Block → Type 0
-Known t main ram below ps b =
-    BlockAt (t .g .chip .unit) (deletionIndex (shape (t .g))) main ram (deletionFilters (shape (t .g)) (t .d)) (2 * below) ps b
-
--- the words from w on are done
-abbrev Words : Deletions → ℕ → ℕ → List ℕ → List ℕ → Block → ℕ → ℕ → List ℕ → Type 0
-Words t j below main ram b opened w ps =
-    Pages (maybeDeleted (shape (t .g)) (held t main ram) ps) (tryOf t main ram j) (perPage t) below opened
-    (lesser (b .start / 2 + w * 32) below)
-
 abbrev Inv-loop : tie.InvT-loop
 Inv-loop t j count below main ram b first start opened₀ w₀ opened w =
-    (w * 32 ≤ below - b .start / 2 + 31) × ((ps : List ℕ) → Known t main ram below ps b → Words t j below main ram b opened w ps)
+    Words (tryHeld t main ram j) free (perPage t) eitherBit 32 (b .start / 2) below (b .words) opened 0 w
 
 abbrev μ-loop : tie.MeasureT-loop
 μ-loop t j count below main ram b first start opened₀ w₀ opened w = w
@@ -45,28 +34,24 @@ abbrev μ-loop : tie.MeasureT-loop
 abbrev Start : Type 0
 Start = tie.Start Inv-loop μ-loop
 
-abbrev ready : (b : Start) → Ready (b .args .t) (b .args .main .now) (b .args .ram .now)
+abbrev ready : (b : Start) → DeletionsFit (b .args .t) (b .args .main .now) (b .args .ram .now)
 ready b = b .pre .0 .0
-
-abbrev gate-at : Start → List ℕ → ℕ → Bool
-gate-at b ps = maybeDeleted (shape (b .args .t .g)) (held (b .args .t) (b .args .main .now) (b .args .ram .now)) ps
-
-abbrev try-at : Start → ℕ → Option Stop
-try-at b = tryOf (b .args .t) (b .args .main .now) (b .args .ram .now) (b .args .j)
 
 abbrev positions-of : Start → List ℕ
 positions-of b = take (b .args .count) (b .args .ps)
 
+abbrev gate-at : Start → ℕ → Bool
+gate-at b = maybeDeleted (shape (b .args .t .g)) (held (b .args .t) (b .args .main .now) (b .args .ram .now)) (positions-of b)
+
+abbrev try-at : Start → ℕ → Option Stop
+try-at b = tryHeld (b .args .t) (b .args .main .now) (b .args .ram .now) (b .args .j)
+
 -- pages tested are full ones
 below-le : (b : Start) → b .args .below ≤ pages (b .args .t)
-below-le b =
-    let x = b .args in
-    omega (arith, b .pre .1 .1, pages-then (x .t) (x .main .now) (x .ram .now) (ready b))
+below-le b = omega (arith, b .pre .1 .1, pages-then (ready b))
 
 below-few : (b : Start) → b .args .below ≤ 65536
-below-few b =
-    let x = b .args in
-    omega (arith, below-le b, pages-few (x .t) (x .main .now) (x .ram .now) (ready b))
+below-few b = omega (arith, below-le b, pages-few (ready b))
 
 abbrev Told : Type 0
 Told = tie.After-block-below Inv-loop μ-loop
@@ -77,9 +62,20 @@ start-of G = G .before .before .before .before
 abbrev block-of : Told → Block
 block-of G = G .block-below .result
 
-block-at : (G : Told) → let b = start-of G in let x = b .args in
-    Known (x .t) (x .main .now) (x .ram .now) (x .below) (positions-of b) (block-of G)
+block-at : (G : Told) → let b = start-of G in let x = b .args in let g = x .t .g in
+    BlockAt (g .chip .unit) (deletionIndex (shape g)) (x .main .now) (x .ram .now) (deletionFilters (shape g) (x .t .d)) (2 * x .below)
+    (positions-of b) (block-of G)
 block-at G = rw (G .before .filters .ensures) at (G .block-below .ensures)
+
+-- pages that its words show to be open
+abbrev Gates : Told → (ℕ → Bool) → Type 0
+Gates G = Shown eitherBit 32 (block-of G .start / 2) (start-of G .args .below) (block-of G .words)
+
+shows : (G : Told) → Gates G (gate-at (start-of G))
+shows G =
+    let b = start-of G in
+    let x = b .args in
+    block-shows (x .t) (x .main .now) (x .ram .now) (x .below) (positions-of b) (block-of G) (block-at G)
 
 block-lt : (G : Told) → block-of G .start / 2 < start-of G .args .below
 block-lt G =
@@ -96,10 +92,7 @@ block-few G =
 -- ---- before the first word
 
 filters-requires : tie.Need-filters-requires Inv-loop μ-loop
-filters-requires c κs =
-    let b = c .before .before in
-    let R = ready b in
-    (R .sound, omega (arith, R .cap, deletion-capacity-le (b .args .t .g) (R .sound)))
+filters-requires c κs = ready (c .before .before) .sound
 
 mul-block-below : tie.Need-mul-block-below Inv-loop μ-loop
 mul-block-below c = omega (arith, below-few (c .before .before .before))
@@ -114,10 +107,10 @@ block-below-requires c κs =
       (
         (
           layout.deletionSets (shape (x .t .g)),
-          sets-le (x .t) (x .main .now) (x .ram .now) R,
-          index-fits (x .t) (x .main .now) (x .ram .now) R,
+          sets-le R,
+          index-fits R,
         ),
-        omega (arith, pages-few (x .t) (x .main .now) (x .ram .now) R),
+        omega (arith, pages-few R),
         omega (arith, b .pre .1 .0),
         omega (arith, below-le b),
       ),
@@ -159,10 +152,11 @@ add-w c = omega (arith, below-few (start-of (told c)))
 loop-holds : tie.Need-loop-holds Inv-loop μ-loop
 loop-holds c =
     let G = told c in
-    let x = start-of G .args in
+    let b = start-of G in
+    let x = b .args in
     let first = block-of G .start / 2 in
-    let e : lesser (first + (x .below - first + 31) / 32 * 32) (x .below) ≡ x .below = omega (arith, block-lt G) in
-    (omega arith, λ ps B. rw e (pages-first (gate-at (start-of G) ps) (try-at (start-of G)) (perPage (x .t)) (x .below)))
+    words-first (try-at b) free (perPage (x .t)) eitherBit 32 first (x .below) (block-of G .words) ((x .below - first + 31) / 32)
+    (omega arith) (omega (arith, block-lt G))
 
 -- ---- a word
 
@@ -180,11 +174,11 @@ from-of c = block-of (known c) .start / 2 + word-of c * 32
 
 -- there are eight at the most
 word-lt-8 : (c : InWord) → word-of c < 8
-word-lt-8 c = omega (arith, c .before .loop .inv .0, block-few (known c), block-lt (known c), c .loop-test .taken)
+word-lt-8 c = omega (arith, c .before .loop .inv .used, block-few (known c), block-lt (known c), c .loop-test .taken)
 
 -- and each begins with a page of the block
 from-lt : (c : InWord) → from-of c < start-of (known c) .args .below
-from-lt c = omega (arith, c .before .loop .inv .0, block-lt (known c), c .loop-test .taken)
+from-lt c = omega (arith, c .before .loop .inv .used, block-lt (known c), c .loop-test .taken)
 
 sub-w-2 : tie.Need-sub-w-2 Inv-loop μ-loop
 sub-w-2 c = omega arith
@@ -231,14 +225,12 @@ in-word-requires c κs =
     let i = P .before in
     let G = known i in
     let b = start-of G in
-    let x = b .args in
-    let u = x .t .g .chip .unit in (
+    let x = b .args in (
       ready b .sound .unit,
       record {
         page-in = λ k h s.
-            let l = word-in (x .t) (x .main .now) (x .ram .now) (x .below) (positions-of b) (block-of G) (block-at G) (below-le b)
-            (word-of i) (word-lt-8 i) (from-lt i) (at-of P) (at-is P) k h s in
-            omega (arith, at-is P, page-in (x .t) (x .main .now) (x .ram .now) (ready b) (from-of i + k) (omega (arith, l, below-le b)));
+            let l = word-in (block-of G .start / 2) (x .below) (block-of G .words) (word-of i) (word-lt-8 i) (gate-at b) (shows G) k h s in
+            omega (arith, at-is P, page-in (ready b) (from-of i + k) (omega (arith, l, below-le b)));
       },
     )
 
@@ -250,29 +242,22 @@ Walked = tie.After-in-word Inv-loop μ-loop
 abbrev visit : Walked → InWord
 visit W = W .before .before .before
 
--- the word's pages are left
-left : (c : InWord) (ps : List ℕ) → let G = known c in let b = start-of G in let x = b .args in
-    Known (x .t) (x .main .now) (x .ram .now) (x .below) ps (block-of G)
-    → Pages (gate-at b ps) (try-at b) (perPage (x .t)) (x .below) (c .before .loop .opened) (lesser (from-of c + 32) (x .below))
-left c ps B =
-    let first = block-of (known c) .start / 2 in
-    let e : first + c .before .loop .w * 32 ≡ from-of c + 32 = omega (arith, c .loop-test .taken) in
-    rw e at (c .before .loop .inv .1 ps B)
-
-part : (W : Walked) (ps : List ℕ) → let i = visit W in let G = known i in let b = start-of G in let x = b .args in
-    Known (x .t) (x .main .now) (x .ram .now) (x .below) ps (block-of G)
-    → pagesBelow (x .t) (x .main .now) (x .ram .now) (x .j) ps (lesser (from-of i + 32) (x .below))
-    ≡ onward (stopOf (x .j) (W .in-word .result .met)) (W .in-word .result .opened)
-    (pagesBelow (x .t) (x .main .now) (x .ram .now) (x .j) ps (from-of i))
-part W ps B =
+part : (W : Walked) (gate : ℕ → Bool) → let i = visit W in let G = known i in let b = start-of G in let x = b .args in
+    let r = W .in-word .result in Gates G gate
+    → Part gate (try-at b) free (perPage (x .t)) (lesser (from-of i + 32) (x .below)) (from-of i) (r .opened) 0 (testStop (x .j) (r .met))
+part W gate s =
     let i = visit W in
     let P = W .before .before in
     let G = known i in
     let b = start-of G in
     let x = b .args in
-    word-part (x .t) (x .main .now) (x .ram .now) (x .below) ps (block-of G) B (below-le b) (word-of i) (word-lt-8 i) (from-lt i) (at-of P)
-    (at-is P) (x .j)
-    (W .in-word .result .met) (W .in-word .result .opened) (W .in-word .ensures)
+    word-part (block-of G .start / 2) (x .below) (block-of G .words) (word-of i) (word-lt-8 i) gate s (x .t) (x .main .now) (x .ram .now)
+    (x .j) (below-le b) (from-lt i) (at-of P) (at-is P) (W .in-word .result .met) (W .in-word .result .opened) (W .in-word .ensures)
+
+-- the word's pages are left
+left : (c : InWord) (gate : ℕ → Bool) → let G = known c in let b = start-of G in let x = b .args in
+    Gates G gate → Pages gate (try-at b) free (perPage (x .t)) (x .below) (c .before .loop .opened) 0 (lesser (from-of c + 32) (x .below))
+left c gate s = words-left (c .before .loop .inv) gate s (c .loop-test .taken)
 
 add-opened : tie.Need-add-opened Inv-loop μ-loop
 add-opened c =
@@ -280,14 +265,7 @@ add-opened c =
     let i = visit W in
     let G = known i in
     let b = start-of G in
-    let x = b .args in
-    omega (
-      arith,
-      part-few (gate-at b (positions-of b)) (try-at b) (perPage (x .t)) (x .below) (i .before .loop .opened)
-          (lesser (from-of i + 32) (x .below)) (left i (positions-of b) (block-at G))
-          (from-of i) (W .in-word .result .opened) (x .j) (W .in-word .result .met) (part W (positions-of b) (block-at G)),
-      below-few b,
-    )
+    omega (arith, part-few (left i (gate-at b) (shows G)) (part W (gate-at b) (shows G)), below-few b)
 
 returns : tie.Need-returns Inv-loop μ-loop
 returns c =
@@ -295,12 +273,9 @@ returns c =
     let i = visit W in
     let G = known i in
     let b = start-of G in
-    let x = b .args in (
-      block-lt G,
-      part-met (gate-at b (positions-of b)) (try-at b) (perPage (x .t)) (x .below) (i .before .loop .opened)
-          (lesser (from-of i + 32) (x .below)) (left i (positions-of b) (block-at G))
-          (from-of i) (W .in-word .result .opened) (x .j) (W .in-word .result .met) (part W (positions-of b) (block-at G)) (c .if1 .taken),
-    )
+    let j = b .args .j in
+    let e = ap (testStop j) (c .if1 .taken) in
+    (block-lt G, part-ended (left i (gate-at b) (shows G)) (part W (gate-at b) (shows G)) (found j) e .0)
 
 loop-less : tie.Need-loop-less Inv-loop μ-loop
 loop-less c = let i = visit (c .before .before) in omega (arith, i .loop-test .taken)
@@ -312,24 +287,16 @@ loop-again c =
     let G = known i in
     let b = start-of G in
     let x = b .args in
-    let e : lesser (from-of i) (x .below) ≡ from-of i = omega (arith, from-lt i) in (
-      omega (arith, i .before .loop .inv .0),
-      λ ps B.
-          rw e
-          (part-next (gate-at b ps) (try-at b) (perPage (x .t)) (x .below) (i .before .loop .opened)
-          (lesser (from-of i + 32) (x .below)) (left i ps B) (from-of i) (W .in-word .result .opened) (x .j)
-          (W .in-word .result .met) (part W ps B) (c .if1 .left) (omega (arith, from-lt i))),
-    )
+    words-next (try-at b) free (perPage (x .t)) eitherBit 32 (block-of G .start / 2) (x .below) (block-of G .words)
+    (i .before .loop .opened + W .in-word .result .opened) 0 (word-of i) (from-lt i)
+    (λ gate s. part-next (left i gate s) (part W gate s) (ap (testStop (x .j)) (c .if1 .left)) (omega (arith, from-lt i)))
 
 -- no word is left
 returns-2 : tie.Need-returns-2 Inv-loop μ-loop
 returns-2 c =
     let l = c .before in
     let G = told (l .before) in
-    let b = start-of G in
-    let x = b .args in
-    let e : lesser (block-of G .start / 2 + l .loop .w * 32) (x .below) ≡ block-of G .start / 2 = omega (arith, block-lt G) in
-    (block-lt G, rw e at (l .loop .inv .1 (positions-of b) (block-at G) .rest))
+    (block-lt G, words-end (l .loop .inv) (gate-at (start-of G)) (shows G) (omega arith) (block-lt G) .found)
 
 pub in-block-spec : {M : Type 1} → statement M
 in-block-spec =

@@ -90,7 +90,7 @@ has-word-requires c κs =
     let S = slot-of c in
     let b = start-of S in
     let x = b .args in
-    open-in-flash (x .t) (x .main .now) (x .ram .now) (b .pre) (S .before .deletions-per-page .result)
+    open-in-flash (b .pre) (S .before .deletions-per-page .result)
     (S .before .deletions-per-page .ensures)
     (S .slot .result) (x .t .d0 - S .slot .result) (S .slot .ensures .0) refl (filled c) (c .block-address .result) (start-is c)
 
@@ -100,7 +100,7 @@ returns c =
     let S = slot-of P in
     let b = start-of S in
     let x = b .args in
-    open-on-flash (x .t) (x .main .now) (x .ram .now) (b .pre) (S .before .deletions-per-page .result)
+    open-on-flash (b .pre) (S .before .deletions-per-page .result)
     (S .before .deletions-per-page .ensures)
     (S .slot .result) (x .t .d0 - S .slot .result) (S .slot .ensures .0) refl (filled P) (P .block-address .result) (start-is P)
     (x .j) (c .has-word .result) (c .has-word .ensures)
@@ -115,7 +115,7 @@ has-word-requires-2 c κs =
     let S = c .before .before .before .before in
     let b = start-of S in
     let x = b .args in
-    open-in-ram (x .t) (x .main .now) (x .ram .now) (b .pre) (S .before .deletions-per-page .result)
+    open-in-ram (b .pre) (S .before .deletions-per-page .result)
     (S .before .deletions-per-page .ensures)
     (S .slot .result) (x .t .d0 - S .slot .result) (S .slot .ensures .0) refl (c .da-ram .result) (c .da-ram .ensures)
 
@@ -126,7 +126,7 @@ returns-2 c =
     let S = F .before .before in
     let b = start-of S in
     let x = b .args in
-    open-on-ram (x .t) (x .main .now) (x .ram .now) (b .pre) (S .before .deletions-per-page .result)
+    open-on-ram (b .pre) (S .before .deletions-per-page .result)
     (S .before .deletions-per-page .ensures)
     (S .slot .result) (x .t .d0 - S .slot .result) (S .slot .ensures .0) refl (K .da-ram .result) (K .da-ram .ensures)
     (rw (F .in-full-pages .ensures) at (K .before .if1 .left)) (x .j) (c .has-word2 .result) (c .has-word2 .ensures)

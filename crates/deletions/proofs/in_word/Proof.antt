@@ -1,6 +1,6 @@
 -- The pages above the highest bit left were opened in vain.
 use native.Mathlib.Omega.{arith}
-use mathlib.Core.Path.{_≡_, sym, ap}
+use mathlib.Core.Path.{_≡_, sym, ap, _∙_}
 use mathlib.Core.Bool.{Bool, true}
 use mathlib.Core.Option.{Option}
 use Prim.Native.Nat.{ℕ, _+_, _*_, _/_, _≤_}
@@ -9,18 +9,19 @@ use borrow.Author.Needs.{needs}
 use Rattle.memory.specs.Bits.{bit}
 use Rattle.memory.specs.Candidate.{candidate}
 use Rattle.layout.specs.Geometry.{page, deletionsPerPage}
-use Rattle.layout.specs.Search.{Stop, searchPages}
+use Rattle.layout.specs.Search.{Stop, found, scan}
+use Rattle.laws.specs.TopBits.{cleared-less}
+use Rattle.laws.specs.WalkLaws.{pages-none, pages-few}
 use Rattle.geometry.specs.Bounds.{product-le}
-use Rattle.deletions.specs.Walk.{stopOf, tryWord, onward, eitherBit}
-use Rattle.deletions.proofs.Pages.{pages-none, pages-few, part-met, part-next}
-use Rattle.deletions.proofs.Bits.{cleared-less, Left, left-first, left-none, left-next, top-both, top-page}
+use Rattle.deletions.specs.Walk.{testStop, tryWord, eitherBit}
+use Rattle.deletions.proofs.Bits.{Left, left-first, left-none, left-met, left-next, top-open}
 use Rattle.deletions.proofs.Volume.{scan-page}
 use Rattle.deletions.proofs.in_word.Statement.{statement}
 use Rattle.deletions.proofs.in_word.Tie as tie
 
 abbrev Inv-loop : tie.InvT-loop
 Inv-loop chip start bits j main left₀ opened₀ left opened =
-    Left (eitherBit bits) (tryWord main start j) (deletionsPerPage (chip .unit)) left opened
+    Left (eitherBit bits) (tryWord main start j) (deletionsPerPage (chip .unit)) left₀ left opened
 
 abbrev μ-loop : tie.MeasureT-loop
 μ-loop chip start bits j main left₀ opened₀ left opened = candidate (bit left) 64
@@ -43,7 +44,7 @@ per-page b = deletionsPerPage (b .args .chip .unit)
 loop-holds : tie.Need-loop-holds Inv-loop μ-loop
 loop-holds c =
     let b = c .before .before in
-    left-first (gate-at b) (try-at b) (per-page b) (c .pairs .result) (c .pairs .ensures)
+    left-first (gate-at b) (try-at b) (per-page b) (c .pairs .result)
 
 top-requires : tie.Need-top-requires Inv-loop μ-loop
 top-requires c κs = omega (arith, c .loop-test .taken)
@@ -64,22 +65,14 @@ start-of U = loop-of U .before .before .before
 
 -- it is to be opened
 is-open : (U : Visited) → gate-at (start-of U) (U .before .top .result / 2) ≡ true
-is-open U =
-    let l = loop-of U in
-    let b = start-of U in
-    let T = U .before .top in
-    top-both (gate-at b) (try-at b) (per-page b) (l .loop .left) (l .loop .opened) (l .loop .inv) (T .result) (T .ensures .0)
-    (T .ensures .1) (T .ensures .2) .1
+is-open U = let l = loop-of U in top-open (l .loop .inv) (l .before .pairs .ensures) (U .before .top .result) (U .before .top .ensures)
 
 page-in : (U : Visited) → let b = start-of U in
     b .args .start + U .before .top .result / 2 * page (b .args .chip .unit) + page (b .args .chip .unit) ≤ length (b .args .main .now)
 page-in U = start-of U .pre .1 .page-in (U .before .top .result / 2) (omega (arith, U .before .top .ensures .0)) (is-open U)
 
 add-opened : tie.Need-add-opened Inv-loop μ-loop
-add-opened c =
-    let l = loop-of c in
-    let b = start-of c in
-    omega (arith, pages-few (gate-at b) (try-at b) (per-page b) 32 (l .loop .opened) (l .loop .inv .m) (l .loop .inv .pages))
+add-opened c = omega (arith, pages-few (loop-of c .loop .inv .pages))
 
 page-address-requires : tie.Need-page-address-requires Inv-loop μ-loop
 page-address-requires c κs =
@@ -102,66 +95,46 @@ Looked = tie.After-page-has Inv-loop μ-loop
 abbrev visit : Looked → Visited
 visit H = H .before .before
 
--- the search from the pages left on
-abbrev left-of : (H : Looked) → let U = visit H in let b = start-of U in let l = loop-of U in
-    Left (gate-at b) (try-at b) (per-page b) (l .loop .left) (l .loop .opened)
-left-of H = loop-of (visit H) .loop .inv
-
-part : (H : Looked) → let U = visit H in let b = start-of U in
-    searchPages (gate-at b) (try-at b) (per-page b) (left-of H .m)
-    ≡ onward (stopOf (b .args .j) (H .page-has .result)) 1 (searchPages (gate-at b) (try-at b) (per-page b) (U .before .top .result / 2))
-part H =
+-- its numbers
+scanned : (H : Looked) → let U = visit H in let b = start-of U in
+    scan (try-at b) (U .before .top .result / 2 * per-page b) (per-page b) ≡ testStop (b .args .j) (H .page-has .result)
+scanned H =
     let U = visit H in
-    let b = start-of U in
-    let x = b .args in
-    let l = loop-of U in
-    let T = U .before .top in
+    let x = start-of U .args in
+    let p = U .before .top .result / 2 in
     let A = H .before .page-address in
-    let e : x .start + A .result ≡ x .start + T .result / 2 * page (x .chip .unit) = ap (λ (y : ℕ). x .start + y) (A .ensures) in
-    top-page (gate-at b) (try-at b) (per-page b) (l .loop .left) (l .loop .opened) (l .loop .inv) (T .result) (T .ensures .0)
-    (T .ensures .1) (T .ensures .2)
-    (x .j) (H .page-has .result)
-    (scan-page (x .chip .unit) (x .main .now) (x .start) (x .j) (T .result / 2) (x .start + A .result) (H .page-has .result) e
-    (H .page-has .ensures))
+    scan-page (x .chip .unit) (x .main .now) (x .start) (x .j) p (x .start + A .result) (H .page-has .result)
+    (ap (λ (y : ℕ). x .start + y) (A .ensures)) (H .page-has .ensures)
 
 returns : tie.Need-returns Inv-loop μ-loop
 returns c =
     let H = c .before in
     let U = visit H in
-    let b = start-of U in
     let l = loop-of U in
-    sym (part-met (gate-at b) (try-at b) (per-page b) 32 (l .loop .opened) (left-of H .m) (left-of H .pages)
-    (U .before .top .result / 2) 1 (b .args .j) (H .page-has .result) (part H) (c .if1 .taken))
+    let T = U .before .top in
+    let j = start-of U .args .j in
+    sym (left-met (l .loop .inv) (l .before .pairs .ensures) (T .result) (T .ensures) (found j)
+    (scanned H ∙ ap (testStop j) (c .if1 .taken)))
 
 loop-less : tie.Need-loop-less Inv-loop μ-loop
 loop-less c =
     let U = visit (c .before) in
-    let T = U .before .top in
-    cleared-less (loop-of U .loop .left) (T .result) (T .ensures .2) (U .without .result) (U .without .ensures) (T .ensures .0)
-    (T .ensures .1)
+    cleared-less (loop-of U .loop .left) (U .before .top .result) (U .before .top .ensures) (U .without .result) (U .without .ensures)
 
 loop-again : tie.Need-loop-again Inv-loop μ-loop
 loop-again c =
     let H = c .before in
     let U = visit H in
-    let b = start-of U in
     let l = loop-of U in
     let T = U .before .top in
-    let B = top-both (gate-at b) (try-at b) (per-page b) (l .loop .left) (l .loop .opened) (l .loop .inv) (T .result) (T .ensures .0)
-    (T .ensures .1) (T .ensures .2) in
-    left-next (gate-at b) (try-at b) (per-page b) (l .loop .left) (l .loop .opened) (l .loop .inv) (T .result) (T .ensures .0)
-    (T .ensures .1) (T .ensures .2)
-    (U .without .result) (l .loop .opened + 1) (U .without .ensures)
-    (part-next (gate-at b) (try-at b) (per-page b) 32 (l .loop .opened) (left-of H .m) (left-of H .pages)
-    (T .result / 2) 1 (b .args .j) (H .page-has .result) (part H) (c .if1 .left) (omega (arith, B .0)))
+    left-next (l .loop .inv) (l .before .pairs .ensures) (T .result) (T .ensures) (U .without .result) (U .without .ensures)
+    (scanned H ∙ ap (testStop (start-of U .args .j)) (c .if1 .left))
 
 -- none is left
 returns-2 : tie.Need-returns-2 Inv-loop μ-loop
 returns-2 c =
     let l = c .before in
-    let b = l .before .before .before in
-    sym (pages-none (gate-at b) (try-at b) (per-page b) 32 (l .loop .opened) 0
-    (left-none (gate-at b) (try-at b) (per-page b) (l .loop .left) (l .loop .opened) (l .loop .inv) (c .loop-test .left)) (omega arith))
+    sym (pages-none (left-none (l .loop .inv) (l .before .pairs .ensures) (c .loop-test .left)) (omega arith) .0)
 
 pub in-word-spec : {M : Type 1} → statement M
 in-word-spec =

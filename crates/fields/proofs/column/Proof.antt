@@ -7,92 +7,92 @@ use borrow.Author.Needs.{needs}
 use Rattle.fields.proofs.column.Statement.{statement}
 use Rattle.fields.proofs.column.Tie as tie
 
-shared-slice-read-wide : tie.Need-shared-slice-read-wide
-shared-slice-read-wide c = search needs
+shared-slice-read-u64-of-byte : tie.Need-shared-slice-read-u64-of-byte
+shared-slice-read-u64-of-byte c = search needs
 
-wide-requires : tie.Need-wide-requires
-wide-requires c κs = search needs
+u64-of-byte-requires : tie.Need-u64-of-byte-requires
+u64-of-byte-requires c κs = search needs
 
-add-wide : tie.Need-add-wide
-add-wide c = search needs
+add-u64-of-byte : tie.Need-add-u64-of-byte
+add-u64-of-byte c = search needs
 
-shared-slice-read-wide-2 : tie.Need-shared-slice-read-wide-2
-shared-slice-read-wide-2 c = search needs
+shared-slice-read-u64-of-byte-2 : tie.Need-shared-slice-read-u64-of-byte-2
+shared-slice-read-u64-of-byte-2 c = search needs
 
-wide-requires-2 : tie.Need-wide-requires-2
-wide-requires-2 c κs = search needs
+u64-of-byte-requires-2 : tie.Need-u64-of-byte-requires-2
+u64-of-byte-requires-2 c κs = search needs
 
-mul-wide : tie.Need-mul-wide
-mul-wide c = search needs
+mul-u64-of-byte : tie.Need-mul-u64-of-byte
+mul-u64-of-byte c = search needs
 
-add-wide-2 : tie.Need-add-wide-2
-add-wide-2 c = search needs
+add-u64-of-byte-2 : tie.Need-add-u64-of-byte-2
+add-u64-of-byte-2 c = search needs
 
-shared-slice-read-wide-3 : tie.Need-shared-slice-read-wide-3
-shared-slice-read-wide-3 c = search needs
+shared-slice-read-u64-of-byte-3 : tie.Need-shared-slice-read-u64-of-byte-3
+shared-slice-read-u64-of-byte-3 c = search needs
 
-wide-requires-3 : tie.Need-wide-requires-3
-wide-requires-3 c κs = search needs
+u64-of-byte-requires-3 : tie.Need-u64-of-byte-requires-3
+u64-of-byte-requires-3 c κs = search needs
 
-mul-wide-2 : tie.Need-mul-wide-2
-mul-wide-2 c = search needs
+mul-u64-of-byte-2 : tie.Need-mul-u64-of-byte-2
+mul-u64-of-byte-2 c = search needs
 
-add-wide-3 : tie.Need-add-wide-3
-add-wide-3 c = search needs
+add-u64-of-byte-3 : tie.Need-add-u64-of-byte-3
+add-u64-of-byte-3 c = search needs
 
-shared-slice-read-wide-4 : tie.Need-shared-slice-read-wide-4
-shared-slice-read-wide-4 c = search needs
+shared-slice-read-u64-of-byte-4 : tie.Need-shared-slice-read-u64-of-byte-4
+shared-slice-read-u64-of-byte-4 c = search needs
 
-wide-requires-4 : tie.Need-wide-requires-4
-wide-requires-4 c κs = search needs
+u64-of-byte-requires-4 : tie.Need-u64-of-byte-requires-4
+u64-of-byte-requires-4 c κs = search needs
 
-mul-wide-3 : tie.Need-mul-wide-3
-mul-wide-3 c = search needs
+mul-u64-of-byte-3 : tie.Need-mul-u64-of-byte-3
+mul-u64-of-byte-3 c = search needs
 
-add-wide-4 : tie.Need-add-wide-4
-add-wide-4 c = search needs
+add-u64-of-byte-4 : tie.Need-add-u64-of-byte-4
+add-u64-of-byte-4 c = search needs
 
-shared-slice-read-wide-5 : tie.Need-shared-slice-read-wide-5
-shared-slice-read-wide-5 c = search needs
+shared-slice-read-u64-of-byte-5 : tie.Need-shared-slice-read-u64-of-byte-5
+shared-slice-read-u64-of-byte-5 c = search needs
 
-wide-requires-5 : tie.Need-wide-requires-5
-wide-requires-5 c κs = search needs
+u64-of-byte-requires-5 : tie.Need-u64-of-byte-requires-5
+u64-of-byte-requires-5 c κs = search needs
 
-mul-wide-4 : tie.Need-mul-wide-4
-mul-wide-4 c = search needs
+mul-u64-of-byte-4 : tie.Need-mul-u64-of-byte-4
+mul-u64-of-byte-4 c = search needs
 
-add-wide-5 : tie.Need-add-wide-5
-add-wide-5 c = search needs
+add-u64-of-byte-5 : tie.Need-add-u64-of-byte-5
+add-u64-of-byte-5 c = search needs
 
-shared-slice-read-wide-6 : tie.Need-shared-slice-read-wide-6
-shared-slice-read-wide-6 c = search needs
+shared-slice-read-u64-of-byte-6 : tie.Need-shared-slice-read-u64-of-byte-6
+shared-slice-read-u64-of-byte-6 c = search needs
 
-wide-requires-6 : tie.Need-wide-requires-6
-wide-requires-6 c κs = search needs
+u64-of-byte-requires-6 : tie.Need-u64-of-byte-requires-6
+u64-of-byte-requires-6 c κs = search needs
 
-mul-wide-5 : tie.Need-mul-wide-5
-mul-wide-5 c = search needs
+mul-u64-of-byte-5 : tie.Need-mul-u64-of-byte-5
+mul-u64-of-byte-5 c = search needs
 
-add-wide-6 : tie.Need-add-wide-6
-add-wide-6 c = search needs
+add-u64-of-byte-6 : tie.Need-add-u64-of-byte-6
+add-u64-of-byte-6 c = search needs
 
-shared-slice-read-wide-7 : tie.Need-shared-slice-read-wide-7
-shared-slice-read-wide-7 c = search needs
+shared-slice-read-u64-of-byte-7 : tie.Need-shared-slice-read-u64-of-byte-7
+shared-slice-read-u64-of-byte-7 c = search needs
 
-wide-requires-7 : tie.Need-wide-requires-7
-wide-requires-7 c κs = search needs
+u64-of-byte-requires-7 : tie.Need-u64-of-byte-requires-7
+u64-of-byte-requires-7 c κs = search needs
 
-mul-wide-6 : tie.Need-mul-wide-6
-mul-wide-6 c = search needs
+mul-u64-of-byte-6 : tie.Need-mul-u64-of-byte-6
+mul-u64-of-byte-6 c = search needs
 
-add-wide-7 : tie.Need-add-wide-7
-add-wide-7 c = search needs
+add-u64-of-byte-7 : tie.Need-add-u64-of-byte-7
+add-u64-of-byte-7 c = search needs
 
-shared-slice-read-wide-8 : tie.Need-shared-slice-read-wide-8
-shared-slice-read-wide-8 c = search needs
+shared-slice-read-u64-of-byte-8 : tie.Need-shared-slice-read-u64-of-byte-8
+shared-slice-read-u64-of-byte-8 c = search needs
 
-wide-requires-8 : tie.Need-wide-requires-8
-wide-requires-8 c κs = search needs
+u64-of-byte-requires-8 : tie.Need-u64-of-byte-requires-8
+u64-of-byte-requires-8 c κs = search needs
 
 mul-low : tie.Need-mul-low
 mul-low c = search needs
@@ -148,44 +148,44 @@ returns c =
     let x = c1 .before .before .before in
     let f : ℕ → ℕ = λ k. getD (x .args .bytes .now) (x .args .a + k * x .args .stride) 0 in
     eight-bytes f (λ k. omega (arith, c1 .before .before .shared-slice-known .given (x .args .a + k * x .args .stride)))
-    (c1 .wide .result) (c2 .wide2 .result) (c3 .wide3 .result) (c4 .wide4 .result) (c5 .wide5 .result) (c6 .wide6 .result) (c7 .wide7 .result) (c .wide8 .result)
-    (c1 .wide .ensures .0 ∙ ap (λ (i : ℕ). getD (x .args .bytes .now) i 0) (omega arith))
-    (c2 .wide2 .ensures .0 ∙ ap (λ (i : ℕ). getD (x .args .bytes .now) i 0) (omega arith))
-    (c3 .wide3 .ensures .0) (c4 .wide4 .ensures .0) (c5 .wide5 .ensures .0) (c6 .wide6 .ensures .0) (c7 .wide7 .ensures .0) (c .wide8 .ensures .0)
+    (c1 .u64-of-byte .result) (c2 .u64-of-byte2 .result) (c3 .u64-of-byte3 .result) (c4 .u64-of-byte4 .result) (c5 .u64-of-byte5 .result) (c6 .u64-of-byte6 .result) (c7 .u64-of-byte7 .result) (c .u64-of-byte8 .result)
+    (c1 .u64-of-byte .ensures .0 ∙ ap (λ (i : ℕ). getD (x .args .bytes .now) i 0) (omega arith))
+    (c2 .u64-of-byte2 .ensures .0 ∙ ap (λ (i : ℕ). getD (x .args .bytes .now) i 0) (omega arith))
+    (c3 .u64-of-byte3 .ensures .0) (c4 .u64-of-byte4 .ensures .0) (c5 .u64-of-byte5 .ensures .0) (c6 .u64-of-byte6 .ensures .0) (c7 .u64-of-byte7 .ensures .0) (c .u64-of-byte8 .ensures .0)
 
 pub column-spec : {M : Type 1} → statement M
 column-spec =
     tie.close
     (tie.spec
-    shared-slice-read-wide
-    wide-requires
-    add-wide
-    shared-slice-read-wide-2
-    wide-requires-2
-    mul-wide
-    add-wide-2
-    shared-slice-read-wide-3
-    wide-requires-3
-    mul-wide-2
-    add-wide-3
-    shared-slice-read-wide-4
-    wide-requires-4
-    mul-wide-3
-    add-wide-4
-    shared-slice-read-wide-5
-    wide-requires-5
-    mul-wide-4
-    add-wide-5
-    shared-slice-read-wide-6
-    wide-requires-6
-    mul-wide-5
-    add-wide-6
-    shared-slice-read-wide-7
-    wide-requires-7
-    mul-wide-6
-    add-wide-7
-    shared-slice-read-wide-8
-    wide-requires-8
+    shared-slice-read-u64-of-byte
+    u64-of-byte-requires
+    add-u64-of-byte
+    shared-slice-read-u64-of-byte-2
+    u64-of-byte-requires-2
+    mul-u64-of-byte
+    add-u64-of-byte-2
+    shared-slice-read-u64-of-byte-3
+    u64-of-byte-requires-3
+    mul-u64-of-byte-2
+    add-u64-of-byte-3
+    shared-slice-read-u64-of-byte-4
+    u64-of-byte-requires-4
+    mul-u64-of-byte-3
+    add-u64-of-byte-4
+    shared-slice-read-u64-of-byte-5
+    u64-of-byte-requires-5
+    mul-u64-of-byte-4
+    add-u64-of-byte-5
+    shared-slice-read-u64-of-byte-6
+    u64-of-byte-requires-6
+    mul-u64-of-byte-5
+    add-u64-of-byte-6
+    shared-slice-read-u64-of-byte-7
+    u64-of-byte-requires-7
+    mul-u64-of-byte-6
+    add-u64-of-byte-7
+    shared-slice-read-u64-of-byte-8
+    u64-of-byte-requires-8
     mul-low
     add-low
     mul-low-2

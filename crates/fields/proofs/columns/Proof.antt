@@ -5,7 +5,8 @@ use mathlib.Core.Path.{_≡_, refl, sym, ap, subst, _∙_}
 use mathlib.Core.List.{List}
 use lib.ListN.{length}
 use Rattle.memory.specs.Lists.{Done, length-write}
-use Rattle.fields.specs.Columns.{bytes8, columnByte}
+use Rattle.memory.specs.Words.{bytes8}
+use Rattle.fields.specs.Columns.{columnByte}
 use Rattle.fields.specs.Lists.{done-all}
 use Rattle.fields.proofs.Lanes.{turn-more}
 use Rattle.fields.proofs.columns.Statement.{statement}

@@ -4,7 +4,7 @@ use mathlib.Core.Path.{_≡_, refl}
 use Rattle.memory.specs.Cases.{either}
 use lib.ListN.{length}
 use Rattle.fields.specs.Sources.{fieldByte}
-use Rattle.memory.specs.Lists.{is-tab}
+use Rattle.memory.specs.Lists.{is-tabulate}
 use borrow.Author.Needs.{needs}
 use Rattle.fields.proofs.field_run.Statement.{statement}
 use Rattle.fields.proofs.field_run.Tie as tie
@@ -12,7 +12,7 @@ use Rattle.fields.proofs.field_run.Tie as tie
 returns : tie.Need-returns
 returns c =
     let x = c .before .before .before .args in
-    is-tab (x .out .now) (length (x .out .now)) (λ (i : ℕ). fieldByte (x .bytes .now) (x .s) (x .w) (x .y + i)) refl (λ i h. absurd (omega arith))
+    is-tabulate (x .out .now) (length (x .out .now)) (λ (i : ℕ). fieldByte (x .bytes .now) (x .s) (x .w) (x .y + i)) refl (λ i h. absurd (omega arith))
 
 copy-run-requires : tie.Need-copy-run-requires
 copy-run-requires c κs =

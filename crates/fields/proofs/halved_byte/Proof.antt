@@ -13,24 +13,24 @@ mul-a c = search needs
 add-a : tie.Need-add-a
 add-a c = search needs
 
-shared-slice-read-wide16 : tie.Need-shared-slice-read-wide16
-shared-slice-read-wide16 c =
+shared-slice-read-u16-of-byte : tie.Need-shared-slice-read-u16-of-byte
+shared-slice-read-u16-of-byte c =
     let x = c .before .before .before in
     omega (arith, both-inside (x .args .bytes .now) (x .args .s) (x .args .w) (x .args .y) (x .pre .0) (x .pre .2) (x .pre .3) (length (x .args .bytes .now)) (x .pre .1))
 
-wide16-requires : tie.Need-wide16-requires
-wide16-requires c κs = search needs
+u16-of-byte-requires : tie.Need-u16-of-byte-requires
+u16-of-byte-requires c κs = search needs
 
-add-wide16 : tie.Need-add-wide16
-add-wide16 c = search needs
+add-u16-of-byte : tie.Need-add-u16-of-byte
+add-u16-of-byte c = search needs
 
-shared-slice-read-wide16-2 : tie.Need-shared-slice-read-wide16-2
-shared-slice-read-wide16-2 c =
+shared-slice-read-u16-of-byte-2 : tie.Need-shared-slice-read-u16-of-byte-2
+shared-slice-read-u16-of-byte-2 c =
     let x = c .before .before .before .before .before in
     both-inside (x .args .bytes .now) (x .args .s) (x .args .w) (x .args .y) (x .pre .0) (x .pre .2) (x .pre .3) (length (x .args .bytes .now)) (x .pre .1)
 
-wide16-requires-2 : tie.Need-wide16-requires-2
-wide16-requires-2 c κs = search needs
+u16-of-byte-requires-2 : tie.Need-u16-of-byte-requires-2
+u16-of-byte-requires-2 c κs = search needs
 
 mul-x : tie.Need-mul-x
 mul-x c = search needs
@@ -54,8 +54,8 @@ even-fields-requires c κs =
 
 cast-even-fields-2 : tie.Need-cast-even-fields-2
 cast-even-fields-2 c =
-    let p = c .before .before .before .wide16 in
-    let q = c .before .wide162 in
+    let p = c .before .before .before .u16-of-byte in
+    let q = c .before .u16-of-byte2 in
     omega (arith, down-lt (p .result + q .result * 256) (c .before .before .before .before .before .before .before .args .s .low) (omega (arith, p .ensures .1, q .ensures .1)))
 
 even-fields-requires-2 : tie.Need-even-fields-requires-2
@@ -72,8 +72,8 @@ add-result c = search needs
 returns : tie.Need-returns
 returns c =
     let l = c .before in
-    let q = l .before .wide162 in
-    let p = l .before .before .before .wide16 in
+    let q = l .before .u16-of-byte2 in
+    let p = l .before .before .before .u16-of-byte in
     let x = c .before .before .before .before .before .before .before .before in
     let low = pair-low (x .args .bytes .now) (x .args .s) (x .args .w) (x .args .y) (x .pre .0) (x .pre .2) (x .pre .3) (p .result) (q .result) _ (l .even-fields .result) (p .ensures .1) refl (l .even-fields .ensures) in
     let high = pair-high (x .args .bytes .now) (x .args .s) (x .args .w) (x .args .y) (x .pre .0) (x .pre .2) (x .pre .3) (p .result) (q .result) _ (c .even-fields2 .result) (p .ensures .1) refl (c .even-fields2 .ensures) in
@@ -85,11 +85,11 @@ halved-byte-spec =
     (tie.spec
     mul-a
     add-a
-    shared-slice-read-wide16
-    wide16-requires
-    add-wide16
-    shared-slice-read-wide16-2
-    wide16-requires-2
+    shared-slice-read-u16-of-byte
+    u16-of-byte-requires
+    add-u16-of-byte
+    shared-slice-read-u16-of-byte-2
+    u16-of-byte-requires-2
     mul-x
     add-x
     cast-x

@@ -4,20 +4,20 @@ use Prim.Native.Nat.{ℕ, _+_, _-_, _*_, _%_, _≤_, _<_}
 use mathlib.Core.Path.{_≡_, refl, ap, _∙_}
 use lib.ListN.{length, getD, length-set, getD-replicate}
 use Rattle.layout.specs.Hash.{fnvFamily}
-use Rattle.memory.specs.Words.{bytes4}
+use Rattle.fnv.specs.Hashed.{bytesOf}
 use Rattle.fnv.proofs.Laws.{filled, more}
 use borrow.Author.Needs.{needs}
 use Rattle.fnv.proofs.positions.Statement.{statement}
 use Rattle.fnv.proofs.positions.Tie as tie
 
 abbrev Inv-loop : tie.InvT-loop
-Inv-loop chip count key start ps₀ i₀ ps i =
+Inv-loop chip count x start ps₀ i₀ ps i =
     (i ≤ count) × (length ps ≡ 8)
-    × ((j : ℕ) → j < i → (getD ps j 0 ≡ start + fnvFamily (j + 1) (bytes4 key) % (16 * chip .unit)) × (getD ps j 0 < 64 * chip .unit))
+    × ((j : ℕ) → j < i → (getD ps j 0 ≡ start + fnvFamily (j + 1) (bytesOf x) % (16 * chip .unit)) × (getD ps j 0 < 64 * chip .unit))
     × ((j : ℕ) → i ≤ j → j < 8 → getD ps j 0 ≡ 0)
 
 abbrev μ-loop : tie.MeasureT-loop
-μ-loop chip count key start ps₀ i₀ ps i = count - i
+μ-loop chip count x start ps₀ i₀ ps i = count - i
 
 fourth-of-requires : tie.Need-fourth-of-requires Inv-loop μ-loop
 fourth-of-requires c κs = search needs
@@ -47,7 +47,7 @@ loop-again c =
     let l = c .before .before .loop in
     let f = c .before .before .before in
     let x = f .before .args in
-    let m = more (λ j y. (y ≡ f .fourth-of .result + fnvFamily (j + 1) (bytes4 (x .key)) % (16 * x .chip .unit)) × (y < 64 * x .chip .unit)) (l .ps) (l .i) (c .position .result)
+    let m = more (λ j y. (y ≡ f .fourth-of .result + fnvFamily (j + 1) (bytesOf (x .x)) % (16 * x .chip .unit)) × (y < 64 * x .chip .unit)) (l .ps) (l .i) (c .position .result)
     (omega arith) (l .inv .1) (c .position .ensures) (l .inv .2) (l .inv .3) in
     (omega arith, length-set (l .ps) (l .i) (c .position .result) ∙ l .inv .1, m .0, m .1)
 
@@ -57,11 +57,11 @@ returns c =
     let f = c .before .before in
     let x = f .before .args in
     let done : l .i ≡ x .count = omega arith in
-    let q = fnvFamily 0 (bytes4 (x .key)) % 4 in
+    let q = fnvFamily 0 (bytesOf (x .x)) % 4 in
     let size = 16 * x .chip .unit in
-    let each : (j : ℕ) → j < x .count → getD (l .ps) j 0 ≡ q * size + fnvFamily (j + 1) (bytes4 (x .key)) % size
-    = λ j h. l .inv .2 j (omega arith) .0 ∙ ap (λ (z : ℕ). z + fnvFamily (j + 1) (bytes4 (x .key)) % size) (f .fourth-of .ensures .0) in (
-      filled fnvFamily (x .count) (x .chip .unit) (bytes4 (x .key)) (l .ps) (omega arith) (l .inv .1) each (λ j h k. l .inv .3 j (omega arith) k),
+    let each : (j : ℕ) → j < x .count → getD (l .ps) j 0 ≡ q * size + fnvFamily (j + 1) (bytesOf (x .x)) % size
+    = λ j h. l .inv .2 j (omega arith) .0 ∙ ap (λ (z : ℕ). z + fnvFamily (j + 1) (bytesOf (x .x)) % size) (f .fourth-of .ensures .0) in (
+      filled fnvFamily (x .count) (x .chip .unit) (bytesOf (x .x)) (l .ps) (omega arith) (l .inv .1) each (λ j h k. l .inv .3 j (omega arith) k),
       λ j h. l .inv .2 j (omega arith) .1,
     )
 

@@ -1,61 +1,23 @@
+use mathlib.Core.Path.{_∙_}
 use Rattle.header.proofs.Laws.{intent-written}
 use borrow.Author.Needs.{needs}
 use Rattle.header.proofs.intent_bytes.Statement.{statement}
 use Rattle.header.proofs.intent_bytes.Tie as tie
 
-slice-aggregate-put32 : tie.Need-slice-aggregate-put32
-slice-aggregate-put32 c = search needs
+slice-aggregate-put-words : tie.Need-slice-aggregate-put-words
+slice-aggregate-put-words c = search needs
 
-put32-requires : tie.Need-put32-requires
-put32-requires c κs = search needs
+slice-aggregate-put-words-2 : tie.Need-slice-aggregate-put-words-2
+slice-aggregate-put-words-2 c = search needs
 
-slice-aggregate-put32-2 : tie.Need-slice-aggregate-put32-2
-slice-aggregate-put32-2 c = search needs
-
-put32-requires-2 : tie.Need-put32-requires-2
-put32-requires-2 c κs = search needs
-
-slice-aggregate-put32-3 : tie.Need-slice-aggregate-put32-3
-slice-aggregate-put32-3 c = search needs
-
-put32-requires-3 : tie.Need-put32-requires-3
-put32-requires-3 c κs = search needs
-
-slice-aggregate-put32-4 : tie.Need-slice-aggregate-put32-4
-slice-aggregate-put32-4 c = search needs
-
-put32-requires-4 : tie.Need-put32-requires-4
-put32-requires-4 c κs = search needs
-
-slice-aggregate-put32-5 : tie.Need-slice-aggregate-put32-5
-slice-aggregate-put32-5 c = search needs
-
-put32-requires-5 : tie.Need-put32-requires-5
-put32-requires-5 c κs = search needs
+put-words-requires : tie.Need-put-words-requires
+put-words-requires c κs = search needs
 
 returns : tie.Need-returns
 returns c =
-    let w5 = c .before in
-    let w4 = w5 .before .before .before in
-    let w3 = w4 .before .before .before in
-    let w2 = w3 .before .before .before in
-    let w1 = w2 .before .before .before in
-    let x = w1 .before .before .args in
-    intent-written (x .kind) (x .a) (x .b) (x .c) (x .d) (w1 .put32 .ensures) (w2 .put322 .ensures) (w3 .put323 .ensures)
-    (w4 .put324 .ensures) (w5 .put325 .ensures)
+    let p = c .before in
+    let x = p .before .before .before .args in
+    p .put-words .ensures ∙ intent-written (x .kind) (x .a) (x .b) (x .c) (x .d)
 
 pub intent-bytes-spec : {M : Type 1} → statement M
-intent-bytes-spec =
-    tie.close
-    (tie.spec
-    slice-aggregate-put32
-    put32-requires
-    slice-aggregate-put32-2
-    put32-requires-2
-    slice-aggregate-put32-3
-    put32-requires-3
-    slice-aggregate-put32-4
-    put32-requires-4
-    slice-aggregate-put32-5
-    put32-requires-5
-    returns)
+intent-bytes-spec = tie.close (tie.spec slice-aggregate-put-words slice-aggregate-put-words-2 put-words-requires returns)

@@ -5,6 +5,7 @@ use Prim.Native.Nat.{ℕ, zero, suc, _+_, _*_, _-_, _/_, _%_, _^_, _≤_, _<_}
 use mathlib.Core.Path.{_≡_, refl, sym, ap, _∙_}
 use lib.Pow.{pow-pos}
 use borrow.Author.Needs.{needs}
+use Rattle.keys.specs.Key.{keyIs}
 use Rattle.items.specs.Scans.{hasKey, lastEntry, newest-end, newest-none, no-word, entries-no}
 use Rattle.items.proofs.find_in_page.Statement.{statement}
 use Rattle.items.proofs.find_in_page.Tie as tie
@@ -16,7 +17,7 @@ fours (suc zero) u p = (omega arith, λ h. absurd (omega arith))
 fours (suc (suc e)) u p = (omega (arith, pow-pos e), λ h. omega arith)
 
 abbrev Inv-loop : tie.InvT-loop
-Inv-loop at key s b₀ b = (b ≤ b₀) × (lastEntry s at (b₀ * 32) key ≡ lastEntry s at (b * 32) key)
+Inv-loop at key s b₀ b = (b ≤ b₀) × (lastEntry s at (b₀ * 32) (keyIs key) ≡ lastEntry s at (b * 32) (keyIs key))
 
 abbrev μ-loop : tie.MeasureT-loop
 μ-loop at key s b₀ b = b
@@ -35,27 +36,29 @@ last-key-requires c κs = omega (arith, c .before .before .before .before .befor
 returns : tie.Need-returns Inv-loop μ-loop
 returns c =
     let x = c .before .before .before .before .before .before .before .args in
-    c .last-key .ensures ∙ ap (λ (n : ℕ). lastEntry (x .s .now) (x .at) n (x .key)) (c .before .entries-per-page .ensures)
+    c .last-key .ensures ∙ ap (λ (n : ℕ). lastEntry (x .s .now) (x .at) n (keyIs (x .key))) (c .before .entries-per-page .ensures)
 
 returns-2 : tie.Need-returns-2 Inv-loop μ-loop
 returns-2 c =
     let x = c .before .before .before .before .before .args in
     let e : 16 * x .chip .unit ≡ 8 * x .chip .unit * 2 = omega arith in
     let none = rw e at (sym (c .before .small-has .ensures) ∙ c .if2 .left) in
-    sym (newest-none (hasKey (x .s .now) (x .at) (x .key)) (8 * x .chip .unit) (no-word (x .s .now) (x .at) (x .key) (8 * x .chip .unit) none))
+    sym (newest-none (hasKey (x .s .now) (x .at) (keyIs (x .key))) (8 * x .chip .unit)
+    (no-word (x .s .now) (x .at) (keyIs (x .key)) (8 * x .chip .unit) none))
 
 page-size-requires : tie.Need-page-size-requires Inv-loop μ-loop
 page-size-requires c κs = c .before .before .before .pre .0 .1 .most
 
 -- the entries of a page are those of its runs
 page-runs : (c : tie.After-page-size Inv-loop μ-loop) → let x = c .before .before .before .before .args in
-    lastEntry (x .s .now) (x .at) (8 * x .chip .unit) (x .key) ≡ lastEntry (x .s .now) (x .at) (c .page-size .result / 256 * 32) (x .key)
+    lastEntry (x .s .now) (x .at) (8 * x .chip .unit) (keyIs (x .key))
+    ≡ lastEntry (x .s .now) (x .at) (c .page-size .result / 256 * 32) (keyIs (x .key))
 page-runs c =
     let b = c .before .before .before .before in
     let x = b .args in
     let f = fours (b .pre .0 .0) (x .chip .unit) (b .pre .0 .1 .power) .1 (c .before .if1 .left) in
     let e : 8 * x .chip .unit ≡ c .page-size .result / 256 * 32 = omega (arith, f, c .page-size .ensures) in
-    ap (λ (n : ℕ). lastEntry (x .s .now) (x .at) n (x .key)) e
+    ap (λ (n : ℕ). lastEntry (x .s .now) (x .at) n (keyIs (x .key))) e
 
 loop-holds : tie.Need-loop-holds Inv-loop μ-loop
 loop-holds c = (omega arith, refl)
@@ -91,14 +94,15 @@ loop-again c =
     let a : x .at + (l .b - 1) * 256 ≡ x .at + (l .b - 1) * 32 * 8 = omega arith in
     let e : (l .b - 1) * 32 + 32 ≡ l .b * 32 = omega arith in
     let none = rw a at (sym (c .before .many-have .ensures) ∙ c .if3 .left) in
-    (omega (arith, l .inv .0), l .inv .1 ∙ rw e at (entries-no (x .s .now) (x .at) (x .key) ((l .b - 1) * 32) 32 none))
+    (omega (arith, l .inv .0), l .inv .1 ∙ rw e at (entries-no (x .s .now) (x .at) (keyIs (x .key)) ((l .b - 1) * 32) 32 none))
 
 returns-4 : tie.Need-returns-4 Inv-loop μ-loop
 returns-4 c =
     let l = c .before .loop in
     let x = c .before .before .before .before .before .before .args in
     let e : l .b * 32 ≡ 0 = omega arith in
-    sym (page-runs (c .before .before) ∙ l .inv .1 ∙ (ap (λ (n : ℕ). lastEntry (x .s .now) (x .at) n (x .key)) e ∙ newest-end (hasKey (x .s .now) (x .at) (x .key))))
+    sym (page-runs (c .before .before) ∙ l .inv .1
+    ∙ (ap (λ (n : ℕ). lastEntry (x .s .now) (x .at) n (keyIs (x .key))) e ∙ newest-end (hasKey (x .s .now) (x .at) (keyIs (x .key)))))
 
 pub find-in-page-spec : {M : Type 1} → statement M
 find-in-page-spec =

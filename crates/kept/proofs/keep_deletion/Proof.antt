@@ -1,16 +1,14 @@
 use native.Mathlib.Omega.{arith}
 use mathlib.Core.Path.{sym, ap, _∙_}
 use mathlib.Core.Bool.{not, Bool·not-not}
-use Prim.Native.Nat.{_*_, _/_}
 use Rattle.memory.specs.Lists.{length-part}
-use Rattle.layout.specs.Items as items
 use Rattle.layout.specs.Items.{DA}
 use Rattle.layout.specs.Calls.{deletionIndex, deletionFilters}
 use Rattle.geometry.specs.declared.sets.Index.{Index}
 use Rattle.geometry.specs.Shape.{shape}
 use Rattle.geometry.specs.Indexes.{indexOf}
 use Rattle.plan.specs.Plans.{deletionFourths}
-use Rattle.kept.specs.Fits.{item-fits, item-kept, filters-fit, pairs-le, kept-open, kept-full}
+use Rattle.kept.specs.Fits.{item-fits, item-kept, filters-fit, kept-open, kept-full}
 use borrow.Author.Needs.{needs}
 use Rattle.kept.proofs.keep_deletion.Statement.{statement}
 use Rattle.kept.proofs.keep_deletion.Tie as tie
@@ -58,15 +56,8 @@ returns c =
 deletion-index-requires : tie.Need-deletion-index-requires
 deletion-index-requires c κs = search needs
 
-div-keep-filters : tie.Need-div-keep-filters
-div-keep-filters c = search needs
-
-mul-keep-filters : tie.Need-mul-keep-filters
-mul-keep-filters c =
-    let a = c .before .before .before .before .before .before .before .before .before in
-    let b = a .before .before .before .before in
-    let q = ap (λ (y : items.Area). y .perPage) (a .deletion-area .ensures .0) in
-    omega (arith, pairs-le (b .args .d) (a .deletion-area .result .«per_page») (omega (arith, q, b .pre .0 .unit .1 .some)))
+deletion-filters-requires : tie.Need-deletion-filters-requires
+deletion-filters-requires c κs = search needs
 
 sub-keep-filters : tie.Need-sub-keep-filters
 sub-keep-filters c = search needs
@@ -96,7 +87,8 @@ same-length-2 c = search needs
 returns-2 : tie.Need-returns-2
 returns-2 c =
     let b1 = c .before .before in
-    let b2 = b1 .before .before .before .before in
+    let n = b1 .before .before .before in
+    let b2 = n .before in
     let b3 = b2 .before in
     let f = b3 .before in
     let k = f .before .before .before in
@@ -108,7 +100,7 @@ returns-2 c =
     let y-is = k .keep-item .ensures ∙ item-kept g r (DA g) (x .d) _ (x .ram .now) a-is in
     kept-full (g .u) r (DA g) a-is (x .d) (deletionIndex g) (deletionFilters g (x .d)) 2 (deletionFourths (x .filters .now)) _ _ y-is
     (b2 .deletion-index .result) _ _ (sym (f .fills .ensures) ∙ sym (Bool·not-not _) ∙ ap not (b3 .if1 .left))
-    (ap indexOf (b2 .deletion-index .ensures)) (ap (λ (y : items.Area). 2 * (x .d / y .perPage)) a-is) (b1 .keep-filters .ensures)
+    (ap indexOf (b2 .deletion-index .ensures)) (n .deletion-filters .ensures) (b1 .keep-filters .ensures)
 
 pub keep-deletion-spec : {M : Type 1} → statement M
 keep-deletion-spec =
@@ -123,8 +115,7 @@ keep-deletion-spec =
     same-length
     returns
     deletion-index-requires
-    div-keep-filters
-    mul-keep-filters
+    deletion-filters-requires
     sub-keep-filters
     part-keep-filters-start
     part-keep-filters-end

@@ -6,10 +6,10 @@ use Rattle.kernels.proofs.halves.Statement.{statement}
 use Rattle.kernels.proofs.halves.Tie as tie
 
 squeeze-requires : tie.Need-squeeze-requires
-squeeze-requires c κs = (1, omega arith, omega arith, refl)
+squeeze-requires c κs = ((1, omega arith, omega arith, refl), λ e. omega arith)
 
 squeeze-requires-2 : tie.Need-squeeze-requires-2
-squeeze-requires-2 c κs = (1, omega arith, omega arith, refl)
+squeeze-requires-2 c κs = ((1, omega arith, omega arith, refl), λ e. omega arith)
 
 returns : tie.Need-returns
 returns c =

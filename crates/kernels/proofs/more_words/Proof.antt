@@ -1,6 +1,6 @@
 -- A word more each turn, a block after another.
 use native.Mathlib.Nat.{mul-le-mul-right}
-use Rattle.kernels.proofs.Folds.{two-le, per-le}
+use Rattle.kernels.proofs.Folds.{eight-le, per-le}
 use native.Mathlib.Omega.{arith}
 use mathlib.Core.Path.{_≡_, ap, _∙_}
 use Prim.Native.Nat.{ℕ, _+_, _-_, _*_, _/_, _≤_}
@@ -29,7 +29,7 @@ most : (n b j : ℕ) → (n - b) * 8 - j ≤ n * 8
 most n b j = omega arith
 
 div-per : tie.Need-div-per Inv-loop2 μ-loop2 Inv-loop μ-loop
-div-per c = let p = c .before .before .before .pre .0 .0 in omega (arith, two-le (p .0) (c .before .before .before .args .w) (p .1) (p .3))
+div-per c = let p = c .before .before .before .pre .0 .0 in omega (arith, eight-le (p .0) (c .before .before .before .args .w) (p .1) (p .3))
 
 loop-holds : tie.Need-loop-holds Inv-loop2 μ-loop2 Inv-loop μ-loop
 loop-holds c =
@@ -79,7 +79,10 @@ array-read-squeeze : tie.Need-array-read-squeeze Inv-loop2 μ-loop2 Inv-loop μ-
 array-read-squeeze c = omega (arith, c .before .loop2 .inv .0)
 
 squeeze-requires : tie.Need-squeeze-requires Inv-loop2 μ-loop2 Inv-loop μ-loop
-squeeze-requires c κs = c .before .before .before .before .before .before .before .before .pre .0 .0
+squeeze-requires c κs =
+    let b = c .before .before .before .before .before .before .before .before in
+    let p = b .pre .0 .0 in
+    ((p .0, omega (arith, p .1), p .2, p .3), λ q. omega (arith, q, eight-le (p .0) (b .args .w) (p .1) (p .3)))
 
 shl-r : tie.Need-shl-r Inv-loop2 μ-loop2 Inv-loop μ-loop
 shl-r c =
@@ -103,7 +106,7 @@ loop2-again c =
     let N = (x .n - (l .b - 1)) * 8 - k .j in (
       omega (arith, k .inv .0),
       word-more (x .bytes .now) (x .at .now) (x .low .now) (x .count) (x .w) ((64 / x .w)) Q N (k .r) (getD (F .field-block .result) j 0) (c .squeeze .result)
-          (omega (arith, two-le (p .0 .0) (x .w) (p .0 .1) (p .0 .3))) (p .1) (b .pre .1 .1) (F .field-block .ensures j (omega (arith, k .inv .0))) (c .squeeze .ensures)
+          (omega (arith, eight-le (p .0 .0) (x .w) (p .0 .1) (p .0 .3))) (p .1) (b .pre .1 .1) (F .field-block .ensures j (omega (arith, k .inv .0))) (c .squeeze .ensures)
           (x .q + (l .b - 1) * 8 + k .j) ((x .n - (l .b - 1)) * 8 - j) (omega arith) (omega (arith, k .inv .0, l .inv .0))
           (omega (arith, mul-le-mul-right ((64 / x .w)) (most (x .n) (l .b - 1) j), p .2)) (k .inv .1),
     )

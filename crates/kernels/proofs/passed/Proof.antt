@@ -5,7 +5,8 @@ use mathlib.Core.Path.{_≡_, refl}
 use Prim.Native.Nat.{ℕ, _+_, _/_, _^_, _≤_, _<_}
 use lib.Pow.{pow-mono}
 use Rattle.kernels.specs.Rows.{allIn}
-use Rattle.kernels.proofs.Choices.{more, opened}
+use Rattle.kernels.specs.Blocks.{open-lowest}
+use Rattle.kernels.proofs.Choices.{more}
 use borrow.Author.Needs.{needs}
 use Rattle.kernels.proofs.passed.Statement.{statement}
 use Rattle.kernels.proofs.passed.Tie as tie
@@ -47,7 +48,7 @@ returns c =
     let G = b .pre .4 in
     let W = most (G .power .0) (x .w) (G .power .2) (G .power .1) in
     let F = more (G .power .0) (x .w) (x .from) (x .m) _ (G .power .2) (b .pre .0) (omega (arith, W)) (b .pre .3) (b .pre .1) (b .pre .2) (G .small) refl in
-    opened (allIn (x .bytes .now) (x .at .now) (x .low .now) (x .w) (x .count)) (x .from) (x .m) _ (c .before .more-words .result) (c .lowest .result) (F .enough)
+    open-lowest (allIn (x .bytes .now) (x .at .now) (x .low .now) (x .w) (x .count)) (x .from) (x .m) (x .m) _ (c .before .more-words .result) (c .lowest .result) refl (F .enough)
     (rw (F .first) at (c .before .more-words .ensures)) (c .lowest .ensures)
 
 pub passed-spec : {M : Type 1} → statement M

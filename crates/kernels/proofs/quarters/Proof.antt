@@ -4,11 +4,11 @@ use borrow.Author.Needs.{needs}
 use Rattle.kernels.proofs.quarters.Statement.{statement}
 use Rattle.kernels.proofs.quarters.Tie as tie
 
-fourths-requires : tie.Need-fourths-requires
-fourths-requires c κs = search needs
+by-fours-requires : tie.Need-by-fours-requires
+by-fours-requires c κs = search needs
 
 returns : tie.Need-returns
-returns c = let x = c .before .args in four-quarters (x .a) (x .b) (x .c) (x .d) (c .fourths .result) (c .fourths .ensures)
+returns c = let x = c .before .args in four-quarters (x .a) (x .b) (x .c) (x .d) (c .by-fours .result) (c .by-fours .ensures)
 
 pub quarters-spec : {M : Type 1} → statement M
-quarters-spec = tie.close (tie.spec fourths-requires returns)
+quarters-spec = tie.close (tie.spec by-fours-requires returns)

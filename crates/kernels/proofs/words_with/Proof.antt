@@ -2,9 +2,9 @@
 use native.Mathlib.Omega.{arith}
 use mathlib.Core.Path.{_≡_}
 use Prim.Native.Nat.{_-_, _≤_}
-use Rattle.kernels.specs.Blocks.{Open}
+use Rattle.kernels.specs.Blocks.{Open, open-none}
 use Rattle.kernels.specs.Masks.{hasMask}
-use Rattle.kernels.proofs.Masks.{word-has, open-more, open-none}
+use Rattle.kernels.proofs.Masks.{word-has, open-more}
 use borrow.Author.Needs.{needs}
 use Rattle.kernels.proofs.words_with.Statement.{statement}
 use Rattle.kernels.proofs.words_with.Tie as tie

@@ -1,6 +1,6 @@
 -- What is read is performed, and what is performed is written.
 use Rattle.state.specs.Contract.{volume}
-use Rattle.script.specs.Values.{requestOf}
+use Rattle.script.specs.Values.{commandOf}
 use Rattle.lines.proofs.Answering.{line-answer}
 use borrow.Author.Needs.{needs}
 use Rattle.lines.proofs.answer_line.Statement.{statement}
@@ -33,7 +33,7 @@ returns c =
     let d = c .before .before .before .before .before .before .before .before .before .before .before in
     let q = d .before .before .before .before .parse-line in
     let x = c .before .before .before .before .before .before .before .before .before .before .before .before .before .before .before .before .before .before .before .before .before .args in
-    line-answer (d .perform .result) (volume (x .s) (x .main .now) (x .spare .now) (x .ram .now)) (requestOf (q .result)) (x .line .now)
+    line-answer (d .perform .result) (volume (x .s) (x .main .now) (x .spare .now) (x .ram .now)) (commandOf (q .result)) (x .line .now)
     (d .perform .last .1 .1 .0) (d .perform .last .1 .1 .1 .0) (d .perform .last .1 .1 .1 .1 .0) (x .out .now) (w .last .1 .0) (w .result)
     (q .ensures) (d .perform .ensures) (w .ensures .0) (w .ensures .1 .1)
 

@@ -49,14 +49,14 @@ use Rattle.state.specs.Contract.{volume}
 use Rattle.state.specs.declared.State.{State}
 use Rattle.lines.specs.Contract.{afterLine, answerLine}
 use Rattle.lines.specs.declared.LineReply.{LineReply}
-use Rattle.lines.specs.declared.Volume.{Volume}
+use Rattle.lines.specs.declared.Held.{Held}
 use Rattle.lines.proofs.LocalLaws.{cell-in, cell-out}
 use Rattle.state.proofs.State as S
 use Rattle.state.proofs.State.Laws as S′
 use Rattle.lines.proofs.LineReply as R
 use Rattle.lines.proofs.LineReply.Laws as R′
-use Rattle.lines.proofs.Volume as T
-use Rattle.lines.proofs.Volume.Laws as T′
+use Rattle.lines.proofs.Held as T
+use Rattle.lines.proofs.Held.Laws as T′
 use Rattle.lines.proofs.answer_on as g
 use Rattle.lines.proofs.answer_on.Symbol as g-def
 use Rattle.lines.proofs.answer_on.Symbol.{name as #g}
@@ -104,17 +104,17 @@ module _ {M : Type 1} (𝓤 : URA M) (H : Heap 𝓤) (A : Atoms 𝓤) (W : Given
   Post = walkOf 𝓤 H A f.ended stayed (f.clauses 𝓤 H A at-mem run) .post y
 
   -- the volume that is made, and what is known of it
-  abbrev h : Volume
+  abbrev h : Held
   h = record { state = st }
 
   h-is : Is T.the-row h (T′.lowered h ∷ [])
   h-is = LL.owes T.the-type T′.the-laws h (st-is, tt)
 
   -- what `answer_on`'s triple binds outside: the local at block l lent for the lifetime ν, under the name δ
-  abbrev lent : ℕ → GName → RefT Volume
+  abbrev lent : ℕ → GName → RefT Held
   lent l δ = record { ptr = (l, 0); name = δ; now = h }
 
-  abbrev arg : ℕ → GName → RefT Volume × (RefT (List ℕ) × (RefT (List ℕ) × (RefT (List ℕ) × (RefT (List ℕ) × (RefT (List ℕ) × Unit {0})))))
+  abbrev arg : ℕ → GName → RefT Held × (RefT (List ℕ) × (RefT (List ℕ) × (RefT (List ℕ) × (RefT (List ℕ) × (RefT (List ℕ) × Unit {0})))))
   arg l δ = (lent l δ, (x₁, (x₂, (x₃, (x₄, (x₅, tt))))))
 
   abbrev to : ℕ → ℕ → GName → On 𝓤 H A at-mem run .Ghost
@@ -137,19 +137,19 @@ module _ {M : Type 1} (𝓤 : URA M) (H : Heap 𝓤) (A : Atoms 𝓤) (W : Given
   Ends ν l δ = Lasts g.ended (ν ∷ [], (κ₁, (κ₂, (κ₃, (κ₄, (κ₅, tt)))))) (arg l δ)
 
   -- the result
-  abbrev step : ℕ → Volume → LineReply
+  abbrev step : ℕ → Held → LineReply
   step r v = record { state = v .state; length = r }
 
-  step-is : (r : ℕ) (v : Volume) → r < 2 ^ 64 → Is S.the-row (v .state) (S′.lowered (v .state) ∷ []) → Is R.the-row (step r v) (R′.lowered (step r v) ∷ [])
+  step-is : (r : ℕ) (v : Held) → r < 2 ^ 64 → Is S.the-row (v .state) (S′.lowered (v .state) ∷ []) → Is R.the-row (step r v) (R′.lowered (step r v) ∷ [])
   step-is r v fits is = LL.owes R.the-type R′.the-laws (step r v) (is, ((refl, fits), tt))
 
-  abbrev Said : ℕ → Volume → List ℕ → List ℕ → List ℕ → List ℕ → Type 0
+  abbrev Said : ℕ → Held → List ℕ → List ℕ → List ℕ → List ℕ → Type 0
   Said r v l₂ l₃ l₄ l₅ = afterLine (step r v) l₂ l₃ l₄ l₅ ≡ answerLine (volume st (x₂ .now) (x₃ .now) (x₄ .now)) (x₁ .now) (x₅ .now)
 
   abbrev left : List ℕ → List ℕ → List ℕ → List ℕ → List (Item 𝓤)
   left l₂ l₃ l₄ l₅ = (‵ (flft κ₁ q₁) ⊛ ‵ (flft κ₂ q₂) ⊛ ‵ (flft κ₃ q₃) ⊛ ‵ (flft κ₄ q₄) ⊛ ‵ (flft κ₅ q₅) ⊛ ‵ ftrue) ∷ ‵ (finally u8 (x₂ .name) l₂) ∷ ‵ (finally u8 (x₃ .name) l₃) ∷ ‵ (finally u8 (x₄ .name) l₄) ∷ ‵ (finally u8 (x₅ .name) l₅) ∷ []
 
-  exits : (r : ℕ) (v : Volume) (l₂ l₃ l₄ l₅ : List ℕ) → Said r v l₂ l₃ l₄ l₅ → Is R.the-row (step r v) (R′.lowered (step r v) ∷ []) → length l₂ ≡ length (x₂ .now) → length l₃ ≡ length (x₃ .now) → length l₄ ≡ length (x₄ .now) → length l₅ ≡ length (x₅ .now)
+  exits : (r : ℕ) (v : Held) (l₂ l₃ l₄ l₅ : List ℕ) → Said r v l₂ l₃ l₄ l₅ → Is R.the-row (step r v) (R′.lowered (step r v) ∷ []) → length l₂ ≡ length (x₂ .now) → length l₃ ≡ length (x₃ .now) → length l₄ ≡ length (x₄ .now) → length l₅ ≡ length (x₅ .now)
       → ent 𝓤 (⋆ 𝓤 H A (left l₂ l₃ l₄ l₅)) (Post (R′.lowered (step r v)))
   exits r v l₂ l₃ l₄ l₅ e is e₂ e₃ e₄ e₅ =
       qed W (left l₂ l₃ l₄ l₅) ∵

@@ -47,13 +47,13 @@ use Rattle.state.specs.Contract.{volume}
 use Rattle.state.specs.declared.State.{State}
 use Rattle.lines.specs.Contract.{afterLine, answerLine}
 use Rattle.lines.specs.declared.LineReply.{LineReply}
-use Rattle.lines.specs.declared.Volume.{Volume}
+use Rattle.lines.specs.declared.Held.{Held}
 use Rattle.state.proofs.State as S
 use Rattle.state.proofs.State.Laws as S′
 use Rattle.lines.proofs.LineReply as R
 use Rattle.lines.proofs.LineReply.Laws as R′
-use Rattle.lines.proofs.Volume as T
-use Rattle.lines.proofs.Volume.Laws as T′
+use Rattle.lines.proofs.Held as T
+use Rattle.lines.proofs.Held.Laws as T′
 use Rattle.lines.proofs.answer_line as g
 use Rattle.lines.proofs.answer_line.Symbol as g-def
 use Rattle.lines.proofs.answer_line.Symbol.{name as #g}
@@ -82,8 +82,8 @@ Line 𝓤 H A mem run = tripleOf 𝓤 H A g.signature (g.spec 𝓤 H A mem run)
 
 -- v is x₀, at block b and offset o; the line is x₁; main, spare, ram and out are x₂ to x₅
 module _ {M : Type 1} (𝓤 : URA M) (H : Heap 𝓤) (A : Atoms 𝓤) (W : Given 𝓤 H A) (at-mem : Memory → SProp 𝓤) (run : Routine → Fun 𝓤)
-    (κ₀ κ₁ κ₂ κ₃ κ₄ κ₅ : Lft) (q₀ q₁ q₂ q₃ q₄ q₅ : Share) (b o : ℕ) (γ : GName) (h : Volume) (x₁ x₂ x₃ x₄ x₅ : RefT (List ℕ)) where
-  abbrev a : RefT Volume × (RefT (List ℕ) × (RefT (List ℕ) × (RefT (List ℕ) × (RefT (List ℕ) × (RefT (List ℕ) × Unit {0})))))
+    (κ₀ κ₁ κ₂ κ₃ κ₄ κ₅ : Lft) (q₀ q₁ q₂ q₃ q₄ q₅ : Share) (b o : ℕ) (γ : GName) (h : Held) (x₁ x₂ x₃ x₄ x₅ : RefT (List ℕ)) where
+  abbrev a : RefT Held × (RefT (List ℕ) × (RefT (List ℕ) × (RefT (List ℕ) × (RefT (List ℕ) × (RefT (List ℕ) × Unit {0})))))
   a = (record { ptr = (b, o); name = γ; now = h }, (x₁, (x₂, (x₃, (x₄, (x₅, tt))))))
 
   -- the slices' machine values
@@ -121,7 +121,7 @@ module _ {M : Type 1} (𝓤 : URA M) (H : Heap 𝓤) (A : Atoms 𝓤) (W : Given
       owned ! S.the-row (Is S.the-row) (LL.makes S.the-type S′.the-plain 𝓤 H A) (h .state) _ is $ fjoin ! $ done !
 
   -- the volume at exit
-  abbrev h′ : LineReply → Volume
+  abbrev h′ : LineReply → Held
   h′ r = record { state = r .state }
 
   -- the lists at exit

@@ -7,6 +7,7 @@ use lib.ListN.{getD}
 use Rattle.layout.specs.Hash.{fnvFamily}
 use Rattle.layout.specs.Calls.{lookup}
 use Rattle.layout.specs.Budgets.{callWhole}
+use Rattle.keys.specs.Key.{keyIs}
 use Rattle.state.specs.Contract.{volume}
 use Rattle.lookup.specs.Results.{lookupOf, answerNumbers}
 use Rattle.lookup.specs.Small.{lookup-small}
@@ -27,7 +28,7 @@ cast-refusal : tie.Need-cast-refusal
 cast-refusal c =
     let x = c .before .before .before .before .before .args in
     let v = volume (x .s) (x .main .now) (x .spare .now) (x .ram .now) in
-    omega (arith, ap (λ (l : List ℕ). getD l 0 0) (c .lookup .ensures .1), lookup-small fnvFamily v (x .key) .refusal)
+    omega (arith, ap (λ (l : List ℕ). getD l 0 0) (c .lookup .ensures .1), lookup-small fnvFamily v (keyIs (x .key)) .refusal)
 
 array-read-found : tie.Need-array-read-found
 array-read-found c = search needs
@@ -39,7 +40,7 @@ cast-count : tie.Need-cast-count
 cast-count c =
     let x = c .before .before .before .before .before .args in
     let v = volume (x .s) (x .main .now) (x .spare .now) (x .ram .now) in
-    omega (arith, ap (λ (l : List ℕ). getD l 2 0) (c .lookup .ensures .1), lookup-small fnvFamily v (x .key) .count)
+    omega (arith, ap (λ (l : List ℕ). getD l 2 0) (c .lookup .ensures .1), lookup-small fnvFamily v (keyIs (x .key)) .count)
 
 returns : tie.Need-returns
 unfolding perform
@@ -47,9 +48,9 @@ returns c =
     let k = c .before .lookup in
     let x = c .before .before .before .before .before .before .args in
     let v = volume (x .s) (x .main .now) (x .spare .now) (x .ram .now) in
-    let at : (i : ℕ) → getD (k .last .1 .1 .1 .1 .1 .0) i 0 ≡ getD (answerNumbers (lookupOf (callWhole fnvFamily v (lookup (x .key))))) i 0
+    let at : (i : ℕ) → getD (k .last .1 .1 .1 .1 .1 .0) i 0 ≡ getD (answerNumbers (lookupOf (callWhole fnvFamily v (lookup (keyIs (x .key)))))) i 0
     = λ i. ap (λ (l : List ℕ). getD l i 0) (k .ensures .1) in
-    lookup-refused fnvFamily v (x .key) _ (at 0) (c .if1 .taken)
+    lookup-refused fnvFamily v (keyIs (x .key)) _ (at 0) (c .if1 .taken)
 
 returns-2 : tie.Need-returns-2
 unfolding perform
@@ -57,18 +58,18 @@ returns-2 c =
     let k = c .before .before .lookup in
     let x = c .before .before .before .before .before .before .before .args in
     let v = volume (x .s) (x .main .now) (x .spare .now) (x .ram .now) in
-    let at : (i : ℕ) → getD (k .last .1 .1 .1 .1 .1 .0) i 0 ≡ getD (answerNumbers (lookupOf (callWhole fnvFamily v (lookup (x .key))))) i 0
+    let at : (i : ℕ) → getD (k .last .1 .1 .1 .1 .1 .0) i 0 ≡ getD (answerNumbers (lookupOf (callWhole fnvFamily v (lookup (keyIs (x .key)))))) i 0
     = λ i. ap (λ (l : List ℕ). getD l i 0) (k .ensures .1) in
-    lookup-missed fnvFamily v (x .key) _ _ _ (at 0) (at 1) (at 2) (c .before .if1 .left) (c .if2 .taken)
+    lookup-missed fnvFamily v (keyIs (x .key)) _ _ _ (at 0) (at 1) (at 2) (c .before .if1 .left) (c .if2 .taken)
 
 get32-requires : tie.Need-get32-requires
 get32-requires c κs =
     let k = c .before .before .lookup in
     let x = c .before .before .before .before .before .before .before .args in
     let v = volume (x .s) (x .main .now) (x .spare .now) (x .ram .now) in
-    let at : (i : ℕ) → getD (k .last .1 .1 .1 .1 .1 .0) i 0 ≡ getD (answerNumbers (lookupOf (callWhole fnvFamily v (lookup (x .key))))) i 0
+    let at : (i : ℕ) → getD (k .last .1 .1 .1 .1 .1 .0) i 0 ≡ getD (answerNumbers (lookupOf (callWhole fnvFamily v (lookup (keyIs (x .key)))))) i 0
     = λ i. ap (λ (l : List ℕ). getD l i 0) (k .ensures .1) in
-    omega (arith, lookup-hit fnvFamily v (x .key) _ _ (k .result .now) (at 1) (at 2) (k .ensures .0 .0) (c .if2 .left) .0)
+    omega (arith, lookup-hit fnvFamily v (keyIs (x .key)) _ _ (k .result .now) (at 1) (at 2) (k .ensures .0 .0) (c .if2 .left) .0)
 
 returns-3 : tie.Need-returns-3
 unfolding perform
@@ -76,10 +77,10 @@ returns-3 c =
     let k = c .before .before .before .lookup in
     let x = c .before .before .before .before .before .before .before .before .args in
     let v = volume (x .s) (x .main .now) (x .spare .now) (x .ram .now) in
-    let at : (i : ℕ) → getD (k .last .1 .1 .1 .1 .1 .0) i 0 ≡ getD (answerNumbers (lookupOf (callWhole fnvFamily v (lookup (x .key))))) i 0
+    let at : (i : ℕ) → getD (k .last .1 .1 .1 .1 .1 .0) i 0 ≡ getD (answerNumbers (lookupOf (callWhole fnvFamily v (lookup (keyIs (x .key)))))) i 0
     = λ i. ap (λ (l : List ℕ). getD l i 0) (k .ensures .1) in
     ap (λ (m : ℕ). hit m (getD (k .last .1 .1 .1 .1 .1 .0) 2 0)) (c .get32 .ensures)
-    ∙ lookup-hit fnvFamily v (x .key) _ _ (k .result .now) (at 1) (at 2) (k .ensures .0 .0) (c .before .if2 .left) .1
+    ∙ lookup-hit fnvFamily v (keyIs (x .key)) _ _ (k .result .now) (at 1) (at 2) (k .ensures .0 .0) (c .before .if2 .left) .1
 
 pub lookup-spec : {M : Type 1} → statement M
 lookup-spec =

@@ -1,4 +1,4 @@
--- Each request is its call's.
+-- Each command is its call's.
 use mathlib.Core.Path.{ap, _∙_}
 use Rattle.layout.specs.Geometry.{sizesOf, defaultHashCount}
 use Rattle.layout.specs.Hash.{fnvFamily}

@@ -11,8 +11,8 @@ use Rattle.layout.specs.Header.{onPages}
 use Rattle.state.specs.Contract.{volume}
 use Rattle.state.specs.Judge.{GoodFits}
 use Rattle.tab.specs.Reader.{body}
-use Rattle.reader.specs.Contract.{headerIn}
-use Rattle.reader.specs.declared.Header.{Header}
+use Rattle.tab.specs.Lines.{headerIn}
+use Rattle.tab.specs.declared.reader.AfterHeader.{AfterHeader}
 use Rattle.load.specs.Load.{loadLinesBy, rowWhole, loadWhole}
 use Rattle.load.proofs.Steps.{load-judged, load-good, body-none, body-some, none-loaded}
 use Rattle.load.proofs.load.Statement.{statement}
@@ -110,7 +110,7 @@ returns-3 : tie.Need-returns-3
 returns-3 c =
     let h = c .before .before in
     let s = start-of (judge-at (good-at h)) in
-    sym (good h ∙ ap (λ (r : Header). lines-of s (headerIn (s .args .tab .now) r)) (c .enum-told .given .1))
+    sym (good h ∙ ap (λ (r : AfterHeader). lines-of s (headerIn (s .args .tab .now) r)) (c .enum-told .given .1))
 
 enum-known-next : tie.Need-enum-known-next
 enum-known-next c = search needs
@@ -136,7 +136,7 @@ returns-4 c =
     let n = l .before .before .before .before .before in
     let h = n .before .before in
     let s = start-of (judge-at (good-at h)) in
-    l .load-rows .ensures ∙ sym (good h ∙ ap (λ (r : Header). lines-of s (headerIn (s .args .tab .now) r)) (n .next .given .1))
+    l .load-rows .ensures ∙ sym (good h ∙ ap (λ (r : AfterHeader). lines-of s (headerIn (s .args .tab .now) r)) (n .next .given .1))
 
 pub load-spec : {M : Type 1} → statement M
 load-spec =

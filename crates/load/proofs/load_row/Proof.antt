@@ -2,14 +2,14 @@
 use borrow.Author.Needs.{needs}
 use mathlib.Core.Path.{_≡_, sym, ap, _∙_}
 use Rattle.layout.specs.Hash.{fnvFamily}
-use Rattle.layout.specs.Calls.{Volume}
+use Rattle.layout.specs.Calls.{keyOf, Volume}
 use Rattle.layout.specs.Header.{onPages}
 use Rattle.layout.specs.Budgets.{callCut}
+use Rattle.keys.specs.Key.{keyIs}
 use Rattle.state.specs.Contract.{callOf, volume, cutOf}
 use Rattle.state.specs.declared.Judgement.{Judgement}
 use Rattle.state.specs.declared.Request.{Request}
 use Rattle.calls.specs.declared.Resolved.{Resolved}
-use Rattle.calls.specs.Request.{keyOf}
 use Rattle.calls.specs.Resolve.{resolvedBy, resolvedOf}
 use Rattle.load.specs.Contract.{rowRequest}
 use Rattle.load.proofs.Rows.{row-key, row-cut}
@@ -33,18 +33,18 @@ row-request-requires : tie.Need-row-request-requires
 row-request-requires c κs = search needs
 
 -- the judge would find it good
-resolved : (r : tie.After-resolve-judged) → let s = start-at r in r .resolve-judged .result ≡ resolvedOf (handed s) (s .args .record .key)
+resolved : (r : tie.After-resolve-judged) → let s = start-at r in r .resolve-judged .result ≡ resolvedOf (handed s) (keyIs (s .args .record .key))
 resolved r =
     let s = start-at r in
-    r .resolve-judged .ensures .0 ∙ ap (λ (j : Judgement). resolvedBy j (onPages (handed s)) (s .args .record .key)) (sym (s .pre .0))
+    r .resolve-judged .ensures .0 ∙ ap (λ (j : Judgement). resolvedBy j (onPages (handed s)) (keyIs (s .args .record .key))) (sym (s .pre .0))
 
 perform-resolved-requires : tie.Need-perform-resolved-requires
 perform-resolved-requires c κs =
     let q = c .before .before .before in
     let r = q .before in
     let s = start-of q in
-    let key : keyOf (q .row-request .result) ≡ s .args .record .key =
-    ap keyOf (q .row-request .ensures) ∙ row-key (s .args .record) (r .resolve-judged .result) in
+    let key : keyOf (callOf (q .row-request .result)) ≡ keyIs (s .args .record .key) =
+    ap (λ (x : Request). keyOf (callOf x)) (q .row-request .ensures) ∙ row-key (s .args .record) (r .resolve-judged .result) in
     (resolved r ∙ sym (ap (resolvedOf (handed s)) key), r .resolve-judged .ensures .1)
 
 same-length : tie.Need-same-length

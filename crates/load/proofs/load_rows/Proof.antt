@@ -11,8 +11,8 @@ use Rattle.layout.specs.Calls.{Volume, Result, accepted}
 use Rattle.state.specs.Contract.{outcomeOf, volume}
 use Rattle.tab.specs.Grammar.{Row}
 use Rattle.tab.specs.Reader.{gotLine, row, rowsOf}
-use Rattle.reader.specs.Contract.{lineIn}
-use Rattle.reader.specs.LineLaws.{row-goes-on}
+use Rattle.tab.specs.Lines.{lineIn}
+use Rattle.tab.specs.LineLaws.{row-goes-on}
 use Rattle.load.specs.Load.{loadReadBy, rowWhole}
 use Rattle.load.specs.Contract.{Judged}
 use Rattle.load.proofs.Counts.{Added, row-counts}
@@ -49,10 +49,10 @@ now-of l = volume (l .loop .state) (l .loop .main) (l .loop .spare) (l .loop .ra
 abbrev loop-at : tie.After-row-at Inv-loop μ-loop → Loop
 loop-at r = r .before .before
 
-abbrev read-at : tie.After-key Inv-loop μ-loop → tie.After-row-at Inv-loop μ-loop
+abbrev read-at : tie.After-level Inv-loop μ-loop → tie.After-row-at Inv-loop μ-loop
 read-at k = k .before .before
 
-abbrev key-at : tie.After-load-row Inv-loop μ-loop → tie.After-key Inv-loop μ-loop
+abbrev key-at : tie.After-load-row Inv-loop μ-loop → tie.After-level Inv-loop μ-loop
 key-at p = p .before .before .before .before .before
 
 abbrev row-now : tie.After-load-row Inv-loop μ-loop → Loop
@@ -60,17 +60,17 @@ row-now p = loop-at (read-at (key-at p))
 
 -- the place of the row after it
 abbrev next-of : tie.After-load-row Inv-loop μ-loop → ℕ
-next-of p = key-at p .key .given .0 .1 .1 .1 .0
+next-of p = key-at p .level .given .0 .1 .1 .1 .0
 
-row-is : (p : tie.After-load-row Inv-loop μ-loop) → let l = row-now p in let g = key-at p .key .given .0 in let tab = start-of l .args .tab .now in
+row-is : (p : tie.After-load-row Inv-loop μ-loop) → let l = row-now p in let g = key-at p .level .given .0 in let tab = start-of l .args .tab .now in
     row (drop (l .loop .place) tab) ≡ some (gotLine (g .0) (g .1 .0) (g .1 .1 .0) (drop (next-of p) tab))
 row-is p =
     let k = key-at p in
     let r = read-at k in
-    sym (r .row-at .ensures) ∙ ap (lineIn (start-of (loop-at r) .args .tab .now)) (k .key .given .1)
+    sym (r .row-at .ensures) ∙ ap (lineIn (start-of (loop-at r) .args .tab .now)) (k .level .given .1)
 
 abbrev row-of : tie.After-load-row Inv-loop μ-loop → Row
-row-of p = let g = key-at p .key .given .0 in record { level = g .0; moves = g .1 .0; goal = g .1 .1 .0 }
+row-of p = let g = key-at p .level .given .0 in record { level = g .0; moves = g .1 .0; goal = g .1 .1 .0 }
 
 abbrev whole : tie.After-load-row Inv-loop μ-loop → Result
 whole p = rowWhole fnvFamily (now-of (row-now p)) (row-of p)
@@ -133,8 +133,8 @@ returns c =
     (sym (r .row-at .ensures) ∙ ap (lineIn tab) (c .enum-told .given .1)))
     ∙ done-ended (l .loop .rows) _ (now-of l))
 
-enum-known-key : tie.Need-enum-known-key Inv-loop μ-loop
-enum-known-key c = search needs
+enum-known-level : tie.Need-enum-known-level Inv-loop μ-loop
+enum-known-level c = search needs
 
 load-row-requires : tie.Need-load-row-requires Inv-loop μ-loop
 load-row-requires c κs = c .before .before .before .before .before .before .before .before .loop .inv .5
@@ -214,7 +214,7 @@ load-rows-spec =
     same-length-2
     same-length-3
     returns
-    enum-known-key
+    enum-known-level
     load-row-requires
     same-length-4
     same-length-5

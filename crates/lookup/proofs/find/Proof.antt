@@ -10,6 +10,7 @@ use Rattle.layout.specs.Header.{pages, onPages}
 use Rattle.laws.specs.HeaderLaws.{length-pages, pages-part}
 use Rattle.geometry.specs.Shape.{shape}
 use Rattle.geometry.specs.declared.Geometry.{Geometry}
+use Rattle.keys.specs.Key.{keyIs}
 use Rattle.state.specs.Contract.{volume}
 use Rattle.state.specs.Judge.{VolumeFits}
 use Rattle.lookup.specs.Results.{lookupOf}
@@ -34,7 +35,7 @@ returns : tie.Need-returns
 returns c =
     let s = c .before .before .before .before .before .before .before .before in
     let i = c .before .before .i in
-    c .refuse-lookup .ensures ∙ lookup-refused fnvFamily (handed s) (s .args .key) (i .given .0 .0) (sym (c .before .before .before .before .judge .ensures .0) ∙ i .given .1)
+    c .refuse-lookup .ensures ∙ lookup-refused fnvFamily (handed s) (keyIs (s .args .key)) (i .given .0 .0) (sym (c .before .before .before .before .judge .ensures .0) ∙ i .given .1)
 
 enum-known-g : tie.Need-enum-known-g
 enum-known-g c = search needs
@@ -55,13 +56,13 @@ has-header : (c : tie.After-known-told2) → 64 ≤ length (start-of c .args .ra
 has-header c =
     omega (arith, fits c .long .read .ram-fits, fits c .sound .unit .1 .some, length-pages (start-of c .args .ram .now))
 
--- and what is lent of it are its pages
-lent-pages : (c : tie.After-known-told2)
-    → let ram : List ℕ = start-of c .args .ram .now in take (length ram - 64 - 0) (drop 0 ram) ≡ pages ram
-lent-pages c = pages-part (start-of c .args .ram .now) (length (start-of c .args .ram .now) - 64) (omega arith)
+pages-end-requires : tie.Need-pages-end-requires
+pages-end-requires c κs = has-header c
 
-sub-n : tie.Need-sub-n
-sub-n c = has-header c
+-- and what is lent of it are its pages
+lent-pages : (e : tie.After-pages-end)
+    → let ram : List ℕ = start-of (e .before) .args .ram .now in take (e .pages-end .result - 0) (drop 0 ram) ≡ pages ram
+lent-pages e = pages-part (start-of (e .before) .args .ram .now) (e .pages-end .result) (e .pages-end .ensures)
 
 sub-find-in : tie.Need-sub-find-in
 sub-find-in c = search needs
@@ -70,19 +71,20 @@ part-find-in-start : tie.Need-part-find-in-start
 part-find-in-start c = search needs
 
 part-find-in-end : tie.Need-part-find-in-end
-part-find-in-end c = omega (arith, has-header c)
+part-find-in-end c = omega (arith, has-header (c .before), c .pages-end .ensures)
 
 find-in-requires : tie.Need-find-in-requires
-find-in-requires c κs = rw (lent-pages (c .before)) (fits (c .before))
+find-in-requires c κs = let e = c .before in rw (lent-pages e) (fits (e .before))
 
 returns-2 : tie.Need-returns-2
 returns-2 c =
-    let k = c .before .before in
+    let e = c .before .before in
+    let k = e .before in
     let s = start-of k in
     let v : (List ℕ → Volume) = λ ram. volume (s .args .s) (s .args .main .now) (s .args .spare .now) ram in
     c .find-in .ensures
-    ∙ ap (λ (ram : List ℕ). lookupOf (answer fnvFamily (shape (judged k)) (v ram) (lookup (s .args .key)))) (lent-pages k)
-    ∙ lookup-fits fnvFamily (handed s) (s .args .key) (judged k) (fits k) (sym (k .before .before .before .judge .ensures .0) ∙ k .before .g .given .1)
+    ∙ ap (λ (ram : List ℕ). lookupOf (answer fnvFamily (shape (judged k)) (v ram) (lookup (keyIs (s .args .key))))) (lent-pages e)
+    ∙ lookup-fits fnvFamily (handed s) (keyIs (s .args .key)) (judged k) (fits k) (sym (k .before .before .before .judge .ensures .0) ∙ k .before .g .given .1)
 
 pub find-spec : {M : Type 1} → statement M
 find-spec =
@@ -93,7 +95,7 @@ find-spec =
     refuse-lookup-requires
     returns
     enum-known-g
-    sub-n
+    pages-end-requires
     sub-find-in
     part-find-in-start
     part-find-in-end

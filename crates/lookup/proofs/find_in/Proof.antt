@@ -10,6 +10,7 @@ use Rattle.layout.specs.Calls.{Volume, search as searchOf, searchDaPages}
 use Rattle.geometry.specs.Shape.{shape, place}
 use Rattle.search.specs.Find.{stopOf, ready-whole, search-is, search-pages}
 use Rattle.search.specs.declared.End.{End}
+use Rattle.keys.specs.Key.{keyIs}
 use Rattle.state.specs.Contract.{volume}
 use Rattle.lookup.proofs.LookupLaws.{lookup-corrupt, lookup-nothing, lookup-ram, lookup-main, place-fits}
 use Rattle.lookup.proofs.find_in.Statement.{statement}
@@ -39,20 +40,20 @@ search-requires c κs =
 
 -- what the search found, by where it ended
 found-at : (c : tie.After-search) (end : End) → c .search .result .end ≡ end
-    → let b = start-of (c .before) in searchOf fnvFamily (shape (b .args .g)) (handed b) (b .args .key) ≡ find.reply (stopOf end) (c .search .result .opened)
+    → let b = start-of (c .before) in searchOf fnvFamily (shape (b .args .g)) (handed b) (keyIs (b .args .key)) ≡ find.reply (stopOf end) (c .search .result .opened)
 found-at c end e =
     let A = c .before in
     let b = start-of A in
-    search-is (handed b) (b .args .g) (A .all .result) (A .all .ensures) fnvFamily (b .args .key) (c .search .result) (c .search .ensures .0)
+    search-is (handed b) (b .args .g) (A .all .result) (A .all .ensures) fnvFamily (keyIs (b .args .key)) (c .search .result) (c .search .ensures .0)
     ∙ ap (λ (y : End). find.reply (stopOf y) (c .search .result .opened)) e
 
 -- and the pages of deletions that it opened
 pages-at : (c : tie.After-search) → let b = start-of (c .before) in
-    searchDaPages fnvFamily (shape (b .args .g)) (handed b) (b .args .key) ≡ c .search .result .«da_pages»
+    searchDaPages fnvFamily (shape (b .args .g)) (handed b) (keyIs (b .args .key)) ≡ c .search .result .«da_pages»
 pages-at c =
     let A = c .before in
     let b = start-of A in
-    search-pages (handed b) (b .args .g) (A .all .result) (A .all .ensures) fnvFamily (b .args .key) (c .search .result) (c .search .ensures .1)
+    search-pages (handed b) (b .args .g) (A .all .result) (A .all .ensures) fnvFamily (keyIs (b .args .key)) (c .search .result) (c .search .ensures .1)
 
 enum-told : tie.Need-enum-told
 enum-told c = search needs
@@ -66,7 +67,7 @@ returns c =
     let S = T .before .before in
     let b = start-of (S .before) in
     c .refuse-lookup .ensures
-    ∙ lookup-corrupt fnvFamily (shape (b .args .g)) (handed b) (b .args .key) (S .search .result .opened) (found-at S _ (T .enum-told .given .1))
+    ∙ lookup-corrupt fnvFamily (shape (b .args .g)) (handed b) (keyIs (b .args .key)) (S .search .result .opened) (found-at S _ (T .enum-told .given .1))
 
 enum-told-2 : tie.Need-enum-told-2
 enum-told-2 c = search needs
@@ -75,7 +76,7 @@ returns-2 : tie.Need-returns-2
 returns-2 c =
     let S = c .before .before in
     let b = start-of (S .before) in
-    lookup-nothing fnvFamily (shape (b .args .g)) (handed b) (b .args .key) (S .search .result .opened) (S .search .result .«da_pages») (found-at S _ (c .enum-told2 .given .1)) (pages-at S)
+    lookup-nothing fnvFamily (shape (b .args .g)) (handed b) (keyIs (b .args .key)) (S .search .result .opened) (S .search .result .«da_pages») (found-at S _ (c .enum-told2 .given .1)) (pages-at S)
 
 -- ---- a live record
 
@@ -120,7 +121,7 @@ returns-3 c =
     let P = c .before in
     let S = searched P in
     let b = start-of (S .before) in
-    lookup-ram fnvFamily (shape (b .args .g)) (handed b) (b .args .key) (S .search .result .opened) (S .search .result .«da_pages») (number P) (P .item-place .result .at) (P .item-place .result .«in_ram»)
+    lookup-ram fnvFamily (shape (b .args .g)) (handed b) (keyIs (b .args .key)) (S .search .result .opened) (S .search .result .«da_pages») (number P) (P .item-place .result .at) (P .item-place .result .«in_ram»)
     (found-at S _ (ended P .end .given .1)) (pages-at S) (place-is P) (c .if1 .taken)
 
 cast-t22 : tie.Need-cast-t22
@@ -131,7 +132,7 @@ returns-4 c =
     let P = c .before in
     let S = searched P in
     let b = start-of (S .before) in
-    lookup-main fnvFamily (shape (b .args .g)) (handed b) (b .args .key) (S .search .result .opened) (S .search .result .«da_pages») (number P) (P .item-place .result .at) (P .item-place .result .«in_ram»)
+    lookup-main fnvFamily (shape (b .args .g)) (handed b) (keyIs (b .args .key)) (S .search .result .opened) (S .search .result .«da_pages») (number P) (P .item-place .result .at) (P .item-place .result .«in_ram»)
     (found-at S _ (ended P .end .given .1)) (pages-at S) (place-is P) (c .if1 .left)
 
 pub find-in-spec : {M : Type 1} → statement M

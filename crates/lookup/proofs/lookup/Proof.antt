@@ -5,6 +5,7 @@ use mathlib.Core.Path.{_≡_, sym, ap, _∙_}
 use Rattle.layout.specs.Hash.{fnvFamily}
 use Rattle.layout.specs.Calls.{lookup}
 use Rattle.layout.specs.Budgets.{callWhole}
+use Rattle.keys.specs.Key.{keyIs}
 use Rattle.state.specs.Contract.{volume}
 use Rattle.lookup.specs.declared.LookupResult.{LookupResult}
 use Rattle.lookup.specs.Results.{answerNumbers}
@@ -41,7 +42,7 @@ returns c =
     let x = c .before .before .before .before .before .before .before .before .before .before .before .args in
     let f = c .before .before .before .before .before .before .before .find in
     let v = volume (x .s) (x .main .now) (x .spare .now) (x .ram .now) in
-    let e = empty-part (x .main .ptr) (x .ram .ptr) (callWhole fnvFamily v (lookup (x .key)) .outcome) (callWhole fnvFamily v (lookup (x .key)) .count) (callWhole fnvFamily v (lookup (x .key)) .daPages) (ap (λ (y : LookupResult). y .found) (sym (f .ensures)) ∙ c .before .if1 .taken) in
+    let e = empty-part (x .main .ptr) (x .ram .ptr) (callWhole fnvFamily v (lookup (keyIs (x .key))) .outcome) (callWhole fnvFamily v (lookup (keyIs (x .key))) .count) (callWhole fnvFamily v (lookup (keyIs (x .key))) .daPages) (ap (λ (y : LookupResult). y .found) (sym (f .ensures)) ∙ c .before .if1 .taken) in
     ((sym (e .0), sym (e .1)), ap answerNumbers (f .ensures))
 
 add-e : tie.Need-add-e
@@ -57,13 +58,13 @@ part-result-end-2 : tie.Need-part-result-end-2
 part-result-end-2 c =
     let x = c .before .before .before .before .before .before .before .before .before .before .before .args in
     let f = c .before .before .before .before .before .before .before .find in
-    part-in-ram fnvFamily (volume (x .s) (x .main .now) (x .spare .now) (x .ram .now)) (x .key) (f .result) (f .ensures) (c .before .if1 .left) (x .main .ptr) (x .ram .ptr) (c .if2 .taken) .0
+    part-in-ram fnvFamily (volume (x .s) (x .main .now) (x .spare .now) (x .ram .now)) (keyIs (x .key)) (f .result) (f .ensures) (c .before .if1 .left) (x .main .ptr) (x .ram .ptr) (c .if2 .taken) .0
 
 returns-2 : tie.Need-returns-2
 returns-2 c =
     let x = c .before .before .before .before .before .before .before .before .before .before .before .before .args in
     let f = c .before .before .before .before .before .before .before .before .find in
-    let p = part-in-ram fnvFamily (volume (x .s) (x .main .now) (x .spare .now) (x .ram .now)) (x .key) (f .result) (f .ensures) (c .before .before .if1 .left) (x .main .ptr) (x .ram .ptr) (c .before .if2 .taken) in
+    let p = part-in-ram fnvFamily (volume (x .s) (x .main .now) (x .spare .now) (x .ram .now)) (keyIs (x .key)) (f .result) (f .ensures) (c .before .before .if1 .left) (x .main .ptr) (x .ram .ptr) (c .before .if2 .taken) in
     let s : f .result .offset + 16 - f .result .offset ≡ 16 = omega arith in
     ((rw s (p .1), p .2), ap answerNumbers (f .ensures))
 
@@ -77,13 +78,13 @@ part-result-end-3 : tie.Need-part-result-end-3
 part-result-end-3 c =
     let x = c .before .before .before .before .before .before .before .before .before .before .before .args in
     let f = c .before .before .before .before .before .before .before .find in
-    part-in-main fnvFamily (volume (x .s) (x .main .now) (x .spare .now) (x .ram .now)) (x .key) (f .result) (f .ensures) (c .before .if1 .left) (x .main .ptr) (x .ram .ptr) (c .if2 .left) .0
+    part-in-main fnvFamily (volume (x .s) (x .main .now) (x .spare .now) (x .ram .now)) (keyIs (x .key)) (f .result) (f .ensures) (c .before .if1 .left) (x .main .ptr) (x .ram .ptr) (c .if2 .left) .0
 
 returns-3 : tie.Need-returns-3
 returns-3 c =
     let x = c .before .before .before .before .before .before .before .before .before .before .before .before .args in
     let f = c .before .before .before .before .before .before .before .before .find in
-    let p = part-in-main fnvFamily (volume (x .s) (x .main .now) (x .spare .now) (x .ram .now)) (x .key) (f .result) (f .ensures) (c .before .before .if1 .left) (x .main .ptr) (x .ram .ptr) (c .before .if2 .left) in
+    let p = part-in-main fnvFamily (volume (x .s) (x .main .now) (x .spare .now) (x .ram .now)) (keyIs (x .key)) (f .result) (f .ensures) (c .before .before .if1 .left) (x .main .ptr) (x .ram .ptr) (c .before .if2 .left) in
     let s : f .result .offset + 16 - f .result .offset ≡ 16 = omega arith in
     ((rw s (p .1), p .2), ap answerNumbers (f .ensures))
 

@@ -2,7 +2,7 @@ use native.Mathlib.Omega.{arith}
 use Prim.Native.Nat.{ℕ, _+_, _/_, _%_}
 use mathlib.Core.Path.{ap, _∙_}
 use lib.ListN.{length}
-use Rattle.memory.specs.Lists.{tab}
+use Rattle.memory.specs.Lists.{tabulate}
 use Rattle.geometry.specs.Indexes.{indexOf}
 use Rattle.partition.specs.Reach.{row-fits}
 use Rattle.partition.specs.Sources.{pageByte}
@@ -52,7 +52,7 @@ returns c =
     let U = x .pre .0 .0 in
     let n = length (x .args .out .now) in
     c .before .before .page-bytes .ensures
-    ∙ ap (λ (y : ℕ). tab n (λ (i : ℕ). pageByte (x .args .main .now) (r .page-source .result) (y + i))) (s .sector-address .ensures)
+    ∙ ap (λ (y : ℕ). tabulate n (λ (i : ℕ). pageByte (x .args .main .now) (r .page-source .result) (y + i))) (s .sector-address .ensures)
     ∙ sectors-are (x .args .chip .unit) (U .0) (U .1 .power) (indexOf (x .args .set .index)) (x .args .main .now) (x .args .set .«full_sets») (x .args .set .rounds) (x .pre .0 .1) (x .args .j) n (r .page-source .result) (r .page-source .ensures) (x .pre .1 .1 .1 .1 .room)
 
 pub set-sectors-spec : {M : Type 1} → statement M

@@ -2,7 +2,7 @@ use native.Mathlib.Omega.{arith}
 use Prim.Native.Nat.{_+_, _-_}
 use mathlib.Core.Path.{_≡_, refl, ap, _∙_}
 use lib.ListN.{length}
-use Rattle.memory.specs.Lists.{length-tab}
+use Rattle.memory.specs.Lists.{length-tabulate}
 use Rattle.plan.specs.Groups.{page-is, made-size, made-in, made-are, in-page}
 use borrow.Author.Needs.{needs}
 use Rattle.plan.proofs.page_part.Statement.{statement}
@@ -49,7 +49,7 @@ made : (d : tie.After-set-sectors) → length (d .set-sectors .last .1 .1 .1 .1 
 made d =
     let x = d .before .before .before .before .before .before .before .before in
     let n = d .before .before .before .sector-address in
-    ap length (d .set-sectors .ensures) ∙ (length-tab _ _ ∙ made-size _ (n .result) (omega (arith, n .ensures, x .pre .1 .0 .small)))
+    ap length (d .set-sectors .ensures) ∙ (length-tabulate _ _ ∙ made-size _ (n .result) (omega (arith, n .ensures, x .pre .1 .0 .small)))
 
 part-program-sectors-end : tie.Need-part-program-sectors-end
 part-program-sectors-end c =

@@ -3,7 +3,7 @@ use native.Mathlib.Omega.{arith}
 use mathlib.Core.Path.{_≡_, refl, sym, _∙_}
 use mathlib.Core.Bool.{Bool, true}
 use mathlib.Core.Option.{Option, none, some}
-use Prim.Native.Nat.{ℕ, _+_, _*_, _-_, _≤_, _<_}
+use Prim.Native.Nat.{ℕ, _+_, _*_, _-_, _/_, _≤_, _<_}
 use lib.ListN.{length, take}
 use Rattle.memory.specs.Bits.{bit}
 use Rattle.memory.specs.Cases.{lt?, either}
@@ -11,20 +11,22 @@ use Rattle.layout.specs.Geometry.{page, fullSets}
 use Rattle.layout.specs.Hash.{fnvFamily}
 use Rattle.layout.specs.Calls.{keyIndex, maybeIn, testDeletion}
 use Rattle.layout.specs.Search.{Stop, found, corrupt, reply, scan, scanCost, searchPages, pagesCost}
+use Rattle.laws.specs.WalkLaws.{Shown, Words, words-first, words-end}
 use Rattle.geometry.specs.Shape.{shape}
 use Rattle.items.specs.Scans.{lastEntry}
 use Rattle.deletions.specs.Test.{testedOf}
 use Rattle.filter.specs.Filter.{index-fits}
 use Rattle.filter.specs.Blocks.{BlockAt}
 use Rattle.filter.specs.declared.groups.Block.{Block}
+use Rattle.keys.specs.Key.{keyIs}
 use Rattle.search.specs.declared.End.the-variants.{Nothing}
-use Rattle.search.specs.Find.{viewed, Ready, tryOf, costOf, tryIn, costIn, deletedOf, testCost}
+use Rattle.search.specs.Find.{viewed, ViewFits, tryOf, costOf, tryIn, costIn, deletedOf, testCost}
 use Rattle.search.specs.Tries.{entryOf}
 use Rattle.search.proofs.Tries.{count, newest, newest-le, newest-set, newest-some, measure, fewer}
-use Rattle.search.proofs.Bits.{Gates, Words, Word, words-first, words-next, words-end, word-first, word-in, word-few, word-most, word-next, word-ended}
+use Rattle.search.proofs.Bits.{Word, word-first, word-done, word-in, word-few, word-most, word-next, word-ended}
 use Rattle.search.proofs.Entries.{Same, Left, left-none, left-first, left-corrupt, left-most, left-found, left-next, left-less}
-use Rattle.search.proofs.Volume.{perPage, pages, same-flash, same-bytes, scan-bytes, cost-bytes, vain-page, block-shows, tested-met, tested-opened, test-ready, test-viewed}
-use Rattle.search.proofs.Volume.{pages-few, pages-then, page-in, sets-le, below-most}
+use Rattle.search.proofs.Volume.{perPage, pages, same-flash, same-bytes, scan-bytes, cost-bytes, vain-page, block-shows}
+use Rattle.search.proofs.Volume.{tested-met, tested-opened, test-ready, test-viewed, pages-few, pages-then, page-in, sets-le, below-most}
 use borrow.Author.Needs.{needs}
 use borrow.Author.Tests.{not-true, not-false}
 use Rattle.search.proofs.in_block.Statement.{statement}
@@ -32,7 +34,7 @@ use Rattle.search.proofs.in_block.Tie as tie
 
 abbrev Inv-entries : tie.InvT-entries
 Inv-entries v key count below main ram b first end₀ opened da₀ w from bits start e₀ end da e =
-    (0 < e₀ → Left main start key (tryIn v main ram key main start) (costIn v main ram key main start) 0 (perPage v) da₀ e da)
+    (0 < e₀ → Left main start (keyIs key) (tryIn v main ram (keyIs key) main start) (costIn v main ram (keyIs key) main start) 0 (perPage v) da₀ e da)
     × (e ≤ e₀) × (end ≡ Nothing) × (e₀ ≡ 0 → da ≡ da₀)
 
 abbrev μ-entries : tie.MeasureT-entries
@@ -40,14 +42,14 @@ abbrev μ-entries : tie.MeasureT-entries
 
 abbrev Inv-bits : tie.InvT-bits
 Inv-bits v key count below main ram b first end₀ opened₀ da₀ w from bits₀ end opened da bits =
-    Word (tryOf v main ram key) (costOf v main ram key) (perPage v) (b .start) below (b .words) opened da w bits × (end ≡ Nothing)
+    Word (tryOf v main ram (keyIs key)) (costOf v main ram (keyIs key)) (perPage v) (b .start) below (b .words) opened da w bits × (end ≡ Nothing)
 
 abbrev μ-bits : tie.MeasureT-bits
 μ-bits v key count below main ram b first end₀ opened₀ da₀ w from bits₀ end opened da bits = measure bits
 
 abbrev Inv-filters : tie.InvT-filters
 Inv-filters v key count below main ram b first end₀ opened₀ da₀ w₀ end opened da w =
-    Words (tryOf v main ram key) (costOf v main ram key) (perPage v) (b .start) below (b .words) opened da w × (end ≡ Nothing)
+    Words (tryOf v main ram (keyIs key)) (costOf v main ram (keyIs key)) (perPage v) bit 64 (b .start) below (b .words) opened da w × (end ≡ Nothing)
 
 abbrev μ-filters : tie.MeasureT-filters
 μ-filters v key count below main ram b first end₀ opened₀ da₀ w₀ end opened da w = w
@@ -64,7 +66,7 @@ Known = tie.After-block-below Inv-entries μ-entries Inv-bits μ-bits Inv-filter
 abbrev start-of : Known → Start
 start-of G = G .before .before .before .before
 
-abbrev ready : (b : Start) → Ready (b .args .v) (b .args .main .now) (b .args .ram .now)
+abbrev ready : (b : Start) → ViewFits (b .args .v) (b .args .main .now) (b .args .ram .now)
 ready b = b .pre .0 .0
 
 abbrev gate-at : Start → ℕ → Bool
@@ -72,10 +74,10 @@ gate-at b =
     maybeIn (shape (b .args .v .g)) (viewed (b .args .v) (b .args .main .now) (b .args .ram .now)) (take (b .args .count) (b .args .ps))
 
 abbrev try-at : Start → ℕ → Option Stop
-try-at b = tryOf (b .args .v) (b .args .main .now) (b .args .ram .now) (b .args .key)
+try-at b = tryOf (b .args .v) (b .args .main .now) (b .args .ram .now) (keyIs (b .args .key))
 
 abbrev cost-at : Start → ℕ → ℕ
-cost-at b = costOf (b .args .v) (b .args .main .now) (b .args .ram .now) (b .args .key)
+cost-at b = costOf (b .args .v) (b .args .main .now) (b .args .ram .now) (keyIs (b .args .key))
 
 abbrev deleted-at : Start → ℕ → Bool
 deleted-at b = deletedOf (b .args .v) (b .args .main .now) (b .args .ram .now)
@@ -92,24 +94,21 @@ block-at : (G : Known) → let x = start-of G .args in
 block-at G = rw (G .before .key-filters .ensures) at (G .block-below .ensures)
 
 -- it shows the gates
-shows : (G : Known) → let b = start-of G in
-    Gates (try-at b) (cost-at b) (perPage (b .args .v)) (block-of G .start) (b .args .below) (block-of G .words) (gate-at b)
+shows : (G : Known) → let b = start-of G in Shown bit 64 (block-of G .start) (b .args .below) (block-of G .words) (gate-at b)
 shows G =
     let x = start-of G .args in
-    block-shows (x .v) (x .main .now) (x .ram .now) (x .key) (x .below) (take (x .count) (x .ps)) (block-of G) (block-at G)
+    block-shows (x .v) (x .main .now) (x .ram .now) (keyIs (x .key)) (x .below) (take (x .count) (x .ps)) (block-of G) (block-at G)
 
 -- its pages are full ones
 page-lt : (G : Known) (p : ℕ) → p < start-of G .args .below → p < pages (start-of G .args .v)
 page-lt G p h =
     let b = start-of G in
-    let x = b .args in
-    omega (arith, b .pre .1 .1, pages-then (x .v) (x .main .now) (x .ram .now) (ready b))
+    omega (arith, b .pre .1 .1, pages-then (ready b))
 
 below-few : (G : Known) → start-of G .args .below ≤ 32768
 below-few G =
     let b = start-of G in
-    let x = b .args in
-    omega (arith, b .pre .1 .1, pages-then (x .v) (x .main .now) (x .ram .now) (ready b), pages-few (x .v) (x .main .now) (x .ram .now) (ready b))
+    omega (arith, b .pre .1 .1, pages-then (ready b), pages-few (ready b))
 
 -- ---- before the first word
 
@@ -124,10 +123,10 @@ block-below-requires c κs =
     let L = b .pre .0 .1 in
     rw (c .key-filters .ensures) (
       (
-        (fullSets (shape (x .v .g)), sets-le (x .v) (x .main .now) (x .ram .now) R, index-fits (x .v .g) (R .sound) (x .main .now) (x .ram .now) (R .read)),
-        omega (arith, pages-few (x .v) (x .main .now) (x .ram .now) R),
+        (fullSets (shape (x .v .g)), sets-le R, index-fits (x .v .g) (R .sound) (x .main .now) (x .ram .now) (R .read)),
+        omega (arith, pages-few R),
         b .pre .1 .0,
-        omega (arith, b .pre .1 .1, pages-then (x .v) (x .main .now) (x .ram .now) R),
+        omega (arith, b .pre .1 .1, pages-then R),
       ),
       (L .some, L .few, L .within),
     )
@@ -141,7 +140,12 @@ add-w c = omega (arith, block-at c .few)
 filters-holds : tie.Need-filters-holds Inv-entries μ-entries Inv-bits μ-bits Inv-filters μ-filters
 filters-holds c =
     let b = start-of c in
-    (words-first (try-at b) (cost-at b) (perPage (b .args .v)) (block-of c .start) (b .args .below) (block-of c .words) (block-at c .start-lt), refl)
+    let first = block-of c .start in
+    let below = b .args .below in (
+      words-first (try-at b) (cost-at b) (perPage (b .args .v)) bit 64 first below (block-of c .words) ((below - first + 63) / 64)
+          (omega arith) (omega (arith, block-at c .start-lt)),
+      refl,
+    )
 
 -- ---- a word
 
@@ -175,9 +179,7 @@ bits-holds : tie.Need-bits-holds Inv-entries μ-entries Inv-bits μ-bits Inv-fil
 bits-holds c =
     let i = c .before in
     let l = i .before in
-    let G = l .before in
-    let b = start-of G in
-    (word-first (try-at b) (cost-at b) (perPage (b .args .v)) (block-of G .start) (b .args .below) (block-of G .words) (l .filters .opened) (l .filters .da-pages) (l .filters .w) (l .filters .inv .0) (omega arith) (word-lt-8 i), l .filters .inv .1)
+    (word-first (l .filters .inv .0) (omega arith) (word-lt-8 i), l .filters .inv .1)
 
 filters-less : tie.Need-filters-less Inv-entries μ-entries Inv-bits μ-bits Inv-filters μ-filters
 filters-less c = let i = c .before .before .before in omega (arith, i .filters-test .taken)
@@ -185,11 +187,7 @@ filters-less c = let i = c .before .before .before in omega (arith, i .filters-t
 filters-again : tie.Need-filters-again Inv-entries μ-entries Inv-bits μ-bits Inv-filters μ-filters
 filters-again c =
     let B = c .before in
-    let i = B .before .before in
-    let l = i .before in
-    let G = l .before in
-    let b = start-of G in
-    (words-next (try-at b) (cost-at b) (perPage (b .args .v)) (block-of G .start) (b .args .below) (block-of G .words) (B .bits .opened) (B .bits .da-pages) (l .filters .w - 1) (B .bits .bits) (B .bits .inv .0) (c .bits-test .left) (from-lt i), B .bits .inv .1)
+    (word-done (B .bits .inv .0) (c .bits-test .left) (from-lt (B .before .before)), B .bits .inv .1)
 
 -- ---- the pages of a word, up to one with an entry of the key
 
@@ -206,7 +204,7 @@ abbrev from-of : Visiting → ℕ
 from-of c = block-of (known c) .start + word-of c * 64
 
 abbrev entry-at : Visiting → ℕ → ℕ
-entry-at c = let x = start-of (known c) .args in entryOf (x .v .g) (x .key) (from-of c) (x .main .now)
+entry-at c = let x = start-of (known c) .args in entryOf (x .v .g) (keyIs (x .key)) (from-of c) (x .main .now)
 
 -- the newest with an entry, plus one
 abbrev newest-of : Visiting → ℕ
@@ -221,7 +219,7 @@ other : (c : Visiting) → let b = start-of (known c) in let q = perPage (b .arg
     → (scan (try-at b) ((from-of c + i) * q) q ≡ none) × (scanCost (try-at b) (cost-at b) ((from-of c + i) * q) q ≡ 0)
 other c i s h =
     let x = start-of (known c) .args in
-    vain-page (x .v) (x .main .now) (x .ram .now) (x .key) (from-of c + i) (page-lt (known c) (from-of c + i) h)
+    vain-page (x .v) (x .main .now) (x .ram .now) (keyIs (x .key)) (from-of c + i) (page-lt (known c) (from-of c + i) h)
 
 -- its laws, at hand
 visited-in : (c : Visiting) (i : ℕ) → i < 64 → bit (c .before .bits .bits) i ≡ true → from-of c + i < start-of (known c) .args .below
@@ -229,16 +227,14 @@ visited-in c =
     let G = known c in
     let b = start-of G in
     let B = c .before in
-    word-in (try-at b) (cost-at b) (perPage (b .args .v)) (block-of G .start) (b .args .below) (block-of G .words) (B .bits .opened) (B .bits .da-pages) (word-of c) (B .bits .bits) (B .bits .inv .0)
-    (entry-at c) (other c) (gate-at b) (shows G)
+    word-in (B .bits .inv .0) (entry-at c) (other c) (gate-at b) (shows G)
 
 visited-few : (c : Visiting) → c .before .bits .opened + count (c .before .bits .bits) (entry-at c) 64 ≤ start-of (known c) .args .below + 1
 visited-few c =
     let G = known c in
     let b = start-of G in
     let B = c .before in
-    word-few (try-at b) (cost-at b) (perPage (b .args .v)) (block-of G .start) (b .args .below) (block-of G .words) (B .bits .opened) (B .bits .da-pages) (word-of c) (B .bits .bits) (B .bits .inv .0)
-    (entry-at c) (other c) (gate-at b) (shows G)
+    word-few (B .bits .inv .0) (entry-at c) (other c) (gate-at b) (shows G)
 
 page-below : (c : Visiting) → 0 < newest-of c → page-of c < start-of (known c) .args .below
 page-below c h =
@@ -248,13 +244,12 @@ page-below c h =
 next-with-key-requires : tie.Need-next-with-key-requires Inv-entries μ-entries Inv-bits μ-bits Inv-filters μ-filters
 next-with-key-requires c κs =
     let G = known c in
-    let b = start-of G in
-    let x = b .args in (
+    let b = start-of G in (
       ready b .sound,
       omega (arith, from-lt (c .before .before .before), below-few G),
       record {
         page-in = λ i h s.
-            page-in (x .v) (x .main .now) (x .ram .now) (ready b) (from-of c + i) (page-lt G (from-of c + i) (visited-in c i h s));
+            page-in (ready b) (from-of c + i) (page-lt G (from-of c + i) (visited-in c i h s));
       },
     )
 
@@ -262,7 +257,7 @@ abbrev Tries : Type 0
 Tries = tie.After-next-with-key Inv-entries μ-entries Inv-bits μ-bits Inv-filters μ-filters
 
 add-opened : tie.Need-add-opened Inv-entries μ-entries Inv-bits μ-bits Inv-filters μ-filters
-add-opened c = let N = c .before in omega (arith, N .next-with-key .ensures .opened, visited-few (N .before), below-few (known (N .before)))
+add-opened c = let N = c .before in omega (arith, N .next-with-key .ensures .pages .opened, visited-few (N .before), below-few (known (N .before)))
 
 -- one was reached if an entry is told
 reached : (N : Tries) → 0 < N .next-with-key .result .entry → 0 < newest-of (N .before)
@@ -280,22 +275,21 @@ within-at : (N : Tries) → 0 < N .next-with-key .result .entry → let x = star
 within-at N h =
     let c = N .before in
     let b = start-of (known c) in
-    let x = b .args in
     let n = reached N h in
-    rw (N .next-with-key .ensures .some n .0) (page-in (x .v) (x .main .now) (x .ram .now) (ready b) (page-of c) (page-lt (known c) (page-of c) (page-below c n)))
+    rw (N .next-with-key .ensures .some n .0) (page-in (ready b) (page-of c) (page-lt (known c) (page-of c) (page-below c n)))
 
 -- by their bytes
 abbrev try-in : Tries → ℕ → Option Stop
-try-in N = let x = start-of (known (N .before)) .args in tryIn (x .v) (x .main .now) (x .ram .now) (x .key) (x .main .now) (N .next-with-key .result .start)
+try-in N = let x = start-of (known (N .before)) .args in tryIn (x .v) (x .main .now) (x .ram .now) (keyIs (x .key)) (x .main .now) (N .next-with-key .result .start)
 
 abbrev cost-in : Tries → ℕ → ℕ
-cost-in N = let x = start-of (known (N .before)) .args in costIn (x .v) (x .main .now) (x .ram .now) (x .key) (x .main .now) (N .next-with-key .result .start)
+cost-in N = let x = start-of (known (N .before)) .args in costIn (x .v) (x .main .now) (x .ram .now) (keyIs (x .key)) (x .main .now) (N .next-with-key .result .start)
 
 same-at : (N : Tries) → let b = start-of (known (N .before)) in let x = b .args in let start = N .next-with-key .result .start in
-    Same (x .main .now) start (perPage (x .v)) (x .v .n0) (x .key) (deleted-at b) (test-at b) (try-in N) (cost-in N) 0
+    Same (x .main .now) start (perPage (x .v)) (x .v .n0) (keyIs (x .key)) (deleted-at b) (test-at b) (try-in N) (cost-in N) 0
 same-at N =
     let x = start-of (known (N .before)) .args in
-    same-bytes (x .v) (x .main .now) (x .ram .now) (x .key) (x .main .now) (N .next-with-key .result .start) (perPage (x .v))
+    same-bytes (x .v) (x .main .now) (x .ram .now) (keyIs (x .key)) (x .main .now) (N .next-with-key .result .start) (perPage (x .v))
 
 -- as the view has them
 scan-at : (N : Tries) → 0 < N .next-with-key .result .entry → let b = start-of (known (N .before)) in let q = perPage (b .args .v) in
@@ -306,24 +300,21 @@ scan-at N h =
     let x = start-of (known c) .args in
     let n = reached N h in
     let start = N .next-with-key .result .start in
-    let S = same-flash (x .v) (x .main .now) (x .ram .now) (x .key) (page-of c) start (perPage (x .v)) (page-lt (known c) (page-of c) (page-below c n)) (omega arith)
+    let S = same-flash (x .v) (x .main .now) (x .ram .now) (keyIs (x .key)) (page-of c) start (perPage (x .v)) (page-lt (known c) (page-of c) (page-below c n)) (omega arith)
     (N .next-with-key .ensures .some n .0) in (
-      scan-bytes (x .v) (x .main .now) (x .ram .now) (x .key) (x .main .now) start (perPage (x .v)) (page-of c * perPage (x .v)) S,
-      cost-bytes (x .v) (x .main .now) (x .ram .now) (x .key) (x .main .now) start (perPage (x .v)) (page-of c * perPage (x .v)) S,
+      scan-bytes (x .v) (x .main .now) (x .ram .now) (keyIs (x .key)) (x .main .now) start (perPage (x .v)) (page-of c * perPage (x .v)) S,
+      cost-bytes (x .v) (x .main .now) (x .ram .now) (keyIs (x .key)) (x .main .now) start (perPage (x .v)) (page-of c * perPage (x .v)) S,
     )
 
 -- the newest with the key is the one told
 entry-is : (N : Tries) → 0 < N .next-with-key .result .entry → let x = start-of (known (N .before)) .args in
-    N .next-with-key .result .entry ≡ lastEntry (x .main .now) (N .next-with-key .result .start) (perPage (x .v)) (x .key)
+    N .next-with-key .result .entry ≡ lastEntry (x .main .now) (N .next-with-key .result .start) (perPage (x .v)) (keyIs (x .key))
 entry-is N h = let S = N .next-with-key .ensures .some (reached N h) in rw (S .0) (S .1)
 
 entries-holds : tie.Need-entries-holds Inv-entries μ-entries Inv-bits μ-bits Inv-filters μ-filters
 entries-holds c =
-    let N = c .before in
-    let b = start-of (known (N .before)) in
-    let x = b .args in
-    let start = N .next-with-key .result .start in (
-      λ h. left-first (x .main .now) start (perPage (x .v)) (x .v .n0) (x .key) (deleted-at b) (test-at b) (try-in N) (cost-in N) 0 (same-at N) (N .before .before .bits .da-pages) (N .next-with-key .result .entry) (entry-is N h),
+    let N = c .before in (
+      λ h. left-first (same-at N) (N .before .before .bits .da-pages) (N .next-with-key .result .entry) (entry-is N h),
       omega arith,
       N .before .before .bits .inv .1,
       λ z. refl,
@@ -346,8 +337,8 @@ number-at-requires c κs =
     let h = some-left E (omega arith) in
     omega (arith, E .entries .inv .0 h .le, within-at (E .before .before) h)
 
-wide-requires : tie.Need-wide-requires Inv-entries μ-entries Inv-bits μ-bits Inv-filters μ-filters
-wide-requires c κs = search needs
+usize-of-u32-requires : tie.Need-usize-of-u32-requires Inv-entries μ-entries Inv-bits μ-bits Inv-filters μ-filters
+usize-of-u32-requires c κs = search needs
 
 deletions-of-requires : tie.Need-deletions-of-requires Inv-entries μ-entries Inv-bits μ-bits Inv-filters μ-filters
 deletions-of-requires c κs = search needs
@@ -355,12 +346,12 @@ deletions-of-requires c κs = search needs
 test-requires : tie.Need-test-requires Inv-entries μ-entries Inv-bits μ-bits Inv-filters μ-filters
 test-requires c κs =
     let b = start-of (known (c .before .before .before .before .before .before .before .before .before)) in
-    rw (c .deletions-of .ensures) (test-ready (b .args .v) (b .args .main .now) (b .args .ram .now) (ready b))
+    rw (c .deletions-of .ensures) (test-ready (ready b))
 
 abbrev Tests : Type 0
 Tests = tie.After-test Inv-entries μ-entries Inv-bits μ-bits Inv-filters μ-filters
 
-abbrev wide-of : Tests → tie.After-wide Inv-entries μ-entries Inv-bits μ-bits Inv-filters μ-filters
+abbrev wide-of : Tests → tie.After-usize-of-u32 Inv-entries μ-entries Inv-bits μ-bits Inv-filters μ-filters
 wide-of D = D .before .before .before .before
 
 abbrev number-of : Tests → tie.After-number-at Inv-entries μ-entries Inv-bits μ-bits Inv-filters μ-filters
@@ -379,7 +370,7 @@ one-left : (D : Tests) → 0 < entry-of D .entries .e
 one-left D = number-of D .before .entries-test .taken
 
 number-lt : (D : Tests) → number-of D .number-at .result < start-at D .args .v .n0
-number-lt D = omega (arith, wide-of D .wide .ensures, D .before .before .if1 .left)
+number-lt D = omega (arith, wide-of D .usize-of-u32 .ensures, D .before .before .if1 .left)
 
 -- the test is of the view's deletions
 told : (D : Tests) → let x = start-at D .args in let j = number-of D .number-at .result in
@@ -410,10 +401,8 @@ page-most N h =
     let B = c .before in
     let G = known c in
     let b = start-of G in
-    let x = b .args in
     rw (scan-at N h .1)
-    (word-most (try-at b) (cost-at b) (perPage (x .v)) (block-of G .start) (x .below) (block-of G .words) (B .bits .opened) (B .bits .da-pages) (word-of c) (B .bits .bits) (B .bits .inv .0)
-    (entry-at c) (other c) (gate-at b) (shows G) (reached N h))
+    (word-most (B .bits .inv .0) (entry-at c) (other c) (gate-at b) (shows G) (reached N h))
 
 add-da-pages : tie.Need-add-da-pages Inv-entries μ-entries Inv-bits μ-bits Inv-filters μ-filters
 add-da-pages c =
@@ -426,10 +415,10 @@ add-da-pages c =
     let h = some-left E (one-left D) in
     omega (
       arith,
-      left-most (x .main .now) (N .next-with-key .result .start) (perPage (x .v)) (x .v .n0) (x .key) (deleted-at b) (test-at b) (try-in N) (cost-in N) 0 (same-at N) (N .before .before .bits .da-pages) (E .entries .e) (E .entries .da-pages) (J .number-at .result) (E .entries .inv .0 h) (one-left D) (J .number-at .ensures) (number-lt D),
+      left-most (same-at N) (E .entries .inv .0 h) (one-left D) (J .number-at .ensures) (number-lt D),
       told-opened D,
       page-most N h,
-      below-most (x .v) (x .main .now) (x .ram .now) (ready b) (x .key) (take (x .count) (x .ps)) (x .below) (b .pre .1 .1),
+      below-most (ready b) (keyIs (x .key)) (take (x .count) (x .ps)) (x .below) (b .pre .1 .1),
     )
 
 find-entry-requires : tie.Need-find-entry-requires Inv-entries μ-entries Inv-bits μ-bits Inv-filters μ-filters
@@ -445,10 +434,8 @@ entries-less c =
     let J = number-of D in
     let E = entry-of D in
     let N = tries-of D in
-    let b = start-at D in
-    let x = b .args in
     let L = E .entries .inv .0 (some-left E (one-left D)) in
-    left-less (x .main .now) (N .next-with-key .result .start) (perPage (x .v)) (x .v .n0) (x .key) (deleted-at b) (test-at b) (try-in N) (cost-in N) 0 (same-at N) (N .before .before .bits .da-pages) (E .entries .e) (E .entries .da-pages) (J .number-at .result) L (one-left D) (J .number-at .ensures) (number-lt D) (c .find-entry .result) (c .find-entry .ensures)
+    left-less (same-at N) L (one-left D) (J .number-at .ensures) (number-lt D) (c .find-entry .result) (c .find-entry .ensures)
 
 entries-again : tie.Need-entries-again Inv-entries μ-entries Inv-bits μ-bits Inv-filters μ-filters
 entries-again c =
@@ -456,12 +443,12 @@ entries-again c =
     let J = number-of D in
     let E = entry-of D in
     let N = tries-of D in
-    let b = start-at D in
-    let x = b .args in
     let h = some-left E (one-left D) in
     let L = E .entries .inv .0 h in
-    let less = left-less (x .main .now) (N .next-with-key .result .start) (perPage (x .v)) (x .v .n0) (x .key) (deleted-at b) (test-at b) (try-in N) (cost-in N) 0 (same-at N) (N .before .before .bits .da-pages) (E .entries .e) (E .entries .da-pages) (J .number-at .result) L (one-left D) (J .number-at .ensures) (number-lt D) (c .find-entry .result) (c .find-entry .ensures) in (
-      λ t. left-next (x .main .now) (N .next-with-key .result .start) (perPage (x .v)) (x .v .n0) (x .key) (deleted-at b) (test-at b) (try-in N) (cost-in N) 0 (same-at N) (N .before .before .bits .da-pages) (E .entries .e) (E .entries .da-pages) (J .number-at .result) L (one-left D) (J .number-at .ensures) (number-lt D) (D .test .result .met) (D .test .result .opened) (told-met D) (told-opened D) (c .find-entry .result) (not-false (D .test .result .met) (c .before .if2 .left)) (c .find-entry .ensures),
+    let less = left-less (same-at N) L (one-left D) (J .number-at .ensures) (number-lt D) (c .find-entry .result)
+    (c .find-entry .ensures) in (
+      λ t. left-next (same-at N) L (one-left D) (J .number-at .ensures) (number-lt D) (D .test .result .met)
+          (D .test .result .opened) (told-met D) (told-opened D) (c .find-entry .result) (not-false (D .test .result .met) (c .before .if2 .left)) (c .find-entry .ensures),
       omega (arith, less, E .entries .inv .1),
       E .entries .inv .2,
       λ z. absurd (omega (arith, h)),
@@ -473,7 +460,7 @@ bits-less : tie.Need-bits-less Inv-entries μ-entries Inv-bits μ-bits Inv-filte
 bits-less c =
     let N = c .before .before .before in
     let Y = N .before in
-    fewer (Y .before .bits .bits) (entry-at Y) (N .next-with-key .result .bits) (N .next-with-key .ensures .left) (omega (arith, Y .bits-test .taken)) (λ z. N .next-with-key .ensures .none z .0)
+    fewer (Y .before .bits .bits) (entry-at Y) (N .next-with-key .result .bits) (N .next-with-key .ensures .pages .left) (omega (arith, Y .bits-test .taken)) (λ z. N .next-with-key .ensures .none z .0)
 
 -- no entry of the page ended the search
 vain-at : (E : AtEntry) → E .entries .e ≤ 0 → let N = E .before .before in let b = start-of (known (N .before)) in let q = perPage (b .args .v) in
@@ -482,9 +469,8 @@ vain-at : (E : AtEntry) → E .entries .e ≤ 0 → let N = E .before .before in
     × (E .entries .da-pages ≡ N .before .before .bits .da-pages + scanCost (try-at b) (cost-at b) (page-of (N .before) * q) q)
 vain-at E z h =
     let N = E .before .before in
-    let x = start-of (known (N .before)) .args in
     let p = told-some N h in
-    let e = left-none (x .main .now) (N .next-with-key .result .start) (x .key) (try-in N) (cost-in N) 0 (perPage (x .v)) (N .before .before .bits .da-pages) (E .entries .e) (E .entries .da-pages) (E .entries .inv .0 p) z in
+    let e = left-none (E .entries .inv .0 p) z in
     (sym (scan-at N p .0) ∙ e .0, omega (arith, e .1, scan-at N p .1))
 
 -- none was tried where no page has an entry
@@ -497,14 +483,10 @@ bits-again c =
     let N = E .before .before in
     let Y = N .before in
     let B = Y .before in
-    let G = known Y in
-    let b = start-of G in
-    let x = b .args in
     let left = c .entries-test .left in
-    let z = word-next (try-at b) (cost-at b) (perPage (x .v)) (block-of G .start) (x .below) (block-of G .words) (B .bits .opened) (B .bits .da-pages) (word-of Y) (B .bits .bits) (B .bits .inv .0)
-    (entry-at Y) (other Y) (N .next-with-key .result .bits) (N .next-with-key .ensures .left) (λ h. vain-at E left h .0)
-    (E .entries .da-pages) (λ h. vain-at E left h .1) (free-at E) in
-    (rw (N .next-with-key .ensures .opened) z, E .entries .inv .2)
+    let z = word-next (B .bits .inv .0) (entry-at Y) (other Y) (N .next-with-key .result .bits) (N .next-with-key .ensures .pages .left)
+    (λ h. vain-at E left h .0) (E .entries .da-pages) (λ h. vain-at E left h .1) (free-at E) in
+    (rw (N .next-with-key .ensures .pages .opened) z, E .entries .inv .2)
 
 -- ---- the three ways out
 
@@ -513,9 +495,8 @@ returns c =
     let l = c .before in
     let G = l .before in
     let b = start-of G in
-    let x = b .args in
-    let e = words-end (try-at b) (cost-at b) (perPage (x .v)) (block-of G .start) (x .below) (block-of G .words) (l .filters .opened) (l .filters .da-pages) (l .filters .w) (l .filters .inv .0) (omega arith) (block-at G .start-lt) (gate-at b) (shows G) in
-    (block-at G .start-lt, (rw (l .filters .inv .1) (e .0), rw (l .filters .inv .1) (e .1)))
+    let e = words-end (l .filters .inv .0) (gate-at b) (shows G) (omega arith) (block-at G .start-lt) in
+    (block-at G .start-lt, (rw (l .filters .inv .1) (e .found), rw (l .filters .inv .1) (e .price)))
 
 -- the page's scan ended
 ended : (N : Tries) (r : Stop) (sum : ℕ) → let c = N .before in let b = start-of (known c) in let x = b .args in let q = perPage (x .v) in
@@ -527,11 +508,9 @@ ended N r sum h e d =
     let B = c .before in
     let G = known c in
     let b = start-of G in
-    let x = b .args in
     let s = scan-at N h in
-    let w = word-ended (try-at b) (cost-at b) (perPage (x .v)) (block-of G .start) (x .below) (block-of G .words) (B .bits .opened) (B .bits .da-pages) (word-of c) (B .bits .bits) (B .bits .inv .0)
-    (entry-at c) (other c) (gate-at b) (shows G) (reached N h) r (sym (s .0) ∙ e) in
-    (rw (N .next-with-key .ensures .opened) (w .0), omega (arith, w .1, d, s .1))
+    let w = word-ended (B .bits .inv .0) (entry-at c) (other c) (gate-at b) (shows G) (reached N h) r (sym (s .0) ∙ e) in
+    (rw (N .next-with-key .ensures .pages .opened) (w .0), omega (arith, w .1, d, s .1))
 
 returns-2 : tie.Need-returns-2 Inv-entries μ-entries Inv-bits μ-bits Inv-filters μ-filters
 returns-2 c =
@@ -540,11 +519,9 @@ returns-2 c =
     let E = J .before .before in
     let N = E .before .before in
     let G = known (N .before) in
-    let b = start-of G in
-    let x = b .args in
     let p = J .before .entries-test .taken in
     let h = some-left E p in
-    let e = left-corrupt (x .main .now) (N .next-with-key .result .start) (perPage (x .v)) (x .v .n0) (x .key) (deleted-at b) (test-at b) (try-in N) (cost-in N) 0 (same-at N) (N .before .before .bits .da-pages) (E .entries .e) (E .entries .da-pages) (J .number-at .result) (E .entries .inv .0 h) p (J .number-at .ensures) (omega (arith, W .wide .ensures)) in
+    let e = left-corrupt (same-at N) (E .entries .inv .0 h) p (J .number-at .ensures) (omega (arith, W .usize-of-u32 .ensures)) in
     (block-at G .start-lt, ended N corrupt (E .entries .da-pages) h (e .0) (e .1))
 
 returns-3 : tie.Need-returns-3 Inv-entries μ-entries Inv-bits μ-bits Inv-filters μ-filters
@@ -554,10 +531,9 @@ returns-3 c =
     let E = entry-of D in
     let N = tries-of D in
     let G = known (N .before) in
-    let b = start-of G in
-    let x = b .args in
     let h = some-left E (one-left D) in
-    let e = left-found (x .main .now) (N .next-with-key .result .start) (perPage (x .v)) (x .v .n0) (x .key) (deleted-at b) (test-at b) (try-in N) (cost-in N) 0 (same-at N) (N .before .before .bits .da-pages) (E .entries .e) (E .entries .da-pages) (J .number-at .result) (E .entries .inv .0 h) (one-left D) (J .number-at .ensures) (number-lt D) (D .test .result .met) (D .test .result .opened) (told-met D) (told-opened D) (not-true (D .test .result .met) (c .if2 .taken)) in
+    let e = left-found (same-at N) (E .entries .inv .0 h) (one-left D) (J .number-at .ensures) (number-lt D)
+    (D .test .result .met) (D .test .result .opened) (told-met D) (told-opened D) (not-true (D .test .result .met) (c .if2 .taken)) in
     (block-at G .start-lt, ended N (found (J .number-at .result)) (E .entries .da-pages + D .test .result .opened) h (e .0) (e .1))
 
 pub in-block-spec : {M : Type 1} → statement M
@@ -590,7 +566,7 @@ in-block-spec =
     bits-again
     sub-k
     number-at-requires
-    wide-requires
+    usize-of-u32-requires
     deletions-of-requires
     test-requires
     cast-da-pages

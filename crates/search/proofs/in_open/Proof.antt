@@ -4,6 +4,7 @@ use native.Mathlib.Omega.{arith}
 use mathlib.Core.Path.{_≡_, ap}
 use Prim.Native.Nat.{ℕ, _/_, _%_, _≤_}
 use Rattle.memory.specs.Cases.{either}
+use Rattle.keys.specs.Key.{keyIs}
 use Rattle.search.specs.Find.{stopOf}
 use Rattle.search.proofs.Volume.{pages-few, pages-then, open-few, open-in-flash, open-on-flash, cost-on-flash, open-in-ram}
 use Rattle.search.proofs.Volume.{open-on-ram, cost-on-ram}
@@ -32,8 +33,7 @@ div-if2 c = let E = c .before .before .before .before .before in omega (arith, E
 few-of : (E : Sized) → start-of E .args .v .n0 % E .entries-per-page .result ≤ start-of E .args .v .n0
 few-of E =
     let b = start-of E in
-    let x = b .args in
-    open-few (x .v) (x .main .now) (x .ram .now) (b .pre) (E .entries-per-page .result) (E .entries-per-page .ensures)
+    open-few (b .pre) (E .entries-per-page .result) (E .entries-per-page .ensures)
 
 -- ---- on flash
 
@@ -41,15 +41,13 @@ page-start-requires : tie.Need-page-start-requires
 page-start-requires c κs =
     let E = c .before .before .before .before .before .before in
     let b = start-of E in
-    let x = b .args in
-    (b .pre .sound, rw (E .entries-per-page .ensures) (omega (arith, pages-then (x .v) (x .main .now) (x .ram .now) (b .pre), pages-few (x .v) (x .main .now) (x .ram .now) (b .pre))))
+    (b .pre .sound, rw (E .entries-per-page .ensures) (omega (arith, pages-then (b .pre), pages-few (b .pre))))
 
 in-page-requires : tie.Need-in-page-requires
 in-page-requires c κs =
     let E = c .before .before .before .before .before .before .before in
     let b = start-of E in
-    let x = b .args in
-    (b .pre, open-in-flash (x .v) (x .main .now) (x .ram .now) (b .pre) (E .entries-per-page .result) (E .entries-per-page .ensures) (c .before .if2 .taken) (c .page-start .result) (c .page-start .ensures), few-of E)
+    (b .pre, open-in-flash (b .pre) (E .entries-per-page .result) (E .entries-per-page .ensures) (c .before .if2 .taken) (c .page-start .result) (c .page-start .ensures), few-of E)
 
 returns : tie.Need-returns
 returns c =
@@ -57,10 +55,10 @@ returns c =
     let E = S .before .before .before .before .before .before .before in
     let b = start-of E in
     let x = b .args in (
-      open-on-flash (x .v) (x .main .now) (x .ram .now) (b .pre) (E .entries-per-page .result) (E .entries-per-page .ensures) (S .before .if2 .taken) (S .page-start .result) (S .page-start .ensures)
-          (x .key) (stopOf (c .in-page .result .end)) (c .in-page .ensures .0),
-      cost-on-flash (x .v) (x .main .now) (x .ram .now) (b .pre) (E .entries-per-page .result) (E .entries-per-page .ensures) (S .before .if2 .taken) (S .page-start .result) (S .page-start .ensures)
-          (x .key) (c .in-page .result .«da_pages») (c .in-page .ensures .1),
+      open-on-flash (b .pre) (E .entries-per-page .result) (E .entries-per-page .ensures) (S .before .if2 .taken) (S .page-start .result) (S .page-start .ensures)
+          (keyIs (x .key)) (stopOf (c .in-page .result .end)) (c .in-page .ensures .0),
+      cost-on-flash (b .pre) (E .entries-per-page .result) (E .entries-per-page .ensures) (S .before .if2 .taken) (S .page-start .result) (S .page-start .ensures)
+          (keyIs (x .key)) (c .in-page .result .«da_pages») (c .in-page .ensures .1),
     )
 
 -- ---- in RAM
@@ -72,8 +70,7 @@ in-page-requires-2 : tie.Need-in-page-requires-2
 in-page-requires-2 c κs =
     let E = c .before .before .before .before in
     let b = start-of E in
-    let x = b .args in
-    (b .pre, open-in-ram (x .v) (x .main .now) (x .ram .now) (b .pre) (E .entries-per-page .result) (E .entries-per-page .ensures) (c .ka-ram .result) (c .ka-ram .ensures), few-of E)
+    (b .pre, open-in-ram (b .pre) (E .entries-per-page .result) (E .entries-per-page .ensures) (c .ka-ram .result) (c .ka-ram .ensures), few-of E)
 
 -- no page was filled since
 none-filled : (J : tie.Joined1) → let E = J .before .before .before in let v = start-of E .args .v in v .n / E .entries-per-page .result ≤ v .n0 / E .entries-per-page .result
@@ -93,10 +90,10 @@ returns-2 c =
     let E = K .before .before .before .before in
     let b = start-of E in
     let x = b .args in (
-      open-on-ram (x .v) (x .main .now) (x .ram .now) (b .pre) (E .entries-per-page .result) (E .entries-per-page .ensures) (K .ka-ram .result) (K .ka-ram .ensures) (none-filled (K .before))
-          (x .key) (stopOf (c .in-page2 .result .end)) (c .in-page2 .ensures .0),
-      cost-on-ram (x .v) (x .main .now) (x .ram .now) (b .pre) (E .entries-per-page .result) (E .entries-per-page .ensures) (K .ka-ram .result) (K .ka-ram .ensures) (none-filled (K .before))
-          (x .key) (c .in-page2 .result .«da_pages») (c .in-page2 .ensures .1),
+      open-on-ram (b .pre) (E .entries-per-page .result) (E .entries-per-page .ensures) (K .ka-ram .result) (K .ka-ram .ensures) (none-filled (K .before))
+          (keyIs (x .key)) (stopOf (c .in-page2 .result .end)) (c .in-page2 .ensures .0),
+      cost-on-ram (b .pre) (E .entries-per-page .result) (E .entries-per-page .ensures) (K .ka-ram .result) (K .ka-ram .ensures) (none-filled (K .before))
+          (keyIs (x .key)) (c .in-page2 .result .«da_pages») (c .in-page2 .ensures .1),
     )
 
 pub in-open-spec : {M : Type 1} → statement M

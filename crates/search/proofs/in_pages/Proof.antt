@@ -1,23 +1,25 @@
 -- What is left of the search at each block of filters.
 use borrow.Author.Needs.{needs}
 use native.Mathlib.Omega.{arith}
-use mathlib.Core.Path.{sym}
+use mathlib.Core.Path.{sym, ap}
 use mathlib.Core.Bool.{Bool}
 use mathlib.Core.Option.{Option}
 use Prim.Native.Nat.{ℕ}
 use lib.ListN.{take}
 use Rattle.layout.specs.Search.{Stop, found, corrupt}
 use Rattle.layout.specs.Calls.{maybeIn}
+use Rattle.laws.specs.WalkLaws.{Pages, Part, pages-first, pages-none, part-few, part-most, part-ended, part-next}
 use Rattle.geometry.specs.Shape.{shape}
+use Rattle.keys.specs.Key.{keyIs}
 use Rattle.search.specs.Find.{stopOf, viewed, tryOf, costOf}
-use Rattle.search.proofs.Pages.{Pages, pages-first, pages-none, blocks-some, blocks-next, blocks-few, blocks-most}
 use Rattle.search.proofs.Volume.{perPage, pagesThen, pages-few, pages-then, below-most}
 use Rattle.search.proofs.in_pages.Statement.{statement}
 use Rattle.search.proofs.in_pages.Tie as tie
 
 abbrev Inv-loop : tie.InvT-loop
 Inv-loop v key ps count main ram opened₀ da₀ below₀ opened da below =
-    Pages (maybeIn (shape (v .g)) (viewed v main ram) (take count ps)) (tryOf v main ram key) (costOf v main ram key) (perPage v) (pagesThen v) opened da below
+    Pages (maybeIn (shape (v .g)) (viewed v main ram) (take count ps)) (tryOf v main ram (keyIs key)) (costOf v main ram (keyIs key))
+    (perPage v) (pagesThen v) opened da below
 
 abbrev μ-loop : tie.MeasureT-loop
 μ-loop v key ps count main ram opened₀ da₀ below₀ opened da below = below
@@ -32,10 +34,10 @@ gate-at b =
     maybeIn (shape (b .args .v .g)) (viewed (b .args .v) (b .args .main .now) (b .args .ram .now)) (take (b .args .count) (b .args .ps))
 
 abbrev try-at : Start → ℕ → Option Stop
-try-at b = tryOf (b .args .v) (b .args .main .now) (b .args .ram .now) (b .args .key)
+try-at b = tryOf (b .args .v) (b .args .main .now) (b .args .ram .now) (keyIs (b .args .key))
 
 abbrev cost-at : Start → ℕ → ℕ
-cost-at b = costOf (b .args .v) (b .args .main .now) (b .args .ram .now) (b .args .key)
+cost-at b = costOf (b .args .v) (b .args .main .now) (b .args .ram .now) (keyIs (b .args .key))
 
 abbrev start-of : tie.At-loop Inv-loop μ-loop → Start
 start-of l = l .before .before .before .before .before
@@ -61,29 +63,36 @@ in-block-requires c κs =
 
 -- ---- after a block
 
+abbrev Walked : Type 0
+Walked = tie.After-in-block Inv-loop μ-loop
+
+abbrev loop-of : Walked → tie.At-loop Inv-loop μ-loop
+loop-of r = r .before .before
+
+part : (r : Walked) → let l = loop-of r in let b = start-of l in let w = r .in-block .result in
+    Part (gate-at b) (try-at b) (cost-at b) (perPage (b .args .v)) (l .loop .below) (w .start) (w .opened) (w .«da_pages») (stopOf (w .end))
+part r = record { found = r .in-block .ensures .1 .0; price = r .in-block .ensures .1 .1 }
+
 add-opened : tie.Need-add-opened Inv-loop μ-loop
 add-opened c =
     let r = c .before in
-    let l = r .before .before in
-    let b = start-of l in
-    let x = b .args in
+    let b = start-of (loop-of r) in
     omega (
       arith,
-      blocks-few (gate-at b) (try-at b) (cost-at b) (perPage (x .v)) (pagesThen (x .v)) (l .loop .opened) (l .loop .da-pages) (l .loop .below) (l .loop .inv) (r .in-block .result .start) (r .in-block .result .opened) (r .in-block .result .«da_pages») (stopOf (r .in-block .result .end)) (r .in-block .ensures .1 .0),
-      pages-then (x .v) (x .main .now) (x .ram .now) (b .pre .0),
-      pages-few (x .v) (x .main .now) (x .ram .now) (b .pre .0),
+      part-few (loop-of r .loop .inv) (part r),
+      pages-then (b .pre .0),
+      pages-few (b .pre .0),
     )
 
 add-da-pages : tie.Need-add-da-pages Inv-loop μ-loop
 add-da-pages c =
     let r = c .before .before in
-    let l = r .before .before in
-    let b = start-of l in
+    let b = start-of (loop-of r) in
     let x = b .args in
     omega (
       arith,
-      blocks-most (gate-at b) (try-at b) (cost-at b) (perPage (x .v)) (pagesThen (x .v)) (l .loop .opened) (l .loop .da-pages) (l .loop .below) (l .loop .inv) (r .in-block .result .start) (r .in-block .result .opened) (r .in-block .result .«da_pages») (stopOf (r .in-block .result .end)) (r .in-block .ensures .1 .1),
-      below-most (x .v) (x .main .now) (x .ram .now) (b .pre .0) (x .key) (take (x .count) (x .ps)) (pagesThen (x .v)) (omega arith),
+      part-most (loop-of r .loop .inv) (part r),
+      below-most (b .pre .0) (keyIs (x .key)) (take (x .count) (x .ps)) (pagesThen (x .v)) (omega arith),
     )
 
 enum-told : tie.Need-enum-told Inv-loop μ-loop
@@ -95,12 +104,8 @@ enum-known-end c = search needs
 returns : tie.Need-returns Inv-loop μ-loop
 returns c =
     let r = c .before .before .before .before .before in
-    let l = r .before .before in
-    let b = start-of l in
-    let x = b .args in
-    let e = rw (c .before .end .given .1) at (r .in-block .ensures .1 .0) in
-    let d = rw (c .before .end .given .1) at (r .in-block .ensures .1 .1) in
-    let w = blocks-some (gate-at b) (try-at b) (cost-at b) (perPage (x .v)) (pagesThen (x .v)) (l .loop .opened) (l .loop .da-pages) (l .loop .below) (l .loop .inv) (r .in-block .result .start) (r .in-block .result .opened) (r .in-block .result .«da_pages») (found (c .before .end .given .0 .0)) e d in
+    let e = c .before .end .given in
+    let w = part-ended (loop-of r .loop .inv) (part r) (found (e .0 .0)) (ap stopOf (e .1)) in
     (sym (w .0), omega (arith, w .1))
 
 enum-told-2 : tie.Need-enum-told-2 Inv-loop μ-loop
@@ -109,12 +114,7 @@ enum-told-2 c = search needs
 returns-2 : tie.Need-returns-2 Inv-loop μ-loop
 returns-2 c =
     let r = c .before .before .before .before in
-    let l = r .before .before in
-    let b = start-of l in
-    let x = b .args in
-    let e = rw (c .enum-told2 .given .1) at (r .in-block .ensures .1 .0) in
-    let d = rw (c .enum-told2 .given .1) at (r .in-block .ensures .1 .1) in
-    let w = blocks-some (gate-at b) (try-at b) (cost-at b) (perPage (x .v)) (pagesThen (x .v)) (l .loop .opened) (l .loop .da-pages) (l .loop .below) (l .loop .inv) (r .in-block .result .start) (r .in-block .result .opened) (r .in-block .result .«da_pages») corrupt e d in
+    let w = part-ended (loop-of r .loop .inv) (part r) corrupt (ap stopOf (c .enum-told2 .given .1)) in
     (sym (w .0), omega (arith, w .1))
 
 loop-less : tie.Need-loop-less Inv-loop μ-loop
@@ -123,19 +123,11 @@ loop-less c = c .before .before .before .before .in-block .ensures .0
 loop-again : tie.Need-loop-again Inv-loop μ-loop
 loop-again c =
     let r = c .before .before .before .before in
-    let l = r .before .before in
-    let b = start-of l in
-    let x = b .args in
-    let e = rw (c .enum-told .given .1) at (r .in-block .ensures .1 .0) in
-    let d = rw (c .enum-told .given .1) at (r .in-block .ensures .1 .1) in
-    blocks-next (gate-at b) (try-at b) (cost-at b) (perPage (x .v)) (pagesThen (x .v)) (l .loop .opened) (l .loop .da-pages) (l .loop .below) (l .loop .inv) (r .in-block .result .start) (r .in-block .result .opened) (r .in-block .result .«da_pages») e d (r .in-block .ensures .0)
+    part-next (loop-of r .loop .inv) (part r) (ap stopOf (c .enum-told .given .1)) (omega (arith, r .in-block .ensures .0))
 
 returns-3 : tie.Need-returns-3 Inv-loop μ-loop
 returns-3 c =
-    let l = c .before in
-    let b = start-of l in
-    let x = b .args in
-    let w = pages-none (gate-at b) (try-at b) (cost-at b) (perPage (x .v)) (pagesThen (x .v)) (l .loop .opened) (l .loop .da-pages) (l .loop .below) (l .loop .inv) (omega arith) in
+    let w = pages-none (c .before .loop .inv) (omega arith) in
     (sym (w .0), w .1)
 
 pub in-pages-spec : {M : Type 1} → statement M

@@ -6,13 +6,15 @@ use Prim.Native.Nat.{ℕ, suc, _-_, _<_}
 use borrow.Author.Tests.{le-ltb}
 use Rattle.memory.specs.Bits.{bit, bit-zero}
 use Rattle.memory.specs.Candidate.{candidate}
+use Rattle.laws.specs.TopBits.{cleared-less, top-both, top-left}
+use Rattle.keys.specs.Key.{keyIs}
 use Rattle.search.specs.Tries.{entryOf}
-use Rattle.search.proofs.Tries.{cleared-less, Vain, vain-first, vain-few, vain-newest, vain-opened, vain-next, top-both, top-left, some-newest, some-opened}
+use Rattle.search.proofs.Tries.{Vain, vain-first, vain-few, vain-newest, vain-opened, vain-next, some-newest, some-opened}
 use Rattle.search.proofs.next_page.Statement.{statement}
 use Rattle.search.proofs.next_page.Tie as tie
 
 abbrev Inv-loop : tie.InvT-loop
-Inv-loop g key from bits main left₀ opened₀ left opened = Vain bits (entryOf g key from main) left opened
+Inv-loop g key from bits main left₀ opened₀ left opened = Vain bits (entryOf g (keyIs key) from main) left opened
 
 abbrev μ-loop : tie.MeasureT-loop
 μ-loop g key from bits main left₀ opened₀ left opened = candidate (bit left) 64
@@ -21,7 +23,7 @@ abbrev Start : Type 0
 Start = tie.Start Inv-loop μ-loop
 
 abbrev entry-at : Start → ℕ → ℕ
-entry-at b = entryOf (b .args .g) (b .args .key) (b .args .from) (b .args .main .now)
+entry-at b = entryOf (b .args .g) (keyIs (b .args .key)) (b .args .from) (b .args .main .now)
 
 loop-holds : tie.Need-loop-holds Inv-loop μ-loop
 loop-holds c = vain-first (c .before .args .bits) (entry-at (c .before))
@@ -44,17 +46,10 @@ abbrev start-of : Visited → Start
 start-of U = loop-of U .before .before
 
 is-set : (U : Visited) → bit (start-of U .args .bits) (U .before .top .result) ≡ true
-is-set U =
-    let l = loop-of U in
-    let b = start-of U in
-    let T = U .before .top in
-    top-both (b .args .bits) (entry-at b) (l .loop .left) (l .loop .opened) (l .loop .inv) (T .result) (T .ensures .0) (T .ensures .1) (T .ensures .2) .1
+is-set U = top-both (loop-of U .loop .inv .shown) (U .before .top .result) (U .before .top .ensures) .1
 
 add-opened : tie.Need-add-opened Inv-loop μ-loop
-add-opened c =
-    let l = loop-of c in
-    let b = start-of c in
-    omega (arith, vain-few (b .args .bits) (entry-at b) (l .loop .left) (l .loop .opened) (l .loop .inv))
+add-opened c = omega (arith, vain-few (loop-of c .loop .inv))
 
 add-page-start : tie.Need-add-page-start Inv-loop μ-loop
 add-page-start c = omega (arith, start-of c .pre .1, c .before .top .ensures .0)
@@ -85,17 +80,13 @@ returns c =
     let b = start-of U in
     let T = U .before .top in
     let h : 0 < entry-at b (T .result) = omega (arith, entry-is F, c .if1 .taken) in
-    let n =
-    some-newest (b .args .bits) (entry-at b) (l .loop .left) (l .loop .opened) (l .loop .inv) (T .result) (T .ensures .0) (T .ensures .1) (T .ensures .2)
-    (U .without .result) (U .without .ensures) h in
+    let n = some-newest (l .loop .inv) (T .result) (T .ensures) h in
     let s : suc (T .result) - 1 ≡ T .result = omega arith in
     record {
-      left = rw (n, s)
-          (top-left (b .args .bits) (entry-at b) (l .loop .left) (l .loop .opened) (l .loop .inv) (T .result) (T .ensures .0) (T .ensures .1) (T .ensures .2)
-          (U .without .result) (U .without .ensures));
-      opened =
-          some-opened (b .args .bits) (entry-at b) (l .loop .left) (l .loop .opened) (l .loop .inv) (T .result) (T .ensures .0) (T .ensures .1) (T .ensures .2)
-          (U .without .result) (U .without .ensures) h;
+      pages = record {
+        left = rw (n, s) (top-left (l .loop .inv .shown) (T .result) (T .ensures) (U .without .result) (U .without .ensures) .shown);
+        opened = some-opened (l .loop .inv) (T .result) (T .ensures) h;
+      };
       none = λ z. absurd (omega (arith, n));
       some = λ p. rw (n, s) (refl, entry-is F);
     }
@@ -103,18 +94,15 @@ returns c =
 loop-less : tie.Need-loop-less Inv-loop μ-loop
 loop-less c =
     let U = c .before .before .before in
-    let T = U .before .top in
-    cleared-less (loop-of U .loop .left) (T .result) (T .ensures .2) (U .without .result) (U .without .ensures) (T .ensures .0) (T .ensures .1)
+    cleared-less (loop-of U .loop .left) (U .before .top .result) (U .before .top .ensures) (U .without .result) (U .without .ensures)
 
 loop-again : tie.Need-loop-again Inv-loop μ-loop
 loop-again c =
     let F = c .before in
     let U = F .before .before in
-    let l = loop-of U in
-    let b = start-of U in
     let T = U .before .top in
-    vain-next (b .args .bits) (entry-at b) (l .loop .left) (l .loop .opened) (l .loop .inv) (T .result) (T .ensures .0) (T .ensures .1) (T .ensures .2)
-    (U .without .result) (U .without .ensures) (omega (arith, entry-is F, c .if1 .left))
+    vain-next (loop-of U .loop .inv) (T .result) (T .ensures) (U .without .result) (U .without .ensures)
+    (omega (arith, entry-is F, c .if1 .left))
 
 -- none is left
 returns-2 : tie.Need-returns-2 Inv-loop μ-loop
@@ -122,10 +110,12 @@ returns-2 c =
     let l = c .before in
     let b = l .before .before in
     let z : l .loop .left ≡ 0 = c .loop-test .left in
-    let n = vain-newest (b .args .bits) (entry-at b) (l .loop .left) (l .loop .opened) (l .loop .inv) z in
+    let n = vain-newest (l .loop .inv) z in
     record {
-      left = λ i k. rw n (bit-zero i ∙ sym (ap (λ (t : Bool). t && bit (b .args .bits) i) (le-ltb i 0 (omega arith))));
-      opened = vain-opened (b .args .bits) (entry-at b) (l .loop .left) (l .loop .opened) (l .loop .inv) z;
+      pages = record {
+        left = λ i k. rw n (bit-zero i ∙ sym (ap (λ (t : Bool). t && bit (b .args .bits) i) (le-ltb i 0 (omega arith))));
+        opened = vain-opened (l .loop .inv) z;
+      };
       none = λ h. (refl, refl);
       some = λ h. absurd (omega (arith, n));
     }

@@ -2,9 +2,10 @@
 use borrow.Author.Needs.{needs}
 use native.Mathlib.Omega.{arith}
 use mathlib.Core.Path.{_≡_, refl, sym, ap, _∙_}
-use Prim.Native.Nat.{ℕ, _+_, _-_, _≤_, _<_}
+use Prim.Native.Nat.{ℕ, _-_, _<_}
 use Rattle.memory.specs.Bits.{bit}
 use Rattle.memory.specs.Cases.{either, lt?}
+use Rattle.keys.specs.Key.{keyIs}
 use Rattle.search.specs.Tries.{newestIn, entryOf}
 use Rattle.search.proofs.Tries.{newest-some, newest-le}
 use Rattle.search.proofs.next_with_key.Statement.{statement}
@@ -12,7 +13,7 @@ use Rattle.search.proofs.next_with_key.Tie as tie
 
 -- the newest with an entry, plus one
 abbrev newest : tie.Start → ℕ
-newest b = newestIn (b .args .g) (b .args .key) (b .args .from) (b .args .bits) (b .args .main .now)
+newest b = newestIn (b .args .g) (keyIs (b .args .key)) (b .args .from) (b .args .bits) (b .args .main .now)
 
 abbrev Opened : Type 0
 Opened = tie.After-next-page
@@ -21,7 +22,7 @@ Opened = tie.After-next-page
 found : (c : Opened) → 0 < newest (c .before .before) → 0 < c .next-page .result .entry
 found c h =
     let x = c .before .before .args in
-    omega (arith, c .next-page .ensures .some h .1, newest-some (bit (x .bits)) (entryOf (x .g) (x .key) (x .from) (x .main .now)) 64 h)
+    omega (arith, c .next-page .ensures .some h .1, newest-some (bit (x .bits)) (entryOf (x .g) (keyIs (x .key)) (x .from) (x .main .now)) 64 h)
 
 there : (c : Opened) → 0 < c .next-page .result .entry → 0 < newest (c .before .before)
 there c h = either (lt? 0 (newest (c .before .before))) (λ t. t .1) (λ t. absurd (omega (arith, c .next-page .ensures .none (omega (arith, t .1)) .1)))
@@ -29,7 +30,7 @@ there c h = either (lt? 0 (newest (c .before .before))) (λ t. t .1) (λ t. absu
 page-lt : (c : Opened) → 0 < c .next-page .result .entry → c .next-page .result .page < 64
 page-lt c h =
     let x = c .before .before .args in
-    omega (arith, c .next-page .ensures .some (there c h) .0, there c h, newest-le (bit (x .bits)) (entryOf (x .g) (x .key) (x .from) (x .main .now)) 64)
+    omega (arith, c .next-page .ensures .some (there c h) .0, there c h, newest-le (bit (x .bits)) (entryOf (x .g) (keyIs (x .key)) (x .from) (x .main .now)) 64)
 
 next-page-requires : tie.Need-next-page-requires
 next-page-requires c κs = search needs
@@ -40,8 +41,7 @@ returns c =
     let P = o .next-page .ensures in
     let z : newest (o .before .before) ≡ 0 = either (lt? 0 (newest (o .before .before))) (λ t. absurd (omega (arith, found o (t .1), c .if1 .taken))) (λ t. omega (arith, t .1)) in
     record {
-      left = λ i h. sym (ap (λ (y : ℕ). bit y i) (P .none z .0)) ∙ P .left i h;
-      opened = P .opened;
+      pages = record { left = λ i h. sym (ap (λ (y : ℕ). bit y i) (P .none z .0)) ∙ P .pages .left i h; opened = P .pages .opened };
       none = λ h. (refl, refl, refl);
       some = λ h. absurd (omega (arith, z));
     }
@@ -63,10 +63,8 @@ returns-2 c =
     let o = e .before in
     let P = o .next-page .ensures in
     let h = there o (omega (arith, e .if1 .left)) in
-    let x = o .before .before .args in
     record {
-      left = P .left;
-      opened = P .opened;
+      pages = P .pages;
       none = λ z. absurd (omega (arith, z, h));
       some = λ k. (rw (P .some h .0) at (c .page-start .ensures), P .some h .1);
     }

@@ -31,8 +31,7 @@ add-result c =
     rw (c .page-address .ensures, c .before .block-address .ensures, c .before .before .ka-block .ensures) (omega (arith, k, l))
 
 returns : tie.Need-returns
-returns c =
-    rw (c .page-address .ensures, c .before .block-address .ensures, c .before .before .ka-block .ensures)
+returns c = rw (c .page-address .ensures, c .before .block-address .ensures, c .before .before .ka-block .ensures)
 
 pub page-start-spec : {M : Type 1} → statement M
 page-start-spec =

@@ -72,14 +72,11 @@ returns-6 c =
 mul-v : tie.Need-mul-v Inv-loop μ-loop
 mul-v c = omega arith
 
-wide-requires : tie.Need-wide-requires Inv-loop μ-loop
-wide-requires c κs = search needs
-
-sub-v : tie.Need-sub-v Inv-loop μ-loop
-sub-v c = omega (arith, c .wide .ensures)
+digit-value-requires : tie.Need-digit-value-requires Inv-loop μ-loop
+digit-value-requires c κs = search needs
 
 add-v : tie.Need-add-v Inv-loop μ-loop
-add-v c = omega (arith, c .wide .ensures)
+add-v c = omega (arith, c .digit-value .ensures .0)
 
 add-i : tie.Need-add-i Inv-loop μ-loop
 add-i c = omega arith
@@ -92,7 +89,7 @@ loop-again c =
     let l = c .before .before .before .before .before .before in
     let x = l .before .before .before .before .before .before .before .args in
     let e = digits-more (x .tab .now) (l .loop .i) (l .loop .v) (omega arith) (omega arith) (omega arith) in
-    (omega arith, omega (arith, c .wide .ensures), l .loop .inv .2 ∙ rw (c .wide .ensures) (ap small e))
+    (omega arith, omega (arith, c .digit-value .ensures .0), l .loop .inv .2 ∙ rw (c .digit-value .ensures .0) (ap small e))
 
 read-token-requires-3 : tie.Need-read-token-requires-3 Inv-loop μ-loop
 read-token-requires-3 c κs = search needs
@@ -123,8 +120,7 @@ decimal-at-spec =
     returns-5
     returns-6
     mul-v
-    wide-requires
-    sub-v
+    digit-value-requires
     add-v
     add-i
     loop-less

@@ -1,7 +1,8 @@
 use native.Mathlib.Omega.{arith}
+use mathlib.Core.List.{[], _∷_}
 use Prim.Native.Nat.{_/_, _%_}
 use lib.ListN.{length-set}
-use Rattle.words.proofs.Laws.{put-four}
+use Rattle.words.proofs.Laws.{put-bytes}
 use borrow.Author.Needs.{needs}
 use Rattle.words.proofs.put32.Statement.{statement}
 use Rattle.words.proofs.put32.Tie as tie
@@ -45,7 +46,7 @@ same-length c = search needs
 returns : tie.Need-returns
 returns c =
     let x = c .args in
-    put-four (x .s .now) (x .at) (x .x % 256) (x .x / 256 % 256) (x .x / 256 / 256 % 256) (x .x / 256 / 256 / 256 % 256) (c .pre)
+    put-bytes (x .s .now) (x .at) (x .x % 256) ((x .x / 256 % 256) ∷ (x .x / 256 / 256 % 256) ∷ (x .x / 256 / 256 / 256 % 256) ∷ []) (c .pre)
 
 pub put32-spec : {M : Type 1} → statement M
 put32-spec =

@@ -29,26 +29,26 @@ power-requires c κs = omega (arith, c .before .pre .0 .2)
 loop-holds : tie.Need-loop-holds Inv-loop μ-loop
 loop-holds c = (omega arith, (refl, λ j h. absurd (omega arith)), (refl, λ j h. absurd (omega arith)))
 
-mul-wide : tie.Need-mul-wide Inv-loop μ-loop
-mul-wide c = omega (arith, c .before .before .before .before .pre .0 .1)
+mul-usize-of-u32 : tie.Need-mul-usize-of-u32 Inv-loop μ-loop
+mul-usize-of-u32 c = omega (arith, c .before .before .before .before .pre .0 .1)
 
-array-read-wide : tie.Need-array-read-wide Inv-loop μ-loop
-array-read-wide c = omega (arith, c .before .before .before .before .pre .0 .1, eight (c .before .before .before .before))
+array-read-usize-of-u32 : tie.Need-array-read-usize-of-u32 Inv-loop μ-loop
+array-read-usize-of-u32 c = omega (arith, c .before .before .before .before .pre .0 .1, eight (c .before .before .before .before))
 
-wide-requires : tie.Need-wide-requires Inv-loop μ-loop
-wide-requires c κs = search needs
+usize-of-u32-requires : tie.Need-usize-of-u32-requires Inv-loop μ-loop
+usize-of-u32-requires c κs = search needs
 
 shifted-requires : tie.Need-shifted-requires Inv-loop μ-loop
 shifted-requires c κs = omega (arith, c .before .before .before .before .before .pre .0 .2)
 
 mul-at : tie.Need-mul-at Inv-loop μ-loop
 mul-at c =
-    let s = rw (← c .before .wide .ensures, ← c .shifted .ensures) at (c .before .before .before .before .before .before .pre .1 (c .before .before .before .loop .i) (c .before .before .loop-test .taken) .reach) in
+    let s = rw (← c .before .usize-of-u32 .ensures, ← c .shifted .ensures) at (c .before .before .before .before .before .before .pre .1 (c .before .before .before .loop .i) (c .before .before .loop-test .taken) .reach) in
     omega (arith, s)
 
 add-at : tie.Need-add-at Inv-loop μ-loop
 add-at c =
-    let s = rw (← c .before .wide .ensures, ← c .shifted .ensures) at (c .before .before .before .before .before .before .pre .1 (c .before .before .before .loop .i) (c .before .before .loop-test .taken) .reach) in
+    let s = rw (← c .before .usize-of-u32 .ensures, ← c .shifted .ensures) at (c .before .before .before .before .before .before .pre .1 (c .before .before .before .loop .i) (c .before .before .loop-test .taken) .reach) in
     omega (arith, s)
 
 mul-at-2 : tie.Need-mul-at-2 Inv-loop μ-loop
@@ -75,7 +75,7 @@ loop-less c = omega arith
 loop-again : tie.Need-loop-again Inv-loop μ-loop
 loop-again c =
     let l = c .before .before .before .loop in
-    let W = c .before .wide in
+    let W = c .before .usize-of-u32 in
     let w = c .before .before .before .before .power .result in
     let x = c .before .before .before .before .before .before .args in
     let f : ℕ → ℕ = λ j. x .l .base + getD (x .t3) j 0 / 2 ^ x .l .exponent * x .l .stride in
@@ -152,9 +152,9 @@ block-by-words-spec =
     μ-loop
     power-requires
     loop-holds
-    mul-wide
-    array-read-wide
-    wide-requires
+    mul-usize-of-u32
+    array-read-usize-of-u32
+    usize-of-u32-requires
     shifted-requires
     mul-at
     add-at

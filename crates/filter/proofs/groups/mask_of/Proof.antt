@@ -39,8 +39,8 @@ mul-p c = search needs
 array-read-p : tie.Need-array-read-p Inv-loop μ-loop
 array-read-p c = search needs
 
-wide-requires : tie.Need-wide-requires Inv-loop μ-loop
-wide-requires c κs = search needs
+usize-of-u32-requires : tie.Need-usize-of-u32-requires Inv-loop μ-loop
+usize-of-u32-requires c κs = search needs
 
 rem-single : tie.Need-rem-single Inv-loop μ-loop
 rem-single c = search needs
@@ -49,7 +49,7 @@ single-requires : tie.Need-single-requires Inv-loop μ-loop
 single-requires c κs =
     let b = c .before .before .before .before in
     let P = c .before .before .before .power in
-    omega (arith, P .ensures .0, mod-lt (c .wide .result) (P .ensures .1), top (b .args .e) (b .pre .0))
+    omega (arith, P .ensures .0, mod-lt (c .usize-of-u32 .result) (P .ensures .1), top (b .args .e) (b .pre .0))
 
 add-i : tie.Need-add-i Inv-loop μ-loop
 add-i c = omega arith
@@ -63,16 +63,16 @@ loop-again c =
     let x = b .args in
     let P = c .before .before .before .before .power in
     let l = c .before .before .before .loop in
-    let p : c .before .wide .result % P .result ≡ getD (x .t2) (l .i) 0 % 2 ^ x .e = rw (← P .ensures .0, ← c .before .wide .ensures) in
-    let k : c .before .wide .result % P .result < 2 ^ x .e = rw (← P .ensures .0) (mod-lt (c .before .wide .result) (P .ensures .1)) in (
+    let p : c .before .usize-of-u32 .result % P .result ≡ getD (x .t2) (l .i) 0 % 2 ^ x .e = rw (← P .ensures .0, ← c .before .usize-of-u32 .ensures) in
+    let k : c .before .usize-of-u32 .result % P .result < 2 ^ x .e = rw (← P .ensures .0) (mod-lt (c .before .usize-of-u32 .result) (P .ensures .1)) in (
       omega arith,
       or-lt (2 ^ x .e) (l .bits) (c .single .result) (l .inv .1) (rw (c .single .ensures .0) (pow-lt k)),
       mask-more (x .t2) (l .i) (2 ^ x .e) (l .bits) (c .single .result) (l .inv .2) (λ y h. rw p at (c .single .ensures .1 y h)),
       row-more (x .t2) (l .i) (x .e) (l .differ) (l .inv .3),
     )
 
-wide-requires-2 : tie.Need-wide-requires-2 Inv-loop μ-loop
-wide-requires-2 c κs = search needs
+usize-of-u32-requires-2 : tie.Need-usize-of-u32-requires-2 Inv-loop μ-loop
+usize-of-u32-requires-2 c κs = search needs
 
 shifted-requires : tie.Need-shifted-requires Inv-loop μ-loop
 shifted-requires c κs = search needs
@@ -83,7 +83,7 @@ returns c =
     let l = a .before .loop in
     let e : l .i ≡ a .before .before .before .args .count = omega arith in (
       (l .inv .1, rw e at (l .inv .2)),
-      λ t. rw e at (l .inv .3 (rw (c .before .wide2 .ensures) at (sym (c .shifted .ensures) ∙ eqb-true (c .shifted .result) 0 t))),
+      λ t. rw e at (l .inv .3 (rw (c .before .usize-of-u322 .ensures) at (sym (c .shifted .ensures) ∙ eqb-true (c .shifted .result) 0 t))),
     )
 
 pub mask-of-spec : {M : Type 1} → statement M
@@ -97,12 +97,12 @@ mask-of-spec =
     loop-holds
     mul-p
     array-read-p
-    wide-requires
+    usize-of-u32-requires
     rem-single
     single-requires
     add-i
     loop-less
     loop-again
-    wide-requires-2
+    usize-of-u32-requires-2
     shifted-requires
     returns)

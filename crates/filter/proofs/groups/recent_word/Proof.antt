@@ -118,8 +118,8 @@ row-of-requires-2 c κs =
     let I = b .pre .3 in
     (omega (arith, I .same, I .narrow), omega (arith, I .in-ram (l .before .loop .i) (l .loop-test .taken), ram-lt b))
 
-wide-requires : tie.Need-wide-requires Inv-loop μ-loop
-wide-requires c κs = search needs
+usize-of-u32-requires : tie.Need-usize-of-u32-requires Inv-loop μ-loop
+usize-of-u32-requires c κs = search needs
 
 -- a position's word
 abbrev At : Type 0
@@ -141,7 +141,7 @@ rem-low c = omega (arith, positive (set-of (c .before)))
 add-byte-bits : tie.Need-add-byte-bits Inv-loop μ-loop
 add-byte-bits c =
     let a = c .before in
-    omega (arith, in-ram (word-at a), ram-lt (begun (set-of a)), mod-lt (c .wide .result) (positive (set-of a)))
+    omega (arith, in-ram (word-at a), ram-lt (begun (set-of a)), mod-lt (c .usize-of-u32 .result) (positive (set-of a)))
 
 sub-byte-bits : tie.Need-sub-byte-bits Inv-loop μ-loop
 sub-byte-bits c = omega (arith, top-le (word-at (c .before .before)))
@@ -151,8 +151,8 @@ byte-bits-requires c κs =
     let a = c .before .before in
     let Q = word-at a in
     let d = set-of a in
-    let x = c .before .wide .result % width d in
-    let l = mod-lt (c .before .wide .result) (positive d) in
+    let x = c .before .usize-of-u32 .result % width d in
+    let l = mod-lt (c .before .usize-of-u32 .result) (positive d) in
     (behind Q, omega (arith, steps Q, positive d), bytes-fit Q x l (ram-lt (begun d)), λ i h. bytes-in Q x i l h)
 
 mul-row-bits : tie.Need-mul-row-bits Inv-loop μ-loop
@@ -168,13 +168,13 @@ add-row-bits c =
 add-row-bits-2 : tie.Need-add-row-bits-2 Inv-loop μ-loop
 add-row-bits-2 c =
     let a = c .before .before .before in
-    omega (arith, first-in (word-at a), narrow (word-at a), main-lt (begun (set-of a)), mod-lt (c .before .before .wide .result) (positive (set-of a)))
+    omega (arith, first-in (word-at a), narrow (word-at a), main-lt (begun (set-of a)), mod-lt (c .before .before .usize-of-u32 .result) (positive (set-of a)))
 
 row-bits-requires : tie.Need-row-bits-requires Inv-loop μ-loop
 row-bits-requires c κs =
     let a = c .before .before .before in
     let Q = word-at a in
-    let p = c .before .before .wide .result in
+    let p = c .before .before .usize-of-u32 .result in
     (n-le Q, λ i h. row-in Q (p % width (set-of a)) i (mod-lt p (positive (set-of a))) h)
 
 add-i : tie.Need-add-i Inv-loop μ-loop
@@ -189,7 +189,7 @@ loop-again c =
     let b = begun (set-of a) in
     let x = b .args in
     let l = a .before .before .before .loop in
-    let W = c .before .before .before .wide in (
+    let W = c .before .before .before .usize-of-u32 in (
       omega arith,
       tested-more (hasRecent (x .rs) (x .main .now) (x .ram .now)) (x .t3) (x .first) (bits (x .rs) (x .first)) (l .i) (omega (arith, eight b, b .pre .2)) (l .r) (c .row-bits .result) (l .inv .1)
           (recent-one (word-at a) (x .main .now) (x .ram .now) (W .result) (c .before .byte-bits .result) (c .row-bits .result) (W .ensures)
@@ -225,7 +225,7 @@ recent-word-spec =
     array-read-p
     row-of-requires
     row-of-requires-2
-    wide-requires
+    usize-of-u32-requires
     rem-low
     add-byte-bits
     sub-byte-bits

@@ -1,7 +1,6 @@
 use borrow.Author.Needs.{needs}
-use Rattle.filter.specs.Filter.{pairBits, halfBits}
-use Rattle.filter.specs.Fourths.{fourths-ext}
-use Rattle.filter.proofs.Pairs.{halves-are}
+use native.Mathlib.Omega.{arith}
+use Rattle.filter.proofs.Pairs.{halves-put}
 use Rattle.filter.proofs.page.number_filters.Statement.{statement}
 use Rattle.filter.proofs.page.number_filters.Tie as tie
 
@@ -14,43 +13,43 @@ mul-middle c = search needs
 add-middle : tie.Need-add-middle
 add-middle c = search needs
 
-sub-get32 : tie.Need-sub-get32
-sub-get32 c = search needs
+sub-hashed-at : tie.Need-sub-hashed-at
+sub-hashed-at c = search needs
 
-get32-requires : tie.Need-get32-requires
-get32-requires c κs = search needs
+hashed-at-requires : tie.Need-hashed-at-requires
+hashed-at-requires c κs = search needs
 
-new-filter-requires : tie.Need-new-filter-requires
-new-filter-requires c κs = search needs
+half-filter-requires : tie.Need-half-filter-requires
+half-filter-requires c κs =
+    let s = c .before .before .before .before .before in
+    let P = s .pre .0 in
+    ((P .0, P .1, omega (arith, P .2)), (omega arith, s .pre .1))
 
-new-filter-requires-2 : tie.Need-new-filter-requires-2
-new-filter-requires-2 c κs = search needs
+of-number-requires : tie.Need-of-number-requires
+of-number-requires c κs = search needs
 
-slice-aggregate-pair : tie.Need-slice-aggregate-pair
-slice-aggregate-pair c = search needs
+half-filter-requires-2 : tie.Need-half-filter-requires-2
+half-filter-requires-2 c κs =
+    let n = c .before .before .before .before .before .before .before in
+    let s = n .before .before .before in
+    let P = s .pre .0 in
+    ((P .0, P .1, omega (arith, P .2, n .deletions-per-filter .ensures)), (omega arith, search (needs, s .pre .1)))
 
-slice-aggregate-pair-2 : tie.Need-slice-aggregate-pair-2
-slice-aggregate-pair-2 c = search needs
-
-pair-requires : tie.Need-pair-requires
-pair-requires c κs = search needs
+same-length : tie.Need-same-length
+same-length c = search needs
 
 returns : tie.Need-returns
 returns c =
-    let b1 = c .before .before .before in
-    let b2 = b1 .before .before in
-    let b3 = b2 .before in
-    let x = b3 .before .before .args in
-    let U = b3 .before .before .pre .0 in
-    let first = b1 .before .new-filter in
-    let second = b1 .new-filter2 in (
-      fourths-ext (x .chip .unit) 2 (pairBits (first .result) (second .result))
-          (halfBits (x .chip .unit) (x .count) (x .at) (x .number) (x .ram .now)) (c .pair .result)
-          (halves-are (x .chip .unit) (x .count) (x .at) (x .number) _ _ (x .ram .now) (first .result) (second .result)
-          (U .1 .some) (U .1 .most) (b3 .deletions-per-filter .ensures) (b2 .get32 .ensures) (first .ensures) (second .ensures))
-          (c .pair .ensures .0),
-      c .pair .ensures .1,
-    )
+    let second = c .before .before in
+    let a = second .before in
+    let first = a .before .before .before .before in
+    let h = first .before .before in
+    let n = h .before in
+    let s = n .before .before .before in
+    let x = s .args in
+    halves-put (x .chip .unit) (x .count) (x .at) (x .number) _ _ _ (x .ram .now) (x .out .now) _ _
+    (s .pre .0 .0 .1 .some) (n .deletions-per-filter .ensures) (h .hashed-at .ensures) (a .before .of-number .ensures)
+    (first .half-filter .ensures) (second .half-filter2 .ensures)
 
 pub number-filters-spec : {M : Type 1} → statement M
 number-filters-spec =
@@ -59,11 +58,10 @@ number-filters-spec =
     deletions-per-filter-requires
     mul-middle
     add-middle
-    sub-get32
-    get32-requires
-    new-filter-requires
-    new-filter-requires-2
-    slice-aggregate-pair
-    slice-aggregate-pair-2
-    pair-requires
+    sub-hashed-at
+    hashed-at-requires
+    half-filter-requires
+    of-number-requires
+    half-filter-requires-2
+    same-length
     returns)

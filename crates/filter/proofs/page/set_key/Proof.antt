@@ -7,18 +7,19 @@ use Prim.Native.Nat.{ℕ, _-_, _≤_, _<_}
 use lib.Dec.{eqb}
 use lib.ListN.{length, getD}
 use Rattle.memory.specs.Ranges.{any}
+use Rattle.fnv.specs.Hashed.{bytesOf}
 use Rattle.filter.specs.Filter.{arrayBit}
 use Rattle.filter.proofs.Setting.{set-next, any-position}
 use Rattle.filter.proofs.page.set_key.Statement.{statement}
 use Rattle.filter.proofs.page.set_key.Tie as tie
 
 abbrev Inv-loop : tie.InvT-loop
-Inv-loop count key bits₀ ps i₀ bits i =
+Inv-loop count bits₀ ps i₀ bits i =
     (i ≤ count) × (length bits ≡ length bits₀)
     × ((x : ℕ) → x < 2048 → arrayBit bits x ≡ (any (λ j. eqb (getD ps j 0) x) i || arrayBit bits₀ x))
 
 abbrev μ-loop : tie.MeasureT-loop
-μ-loop count key bits₀ ps i₀ bits i = count - i
+μ-loop count bits₀ ps i₀ bits i = count - i
 
 positions-requires : tie.Need-positions-requires Inv-loop μ-loop
 positions-requires c κs = search needs
@@ -67,7 +68,7 @@ returns c =
     λ x h. l .inv .2 x h
     ∙ ap (λ (n : ℕ). any (λ j. eqb (getD (p .result) j 0) x) n || arrayBit (a .bits .now) x) done
     ∙ ap (λ (t : Bool). t || arrayBit (a .bits .now) x)
-    (any-position (a .chip .unit) (a .count) (a .key) x (p .result) (p .ensures .0))
+    (any-position (a .chip .unit) (a .count) (bytesOf (a .key)) x (p .result) (p .ensures .0))
 
 pub set-key-spec : {M : Type 1} → statement M
 set-key-spec =
