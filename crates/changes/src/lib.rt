@@ -163,7 +163,7 @@ fn new_bytes(old: u32, record: Record, n: u32) -> [u8; plan::NEW_SIZE]
 }
 
 // `out` becomes the filters of the page that deletion d, of record `old`, fills, by their fourths.
-fn deletion_filters(g: Geometry, d: usize, old: u32, ram: &[u8], out: &mut [u8])
+fn put_deletion_filters(g: Geometry, d: usize, old: u32, ram: &[u8], out: &mut [u8])
     requires { ⌜ Sound g × (ramSize (shape g) ≤ length (now ram)) × (length (now out) ≡ 512) ⌝ }
     ensures { λ _. ⌜ DeletionFilters (shape g) d old (before ram) (after out) ⌝ }
 {
@@ -174,7 +174,7 @@ fn deletion_filters(g: Geometry, d: usize, old: u32, ram: &[u8], out: &mut [u8])
 }
 
 // `out`, which is all 0, becomes the filter of the page that entry n, with the key, fills.
-fn entry_filter(g: Geometry, n: usize, key: Key, ram: &[u8], out: &mut [u8])
+fn put_entry_filter(g: Geometry, n: usize, key: Key, ram: &[u8], out: &mut [u8])
     requires { ⌜ Sound g × (ramSize (shape g) ≤ length (now ram)) × (now out ≡ replicate 256 0) ⌝ }
     ensures { λ _. ⌜ EntryFilter (shape g) n (keyIs key) (before ram) (after out) ⌝ }
 {
@@ -199,10 +199,10 @@ fn new_filters(g: Geometry, e: Slots, old: u32, key: Key, ram: &[u8], filters: &
 {
     match e {
         Slots::Delete(d) => {
-            deletion_filters(g, d, old, ram, &mut filters[0..plan::ENTRY_FILTER_AT]);
+            put_deletion_filters(g, d, old, ram, &mut filters[0..plan::ENTRY_FILTER_AT]);
         }
         Slots::Insert(n) => {
-            entry_filter(
+            put_entry_filter(
                 g,
                 n,
                 key,
@@ -211,8 +211,8 @@ fn new_filters(g: Geometry, e: Slots, old: u32, key: Key, ram: &[u8], filters: &
             );
         }
         Slots::Update(d, n) => {
-            deletion_filters(g, d, old, ram, &mut filters[0..plan::ENTRY_FILTER_AT]);
-            entry_filter(
+            put_deletion_filters(g, d, old, ram, &mut filters[0..plan::ENTRY_FILTER_AT]);
+            put_entry_filter(
                 g,
                 n,
                 key,

@@ -22,6 +22,7 @@ use Rattle.layout.specs.Search.{Stop, found, isFound, scan}
 use Rattle.layout.specs.Calls.{Volume, keyIndex, keyFilters, deletionIndex, deletionFilters, keyPositions, numberPositions, tryDeletion}
 use Rattle.layout.specs.Calls.{deletionBits, maybeDeleted, testDeletion, testedDeleted, entryWord, tryAt, maybeIn, searchAt, search}
 use Rattle.laws.specs.SetLaws.{places-suffice, deletion-places-suffice}
+use Rattle.laws.specs.WalkLaws.{scan-same}
 use Rattle.laws.specs.Sound.{SizesSound}
 use Rattle.laws.specs.Sound as units
 use Rattle.history.specs.FlashLaws.{AllAllowed}
@@ -46,11 +47,6 @@ all-more p q (x ∷ xs) more a =
   where
     self : (x : ℕ) → eqb x x ≡ true
     self x = eq-eqb x x refl
-
-scan-same : (f g : ℕ → Option Stop) → ((i : ℕ) → f i ≡ g i) → (lo k : ℕ) → scan f lo k ≡ scan g lo k
-unfolding scan
-scan-same f g e lo zero = refl
-scan-same f g e lo (suc k) = rw (e (lo + k), scan-same f g e lo k)
 
 module _ (h : Family) (sizes : Sizes) (ok : SizesSound sizes) (H : History) (C : Flash) (ram : List ℕ) (I : Holds h sizes H C ram)
     (os : List Op) (hi : ℕ) (allowed : AllAllowed (unitOf sizes) os C) (apart : Apart os) (sized : Sized (unitOf sizes) os)
@@ -141,7 +137,7 @@ module _ (h : Family) (sizes : Sizes) (ok : SizesSound sizes) (H : History) (C :
       ap isFound
       (search-all (maybeDeleted g w (numberPositions h g j)) (tryDeletion g w j) (16 * unitOf sizes) d (omega (arith, pu))
       (deletion-skipped j)
-      ∙ scan-same (tryDeletion g w j) (tryDeletion g v j) (number-same j) 0 d
+      ∙ scan-same (tryDeletion g w j) (tryDeletion g v j) 0 0 d (λ k l. number-same j (0 + k))
       ∙ sym (search-all (maybeDeleted g v (numberPositions h g j)) (tryDeletion g v j) (16 * unitOf sizes) d (omega (arith, pu))
       (volumes.shut-then h sizes ok H C ram I H (before-same H) j)))
 

@@ -34,7 +34,7 @@ use Rattle.cuts.specs.Events.{lift, Format, wholeFormat, cutFormat, form
 use Rattle.cuts.specs.Told.{Has, afterOps, only-in-order, erased-in-order, has-false, has-erases}
 use Rattle.cuts.specs.Later.{later}
 use Rattle.cuts.specs.Headers.{StateFits, pages-of, header-of, long-ram, word-of}
-use Rattle.cuts.specs.Idle.{fits-of, idle-restart, resumes}
+use Rattle.cuts.specs.Idle.{fits-of, idle-restart, restart-resumes}
 use Rattle.cuts.specs.Uncut.{format-lifted, format-lifted-ops, format-lifted-outcome}
 use Rattle.cuts.specs.Finish.{ran, restOf, allOf, short-same, call-none, call-whole, recovers, ends-by, run-cut, later-length}
 use Rattle.cuts.specs.Finish.{restart-accepts, runs-flash}
@@ -174,7 +174,7 @@ module _ (h : Family) (v : Volume) (sizes : Sizes) (can : allowed sizes ≡ true
 
     pub again : (b : ℕ) → restartFor h b m ≡ ran (unitOf sizes) b st s′ X intended (restOf X ops finished)
     again b =
-        resumes h b m (formatting sizes) (long-ram p words words-length) pending-is
+        restart-resumes h b m (formatting sizes) (long-ram p words words-length) pending-is
         ∙ ap (λ (r : Result). taken b (unitOf sizes) m (lastSteps r) r) result-is
         ∙ ap (λ (os : List Op). ran (unitOf sizes) b st s′ X intended (chips os ++ (store finished ∷ [])))
         (sym (later-only (X .spare) ops (erases-only 0 (blocks g))))

@@ -39,10 +39,10 @@ fits-of h sizes ok H C ram I =
     }
 
 -- a restart on a RAM that is long enough goes on with the call that its header tells
-pub resumes : (h : Family) (b : ℕ) (v : Volume) (p : Pending) → 64 ≤ length (v .ram) → pendingIn (v .ram) ≡ p
+pub restart-resumes : (h : Family) (b : ℕ) (v : Volume) (p : Pending) → 64 ≤ length (v .ram) → pendingIn (v .ram) ≡ p
     → restartFor h b v ≡ resumed h b v p
 unfolding restartFor
-resumes h b v p long e = cond-neg (ltb (length (v .ram)) 64) _ _ (le-ltb (length (v .ram)) 64 long) ∙ ap (resumed h b v) e
+restart-resumes h b v p long e = cond-neg (ltb (length (v .ram)) 64) _ _ (le-ltb (length (v .ram)) 64 long) ∙ ap (resumed h b v) e
 
 module _ (h : Family) (st t : State) (X : Flash) (p : List ℕ) (fits : StateFits t) (good : badState t ≡ false)
     (long : tooShort (geometry (t .sizes)) X p ≡ false) where
@@ -66,5 +66,5 @@ module _ (h : Family) (st t : State) (X : Flash) (p : List ℕ) (fits : StateFit
       ≡ record { outcome = accepted; count = 0; daPages = 0; volume = record { state = t; flash = X; ram = stored }; ops = [] }
   idle-restart b =
       let enough : 64 ≤ length stored = long-ram p (headerBytes t noIntent) (header-size p t noIntent refl) in
-      resumes h b m nothing enough (idle-stored p t)
+      restart-resumes h b m nothing enough (idle-stored p t)
       ∙ ap (λ (t′ : State). by t′ (pages stored)) (state-stored p t noIntent refl fits) ∙ ap (by t) (pages-stored p t noIntent refl) ∙ by-is

@@ -41,7 +41,7 @@ use Rattle.layout.specs.Budgets.{Step, store, chips, lastSteps, callSteps, take
 use Rattle.layout.specs.Budgets.{restarts, restartsOps, pendingOps, restartWhole}
 use Rattle.cuts.specs.Headers.{StateFits, Words, long-ram, header-size, pages-stored, state-stored, idle-kind, intent-length}
 use Rattle.cuts.specs.Headers.{intent-stored}
-use Rattle.cuts.specs.Idle.{fits-of, idle-restart, resumes}
+use Rattle.cuts.specs.Idle.{fits-of, idle-restart, restart-resumes}
 use Rattle.cuts.specs.Finish.{ran, restOf, allOf, short-same, call-none, call-whole, recovers, runs-allowed, runs-inside, runs-flash}
 use Rattle.cuts.specs.Finish.{restart-accepts}
 use Rattle.cuts.specs.Finish.{ends-by, run-cut, restart-whole, spare-tells, spare-ends, restart-good, call-good}
@@ -204,7 +204,7 @@ module _ (h : Family) (sizes : Sizes) (ok : SizesSound sizes) (can : allowed siz
         (header-size ram s (intentWords c) (intent-length ram s c)) in
         let unit : unitOf (stateIn intended .sizes) ≡ unitOf sizes
         = ap (λ (t : State). unitOf (t .sizes)) (state-stored ram s (intentWords c) (intent-length ram s c) old-fits) in
-        resumes h b m (changing c) long (intent-stored ram s c words)
+        restart-resumes h b m (changing c) long (intent-stored ram s c words)
         ∙ ap (λ (r : Result). taken b (unitOf (stateIn intended .sizes)) m (lastSteps r) r) result-is
         ∙ ap (λ (k : ℕ). taken b k m (lastSteps (result X rest)) (result X rest)) unit
 

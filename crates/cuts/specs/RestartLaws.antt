@@ -28,7 +28,7 @@ use Rattle.layout.specs.Header.{pages, onPages, intended, formatIntended, finis
 use Rattle.layout.specs.Header.{unknown, pendingIn}
 use Rattle.layout.specs.Budgets.{Step, lastSteps, callSteps, takenBy, taken, formatFor, pendingOn, resultOf, callFor, foundNone, resumed}
 use Rattle.layout.specs.Budgets.{restartFor}
-use Rattle.cuts.specs.Idle.{resumes}
+use Rattle.cuts.specs.Idle.{restart-resumes}
 use Rattle.cuts.specs.Finish.{ops-cut}
 
 -- ---- "Restart refuses as the pending call would, 7 and 10 aside"
@@ -98,7 +98,7 @@ format-outcome b v sizes =
 
 module _ (h : Family) (b : ℕ) (v : Volume) (long : 64 ≤ length (v .ram)) where
   pub restart-is : restartFor h b v ≡ resumed h b v (pendingIn (v .ram))
-  restart-is = resumes h b v (pendingIn (v .ram)) long refl
+  restart-is = restart-resumes h b v (pendingIn (v .ram)) long refl
 
   -- by the header's state, whatever state is handed in
   pub restart-as : (c : Call) → pendingIn (v .ram) ≡ changing c

@@ -45,9 +45,9 @@ pub any-yes : (f : ℕ → Bool) (i : ℕ) → f i ≡ true → any f (i + 1) �
 unfolding any
 any-yes f i e = rw (add-one, e)
 
-pub any-no : (f : ℕ → Bool) (i : ℕ) → f i ≡ false → any f (i + 1) ≡ any f i
+pub any-skips : (f : ℕ → Bool) (i : ℕ) → f i ≡ false → any f (i + 1) ≡ any f i
 unfolding any
-any-no f i e = rw (add-one, e)
+any-skips f i e = rw (add-one, e)
 
 pub any-sum : (f : ℕ → Bool) (m k : ℕ) → any f (m + k) ≡ (any (λ i. f (m + i)) k || any f m)
 unfolding any

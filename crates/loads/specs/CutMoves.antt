@@ -26,7 +26,7 @@ use Rattle.cuts.specs.Several.{severalFor, begun, several-accepts, OneNumbers, 
 use Rattle.cuts.specs.Several.{turn-end, turn-reaches}
 use Rattle.load.specs.Load.{load, loadWhole}
 use Rattle.loads.specs.LoadCalls.{tabCalls}
-use Rattle.loads.specs.LoadMap.{mapTab, load-agrees, tabulate-map}
+use Rattle.loads.specs.LoadMap.{mapTab, load-agrees, tab-map}
 use Rattle.loads.specs.WholeLoads.{WholeAgrees, load-lifted, loaded-lifted, tab-numbers, load-rows, CutMove, wholeCall}
 use Rattle.loads.specs.WholeLoads.{wholeLoad, cutCall, cutLoad, idleMove, CutNumbers, turnOf, turnsOf, turn-numbers}
 
@@ -147,7 +147,7 @@ module _ (h : Family) (sizes : Sizes) where
 
     move-map : (x : CutMove) → OneNumbers (turnOf h x) → moveMap h sizes (lift w) m x ≡ mapAfter gg m (turnBegun h w (turnOf h x))
     move-map (wholeCall c) n = refl
-    move-map (wholeLoad text) n = tabulate-map h sizes w m text X
+    move-map (wholeLoad text) n = tab-map h sizes w m text X
     move-map (cutCall c zero bs) n = sym (none-begun c (key-word c (n w .0)))
     move-map (cutCall c (suc b) bs) n = ap (mapAfter gg m) (sym (same-either (leb (stepCount (call h w c)) (suc b)) (c ∷ [])))
     move-map (cutLoad text b bs) n = ap (λ (y : Volume). mapAfter gg m (begun h b y (tabCalls h y text))) (pages-lifted w)

@@ -262,5 +262,5 @@ module _ (h : Family) (sizes : Sizes) where
   lines-map v m (some lines) X =
       rows-map v m (rowsOf lines .rows) (endSays (rowsOf lines .rest)) X (read-words h (length lines) lines)
 
-  pub tabulate-map : (v : Volume) (m : Map) (text : List ℕ) → Reached h sizes v m → mapTab g m text .map ≡ mapAfter g m (tabCalls h v text)
-  tabulate-map v m text X = lines-map v m (body text) X
+  pub tab-map : (v : Volume) (m : Map) (text : List ℕ) → Reached h sizes v m → mapTab g m text .map ≡ mapAfter g m (tabCalls h v text)
+  tab-map v m text X = lines-map v m (body text) X

@@ -9,6 +9,7 @@ use lib.Dec.{ltb, eqb}
 use native.Mathlib.Omega.{arith}
 use native.Mathlib.Nat.{mod-lt, div-mul-le-self}
 use borrow.Author.Tests.{ltb-true}
+use Rattle.layout.specs.Keys.{Key}
 use Rattle.layout.specs.Geometry as layout
 use Rattle.layout.specs.Hash.{Family}
 use Rattle.layout.specs.Items.{Place, itemPlace, RA}
@@ -33,7 +34,7 @@ use Rattle.lookup.specs.declared.LookupResult.{LookupResult}
 abbrev pub refusedLookup : ℕ → LookupResult
 refusedLookup i = record { refusal = i; found = 0; count = 0; «in_ram» = 0; offset = 0; «deletion_count» = 0 }
 
-module _ (h : Family) (g : layout.Geometry) (v : Volume) (key : ℕ) where
+module _ (h : Family) (g : layout.Geometry) (v : Volume) (key : Key) where
   pub lookup-corrupt : (k : ℕ) → search h g v key ≡ find.reply (some corrupt) k → refusedLookup refusal.corruptEntry ≡ lookupOf (answer h g v (lookup key))
   unfolding lookupAfter
   lookup-corrupt k e = rw e
@@ -80,7 +81,7 @@ taken-lookup b u v ss r = by (r .outcome)
     by miss = refl
     by (refused i) = refl
 
-module _ (h : Family) (v : Volume) (key : ℕ) where
+module _ (h : Family) (v : Volume) (key : Key) where
   whole-lookup : lookupOf (callWhole h v (lookup key)) ≡ lookupOf (resultOf h v (lookup key))
   unfolding callFor
   whole-lookup =

@@ -8,6 +8,7 @@ use native.Mathlib.Omega.{arith}
 use lib.ListN.{length, take, drop}
 use Rattle.memory.specs.Bits.{num}
 use Rattle.memory.specs.Lists.{tabulate-part}
+use Rattle.layout.specs.Keys.{Key}
 use Rattle.layout.specs.Items.{Place, bytesAt}
 use Rattle.layout.specs.Hash.{Family}
 use Rattle.layout.specs.Calls.{Volume, Outcome, accepted, hit, miss, refused, lookup}
@@ -42,7 +43,7 @@ found-hit miss c d n = absurd (n refl)
 found-hit (refused i) c d n = absurd (n refl)
 found-hit accepted c d n = absurd (n refl)
 
-pub whole-inside : (h : Family) (v : Volume) (key : ℕ) (p : Place) (b : List ℕ) → callWhole h v (lookup key) .outcome ≡ hit p b
+pub whole-inside : (h : Family) (v : Volume) (key : Key) (p : Place) (b : List ℕ) → callWhole h v (lookup key) .outcome ≡ hit p b
     → Inside (v .flash .main) (v .ram) p b
 whole-inside h v key p b =
     whole-cases h v key (λ r. r .outcome ≡ hit p b → Inside (v .flash .main) (v .ram) p b)
@@ -80,7 +81,7 @@ as-place p x q t e = λ i. record { inRam = t i; at = sym e i }
 moved : (main ram : List ℕ) (p p′ : Place) (b : List ℕ) → p ≡ p′ → Inside main ram p b → Inside main ram p′ b
 moved main ram p p′ b e x = rw e at x
 
-module _ (h : Family) (v : Volume) (key : ℕ) (f : LookupResult) (is : f ≡ lookupOf (callWhole h v (lookup key))) (there : f .found ≢ 0) where
+module _ (h : Family) (v : Volume) (key : Key) (f : LookupResult) (is : f ≡ lookupOf (callWhole h v (lookup key))) (there : f .found ≢ 0) where
   o : Outcome
   o = callWhole h v (lookup key) .outcome
 

@@ -118,7 +118,8 @@ pub fn lookup<'a>(
     ensures part { λ r. ⌜ (now r ≡ partOf (callWhole fnvFamily (given s main spare ram) (lookup (keyIs key)) .outcome))
         × (r .ptr ≡ whereOf ((main .entry) .ptr) ((ram .entry) .ptr)
         (callWhole fnvFamily (given s main spare ram) (lookup (keyIs key)) .outcome)) ⌝ }
-    ensures numbers { λ r. ⌜ after numbers ≡ answerNumbers (lookupOf (callWhole fnvFamily (given s main spare ram) (lookup (keyIs key)))) ⌝ }
+    ensures numbers { λ r. ⌜ after numbers
+        ≡ answerNumbers (lookupOf (callWhole fnvFamily (given s main spare ram) (lookup (keyIs key)))) ⌝ }
 {
     let f = find(s, key, main, spare, ram);
     *numbers = [

@@ -129,6 +129,6 @@ memb-all P (y ∷ ys) h x m =
     (λ e. rw (← (e .1)) (h 0 (omega arith)))
     (λ e. memb-all P ys (λ i l. h (suc i) (omega arith)) x (rw (e .0) at m))
 
--- every number of a tabulate comes from an index: what holds of each f j holds of each member
+-- every number of a table comes from an index: what holds of each f j holds of each member
 pub memb-tabulate-all : (P : ℕ → Type 0) (k : ℕ) (f : ℕ → ℕ) → ((j : ℕ) → j < k → P (f j)) → (x : ℕ) → memb x (tabulate k f) ≡ true → P x
 memb-tabulate-all P k f h = memb-all P (tabulate k f) (λ i l. let s : i < k = rw (length-tabulate k f) at l in rw (getD-tabulate k f i 0 s) (h i s))

@@ -1,4 +1,4 @@
--- Entries of a view on flash and in RAM, its gates by blocks of filters, the test of a number, and parts of a ready volume.
+-- Entries of a view on flash and in RAM, its gates by blocks of filters, the test of a number, and parts of a volume that fits.
 use mathlib.Core.Path.{_≡_, refl, sym, ap, _∙_}
 use mathlib.Core.Bool.{Bool, true, false, _&&_, cond}
 use mathlib.Core.Option.{Option, none, some}
@@ -173,8 +173,8 @@ module _ (v : View) (main ram : List ℕ) (j : ℕ) (r : Tested)
   tested-opened = ap (λ (f : Found). f .opened) is
 
 -- its deletions can be tested
-pub test-ready : {v : View} {main ram : List ℕ} → ViewFits v main ram → tests.DeletionsFit (deletionsOf v) main ram
-test-ready R = record { sound = R .sound; read = R .read; cap = R .d-cap; bound = R .d0-le }
+pub test-fits : {v : View} {main ram : List ℕ} → ViewFits v main ram → tests.DeletionsFit (deletionsOf v) main ram
+test-fits R = record { sound = R .sound; read = R .read; cap = R .d-cap; bound = R .d0-le }
 
 -- a test reads nothing of the records
 pub test-viewed : (v : View) (main ram : List ℕ) (j : ℕ)
@@ -183,7 +183,7 @@ pub test-viewed : (v : View) (main ram : List ℕ) (j : ℕ)
 unfolding testDeletion tryDeletion maybeDeleted
 test-viewed v main ram j = refl
 
--- ---- a ready volume
+-- ---- a volume that fits
 
 module _ {v : View} {main ram : List ℕ} (R : ViewFits v main ram) where
   -- eight full pages to a block of records

@@ -58,10 +58,10 @@ pub record ViewFits (v : View) (main ram : List ℕ) : Type 0 where
 -- ---- all of a volume
 
 module _ (w : Volume) (g : Geometry) (v : View) (is : v ≡ whole g (w .state .records) (w .state .deletions)) where
-  pub ready-whole : Sound g → Readable (shape g) (w .flash .main) (w .ram)
+  pub view-fits : Sound g → Readable (shape g) (w .flash .main) (w .ram)
       → w .state .records ≤ layout.recordCapacity (shape g) → w .state .deletions ≤ layout.deletionCapacity (shape g)
       → ViewFits v (w .flash .main) (w .ram)
-  ready-whole sound read n-cap d-cap =
+  view-fits sound read n-cap d-cap =
       rw is record {
         sound = sound;
         read = read;

@@ -147,7 +147,8 @@ fn in_open(v: View, key: Key, main: &[u8], ram: &[u8]) -> Ended
     requires { ⌜ ViewFits v (now main) (now ram) ⌝ }
     ensures { λ r. ⌜ stopOf (r .end) ≡ scan (tryOf v (before main) (before ram) (keyIs key))
         (v .n0 / entriesPerPage (v .g .chip .unit) * entriesPerPage (v .g .chip .unit)) (v .n0 % entriesPerPage (v .g .chip .unit)) ⌝ }
-    ensures pages { λ r. ⌜ r .«da_pages» ≡ scanCost (tryOf v (before main) (before ram) (keyIs key)) (costOf v (before main) (before ram) (keyIs key))
+    ensures pages { λ r. ⌜ r .«da_pages»
+        ≡ scanCost (tryOf v (before main) (before ram) (keyIs key)) (costOf v (before main) (before ram) (keyIs key))
         (v .n0 / entriesPerPage (v .g .chip .unit) * entriesPerPage (v .g .chip .unit)) (v .n0 % entriesPerPage (v .g .chip .unit)) ⌝ }
 {
     let per_page = v.g.entries_per_page();
@@ -366,7 +367,8 @@ fn in_pages(v: View, key: Key, ps: [u32; 8], count: usize, main: &[u8], ram: &[u
 
 pub fn search(v: View, key: Key, main: &[u8], ram: &[u8]) -> Found
     requires { ⌜ ViewFits v (now main) (now ram) ⌝ }
-    ensures found { λ r. ⌜ foundOf r ≡ searchAt fnvFamily (shape (v .g)) (viewed v (before main) (before ram)) (v .n0) (v .d0) (keyIs key) ⌝ }
+    ensures found { λ r. ⌜ foundOf r
+        ≡ searchAt fnvFamily (shape (v .g)) (viewed v (before main) (before ram)) (v .n0) (v .d0) (keyIs key) ⌝ }
     ensures pages { λ r. ⌜ r .«da_pages»
         ≡ daPagesAt fnvFamily (shape (v .g)) (viewed v (before main) (before ram)) (v .n0) (v .d0) (keyIs key) ⌝ }
 {

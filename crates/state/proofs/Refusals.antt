@@ -44,10 +44,6 @@ module _ (v : Volume) (x : Result) (i : ℕ) where
   of-format true false g e = absurd (false≢true (ap refuses e))
   of-format false b g e = refusal-of v refusal.badState i (ap number e) refl
 
-  pub judge-refused : judgementOf v ≡ Refused i → Refusal v i (judgeFirst v x)
-  unfolding judgeFirst
-  judge-refused e = of-volume (badState (v .state)) (tooShort (layout.geometry (v .state .sizes)) (v .flash) (v .ram)) (geometryFor (v .state .sizes)) e
-
 pub format-refused : (v : Volume) (sizes : layout.Sizes) (i : ℕ) → judgementOfNew sizes (v .flash) (v .ram) ≡ Refused i → Refusal v i (format v sizes)
 unfolding format
 format-refused v sizes i e = of-format v (formatted v sizes) i (layout.allowed sizes) (tooShort (layout.geometry sizes) (v .flash) (v .ram)) (geometryFor sizes) e

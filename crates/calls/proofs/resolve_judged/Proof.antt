@@ -8,7 +8,7 @@ use Rattle.layout.specs.Calls.{Volume}
 use Rattle.layout.specs.Header.{onPages}
 use Rattle.laws.specs.HeaderLaws.{pages-part}
 use Rattle.geometry.specs.declared.Geometry.{Geometry}
-use Rattle.search.specs.Find.{stopOf, ready-whole, search-is}
+use Rattle.search.specs.Find.{stopOf, view-fits, search-is}
 use Rattle.search.specs.declared.End.{End}
 use Rattle.keys.specs.Key.{keyIs}
 use Rattle.state.specs.Contract.{volume}
@@ -75,7 +75,7 @@ search-requires c κs =
     let s = start-of k in
     let f = fits k in
     rw (pages-part (s .args .ram .now) (a .before .before .before .pages-end .result) (a .before .before .before .pages-end .ensures))
-    (ready-whole (onPages (handed s)) (geometry k) (a .all .result) (a .all .ensures) (f .sound) (f .long .read) (f .n-cap) (f .d-cap))
+    (view-fits (onPages (handed s)) (geometry k) (a .all .result) (a .all .ensures) (f .sound) (f .long .read) (f .n-cap) (f .d-cap))
 
 -- by where the search ended
 resolved : (c : tie.After-search) (end : End) → c .search .result .end ≡ end → let k = known (c .before .before) in

@@ -4,7 +4,7 @@ use Prim.Native.Nat.{_-_, _≤_}
 use mathlib.Core.Path.{_≡_, sym, _∙_}
 use mathlib.Core.Logic.{⊎-elim}
 use Rattle.memory.specs.Ranges.{any}
-use Rattle.items.specs.Scans.{isWord, any-end, any-yes, any-no, word-yes, word-no}
+use Rattle.items.specs.Scans.{isWord, any-end, any-yes, any-skips, word-yes, word-no}
 use Rattle.items.proofs.many_have.Statement.{statement}
 use Rattle.items.proofs.many_have.Tie as tie
 
@@ -41,7 +41,7 @@ loop-again c =
       omega arith,
       ⊎-elim
           (λ w. w .1 ∙ sym (any-yes t (l .loop .i) (word-yes (x .s .now) (x .at) (x .j) (l .loop .i) (g .get32 .result) (g .get32 .ensures) (w .0 .taken))))
-          (λ w. w .1 ∙ (l .loop .inv .1 ∙ sym (any-no t (l .loop .i) (word-no (x .s .now) (x .at) (x .j) (l .loop .i) (g .get32 .result) (g .get32 .ensures) (w .0 .left)))))
+          (λ w. w .1 ∙ (l .loop .inv .1 ∙ sym (any-skips t (l .loop .i) (word-no (x .s .now) (x .at) (x .j) (l .loop .i) (g .get32 .result) (g .get32 .ensures) (w .0 .left)))))
           (c .if1 .came),
     )
 

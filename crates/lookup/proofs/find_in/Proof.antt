@@ -8,7 +8,7 @@ use Rattle.layout.specs.Items.{Area, RA, itemPlace}
 use Rattle.layout.specs.Search as find
 use Rattle.layout.specs.Calls.{Volume, search as searchOf, searchDaPages}
 use Rattle.geometry.specs.Shape.{shape, place}
-use Rattle.search.specs.Find.{stopOf, ready-whole, search-is, search-pages}
+use Rattle.search.specs.Find.{stopOf, view-fits, search-is, search-pages}
 use Rattle.search.specs.declared.End.{End}
 use Rattle.keys.specs.Key.{keyIs}
 use Rattle.state.specs.Contract.{volume}
@@ -36,7 +36,7 @@ search-requires : tie.Need-search-requires
 search-requires c κs =
     let b = start-of c in
     let f = b .pre in
-    ready-whole (handed b) (b .args .g) (c .all .result) (c .all .ensures) (f .sound) (f .long .read) (f .n-cap) (f .d-cap)
+    view-fits (handed b) (b .args .g) (c .all .result) (c .all .ensures) (f .sound) (f .long .read) (f .n-cap) (f .d-cap)
 
 -- what the search found, by where it ended
 found-at : (c : tie.After-search) (end : End) → c .search .result .end ≡ end

@@ -26,7 +26,7 @@ use Rattle.search.proofs.Tries.{count, newest, newest-le, newest-set, n
 use Rattle.search.proofs.Bits.{Word, word-first, word-done, word-in, word-few, word-most, word-next, word-ended}
 use Rattle.search.proofs.Entries.{Same, Left, left-none, left-first, left-corrupt, left-most, left-found, left-next, left-less}
 use Rattle.search.proofs.Volume.{perPage, pages, same-flash, same-bytes, scan-bytes, cost-bytes, vain-page, block-shows}
-use Rattle.search.proofs.Volume.{tested-met, tested-opened, test-ready, test-viewed, pages-few, pages-then, page-in, sets-le, below-most}
+use Rattle.search.proofs.Volume.{tested-met, tested-opened, test-fits, test-viewed, pages-few, pages-then, page-in, sets-le, below-most}
 use borrow.Author.Needs.{needs}
 use borrow.Author.Tests.{not-true, not-false}
 use Rattle.search.proofs.in_block.Statement.{statement}
@@ -66,8 +66,8 @@ Known = tie.After-block-below Inv-entries μ-entries Inv-bits μ-bits Inv-filter
 abbrev start-of : Known → Start
 start-of G = G .before .before .before .before
 
-abbrev ready : (b : Start) → ViewFits (b .args .v) (b .args .main .now) (b .args .ram .now)
-ready b = b .pre .0 .0
+abbrev fits : (b : Start) → ViewFits (b .args .v) (b .args .main .now) (b .args .ram .now)
+fits b = b .pre .0 .0
 
 abbrev gate-at : Start → ℕ → Bool
 gate-at b =
@@ -103,23 +103,23 @@ shows G =
 page-lt : (G : Known) (p : ℕ) → p < start-of G .args .below → p < pages (start-of G .args .v)
 page-lt G p h =
     let b = start-of G in
-    omega (arith, b .pre .1 .1, pages-then (ready b))
+    omega (arith, b .pre .1 .1, pages-then (fits b))
 
 below-few : (G : Known) → start-of G .args .below ≤ 32768
 below-few G =
     let b = start-of G in
-    omega (arith, b .pre .1 .1, pages-then (ready b), pages-few (ready b))
+    omega (arith, b .pre .1 .1, pages-then (fits b), pages-few (fits b))
 
 -- ---- before the first word
 
 key-filters-requires : tie.Need-key-filters-requires Inv-entries μ-entries Inv-bits μ-bits Inv-filters μ-filters
-key-filters-requires c κs = ready (c .before .before) .sound
+key-filters-requires c κs = fits (c .before .before) .sound
 
 block-below-requires : tie.Need-block-below-requires Inv-entries μ-entries Inv-bits μ-bits Inv-filters μ-filters
 block-below-requires c κs =
     let b = c .before .before .before in
     let x = b .args in
-    let R = ready b in
+    let R = fits b in
     let L = b .pre .0 .1 in
     rw (c .key-filters .ensures) (
       (
@@ -245,11 +245,11 @@ next-with-key-requires : tie.Need-next-with-key-requires Inv-entries μ-entries 
 next-with-key-requires c κs =
     let G = known c in
     let b = start-of G in (
-      ready b .sound,
+      fits b .sound,
       omega (arith, from-lt (c .before .before .before), below-few G),
       record {
         page-in = λ i h s.
-            page-in (ready b) (from-of c + i) (page-lt G (from-of c + i) (visited-in c i h s));
+            page-in (fits b) (from-of c + i) (page-lt G (from-of c + i) (visited-in c i h s));
       },
     )
 
@@ -276,7 +276,7 @@ within-at N h =
     let c = N .before in
     let b = start-of (known c) in
     let n = reached N h in
-    rw (N .next-with-key .ensures .some n .0) (page-in (ready b) (page-of c) (page-lt (known c) (page-of c) (page-below c n)))
+    rw (N .next-with-key .ensures .some n .0) (page-in (fits b) (page-of c) (page-lt (known c) (page-of c) (page-below c n)))
 
 -- by their bytes
 abbrev try-in : Tries → ℕ → Option Stop
@@ -346,7 +346,7 @@ deletions-of-requires c κs = search needs
 test-requires : tie.Need-test-requires Inv-entries μ-entries Inv-bits μ-bits Inv-filters μ-filters
 test-requires c κs =
     let b = start-of (known (c .before .before .before .before .before .before .before .before .before)) in
-    rw (c .deletions-of .ensures) (test-ready (ready b))
+    rw (c .deletions-of .ensures) (test-fits (fits b))
 
 abbrev Tests : Type 0
 Tests = tie.After-test Inv-entries μ-entries Inv-bits μ-bits Inv-filters μ-filters
@@ -418,7 +418,7 @@ add-da-pages c =
       left-most (same-at N) (E .entries .inv .0 h) (one-left D) (J .number-at .ensures) (number-lt D),
       told-opened D,
       page-most N h,
-      below-most (ready b) (keyIs (x .key)) (take (x .count) (x .ps)) (x .below) (b .pre .1 .1),
+      below-most (fits b) (keyIs (x .key)) (take (x .count) (x .ps)) (x .below) (b .pre .1 .1),
     )
 
 find-entry-requires : tie.Need-find-entry-requires Inv-entries μ-entries Inv-bits μ-bits Inv-filters μ-filters

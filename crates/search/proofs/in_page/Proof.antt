@@ -12,7 +12,7 @@ use Rattle.deletions.specs.Test.{testedOf}
 use Rattle.keys.specs.Key.{keyIs}
 use Rattle.search.specs.Find.{viewed, tryIn, costIn, deletedOf, testCost}
 use Rattle.search.proofs.Entries.{Same, Left, left-none, left-first, left-corrupt, left-most, left-found, left-next, left-less}
-use Rattle.search.proofs.Volume.{same-bytes, tested-met, tested-opened, test-ready, test-viewed, row-most}
+use Rattle.search.proofs.Volume.{same-bytes, tested-met, tested-opened, test-fits, test-viewed, row-most}
 use borrow.Author.Needs.{needs}
 use borrow.Author.Tests.{not-true, not-false}
 use Rattle.search.proofs.in_page.Statement.{statement}
@@ -84,7 +84,7 @@ deletions-of-requires c κs = search needs
 test-requires : tie.Need-test-requires Inv-loop μ-loop
 test-requires c κs =
     let b = start-of (c .before .before .before .before .before .before) in
-    rw (c .deletions-of .ensures) (test-ready (b .pre .0))
+    rw (c .deletions-of .ensures) (test-fits (b .pre .0))
 
 abbrev Tests : Type 0
 Tests = tie.After-test Inv-loop μ-loop

@@ -8,8 +8,8 @@ use Rattle.layout.specs.Items.{Area, fills}
 use Rattle.geometry.specs.Shape.{shape}
 use Rattle.planning.specs.Computed.{not-taken}
 use borrow.Author.Needs.{needs}
-use Rattle.changes.proofs.entry_filter.Statement.{statement}
-use Rattle.changes.proofs.entry_filter.Tie as tie
+use Rattle.changes.proofs.put_entry_filter.Statement.{statement}
+use Rattle.changes.proofs.put_entry_filter.Tie as tie
 
 entry-area-requires : tie.Need-entry-area-requires
 entry-area-requires c κs = search needs
@@ -52,8 +52,8 @@ returns-2 c =
     (f .new-filter .kept .1 .1 .1 .1 .1 .1 .0 ∙ ap length (s .pre .2)) (λ y. omega (arith, c .slice-known2 .given y))
     (rw (a .ka-ram .ensures, k .of-key .ensures) at (f .new-filter .ensures))
 
-pub entry-filter-spec : {M : Type 1} → statement M
-entry-filter-spec =
+pub put-entry-filter-spec : {M : Type 1} → statement M
+put-entry-filter-spec =
     tie.close
     (tie.spec
     entry-area-requires

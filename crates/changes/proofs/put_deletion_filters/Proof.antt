@@ -6,8 +6,8 @@ use Rattle.layout.specs.Items.{Area, fills}
 use Rattle.geometry.specs.Shape.{shape}
 use Rattle.planning.specs.Computed.{not-taken}
 use borrow.Author.Needs.{needs}
-use Rattle.changes.proofs.deletion_filters.Statement.{statement}
-use Rattle.changes.proofs.deletion_filters.Tie as tie
+use Rattle.changes.proofs.put_deletion_filters.Statement.{statement}
+use Rattle.changes.proofs.put_deletion_filters.Tie as tie
 
 deletion-area-requires : tie.Need-deletion-area-requires
 deletion-area-requires c κs = search needs
@@ -43,8 +43,8 @@ returns-2 c =
     half-fourths (shape (s .args .g)) (s .args .d) (s .args .old) (s .args .ram .now) (s .pre .0 .unit .1 .some) full (omega arith)
     (omega (arith, s .pre .1)) (f .number-filters .last .1 .1 .1 .1 .1 .0) (rw (a .da-ram .ensures) at (f .number-filters .ensures))
 
-pub deletion-filters-spec : {M : Type 1} → statement M
-deletion-filters-spec =
+pub put-deletion-filters-spec : {M : Type 1} → statement M
+put-deletion-filters-spec =
     tie.close
     (tie.spec
     deletion-area-requires
