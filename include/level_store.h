@@ -50,9 +50,9 @@
  * then deleted takes longest: 0.06 to 0.12 ms after 1,000 updates, 0.09 to 0.18 s after 100,000 (docs/PERFORMANCE.md). A load takes the
  * time of reading its tab and of its rows' calls.
  *
- * Needs. For x86-64 the library has 70 KB of code with its constants, and no other data. Of C it calls memcpy and memset alone. It
- * takes at most 7.7 KB of stack, arguments included (measured: format 0.6, lookup 2.2, restart 7.5, load 7.6, insert, update and
- * delete 7.7). For other processors tools/cross compiles it, and this header is the same; what it takes there is in docs/PERFORMANCE.md,
+ * Needs. For x86-64 the library has 69 KB of code with its constants, and no other data. Of C it calls memcpy and memset alone. It
+ * takes at most 4.5 KB of stack, arguments included (measured: format 0.6, lookup 2.1, restart 4.2, load 4.3, insert, update and
+ * delete 4.5). For other processors tools/cross compiles it, and this header is the same; what it takes there is in docs/PERFORMANCE.md,
  * which helpers of the compiler it calls, as for divisions, in README.md.
  */
 #ifndef LEVEL_STORE_H
