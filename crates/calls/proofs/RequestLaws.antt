@@ -10,131 +10,131 @@ use borrow.Author.Tests.{le-leb, lt-leb}
 use Rattle.memory.specs.Bits.{num}
 use Rattle.memory.specs.Cases.{either, le?}
 use Rattle.layout.specs.Geometry as layout
-use Rattle.layout.specs.Flash.{flashOf, planOps, allFresh}
-use Rattle.layout.specs.Hash.{fnvFamily}
+use Rattle.layout.specs.Flash.{flash_of, plan_ops, all_fresh}
+use Rattle.layout.specs.Hash.{fnv_family}
 use Rattle.layout.specs.Refusals as refusal
-use Rattle.layout.specs.Calls.{keyOf, Volume, Call, Result, accepted, refuse, one, noRoom, noDeletion, changePlan, changeBy, commit}
-use Rattle.layout.specs.Header.{headerSize, pages, onPages, intended}
+use Rattle.layout.specs.Calls.{key_of, Volume, Call, Result, accepted, refuse, one, no_room, no_deletion, change_plan, change_by, commit}
+use Rattle.layout.specs.Header.{header_size, pages, on_pages, intended}
 use Rattle.layout.specs.Budgets as budgets
-use Rattle.layout.specs.Budgets.{Step, Memory, memory, lastSteps, callSteps, taken, result_of, callFor, callCut}
-use Rattle.laws.specs.HeaderLaws.{pages-of}
+use Rattle.layout.specs.Budgets.{Step, Memory, memory, last_steps, call_steps, taken, result_of, call_for, call_cut}
+use Rattle.laws.specs.HeaderLaws.{pages_of}
 use Rattle.geometry.specs.Shape.{shape}
 use Rattle.geometry.specs.declared.Geometry.{Geometry}
-use Rattle.state.specs.Contract.{CutEffect, outcomeOf, cut_of, Ran, stateIs, call_of, volume}
+use Rattle.state.specs.Contract.{CutEffect, outcome_of, cut_of, Ran, state_is, call_of, volume}
 use Rattle.state.specs.Judge.{VolumeFits}
 use Rattle.state.specs.declared.Progress.{Progress}
 use Rattle.state.specs.declared.State.{State}
 use Rattle.state.specs.declared.Request.{Request}
-use Rattle.state.proofs.Refusals.{Refusal, refusal-of}
-use Rattle.header.specs.Header.{idleJudgement}
-use Rattle.changes.specs.Edits.{editIs}
-use Rattle.changes.specs.Tasks.{changeRefusal, changed, taskResult}
+use Rattle.state.proofs.Refusals.{Refusal, refusal_of_lem}
+use Rattle.header.specs.Header.{idle_judgement}
+use Rattle.changes.specs.Edits.{edit_is}
+use Rattle.changes.specs.Tasks.{change_refusal, changed, task_result}
 use Rattle.changes.specs.declared.Task.{Task}
 use Rattle.changes.specs.declared.Edit.{Edit}
-use Rattle.calls.specs.Resolve.{resolvedOf, ResolvedFits}
-use Rattle.calls.specs.Request.{decisionOf}
+use Rattle.calls.specs.Resolve.{resolved_of, ResolvedFits}
+use Rattle.calls.specs.Request.{decision_of}
 use Rattle.calls.specs.declared.Resolved.{Resolved}
 use Rattle.calls.specs.declared.Decision.TheVariants.{Refused, Change}
-use Rattle.calls.proofs.CallsLaws.{result-judged, idle-told, decided-refused, decided-changes}
+use Rattle.calls.proofs.CallsLaws.{result_judged, idle_told, decided_refused, decided_changes}
 
 -- ---- 5, 6 and 7
 
-none-full : (a b c : Bool) → cond a refusal.full (cond b refusal.deletionsFull (cond c 0 refusal.notFresh)) ≡ 0
+none_full : (a b c : Bool) → cond a refusal.full (cond b refusal.deletions_full (cond c 0 refusal.not_fresh)) ≡ 0
     → (a ≡ false) × (b ≡ false) × (c ≡ true)
-none-full true b c e = absurd (omega (arith, e))
-none-full false true c e = absurd (omega (arith, e))
-none-full false false true e = (refl, refl, refl)
-none-full false false false e = absurd (omega (arith, e))
+none_full true b c e = absurd (omega (arith, e))
+none_full false true c e = absurd (omega (arith, e))
+none_full false false true e = (refl, refl, refl)
+none_full false false false e = absurd (omega (arith, e))
 
 module _ (g : layout.Geometry) (w : Volume) where
-  module _ (e : Edit) (i : ℕ) (is : i ≡ changeRefusal g w (editIs e)) where
+  module _ (e : Edit) (i : ℕ) (is : i ≡ change_refusal g w (edit_is e)) where
     -- is there no room for its record, or its deletion; is all fresh that it programs
     abbrev full : Bool
-    full = one (editIs e).inserts && noRoom g w
+    full = one (edit_is e).inserts && no_room g w
 
     abbrev gone : Bool
-    gone = one (editIs e).deletes && noDeletion g w
+    gone = one (edit_is e).deletes && no_deletion g w
 
     abbrev clean : Bool
-    clean = allFresh w.flash.spare (planOps g.u (changePlan fnvFamily g w (editIs e)) w.flash)
+    clean = all_fresh w.flash.spare (plan_ops g.u (change_plan fnv_family g w (edit_is e)) w.flash)
 
-    pub change-refused : (i ≡ 0 → ⊥) → Refusal w i (changeBy commit fnvFamily g w (editIs e))
-    unfolding changeBy commit
-    change-refused some = by full gone clean _ is
+    pub change_refused : (i ≡ 0 → ⊥) → Refusal w i (change_by commit fnv_family g w (edit_is e))
+    unfolding change_by commit
+    change_refused some = by full gone clean _ is
       where
-        by : (a b c : Bool) (x : Result) → i ≡ cond a refusal.full (cond b refusal.deletionsFull (cond c 0 refusal.notFresh))
-            → Refusal w i (cond a (refuse w refusal.full) (cond b (refuse w refusal.deletionsFull) (cond c x (refuse w refusal.notFresh))))
-        by true b c x q = refusal-of w refusal.full i (sym q) refl
-        by false true c x q = refusal-of w refusal.deletionsFull i (sym q) refl
+        by : (a b c : Bool) (x : Result) → i ≡ cond a refusal.full (cond b refusal.deletions_full (cond c 0 refusal.not_fresh))
+            → Refusal w i (cond a (refuse w refusal.full) (cond b (refuse w refusal.deletions_full) (cond c x (refuse w refusal.not_fresh))))
+        by true b c x q = refusal_of_lem w refusal.full i (sym q) refl
+        by false true c x q = refusal_of_lem w refusal.deletions_full i (sym q) refl
         by false false true x q = absurd (some q)
-        by false false false x q = refusal-of w refusal.notFresh i (sym q) refl
+        by false false false x q = refusal_of_lem w refusal.not_fresh i (sym q) refl
 
     module _ (z : i ≡ 0) where
       tests : (full ≡ false) × (gone ≡ false) × (clean ≡ true)
-      tests = none-full full gone clean (sym is ∙ z)
+      tests = none_full full gone clean (sym is ∙ z)
 
-      pub change-accepted : changeBy commit fnvFamily g w (editIs e) ≡ changed g w (editIs e) 0
-      unfolding changeBy commit
-      change-accepted = rw (tests.0, tests.1, tests.2)
+      pub change_accepted : change_by commit fnv_family g w (edit_is e) ≡ changed g w (edit_is e) 0
+      unfolding change_by commit
+      change_accepted = rw (tests.0, tests.1, tests.2)
 
 -- ---- a call by what is decided
 
-module _ (v : Volume) (q : Request) (r : Resolved) (is : r ≡ resolvedOf v (keyOf (call_of q))) where
-  pub call-refused : (i : ℕ) → decisionOf q r ≡ Refused i → Refusal (onPages v) i (result_of fnvFamily v (call_of q))
-  call-refused i d =
-      subst (Refusal (onPages v) i) (sym (result-judged v (call_of q)))
-      (decided-refused commit (onPages v) (idleJudgement v) (idle-told v) q i (rw is at d))
+module _ (v : Volume) (q : Request) (r : Resolved) (is : r ≡ resolved_of v (key_of (call_of q))) where
+  pub call_refused : (i : ℕ) → decision_of q r ≡ Refused i → Refusal (on_pages v) i (result_of fnv_family v (call_of q))
+  call_refused i d =
+      subst (Refusal (on_pages v) i) (sym (result_judged v (call_of q)))
+      (decided_refused commit (on_pages v) (idle_judgement v) (idle_told v) q i (rw is at d))
 
-  pub call-changes : ResolvedFits (onPages v) r → (g : Geometry) (e : Edit) → decisionOf q r ≡ Change g e
-      → VolumeFits (onPages v) g × (result_of fnvFamily v (call_of q) ≡ changeBy commit fnvFamily (shape g) (onPages v) (editIs e))
-  call-changes f g e d =
-      let c = decided-changes commit (onPages v) (idleJudgement v) (idle-told v) q (rw is at f) g e (rw is at d) in
-      (c.0, result-judged v (call_of q) ∙ c.1)
+  pub call_changes : ResolvedFits (on_pages v) r → (g : Geometry) (e : Edit) → decision_of q r ≡ Change g e
+      → VolumeFits (on_pages v) g × (result_of fnv_family v (call_of q) ≡ change_by commit fnv_family (shape g) (on_pages v) (edit_is e))
+  call_changes f g e d =
+      let c = decided_changes commit (on_pages v) (idle_judgement v) (idle_told v) q (rw is at f) g e (rw is at d) in
+      (c.0, result_judged v (call_of q) ∙ c.1)
 
 -- ---- a budget
 
-leb-suc : (m n : ℕ) → leb (suc m) (suc n) ≡ leb m n
-leb-suc m n =
+leb_suc : (m n : ℕ) → leb (suc m) (suc n) ≡ leb m n
+leb_suc m n =
     either (le? m n) (λ a. le-leb (suc m) (suc n) (omega (arith, a.1)) ∙ sym a.0)
     (λ a. lt-leb (suc m) (suc n) (omega (arith, a.1)) ∙ sym a.0)
 
 -- a result of a call that stores x as its intent, with a budget
-abbrev cutWith : ℕ → ℕ → Volume → List ℕ → Result → budgets.Cut
-cutWith b u v x r = budgets.cut_of b (callSteps x r) (taken b u v (callSteps x r) r)
+abbrev cut_with : ℕ → ℕ → Volume → List ℕ → Result → budgets.Cut
+cut_with b u v x r = budgets.cut_of b (call_steps x r) (taken b u v (call_steps x r) r)
 
 module _ (v : Volume) (c : Call) where
   abbrev unit : ℕ
   unit = layout.unit_of v.state.sizes
 
-  pub refused-cut : (b i : ℕ) (w : Volume) → Refusal w i (result_of fnvFamily v c)
-      → record { outcome = outcomeOf i; complete = 0; steps = 0; left = v } ≡ cut_of (callCut fnvFamily b v c)
-  unfolding callFor
-  refused-cut b i w p = by (result_of fnvFamily v c) p
+  pub refused_cut_lem : (b i : ℕ) (w : Volume) → Refusal w i (result_of fnv_family v c)
+      → record { outcome = outcome_of i; complete = 0; steps = 0; left = v } ≡ cut_of (call_cut fnv_family b v c)
+  unfolding call_for
+  refused_cut_lem b i w p = by (result_of fnv_family v c) p
     where
       by : (r : Result) → Refusal w i r
-          → record { outcome = outcomeOf i; complete = 0; steps = 0; left = v } ≡ cut_of (cutWith b unit v (intended v c) r)
+          → record { outcome = outcome_of i; complete = 0; steps = 0; left = v } ≡ cut_of (cut_with b unit v (intended v c) r)
       by r p = rw (p.is, p.some)
 
-  module _ (r : Result) (is : result_of fnvFamily v c ≡ r) (yes : r.outcome ≡ accepted) where
+  module _ (r : Result) (is : result_of fnv_family v c ≡ r) (yes : r.outcome ≡ accepted) where
     -- none of its steps
-    pub none-cut : (b : ℕ) → b ≡ 0 → record { outcome = accepted; complete = 0; steps = 0; left = v } ≡ cut_of (callCut fnvFamily b v c)
-    unfolding callFor
-    none-cut b z = here ∙ ap (λ (s : Result). cut_of (cutWith b unit v (intended v c) s)) (sym is)
+    pub none_cut : (b : ℕ) → b ≡ 0 → record { outcome = accepted; complete = 0; steps = 0; left = v } ≡ cut_of (call_cut fnv_family b v c)
+    unfolding call_for
+    none_cut b z = here ∙ ap (λ (s : Result). cut_of (cut_with b unit v (intended v c) s)) (sym is)
       where
-        here : record { outcome = accepted; complete = 0; steps = 0; left = v } ≡ cut_of (cutWith b unit v (intended v c) r)
-        here = rw (z, yes, lt-leb (suc (length (lastSteps r))) 0 (omega arith))
+        here : record { outcome = accepted; complete = 0; steps = 0; left = v } ≡ cut_of (cut_with b unit v (intended v c) r)
+        here = rw (z, yes, lt-leb (suc (length (last_steps r))) 0 (omega arith))
 
     -- its intent and b more
-    pub some-cut : (b b' : ℕ) → b' ≡ suc b → (m : Memory) (p : Progress)
-        → Ran unit (lastSteps r) b (memory v.flash (intended v c)) m p
+    pub some_cut : (b b' : ℕ) → b' ≡ suc b → (m : Memory) (p : Progress)
+        → Ran unit (last_steps r) b (memory v.flash (intended v c)) m p
         → record {
           outcome = accepted;
           complete = num p.finished;
           steps = p.steps + 1;
           left = record { state = cond p.finished r.volume.state v.state; flash = m.flash; ram = m.ram };
-        } ≡ cut_of (callCut fnvFamily b' v c)
-    unfolding callFor
-    some-cut b b' e m p R = here ∙ ap (λ (s : Result). cut_of (cutWith b' unit v (intended v c) s)) (sym is)
+        } ≡ cut_of (call_cut fnv_family b' v c)
+    unfolding call_for
+    some_cut b b' e m p R = here ∙ ap (λ (s : Result). cut_of (cut_with b' unit v (intended v c) s)) (sym is)
       where
         one_more : (k : ℕ) → k + 1 ≡ suc k
         one_more k = omega arith
@@ -144,43 +144,43 @@ module _ (v : Volume) (c : Call) where
           complete = num p.finished;
           steps = p.steps + 1;
           left = record { state = cond p.finished r.volume.state v.state; flash = m.flash; ram = m.ram };
-        } ≡ cut_of (cutWith b' unit v (intended v c) r)
-        here = rw (e, yes, leb-suc (length (lastSteps r)) b, R.memory-is, R.finished-is, one_more p.steps, R.steps-is)
+        } ≡ cut_of (cut_with b' unit v (intended v c) r)
+        here = rw (e, yes, leb_suc (length (last_steps r)) b, R.memory_is, R.finished_is, one_more p.steps, R.steps_is)
 
 -- no more steps than the budget
-pub ran-few : {u b : ℕ} {ss : List Step} {m m' : Memory} {p : Progress} → Ran u ss b m m' p → p.steps ≤ b
-ran-few {b = b} {ss = ss} R = omega (arith, R.steps-is, length-take b ss)
+pub ran_few : {u b : ℕ} {ss : List Step} {m m' : Memory} {p : Progress} → Ran u ss b m m' p → p.steps ≤ b
+ran_few {b = b} {ss = ss} R = omega (arith, R.steps_is, length-take b ss)
 
 -- what is told of it, with the state on either side of the last step
-pub told-cut : (f : Bool) (k : ℕ) (new old : State) (main spare ram : List ℕ) (s : layout.State) (x : CutEffect) → stateIs new ≡ s
+pub told_cut_lem : (f : Bool) (k : ℕ) (new old : State) (main spare ram : List ℕ) (s : layout.State) (x : CutEffect) → state_is new ≡ s
     → record {
       outcome = accepted;
       complete = num f;
       steps = k;
-      left = record { state = cond f s (stateIs old); flash = flashOf main spare; ram = ram };
+      left = record { state = cond f s (state_is old); flash = flash_of main spare; ram = ram };
     } ≡ x
     → record { outcome = accepted; complete = num f; steps = k; left = volume (cond f new old) main spare ram } ≡ x
-told-cut true k new old main spare ram s x e q = rw e q
-told-cut false k new old main spare ram s x e q = q
+told_cut_lem true k new old main spare ram s x e q = rw e q
+told_cut_lem false k new old main spare ram s x e q = q
 
 -- ---- the RAM with its intent
 
 -- the pages are the old ones
-module _ (main spare ram ram' x : List ℕ) (is : ram' ≡ pages ram ++ x) (size : length x ≡ headerSize) where
-  same-pages : pages ram' ≡ pages ram
-  same-pages = ap pages is ∙ pages-of (pages ram) x size
+module _ (main spare ram ram' x : List ℕ) (is : ram' ≡ pages ram ++ x) (size : length x ≡ header_size) where
+  same_pages : pages ram' ≡ pages ram
+  same_pages = ap pages is ∙ pages_of (pages ram) x size
 
-  pub fits-still : (s : State) (g : Geometry) → VolumeFits (volume s main spare (pages ram)) g
-      → (headerSize ≤ length ram') × VolumeFits (volume s main spare (pages ram')) g
-  fits-still s g f = (rw is (omega (arith, length-append (pages ram) x, size)), rw same-pages f)
+  pub fits_still : (s : State) (g : Geometry) → VolumeFits (volume s main spare (pages ram)) g
+      → (header_size ≤ length ram') × VolumeFits (volume s main spare (pages ram')) g
+  fits_still s g f = (rw is (omega (arith, length-append (pages ram) x, size)), rw same_pages f)
 
-  pub ran-still : (t : Task) (u b : ℕ) (m : Memory) (p : Progress) → t.g.chip.unit ≡ u
-      → Ran t.g.chip.unit (lastSteps (taskResult t main spare (pages ram') 0)) b (memory (flashOf main spare) ram') m p
-      → Ran u (lastSteps (taskResult t main spare (pages ram) 0)) b (memory (flashOf main spare) (pages ram ++ x)) m p
-  ran-still t u b m p e R =
-      subst (λ (k : ℕ). Ran k (lastSteps (taskResult t main spare (pages ram) 0)) b (memory (flashOf main spare) (pages ram ++ x)) m p) e
+  pub ran_still : (t : Task) (u b : ℕ) (m : Memory) (p : Progress) → t.g.chip.unit ≡ u
+      → Ran t.g.chip.unit (last_steps (task_result t main spare (pages ram') 0)) b (memory (flash_of main spare) ram') m p
+      → Ran u (last_steps (task_result t main spare (pages ram) 0)) b (memory (flash_of main spare) (pages ram ++ x)) m p
+  ran_still t u b m p e R =
+      subst (λ (k : ℕ). Ran k (last_steps (task_result t main spare (pages ram) 0)) b (memory (flash_of main spare) (pages ram ++ x)) m p) e
       (subst
-      (λ (l : List ℕ). Ran t.g.chip.unit (lastSteps (taskResult t main spare (pages ram) 0)) b (memory (flashOf main spare) l) m p) is
+      (λ (l : List ℕ). Ran t.g.chip.unit (last_steps (task_result t main spare (pages ram) 0)) b (memory (flash_of main spare) l) m p) is
       (subst
-      (λ (l : List ℕ). Ran t.g.chip.unit (lastSteps (taskResult t main spare l 0)) b (memory (flashOf main spare) ram') m p) same-pages
+      (λ (l : List ℕ). Ran t.g.chip.unit (last_steps (task_result t main spare l 0)) b (memory (flash_of main spare) ram') m p) same_pages
       R))

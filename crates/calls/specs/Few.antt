@@ -6,40 +6,40 @@ use Rattle.std.proofs.Math.Bool.{true, false, not}
 use Rattle.std.proofs.Math.Option.{Option, none, some}
 use Rattle.std.proofs.Common.{arith, length-drop}
 use Rattle.memory.specs.Cases.{either, bool?}
-use Rattle.memory.specs.Booleans.{or-eq-false-iff}
+use Rattle.memory.specs.Booleans.{or_eq_false_iff}
 use Rattle.layout.specs.Geometry as layout
-use Rattle.layout.specs.Flash.{Planned, planOps, allFresh}
-use Rattle.layout.specs.Hash.{fnvFamily}
+use Rattle.layout.specs.Flash.{Planned, plan_ops, all_fresh}
+use Rattle.layout.specs.Hash.{fnv_family}
 use Rattle.layout.specs.Search.{Stop, found, corrupt}
-use Rattle.layout.specs.Calls.{Volume, Result, badState, tooShort, judgeFirst, one, noRoom, noDeletion, changePlan, search}
-use Rattle.layout.specs.Calls.{Commit, performed, commit, changeBy, insertBy, updateBy, deleteBy, answerBy}
-use Rattle.layout.specs.Later.{laterPlan, commitLater, callAgain}
-use Rattle.layout.specs.Header.{onPages, kindIn}
-use Rattle.layout.specs.Budgets.{result_of, pendingOn}
+use Rattle.layout.specs.Calls.{Volume, Result, bad_state, too_short, judge_first, one, no_room, no_deletion, change_plan, search}
+use Rattle.layout.specs.Calls.{Commit, performed, commit, change_by, insert_by, update_by, delete_by, answer_by}
+use Rattle.layout.specs.Later.{later_plan, commit_later, call_again}
+use Rattle.layout.specs.Header.{on_pages, kind_in}
+use Rattle.layout.specs.Budgets.{result_of, pending_on}
 use Rattle.laws.specs.Lengths.{long_of}
-use Rattle.laws.specs.Done.{ops-length, doneCount, later-drop}
-use Rattle.geometry.specs.Shape.{shape, geometryFor, Sound}
-use Rattle.geometry.specs.Allowed.{allowed-sound}
+use Rattle.laws.specs.Done.{ops_length, done_count, later_drop}
+use Rattle.geometry.specs.Shape.{shape, geometry_for, Sound}
+use Rattle.geometry.specs.Allowed.{allowed_sound}
 use Rattle.geometry.specs.declared.Geometry.{Geometry}
-use Rattle.keys.specs.Key.{keyIs}
-use Rattle.state.specs.Contract.{recordIs, call_of}
+use Rattle.keys.specs.Key.{key_is}
+use Rattle.state.specs.Contract.{record_is, call_of}
 use Rattle.state.specs.declared.Record.{Record}
 use Rattle.state.specs.declared.Request.{Request}
 use Rattle.state.specs.declared.Request.TheVariants as request
-use Rattle.changes.specs.Edits.{editIs}
+use Rattle.changes.specs.Edits.{edit_is}
 use Rattle.changes.specs.Room.{room_of}
 use Rattle.changes.specs.declared.Edit.{Edit}
 use Rattle.changes.specs.declared.Edit.TheVariants.{Insert, Delete, Replace}
-use Rattle.changes.specs.Few.{few-changes}
+use Rattle.changes.specs.Few.{few_changes}
 
 -- ---- a result of few operations
 
 abbrev Few : Result → Type 0
 Few r = (r.count ≡ 0) × (length r.ops < 2 ^ 32)
 
-few-either : (t : Bool) (r s : Result) → Few r → Few s → Few (cond t r s)
-few-either true r s p q = p
-few-either false r s p q = q
+few_either : (t : Bool) (r s : Result) → Few r → Few s → Few (cond t r s)
+few_either true r s p q = p
+few_either false r s p q = q
 
 -- ---- an end of a change makes no more of them than are planned
 
@@ -47,92 +47,92 @@ abbrev FewEnd : Commit → Type 0
 FewEnd end = (g : layout.Geometry) (v : Volume) (n d : ℕ) (plan : List Planned) (ram : List ℕ) → length plan < 2 ^ 32
     → Few (end g v n d plan ram)
 
-performed-few : FewEnd performed
-performed-few g v n d plan ram l = (refl, omega (arith, ops-length g.u plan v.flash, l))
+performed_few : FewEnd performed
+performed_few g v n d plan ram l = (refl, omega (arith, ops_length g.u plan v.flash, l))
 
-commit-few : FewEnd commit
+commit_few : FewEnd commit
 unfolding commit
-commit-few g v n d plan ram l =
-    few-either (allFresh v.flash.spare (planOps g.u plan v.flash)) _ _ (performed-few g v n d plan ram l) (refl, omega arith)
+commit_few g v n d plan ram l =
+    few_either (all_fresh v.flash.spare (plan_ops g.u plan v.flash)) _ _ (performed_few g v n d plan ram l) (refl, omega arith)
 
-later-length : (spare : List ℕ) (ps : List Planned) → length (laterPlan spare ps) ≤ length ps
-later-length spare ps = rw (later-drop spare ps) (omega (arith, length-drop (doneCount spare ps) ps))
+later_length : (spare : List ℕ) (ps : List Planned) → length (later_plan spare ps) ≤ length ps
+later_length spare ps = rw (later_drop spare ps) (omega (arith, length-drop (done_count spare ps) ps))
 
-later-few : FewEnd commitLater
-unfolding commitLater
-later-few g v n d plan ram l =
-    performed-few g v n d (laterPlan v.flash.spare plan) ram (omega (arith, later-length v.flash.spare plan, l))
+later_few : FewEnd commit_later
+unfolding commit_later
+later_few g v n d plan ram l =
+    performed_few g v n d (later_plan v.flash.spare plan) ram (omega (arith, later_length v.flash.spare plan, l))
 
 -- ---- a change, then a call
 
-module _ (end : Commit) (few-end : FewEnd end) (v : Volume) where
-  module _ (g : Geometry) (S : Sound g) (long : layout.ramSize (shape g) ≤ length v.ram) where
-    change-few : (e : Edit) → Few (changeBy end fnvFamily (shape g) v (editIs e))
-    unfolding changeBy
-    change-few e =
-        either (bool? (one (editIs e).inserts && noRoom (shape g) v)) (λ p. rw p (refl, omega arith))
-        (λ p. either (bool? (one (editIs e).deletes && noDeletion (shape g) v)) (λ q. rw (p, q) (refl, omega arith))
+module _ (end : Commit) (few_end : FewEnd end) (v : Volume) where
+  module _ (g : Geometry) (S : Sound g) (long : layout.ram_size (shape g) ≤ length v.ram) where
+    change_few : (e : Edit) → Few (change_by end fnv_family (shape g) v (edit_is e))
+    unfolding change_by
+    change_few e =
+        either (bool? (one (edit_is e).inserts && no_room (shape g) v)) (λ p. rw p (refl, omega arith))
+        (λ p. either (bool? (one (edit_is e).deletes && no_deletion (shape g) v)) (λ q. rw (p, q) (refl, omega arith))
         (λ q. rw (p, q)
-        (few-end (shape g) v _ _ (changePlan fnvFamily (shape g) v (editIs e)) _ (few-changes g S v e long (room_of (shape g) v.state.records v.state.deletions e p q)))))
+        (few_end (shape g) v _ _ (change_plan fnv_family (shape g) v (edit_is e)) _ (few_changes g S v e long (room_of (shape g) v.state.records v.state.deletions e p q)))))
 
-    insert-few : (r : Record) (s : Option Stop) → Few (insertBy end fnvFamily (shape g) v (recordIs r) s)
-    insert-few r none = change-few (Insert r)
-    insert-few r (some corrupt) = (refl, omega arith)
-    insert-few r (some (found j)) = (refl, omega arith)
+    insert_few : (r : Record) (s : Option Stop) → Few (insert_by end fnv_family (shape g) v (record_is r) s)
+    insert_few r none = change_few (Insert r)
+    insert_few r (some corrupt) = (refl, omega arith)
+    insert_few r (some (found j)) = (refl, omega arith)
 
-    update-few : (r : Record) (s : Option Stop) → Few (updateBy end fnvFamily (shape g) v (recordIs r) s)
-    update-few r none = change-few (Insert r)
-    update-few r (some corrupt) = (refl, omega arith)
-    update-few r (some (found j)) = change-few (Replace j r)
+    update_few : (r : Record) (s : Option Stop) → Few (update_by end fnv_family (shape g) v (record_is r) s)
+    update_few r none = change_few (Insert r)
+    update_few r (some corrupt) = (refl, omega arith)
+    update_few r (some (found j)) = change_few (Replace j r)
 
-    delete-few : (s : Option Stop) → Few (deleteBy end fnvFamily (shape g) v s)
-    delete-few none = (refl, omega arith)
-    delete-few (some corrupt) = (refl, omega arith)
-    delete-few (some (found j)) = change-few (Delete j)
+    delete_few : (s : Option Stop) → Few (delete_by end fnv_family (shape g) v s)
+    delete_few none = (refl, omega arith)
+    delete_few (some corrupt) = (refl, omega arith)
+    delete_few (some (found j)) = change_few (Delete j)
 
-    answer-few : (q : Request) → Few (answerBy end fnvFamily (shape g) v (call_of q))
-    answer-few (request.Insert r) = insert-few r (search fnvFamily (shape g) v (keyIs r.key)).stop
-    answer-few (request.Update r) = update-few r (search fnvFamily (shape g) v (keyIs r.key)).stop
-    answer-few (request.Delete key) = delete-few (search fnvFamily (shape g) v (keyIs key)).stop
+    answer_few : (q : Request) → Few (answer_by end fnv_family (shape g) v (call_of q))
+    answer_few (request.Insert r) = insert_few r (search fnv_family (shape g) v (key_is r.key)).stop
+    answer_few (request.Update r) = update_few r (search fnv_family (shape g) v (key_is r.key)).stop
+    answer_few (request.Delete key) = delete_few (search fnv_family (shape g) v (key_is key)).stop
 
   -- the volume that is not refused by 1 has a sound geometry
-  good-sound : badState v.state ≡ false → Sound (geometryFor v.state.sizes)
-  unfolding badState
-  good-sound e =
-      allowed-sound v.state.sizes
-      (flip (layout.allowed v.state.sizes) ((or-eq-false-iff (not (layout.allowed v.state.sizes)) _).0 e).0)
+  good_sound : bad_state v.state ≡ false → Sound (geometry_for v.state.sizes)
+  unfolding bad_state
+  good_sound e =
+      allowed_sound v.state.sizes
+      (flip (layout.allowed v.state.sizes) ((or_eq_false_iff (not (layout.allowed v.state.sizes)) _).0 e).0)
     where
       flip : (t : Bool) → not t ≡ false → t ≡ true
       flip true p = refl
       flip false p = cc
 
-  judged-few : (r : Result)
-      → (Sound (geometryFor v.state.sizes) → layout.ramSize (layout.geometry v.state.sizes) ≤ length v.ram → Few r)
-      → Few (judgeFirst v r)
-  unfolding judgeFirst
-  judged-few r f =
-      either (bool? (badState v.state)) (λ p. rw p (refl, omega arith))
-      (λ p. either (bool? (tooShort (layout.geometry v.state.sizes) v.flash v.ram)) (λ q. rw (p, q) (refl, omega arith))
-      (λ q. rw (p, q) (f (good-sound p) (long_of (layout.geometry v.state.sizes) v.flash v.ram q).read.ram-fits)))
+  judged_few : (r : Result)
+      → (Sound (geometry_for v.state.sizes) → layout.ram_size (layout.geometry v.state.sizes) ≤ length v.ram → Few r)
+      → Few (judge_first v r)
+  unfolding judge_first
+  judged_few r f =
+      either (bool? (bad_state v.state)) (λ p. rw p (refl, omega arith))
+      (λ p. either (bool? (too_short (layout.geometry v.state.sizes) v.flash v.ram)) (λ q. rw (p, q) (refl, omega arith))
+      (λ q. rw (p, q) (f (good_sound p) (long_of (layout.geometry v.state.sizes) v.flash v.ram q).read.ram_fits)))
 
 -- ---- the intent and the finished RAM beside them
 
-result-few : (v : Volume) (q : Request) → Few (result_of fnvFamily v (call_of q))
-result-few v q =
-    judged-few commit commit-few (onPages v) _
-    (λ S long. few-either (eqb (kindIn v.ram) 0) _ _
-    (answer-few commit commit-few (onPages v) (geometryFor v.state.sizes) S long q) (refl, omega arith))
+result_few : (v : Volume) (q : Request) → Few (result_of fnv_family v (call_of q))
+result_few v q =
+    judged_few commit commit_few (on_pages v) _
+    (λ S long. few_either (eqb (kind_in v.ram) 0) _ _
+    (answer_few commit commit_few (on_pages v) (geometry_for v.state.sizes) S long q) (refl, omega arith))
 
-pub few-ops : (v : Volume) (q : Request) → length (result_of fnvFamily v (call_of q)).ops + 2 ≤ 18446744073709551615
-few-ops v q = omega (arith, (result-few v q).1)
+pub few_ops : (v : Volume) (q : Request) → length (result_of fnv_family v (call_of q)).ops + 2 ≤ 18446744073709551615
+few_ops v q = omega (arith, (result_few v q).1)
 
-pub none-counted : (v : Volume) (q : Request) → (result_of fnvFamily v (call_of q)).count ≡ 0
-none-counted v q = (result-few v q).0
+pub none_counted : (v : Volume) (q : Request) → (result_of fnv_family v (call_of q)).count ≡ 0
+none_counted v q = (result_few v q).0
 
-again-few : (w : Volume) (q : Request) → Few (callAgain fnvFamily w (call_of q))
-unfolding callAgain
-again-few w q =
-    judged-few commitLater later-few w _ (λ S long. answer-few commitLater later-few w (geometryFor w.state.sizes) S long q)
+again_few : (w : Volume) (q : Request) → Few (call_again fnv_family w (call_of q))
+unfolding call_again
+again_few w q =
+    judged_few commit_later later_few w _ (λ S long. answer_few commit_later later_few w (geometry_for w.state.sizes) S long q)
 
-pub few-again : (v : Volume) (q : Request) → length (callAgain fnvFamily (pendingOn v) (call_of q)).ops + 1 ≤ 18446744073709551615
-few-again v q = omega (arith, (again-few (pendingOn v) q).1)
+pub few_again : (v : Volume) (q : Request) → length (call_again fnv_family (pending_on v) (call_of q)).ops + 1 ≤ 18446744073709551615
+few_again v q = omega (arith, (again_few (pending_on v) q).1)

@@ -2,21 +2,21 @@
 // in steps; and the same of a pending call by a restart. Document 01, "Calls"; document 02, request 8.
 ghost use Rattle.std.specs.Prelude.{◌≡◌, false, ◌≤◌, length};
 ghost use Rattle.memory.specs.Lent.{before};
-ghost use Rattle.layout.specs.Hash.{fnvFamily};
+ghost use Rattle.layout.specs.Hash.{fnv_family};
 ghost use Rattle.layout.specs.Calls as layout;
-ghost use Rattle.layout.specs.Calls.{keyOf};
-ghost use Rattle.layout.specs.Header.{headerSize, pages, onPages, changing, pendingIn};
-ghost use Rattle.layout.specs.Budgets.{lastSteps, callCut, callWhole, restartCut};
+ghost use Rattle.layout.specs.Calls.{key_of};
+ghost use Rattle.layout.specs.Header.{header_size, pages, on_pages, changing, pending_in};
+ghost use Rattle.layout.specs.Budgets.{last_steps, call_cut, call_whole, restart_cut};
 ghost use Rattle.geometry.specs.Shape.{shape};
-ghost use Rattle.keys.specs.Key.{keyIs};
-ghost use Rattle.state.specs.Contract.{recordIs, call_of, volume, given, effect_of, effectBy, cut_of, cutBy, memoryBefore, memoryAfter, Ran};
+ghost use Rattle.keys.specs.Key.{key_is};
+ghost use Rattle.state.specs.Contract.{record_is, call_of, volume, given, effect_of, effect_by, cut_of, cut_by, memory_before, memory_after, Ran};
 ghost use Rattle.state.specs.Judge.{VolumeFits, GoodFits};
 ghost use Rattle.state.specs.declared.Judgement.{Judgement};
-ghost use Rattle.planning.specs.Edits.{programsIn};
-ghost use Rattle.changes.specs.Edits.{countedState};
-ghost use Rattle.changes.specs.Tasks.{HasRoom, Prepared, taskOn, taskSlots, taskPlan, taskResult};
-ghost use Rattle.calls.specs.Resolve.{resolvedBy, resolvedOf, ResolvedFits};
-ghost use Rattle.calls.specs.Request.{ofAbsent, ofLive, decisionOf, Decided};
+ghost use Rattle.planning.specs.Edits.{programs_in};
+ghost use Rattle.changes.specs.Edits.{counted_state};
+ghost use Rattle.changes.specs.Tasks.{HasRoom, Prepared, task_on, task_slots, task_plan, task_result};
+ghost use Rattle.calls.specs.Resolve.{resolved_by, resolved_of, ResolvedFits};
+ghost use Rattle.calls.specs.Request.{of_absent, of_live, decision_of, Decided};
 
 use changes::{Edit, Task};
 use geometry::Geometry;
@@ -44,9 +44,9 @@ pub fn resolve_judged(
     spare: &[u8],
     ram: &[u8],
 ) -> Resolved
-    requires { GoodFits (onPages (volume s main.now spare.now ram.now)) j }
-    ensures equal { result ≡ resolvedBy j (onPages (given s main spare ram)) (keyIs key) }
-    ensures fits { ResolvedFits (onPages (given s main spare ram)) result }
+    requires { GoodFits (on_pages (volume s main.now spare.now ram.now)) j }
+    ensures equal { result ≡ resolved_by j (on_pages (given s main spare ram)) (key_is key) }
+    ensures fits { ResolvedFits (on_pages (given s main spare ram)) result }
 {
     match j {
         Judgement::Refused(i) => {
@@ -74,8 +74,8 @@ pub fn resolve_judged(
 
 // Refusals 1, 2, 10 and 8, then whether the key is live.
 pub fn resolve(s: State, key: Key, main: &[u8], spare: &[u8], ram: &[u8]) -> Resolved
-    ensures equal { result ≡ resolvedOf (given s main spare ram) (keyIs key) }
-    ensures fits { ResolvedFits (onPages (given s main spare ram)) result }
+    ensures equal { result ≡ resolved_of (given s main spare ram) (key_is key) }
+    ensures fits { ResolvedFits (on_pages (given s main spare ram)) result }
 {
     let j = header::judge(s, main, spare, ram);
     resolve_judged(j, s, key, main, spare, ram)
@@ -92,7 +92,7 @@ pub enum Decision {
 
 // The key that a call names.
 fn key_of(q: Request) -> Key
-    ensures { keyIs result ≡ keyOf (call_of q) }
+    ensures { key_is result ≡ key_of (call_of q) }
 {
     match q {
         Request::Insert(record) => record.key,
@@ -103,7 +103,7 @@ fn key_of(q: Request) -> Key
 
 // A call on a key that is not live: an update inserts it.
 fn of_absent(g: Geometry, q: Request) -> Decision
-    ensures { result ≡ ofAbsent g q }
+    ensures { result ≡ of_absent g q }
 {
     match q {
         Request::Insert(record) => Decision::Change(g, Edit::Insert(record)),
@@ -114,7 +114,7 @@ fn of_absent(g: Geometry, q: Request) -> Decision
 
 // A call on a key whose live record has number `old`.
 fn of_live(g: Geometry, old: u32, q: Request) -> Decision
-    ensures { result ≡ ofLive g old q }
+    ensures { result ≡ of_live g old q }
 {
     match q {
         Request::Insert(_) => Decision::Refused(state::PRESENT),
@@ -125,7 +125,7 @@ fn of_live(g: Geometry, old: u32, q: Request) -> Decision
 
 // What a call does by what its key resolved to.
 fn decide(q: Request, r: Resolved) -> Decision
-    ensures { result ≡ decisionOf q r }
+    ensures { result ≡ decision_of q r }
 {
     match r {
         Resolved::Refused(i) => Decision::Refused(i),
@@ -154,11 +154,11 @@ fn finish(
     spare: &mut [u8],
     ram: &mut [u8],
 ) -> Finished
-    requires header_size_in_bounds { (headerSize ≤ length ram.old) × VolumeFits (taskOn t main.old spare.old (pages ram.old)) t.g }
-    requires prepared { Prepared t p × (from ≤ length (taskPlan t main.old spare.old (pages ram.old))) }
-    ensures ran { Ran t.g.chip.unit (lastSteps (taskResult t (before main) (before spare) (pages (before ram)) from)) budget
-        (memoryBefore main spare ram) (memoryAfter main spare ram) result.progress }
-    ensures state { result.state ≡ countedState t.state t.edit }
+    requires header_size_in_bounds { (header_size ≤ length ram.old) × VolumeFits (task_on t main.old spare.old (pages ram.old)) t.g }
+    requires prepared { Prepared t p × (from ≤ length (task_plan t main.old spare.old (pages ram.old))) }
+    ensures ran { Ran t.g.chip.unit (last_steps (task_result t (before main) (before spare) (pages (before ram)) from)) budget
+        (memory_before main spare ram) (memory_after main spare ram) result.progress }
+    ensures state { result.state ≡ counted_state t.state t.edit }
 {
     let edit = t.edit;
     let new = changes::counted_state(t.state, edit);
@@ -190,8 +190,8 @@ fn perform_planned(
     spare: &mut [u8],
     ram: &mut [u8],
 ) -> Cut
-    requires { Decided t q (taskOn t main.old spare.old ram.old) × HasRoom t }
-    ensures { cutBy result main spare ram ≡ cut_of (callCut fnvFamily budget (given t.state main spare ram) (call_of q)) }
+    requires { Decided t q (task_on t main.old spare.old ram.old) × HasRoom t }
+    ensures { cut_by result main spare ram ≡ cut_of (call_cut fnv_family budget (given t.state main spare ram) (call_of q)) }
 {
     let p = changes::plan_of(t);
     let i = changes::fresh_refusal(t, p, spare);
@@ -223,8 +223,8 @@ fn append_change(
     spare: &[u8],
     ram: &mut [u8],
 ) -> Cut
-    requires { Decided t q (taskOn t main.now spare.now ram.old) × HasRoom t × (programsIn (shape t.g) (taskSlots t) ≡ false) }
-    ensures { cutBy result main spare ram ≡ cut_of (callCut fnvFamily budget (given t.state main spare ram) (call_of q)) }
+    requires { Decided t q (task_on t main.now spare.now ram.old) × HasRoom t × (programs_in (shape t.g) (task_slots t) ≡ false) }
+    ensures { cut_by result main spare ram ≡ cut_of (call_cut fnv_family budget (given t.state main spare ram) (call_of q)) }
 {
     let s = t.state;
     let edit = t.edit;
@@ -267,9 +267,9 @@ pub fn perform_resolved(
     spare: &mut [u8],
     ram: &mut [u8],
 ) -> Cut
-    requires { (r ≡ resolvedOf (volume s main.old spare.old ram.old) (keyOf (call_of q)))
-        × ResolvedFits (onPages (volume s main.old spare.old ram.old)) r }
-    ensures { cutBy result main spare ram ≡ cut_of (callCut fnvFamily budget (given s main spare ram) (call_of q)) }
+    requires { (r ≡ resolved_of (volume s main.old spare.old ram.old) (key_of (call_of q)))
+        × ResolvedFits (on_pages (volume s main.old spare.old ram.old)) r }
+    ensures { cut_by result main spare ram ≡ cut_of (call_cut fnv_family budget (given s main spare ram) (call_of q)) }
 {
     match decide(q, r) {
         Decision::Refused(i) => {
@@ -298,7 +298,7 @@ pub fn perform_for(
     spare: &mut [u8],
     ram: &mut [u8],
 ) -> Cut
-    ensures { cutBy result main spare ram ≡ cut_of (callCut fnvFamily budget (given s main spare ram) (call_of q)) }
+    ensures { cut_by result main spare ram ≡ cut_of (call_cut fnv_family budget (given s main spare ram) (call_of q)) }
 {
     let r = resolve(s, key_of(q), main, spare, ram);
     perform_resolved(budget, s, q, r, main, spare, ram)
@@ -314,8 +314,8 @@ pub fn restart_change(
     spare: &mut [u8],
     ram: &mut [u8],
 ) -> Cut
-    requires { (headerSize ≤ length ram.old) × (pendingIn ram.old ≡ changing (call_of q)) }
-    ensures { cutBy result main spare ram ≡ cut_of (restartCut fnvFamily budget (given s main spare ram)) }
+    requires { (header_size ≤ length ram.old) × (pending_in ram.old ≡ changing (call_of q)) }
+    ensures { cut_by result main spare ram ≡ cut_of (restart_cut fnv_family budget (given s main spare ram)) }
 {
     let old = header::state_in(ram);
     let j = state::judge(old, main, spare, ram);
@@ -347,24 +347,24 @@ pub fn restart_change(
 
 // A new level.
 pub fn insert(s: State, record: Record, main: &mut [u8], spare: &mut [u8], ram: &mut [u8]) -> Change
-    ensures { effectBy result main spare ram
-        ≡ effect_of (callWhole fnvFamily (given s main spare ram) (layout.insert (recordIs «record»))) }
+    ensures { effect_by result main spare ram
+        ≡ effect_of (call_whole fnv_family (given s main spare ram) (layout.insert (record_is «record»))) }
 {
     state::uncut(perform_for(state::ENOUGH, s, Request::Insert(record), main, spare, ram))
 }
 
 // A level's values, whether it is there or not: its record, if there is one, is deleted, and another inserted.
 pub fn update(s: State, record: Record, main: &mut [u8], spare: &mut [u8], ram: &mut [u8]) -> Change
-    ensures { effectBy result main spare ram
-        ≡ effect_of (callWhole fnvFamily (given s main spare ram) (layout.update (recordIs «record»))) }
+    ensures { effect_by result main spare ram
+        ≡ effect_of (call_whole fnv_family (given s main spare ram) (layout.update (record_is «record»))) }
 {
     state::uncut(perform_for(state::ENOUGH, s, Request::Update(record), main, spare, ram))
 }
 
 // Takes a level out.
 pub fn delete(s: State, key: Key, main: &mut [u8], spare: &mut [u8], ram: &mut [u8]) -> Change
-    ensures { effectBy result main spare ram
-        ≡ effect_of (callWhole fnvFamily (given s main spare ram) (layout.delete (keyIs key))) }
+    ensures { effect_by result main spare ram
+        ≡ effect_of (call_whole fnv_family (given s main spare ram) (layout.delete (key_is key))) }
 {
     state::uncut(perform_for(state::ENOUGH, s, Request::Delete(key), main, spare, ram))
 }

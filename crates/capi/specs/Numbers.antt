@@ -8,26 +8,26 @@ use Rattle.load.specs.declared.Loaded.{Loaded}
 use Rattle.lookup.specs.declared.LookupResult.{LookupResult}
 
 -- a state by its words
-abbrev stateBy : ℕ → ℕ → ℕ → ℕ → ℕ → ℕ → State
-stateBy S R D k n d =
+abbrev state_by : ℕ → ℕ → ℕ → ℕ → ℕ → ℕ → State
+state_by S R D k n d =
     record { sizes = record { sector_size = S; ra_blocks = R; da_blocks = D; hash_count = k }; records = n; deletions = d }
 
 -- a state: S, R, D, k, n, d, in the order of the header (document 02, §8: "S, R, D, k, n, d, then the pending call")
 abbrev pub state_of : List ℕ → State
-state_of l = stateBy (get_or l 0 0) (get_or l 1 0) (get_or l 2 0) (get_or l 3 0) (get_or l 4 0) (get_or l 5 0)
+state_of l = state_by (get_or l 0 0) (get_or l 1 0) (get_or l 2 0) (get_or l 3 0) (get_or l 4 0) (get_or l 5 0)
 
 -- a changing call's answer: the refusal, then the state
-abbrev pub changeOf : List ℕ → Change
-changeOf l =
-    record { refusal = get_or l 0 0; state = stateBy (get_or l 1 0) (get_or l 2 0) (get_or l 3 0) (get_or l 4 0) (get_or l 5 0) (get_or l 6 0) }
+abbrev pub change_of : List ℕ → Change
+change_of l =
+    record { refusal = get_or l 0 0; state = state_by (get_or l 1 0) (get_or l 2 0) (get_or l 3 0) (get_or l 4 0) (get_or l 5 0) (get_or l 6 0) }
 
 -- a load's: the refusal, the rows, the state
-abbrev pub loadedOf : List ℕ → Loaded
-loadedOf l =
+abbrev pub loaded_of : List ℕ → Loaded
+loaded_of l =
     record {
       refusal = get_or l 0 0;
       rows = get_or l 1 0;
-      state = stateBy (get_or l 2 0) (get_or l 3 0) (get_or l 4 0) (get_or l 5 0) (get_or l 6 0) (get_or l 7 0);
+      state = state_by (get_or l 2 0) (get_or l 3 0) (get_or l 4 0) (get_or l 5 0) (get_or l 6 0) (get_or l 7 0);
     }
 
 -- one with a budget of steps: the refusal, whether it did all of them, the state; the steps are a number of its own
@@ -37,20 +37,20 @@ cut_of l steps =
       refusal = get_or l 0 0;
       finished = get_or l 1 0;
       steps = steps;
-      state = stateBy (get_or l 2 0) (get_or l 3 0) (get_or l 4 0) (get_or l 5 0) (get_or l 6 0) (get_or l 7 0);
+      state = state_by (get_or l 2 0) (get_or l 3 0) (get_or l 4 0) (get_or l 5 0) (get_or l 6 0) (get_or l 7 0);
     }
 
 -- a lookup's: the refusal, whether there is a record, the pages of keys opened, whether it lies in the RAM, its offset; the pages of
 -- deletions opened are a number of its own
-abbrev pub lookupResultOf : List ℕ → ℕ → LookupResult
-lookupResultOf l daPages =
+abbrev pub lookup_result_of : List ℕ → ℕ → LookupResult
+lookup_result_of l da_pages =
     record {
       refusal = get_or l 0 0;
       found = get_or l 1 0;
       count = get_or l 2 0;
       in_ram = get_or l 3 0;
       offset = get_or l 4 0;
-      deletion_count = daPages;
+      deletion_count = da_pages;
     }
 
 -- ---- values that hold these in place: no two of the numbers are equal
@@ -58,19 +58,19 @@ lookupResultOf l daPages =
 abbrev known : State
 known = record { sizes = record { sector_size = 16; ra_blocks = 1; da_blocks = 2; hash_count = 3 }; records = 5; deletions = 4 }
 
-pub state-words : state_of (16 ∷ 1 ∷ 2 ∷ 3 ∷ 5 ∷ 4 ∷ []) ≡ known
-state-words = refl
+pub state_words_lem : state_of (16 ∷ 1 ∷ 2 ∷ 3 ∷ 5 ∷ 4 ∷ []) ≡ known
+state_words_lem = refl
 
-pub change-words : changeOf (10 ∷ 16 ∷ 1 ∷ 2 ∷ 3 ∷ 5 ∷ 4 ∷ []) ≡ record { refusal = 10; state = known }
-change-words = refl
+pub change_words : change_of (10 ∷ 16 ∷ 1 ∷ 2 ∷ 3 ∷ 5 ∷ 4 ∷ []) ≡ record { refusal = 10; state = known }
+change_words = refl
 
-pub loaded-words : loadedOf (9 ∷ 41 ∷ 16 ∷ 1 ∷ 2 ∷ 3 ∷ 5 ∷ 4 ∷ []) ≡ record { refusal = 9; rows = 41; state = known }
-loaded-words = refl
+pub loaded_words : loaded_of (9 ∷ 41 ∷ 16 ∷ 1 ∷ 2 ∷ 3 ∷ 5 ∷ 4 ∷ []) ≡ record { refusal = 9; rows = 41; state = known }
+loaded_words = refl
 
-pub cut-words : cut_of (10 ∷ 7 ∷ 16 ∷ 1 ∷ 2 ∷ 3 ∷ 5 ∷ 4 ∷ []) 4294967297
+pub cut_words : cut_of (10 ∷ 7 ∷ 16 ∷ 1 ∷ 2 ∷ 3 ∷ 5 ∷ 4 ∷ []) 4294967297
     ≡ record { refusal = 10; finished = 7; steps = 4294967297; state = known }
-cut-words = refl
+cut_words = refl
 
-pub lookup-words : lookupResultOf (8 ∷ 1 ∷ 2 ∷ 3 ∷ 4 ∷ []) 4294967297
+pub lookup_words : lookup_result_of (8 ∷ 1 ∷ 2 ∷ 3 ∷ 4 ∷ []) 4294967297
     ≡ record { refusal = 8; found = 1; count = 2; in_ram = 3; offset = 4; deletion_count = 4294967297 }
-lookup-words = refl
+lookup_words = refl

@@ -5,15 +5,15 @@
 // halves are put together.
 ghost use Rattle.std.specs.Prelude.{◌≡◌};
 ghost use Rattle.memory.specs.Lent.{before, after};
-ghost use Rattle.layout.specs.Geometry.{sizesOf};
-ghost use Rattle.layout.specs.Hash.{fnvFamily};
-ghost use Rattle.layout.specs.Items.{recordOf};
+ghost use Rattle.layout.specs.Geometry.{sizes_of};
+ghost use Rattle.layout.specs.Hash.{fnv_family};
+ghost use Rattle.layout.specs.Items.{record_of};
 ghost use Rattle.layout.specs.Calls.{insert, update, delete, lookup};
-ghost use Rattle.layout.specs.Budgets.{formatCut, formatWhole, callCut, callWhole, restartCut, restartWhole};
-ghost use Rattle.state.specs.Contract.{effect_of, given, effectBy, cut_of, cutBy};
-ghost use Rattle.load.specs.Load.{loadWhole};
-ghost use Rattle.load.specs.Contract.{loadedBy};
-ghost use Rattle.lookup.specs.Results.{lookupOf};
+ghost use Rattle.layout.specs.Budgets.{format_cut, format_whole, call_cut, call_whole, restart_cut, restart_whole};
+ghost use Rattle.state.specs.Contract.{effect_of, given, effect_by, cut_of, cut_by};
+ghost use Rattle.load.specs.Load.{load_whole};
+ghost use Rattle.load.specs.Contract.{loaded_by};
+ghost use Rattle.lookup.specs.Results.{lookup_of};
 ghost use Rattle.capi.specs.Numbers as numbers;
 
 use geometry::Sizes;
@@ -34,9 +34,9 @@ pub extern "C" fn level_store_format_numbers(
     spare: &mut [u8],
     ram: &mut [u8],
 )
-    ensures { effectBy (numbers.changeOf (after answer)) «data» spare ram
-        ≡ effect_of (formatWhole (given (numbers.state_of (before old)) «data» spare ram)
-        (sizesOf sector_size ra_blocks da_blocks hash_count)) }
+    ensures { effect_by (numbers.change_of (after answer)) «data» spare ram
+        ≡ effect_of (format_whole (given (numbers.state_of (before old)) «data» spare ram)
+        (sizes_of sector_size ra_blocks da_blocks hash_count)) }
 {
     let sizes = Sizes {
         sector_size: old[0],
@@ -81,9 +81,9 @@ pub extern "C" fn level_store_insert_numbers(
     spare: &mut [u8],
     ram: &mut [u8],
 )
-    ensures { effectBy (numbers.changeOf (after answer)) «data» spare ram
-        ≡ effect_of (callWhole fnvFamily (given (numbers.state_of (before state)) «data» spare ram)
-        (insert (recordOf key moves goal word))) }
+    ensures { effect_by (numbers.change_of (after answer)) «data» spare ram
+        ≡ effect_of (call_whole fnv_family (given (numbers.state_of (before state)) «data» spare ram)
+        (insert (record_of key moves goal word))) }
 {
     let sizes = Sizes {
         sector_size: state[0],
@@ -129,9 +129,9 @@ pub extern "C" fn level_store_update_numbers(
     spare: &mut [u8],
     ram: &mut [u8],
 )
-    ensures { effectBy (numbers.changeOf (after answer)) «data» spare ram
-        ≡ effect_of (callWhole fnvFamily (given (numbers.state_of (before state)) «data» spare ram)
-        (update (recordOf key moves goal word))) }
+    ensures { effect_by (numbers.change_of (after answer)) «data» spare ram
+        ≡ effect_of (call_whole fnv_family (given (numbers.state_of (before state)) «data» spare ram)
+        (update (record_of key moves goal word))) }
 {
     let sizes = Sizes {
         sector_size: state[0],
@@ -174,8 +174,8 @@ pub extern "C" fn level_store_delete_numbers(
     spare: &mut [u8],
     ram: &mut [u8],
 )
-    ensures { effectBy (numbers.changeOf (after answer)) «data» spare ram
-        ≡ effect_of (callWhole fnvFamily (given (numbers.state_of (before state)) «data» spare ram) (delete key)) }
+    ensures { effect_by (numbers.change_of (after answer)) «data» spare ram
+        ≡ effect_of (call_whole fnv_family (given (numbers.state_of (before state)) «data» spare ram) (delete key)) }
 {
     let sizes = Sizes {
         sector_size: state[0],
@@ -213,8 +213,8 @@ pub extern "C" fn level_store_lookup_numbers(
     spare: &[u8],
     ram: &[u8],
 )
-    ensures { numbers.lookupResultOf (after answer) deletion_count.new
-        ≡ lookupOf (callWhole fnvFamily (given (numbers.state_of (before state)) «data» spare ram) (lookup key)) }
+    ensures { numbers.lookup_result_of (after answer) deletion_count.new
+        ≡ lookup_of (call_whole fnv_family (given (numbers.state_of (before state)) «data» spare ram) (lookup key)) }
 {
     let sizes = Sizes {
         sector_size: state[0],
@@ -248,8 +248,8 @@ pub extern "C" fn level_store_load_numbers(
     spare: &mut [u8],
     ram: &mut [u8],
 )
-    ensures { loadedBy (numbers.loadedOf (after answer)) «data» spare ram
-        ≡ loadWhole fnvFamily (given (numbers.state_of (before state)) «data» spare ram) (before tab) }
+    ensures { loaded_by (numbers.loaded_of (after answer)) «data» spare ram
+        ≡ load_whole fnv_family (given (numbers.state_of (before state)) «data» spare ram) (before tab) }
 {
     let sizes = Sizes {
         sector_size: state[0],
@@ -286,8 +286,8 @@ pub extern "C" fn level_store_restart_numbers(
     spare: &mut [u8],
     ram: &mut [u8],
 )
-    ensures { effectBy (numbers.changeOf (after answer)) «data» spare ram
-        ≡ effect_of (restartWhole fnvFamily (given (numbers.state_of (before state)) «data» spare ram)) }
+    ensures { effect_by (numbers.change_of (after answer)) «data» spare ram
+        ≡ effect_of (restart_whole fnv_family (given (numbers.state_of (before state)) «data» spare ram)) }
 {
     let sizes = Sizes {
         sector_size: state[0],
@@ -330,9 +330,9 @@ pub extern "C" fn level_store_format_cut_numbers(
     spare: &mut [u8],
     ram: &mut [u8],
 )
-    ensures { cutBy (numbers.cut_of (after answer) steps.new) «data» spare ram
-        ≡ cut_of (formatCut budget (given (numbers.state_of (before old)) «data» spare ram)
-        (sizesOf sector_size ra_blocks da_blocks hash_count)) }
+    ensures { cut_by (numbers.cut_of (after answer) steps.new) «data» spare ram
+        ≡ cut_of (format_cut budget (given (numbers.state_of (before old)) «data» spare ram)
+        (sizes_of sector_size ra_blocks da_blocks hash_count)) }
 {
     let sizes = Sizes {
         sector_size: old[0],
@@ -381,9 +381,9 @@ pub extern "C" fn level_store_insert_cut_numbers(
     spare: &mut [u8],
     ram: &mut [u8],
 )
-    ensures { cutBy (numbers.cut_of (after answer) steps.new) «data» spare ram
-        ≡ cut_of (callCut fnvFamily budget (given (numbers.state_of (before state)) «data» spare ram)
-        (insert (recordOf key moves goal word))) }
+    ensures { cut_by (numbers.cut_of (after answer) steps.new) «data» spare ram
+        ≡ cut_of (call_cut fnv_family budget (given (numbers.state_of (before state)) «data» spare ram)
+        (insert (record_of key moves goal word))) }
 {
     let sizes = Sizes {
         sector_size: state[0],
@@ -440,9 +440,9 @@ pub extern "C" fn level_store_update_cut_numbers(
     spare: &mut [u8],
     ram: &mut [u8],
 )
-    ensures { cutBy (numbers.cut_of (after answer) steps.new) «data» spare ram
-        ≡ cut_of (callCut fnvFamily budget (given (numbers.state_of (before state)) «data» spare ram)
-        (update (recordOf key moves goal word))) }
+    ensures { cut_by (numbers.cut_of (after answer) steps.new) «data» spare ram
+        ≡ cut_of (call_cut fnv_family budget (given (numbers.state_of (before state)) «data» spare ram)
+        (update (record_of key moves goal word))) }
 {
     let sizes = Sizes {
         sector_size: state[0],
@@ -496,8 +496,8 @@ pub extern "C" fn level_store_delete_cut_numbers(
     spare: &mut [u8],
     ram: &mut [u8],
 )
-    ensures { cutBy (numbers.cut_of (after answer) steps.new) «data» spare ram
-        ≡ cut_of (callCut fnvFamily budget (given (numbers.state_of (before state)) «data» spare ram) (delete key)) }
+    ensures { cut_by (numbers.cut_of (after answer) steps.new) «data» spare ram
+        ≡ cut_of (call_cut fnv_family budget (given (numbers.state_of (before state)) «data» spare ram) (delete key)) }
 {
     let sizes = Sizes {
         sector_size: state[0],
@@ -544,8 +544,8 @@ pub extern "C" fn level_store_restart_cut_numbers(
     spare: &mut [u8],
     ram: &mut [u8],
 )
-    ensures { cutBy (numbers.cut_of (after answer) steps.new) «data» spare ram
-        ≡ cut_of (restartCut fnvFamily budget (given (numbers.state_of (before state)) «data» spare ram)) }
+    ensures { cut_by (numbers.cut_of (after answer) steps.new) «data» spare ram
+        ≡ cut_of (restart_cut fnv_family budget (given (numbers.state_of (before state)) «data» spare ram)) }
 {
     let sizes = Sizes {
         sector_size: state[0],

@@ -5,37 +5,37 @@ use mathlib.Core.List.{List, []}
 use Prim.Native.Nat.{ℕ, ◌≤◌, ◌<◌}
 use native.Mathlib.Omega.{arith}
 use lib.ListN.{length}
-use Rattle.layout.specs.Geometry.{Geometry, ramSize}
-use Rattle.layout.specs.Flash.{Flash, Planned, planOps, allFresh}
-use Rattle.layout.specs.Hash.{fnvFamily}
-use Rattle.layout.specs.Items.{recordBytes}
+use Rattle.layout.specs.Geometry.{Geometry, ram_size}
+use Rattle.layout.specs.Flash.{Flash, Planned, plan_ops, all_fresh}
+use Rattle.layout.specs.Hash.{fnv_family}
+use Rattle.layout.specs.Items.{record_bytes}
 use Rattle.layout.specs.Refusals as refusal
-use Rattle.layout.specs.Calls.{Volume, one, noRoom, noDeletion, changePlan}
-use Rattle.laws.specs.Done.{doneCount}
-use Rattle.keys.specs.Key.{keyIs}
-use Rattle.state.specs.Contract.{recordIs}
+use Rattle.layout.specs.Calls.{Volume, one, no_room, no_deletion, change_plan}
+use Rattle.laws.specs.Done.{done_count}
+use Rattle.keys.specs.Key.{key_is}
+use Rattle.state.specs.Contract.{record_is}
 use Rattle.plan.specs.declared.Plan.{Plan}
 use Rattle.plan.specs.Plans.{planned}
 use Rattle.planning.specs.declared.Slots.{Slots}
 use Rattle.planning.specs.declared.Slots.TheVariants as slots
-use Rattle.planning.specs.Edits.{Room, numbersOf, programsIn, nothing-planned}
+use Rattle.planning.specs.Edits.{Room, numbers_of, programs_in, nothing_planned}
 use Rattle.changes.specs.declared.Edit.{Edit}
-use Rattle.changes.specs.Edits.{editIs, oldNumber, newRecord, slots_of, roomRefusal}
-use Rattle.changes.specs.Room.{room-tests}
-use Rattle.changes.specs.Tasks.{changeRefusal}
-use Rattle.changes.specs.Places.{plan-of}
-use Rattle.planning.specs.AnyRam.{edit-some, unit-is}
+use Rattle.changes.specs.Edits.{edit_is, old_number, new_record, slots_of, room_refusal}
+use Rattle.changes.specs.Room.{room_tests}
+use Rattle.changes.specs.Tasks.{change_refusal}
+use Rattle.changes.specs.Places.{plan_of_lem}
+use Rattle.planning.specs.AnyRam.{edit_some, unit_is}
 
 -- ---- 5 and 6
 
 -- 5, if it is one, else what comes after it
-pub first-refusal : (i : ℕ) (b : Bool) (rest : ℕ) → i ≡ cond b refusal.full 0 → (i ≡ 0 → ⊥) → i ≡ cond b refusal.full rest
-first-refusal i true rest e h = e
-first-refusal i false rest e h = absurd (h e)
+pub first_refusal : (i : ℕ) (b : Bool) (rest : ℕ) → i ≡ cond b refusal.full 0 → (i ≡ 0 → ⊥) → i ≡ cond b refusal.full rest
+first_refusal i true rest e h = e
+first_refusal i false rest e h = absurd (h e)
 
-pub second-refusal : (i : ℕ) (b : Bool) (rest : ℕ) → i ≡ cond b refusal.full 0 → i ≡ 0 → rest ≡ cond b refusal.full rest
-second-refusal i true rest e h = absurd (omega (arith, e, h))
-second-refusal i false rest e h = refl
+pub second_refusal : (i : ℕ) (b : Bool) (rest : ℕ) → i ≡ cond b refusal.full 0 → i ≡ 0 → rest ≡ cond b refusal.full rest
+second_refusal i true rest e h = absurd (omega (arith, e, h))
+second_refusal i false rest e h = refl
 
 module _ (g : Geometry) (v : Volume) (e : Edit) where
   abbrev S : Slots
@@ -44,63 +44,63 @@ module _ (g : Geometry) (v : Volume) (e : Edit) where
   -- ---- the plan by what code makes of the places alone
 
   -- a change that fills no page plans nothing
-  pub no-plan : 0 < g.u → programsIn g S ≡ false → changePlan fnvFamily g v (editIs e) ≡ []
-  no-plan pos t =
-      sym (plan-of g v e)
-      ∙ nothing-planned fnvFamily g pos (oldNumber e) (keyIs (newRecord e).key) (recordBytes (recordIs (newRecord e))) v.ram S t
+  pub no_plan : 0 < g.u → programs_in g S ≡ false → change_plan fnv_family g v (edit_is e) ≡ []
+  no_plan pos t =
+      sym (plan_of_lem g v e)
+      ∙ nothing_planned fnv_family g pos (old_number e) (key_is (new_record e).key) (record_bytes (record_is (new_record e))) v.ram S t
 
-  module _ (pos : 0 < g.u) (most : g.u ≤ 32) (long : ramSize g ≤ length v.ram) (p : Plan) (p-is : p ≡ numbersOf g S) where
+  module _ (pos : 0 < g.u) (most : g.u ≤ 32) (long : ram_size g ≤ length v.ram) (p : Plan) (p_is : p ≡ numbers_of g S) where
     -- it is the plan of some bytes and filters
-    some-plan : (new : List ℕ) × (filters : List ℕ) × (planned p new filters v.ram ≡ changePlan fnvFamily g v (editIs e))
-    some-plan =
-        let s = edit-some fnvFamily g pos most (oldNumber e) (recordIs (newRecord e)) v.ram long S in
-        (s.0, s.1, ap (λ (q : Plan). planned q s.0 s.1 v.ram) p-is ∙ s.2 ∙ plan-of g v e)
+    some_plan : (new : List ℕ) × (filters : List ℕ) × (planned p new filters v.ram ≡ change_plan fnv_family g v (edit_is e))
+    some_plan =
+        let s = edit_some fnv_family g pos most (old_number e) (record_is (new_record e)) v.ram long S in
+        (s.0, s.1, ap (λ (q : Plan). planned q s.0 s.1 v.ram) p_is ∙ s.2 ∙ plan_of_lem g v e)
 
-    pub fresh-told : (f : Bool) → ((new filters ram : List ℕ) (c : Flash)
-        → f ≡ allFresh v.flash.spare (planOps p.chip.unit (planned p new filters ram) c))
-        → f ≡ allFresh v.flash.spare (planOps g.u (changePlan fnvFamily g v (editIs e)) v.flash)
-    fresh-told f h =
-        let s = some-plan in
+    pub fresh_told : (f : Bool) → ((new filters ram : List ℕ) (c : Flash)
+        → f ≡ all_fresh v.flash.spare (plan_ops p.chip.unit (planned p new filters ram) c))
+        → f ≡ all_fresh v.flash.spare (plan_ops g.u (change_plan fnv_family g v (edit_is e)) v.flash)
+    fresh_told f h =
+        let s = some_plan in
         h s.0 s.1 v.ram v.flash
-        ∙ ap (λ (q : Plan). allFresh v.flash.spare (planOps q.chip.unit (planned p s.0 s.1 v.ram) v.flash)) p-is
-        ∙ ap (λ (u : ℕ). allFresh v.flash.spare (planOps u (planned p s.0 s.1 v.ram) v.flash)) (unit-is g S)
-        ∙ ap (λ (l : List Planned). allFresh v.flash.spare (planOps g.u l v.flash)) s.2
+        ∙ ap (λ (q : Plan). all_fresh v.flash.spare (plan_ops q.chip.unit (planned p s.0 s.1 v.ram) v.flash)) p_is
+        ∙ ap (λ (u : ℕ). all_fresh v.flash.spare (plan_ops u (planned p s.0 s.1 v.ram) v.flash)) (unit_is g S)
+        ∙ ap (λ (l : List Planned). all_fresh v.flash.spare (plan_ops g.u l v.flash)) s.2
 
-    pub done-told : (k : ℕ) → ((new filters ram : List ℕ) → k ≡ doneCount v.flash.spare (planned p new filters ram))
-        → k ≡ doneCount v.flash.spare (changePlan fnvFamily g v (editIs e))
-    done-told k h =
-        let s = some-plan in
-        h s.0 s.1 v.ram ∙ ap (doneCount v.flash.spare) s.2
+    pub done_told : (k : ℕ) → ((new filters ram : List ℕ) → k ≡ done_count v.flash.spare (planned p new filters ram))
+        → k ≡ done_count v.flash.spare (change_plan fnv_family g v (edit_is e))
+    done_told k h =
+        let s = some_plan in
+        h s.0 s.1 v.ram ∙ ap (done_count v.flash.spare) s.2
 
   -- ---- the refusal
 
   -- 5 or 6
-  pub change-full : (i : ℕ) → i ≡ roomRefusal g v.state.records v.state.deletions (editIs e) → (i ≡ 0 → ⊥)
-      → i ≡ changeRefusal g v (editIs e)
-  change-full i is some = by (one (editIs e).inserts && noRoom g v) (one (editIs e).deletes && noDeletion g v) _ is
+  pub change_full : (i : ℕ) → i ≡ room_refusal g v.state.records v.state.deletions (edit_is e) → (i ≡ 0 → ⊥)
+      → i ≡ change_refusal g v (edit_is e)
+  change_full i is some = by (one (edit_is e).inserts && no_room g v) (one (edit_is e).deletes && no_deletion g v) _ is
     where
-      by : (a b : Bool) (x : ℕ) → i ≡ cond a refusal.full (cond b refusal.deletionsFull 0)
-          → i ≡ cond a refusal.full (cond b refusal.deletionsFull x)
+      by : (a b : Bool) (x : ℕ) → i ≡ cond a refusal.full (cond b refusal.deletions_full 0)
+          → i ≡ cond a refusal.full (cond b refusal.deletions_full x)
       by true b x q = q
       by false true x q = q
       by false false x q = absurd (some q)
 
   -- where there is room, 7 or none
   module _ (room : Room g S) where
-    rest-told : (x : ℕ) (f : Bool) → f ≡ allFresh v.flash.spare (planOps g.u (changePlan fnvFamily g v (editIs e)) v.flash)
-        → x ≡ cond f 0 refusal.notFresh → x ≡ changeRefusal g v (editIs e)
-    rest-told x f f-is q =
-        let t = room-tests g v.state.records v.state.deletions e room in
-        rw (t.0, t.1, ← f-is) q
+    rest_told : (x : ℕ) (f : Bool) → f ≡ all_fresh v.flash.spare (plan_ops g.u (change_plan fnv_family g v (edit_is e)) v.flash)
+        → x ≡ cond f 0 refusal.not_fresh → x ≡ change_refusal g v (edit_is e)
+    rest_told x f f_is q =
+        let t = room_tests g v.state.records v.state.deletions e room in
+        rw (t.0, t.1, ← f_is) q
 
-    pub change-stale : (f : Bool) → f ≡ allFresh v.flash.spare (planOps g.u (changePlan fnvFamily g v (editIs e)) v.flash)
-        → f ≡ false → refusal.notFresh ≡ changeRefusal g v (editIs e)
-    change-stale f f-is q = rest-told refusal.notFresh f f-is (rw q)
+    pub change_stale : (f : Bool) → f ≡ all_fresh v.flash.spare (plan_ops g.u (change_plan fnv_family g v (edit_is e)) v.flash)
+        → f ≡ false → refusal.not_fresh ≡ change_refusal g v (edit_is e)
+    change_stale f f_is q = rest_told refusal.not_fresh f f_is (rw q)
 
-    pub change-fresh : (f : Bool) → f ≡ allFresh v.flash.spare (planOps g.u (changePlan fnvFamily g v (editIs e)) v.flash)
-        → f ≡ true → 0 ≡ changeRefusal g v (editIs e)
-    change-fresh f f-is q = rest-told 0 f f-is (rw q)
+    pub change_fresh : (f : Bool) → f ≡ all_fresh v.flash.spare (plan_ops g.u (change_plan fnv_family g v (edit_is e)) v.flash)
+        → f ≡ true → 0 ≡ change_refusal g v (edit_is e)
+    change_fresh f f_is q = rest_told 0 f f_is (rw q)
 
-    pub change-nothing : 0 < g.u → programsIn g S ≡ false → 0 ≡ changeRefusal g v (editIs e)
-    unfolding allFresh
-    change-nothing pos t = rest-told 0 true (rw (no-plan pos t)) refl
+    pub change_nothing : 0 < g.u → programs_in g S ≡ false → 0 ≡ change_refusal g v (edit_is e)
+    unfolding all_fresh
+    change_nothing pos t = rest_told 0 true (rw (no_plan pos t)) refl

@@ -2,15 +2,15 @@
 use Rattle.std.specs.Prelude.{◌≡◌, refl, ℕ}
 use Rattle.std.proofs.Common.{sym, append-nil}
 use Rattle.layout.specs.Geometry.{Geometry}
-use Rattle.layout.specs.Hash.{fnvFamily}
-use Rattle.layout.specs.Items.{recordBytes}
-use Rattle.layout.specs.Calls.{Volume, deletes, changePlan, changeRam}
-use Rattle.keys.specs.Key.{keyIs}
-use Rattle.state.specs.Contract.{recordIs}
-use Rattle.planning.specs.Edits.{plan_of, ramOf}
+use Rattle.layout.specs.Hash.{fnv_family}
+use Rattle.layout.specs.Items.{record_bytes}
+use Rattle.layout.specs.Calls.{Volume, deletes, change_plan, change_ram}
+use Rattle.keys.specs.Key.{key_is}
+use Rattle.state.specs.Contract.{record_is}
+use Rattle.planning.specs.Edits.{plan_of, ram_of}
 use Rattle.changes.specs.declared.Edit.{Edit}
 use Rattle.changes.specs.declared.Edit.TheVariants.{Insert, Delete, Replace}
-use Rattle.changes.specs.Edits.{editIs, oldNumber, newRecord, slots_of}
+use Rattle.changes.specs.Edits.{edit_is, old_number, new_record, slots_of}
 
 module _ (g : Geometry) (v : Volume) where
   abbrev n : ℕ
@@ -19,14 +19,14 @@ module _ (g : Geometry) (v : Volume) where
   abbrev d : ℕ
   d = v.state.deletions
 
-  pub plan-of : (e : Edit) → plan_of g fnvFamily (oldNumber e) (keyIs (newRecord e).key) (recordBytes (recordIs (newRecord e))) v.ram (slots_of n d e)
-      ≡ changePlan fnvFamily g v (editIs e)
-  plan-of (Insert r) = refl
-  plan-of (Delete j) = sym (append-nil (deletes fnvFamily g v (editIs (Delete j)).deletes))
-  plan-of (Replace j r) = refl
+  pub plan_of_lem : (e : Edit) → plan_of g fnv_family (old_number e) (key_is (new_record e).key) (record_bytes (record_is (new_record e))) v.ram (slots_of n d e)
+      ≡ change_plan fnv_family g v (edit_is e)
+  plan_of_lem (Insert r) = refl
+  plan_of_lem (Delete j) = sym (append-nil (deletes fnv_family g v (edit_is (Delete j)).deletes))
+  plan_of_lem (Replace j r) = refl
 
-  pub ram-of : (e : Edit) → ramOf g fnvFamily (oldNumber e) (keyIs (newRecord e).key) (recordBytes (recordIs (newRecord e))) v.ram (slots_of n d e)
-      ≡ changeRam fnvFamily g v (editIs e)
-  ram-of (Insert r) = refl
-  ram-of (Delete j) = refl
-  ram-of (Replace j r) = refl
+  pub ram_of_lem : (e : Edit) → ram_of g fnv_family (old_number e) (key_is (new_record e).key) (record_bytes (record_is (new_record e))) v.ram (slots_of n d e)
+      ≡ change_ram fnv_family g v (edit_is e)
+  ram_of_lem (Insert r) = refl
+  ram_of_lem (Delete j) = refl
+  ram_of_lem (Replace j r) = refl

@@ -1,19 +1,19 @@
 // A change of a volume: 5, 6, 7, else its operations and then its RAM, by a budget of steps. Document 01, "Calls"; document 02, request 8.
 ghost use Rattle.std.specs.Prelude.{◌≡◌, false, List, ℕ, ◌<◌, ◌≤◌, length, replicate};
 ghost use Rattle.memory.specs.Lent.{before, after};
-ghost use Rattle.layout.specs.Geometry.{recordCapacity, deletionCapacity, spareSize, ramSize};
-ghost use Rattle.laws.specs.Done.{doneCount};
-ghost use Rattle.laws.specs.LentFlash.{flashBefore, flashAfter};
+ghost use Rattle.layout.specs.Geometry.{record_capacity, deletion_capacity, spare_size, ram_size};
+ghost use Rattle.laws.specs.Done.{done_count};
+ghost use Rattle.laws.specs.LentFlash.{flash_before, flash_after};
 ghost use Rattle.geometry.specs.Shape.{shape, Sound};
-ghost use Rattle.keys.specs.Key.{keyIs};
-ghost use Rattle.state.specs.Contract.{recordIs};
+ghost use Rattle.keys.specs.Key.{key_is};
+ghost use Rattle.state.specs.Contract.{record_is};
 ghost use Rattle.state.specs.Judge.{VolumeFits};
-ghost use Rattle.planning.specs.New.{newBytes};
-ghost use Rattle.planning.specs.Edits.{Room, programsIn};
-ghost use Rattle.changes.specs.Edits.{editIs, slots_of, oldNumber, newRecord, recordNumber, countedState};
-ghost use Rattle.changes.specs.Edits.{fullAt, deletionsFullAt, roomRefusal};
+ghost use Rattle.planning.specs.New.{new_bytes};
+ghost use Rattle.planning.specs.Edits.{Room, programs_in};
+ghost use Rattle.changes.specs.Edits.{edit_is, slots_of, old_number, new_record, record_number, counted_state};
+ghost use Rattle.changes.specs.Edits.{full_at, deletions_full_at, room_refusal};
 ghost use Rattle.changes.specs.Filters.{DeletionFilters, EntryFilter, FiltersOf};
-ghost use Rattle.changes.specs.Tasks.{changeRefusal, Carried, HasRoom, Prepared, taskOn, taskSlots, taskPlan, taskResult};
+ghost use Rattle.changes.specs.Tasks.{change_refusal, Carried, HasRoom, Prepared, task_on, task_slots, task_plan, task_result};
 
 use geometry::{Geometry, areas};
 use keys::Key;
@@ -55,7 +55,7 @@ fn slots(s: State, e: Edit) -> Slots
 
 // The number of the record that it deletes; 0 where it deletes none.
 fn old_number(e: Edit) -> u32
-    ensures { result ≡ oldNumber e }
+    ensures { result ≡ old_number e }
 {
     match e {
         Edit::Insert(_) => 0,
@@ -66,7 +66,7 @@ fn old_number(e: Edit) -> u32
 
 // The record that it inserts; one of zeros where it inserts none.
 fn new_record(e: Edit) -> Record
-    ensures { result ≡ newRecord e }
+    ensures { result ≡ new_record e }
 {
     match e {
         Edit::Insert(record) => record,
@@ -88,7 +88,7 @@ fn new_record(e: Edit) -> Record
 // 5 if there is no room for one more record.
 fn record_refusal(g: Geometry, n: u32) -> u32
     requires { Sound g }
-    ensures { result ≡ fullAt (recordCapacity (shape g)) n }
+    ensures { result ≡ full_at (record_capacity (shape g)) n }
 {
     if g.record_capacity() <= n as usize {
         return state::FULL;
@@ -99,7 +99,7 @@ fn record_refusal(g: Geometry, n: u32) -> u32
 // 6 if there is none for one more deletion.
 fn deletion_refusal(g: Geometry, d: u32) -> u32
     requires { Sound g }
-    ensures { result ≡ deletionsFullAt (deletionCapacity (shape g)) d }
+    ensures { result ≡ deletions_full_at (deletion_capacity (shape g)) d }
 {
     if g.deletion_capacity() <= d as usize {
         return state::DELETIONS_FULL;
@@ -110,7 +110,7 @@ fn deletion_refusal(g: Geometry, d: u32) -> u32
 // 5, then 6, of what the edit adds; accepted where there is room for it.
 pub fn room_refusal(g: Geometry, s: State, e: Edit) -> u32
     requires { Sound g }
-    ensures { result ≡ roomRefusal (shape g) s.records s.deletions (editIs e) }
+    ensures { result ≡ room_refusal (shape g) s.records s.deletions (edit_is e) }
 {
     match e {
         Edit::Insert(_) => record_refusal(g, s.records),
@@ -130,7 +130,7 @@ pub fn room_refusal(g: Geometry, s: State, e: Edit) -> u32
 // The number of the record that takes a place; 0 where none does.
 fn record_number(g: Geometry, e: Slots) -> u32
     requires { Sound g × Room (shape g) e }
-    ensures { result ≡ recordNumber e }
+    ensures { result ≡ record_number e }
 {
     match e {
         Slots::Delete(_) => 0,
@@ -141,7 +141,7 @@ fn record_number(g: Geometry, e: Slots) -> u32
 
 // The deletion of record `old`, then record n and its entry.
 fn new_bytes(old: u32, record: Record, n: u32) -> [u8; plan::NEW_SIZE]
-    ensures { result ≡ newBytes old (recordIs «record») n }
+    ensures { result ≡ new_bytes old (record_is «record») n }
 {
     let mut b = [0u8; plan::NEW_SIZE];
     let ws = [
@@ -159,7 +159,7 @@ fn new_bytes(old: u32, record: Record, n: u32) -> [u8; plan::NEW_SIZE]
 
 // `out` becomes the filters of the page that deletion d, of record `old`, fills, by their fourths.
 fn put_deletion_filters(g: Geometry, d: usize, old: u32, ram: &[u8], out: &mut [u8])
-    requires { Sound g × (ramSize (shape g) ≤ length ram.now) × (length out.old ≡ 512) }
+    requires { Sound g × (ram_size (shape g) ≤ length ram.now) × (length out.old ≡ 512) }
     ensures { DeletionFilters (shape g) d old (before ram) (after out) }
 {
     if !geometry::deletion_area(g).fills(d) {
@@ -170,8 +170,8 @@ fn put_deletion_filters(g: Geometry, d: usize, old: u32, ram: &[u8], out: &mut [
 
 // `out`, which is all 0, becomes the filter of the page that entry n, with the key, fills.
 fn put_entry_filter(g: Geometry, n: usize, key: Key, ram: &[u8], out: &mut [u8])
-    requires { Sound g × (ramSize (shape g) ≤ length ram.now) × (out.old ≡ replicate 256 0) }
-    ensures { EntryFilter (shape g) n (keyIs key) (before ram) (after out) }
+    requires { Sound g × (ram_size (shape g) ≤ length ram.now) × (out.old ≡ replicate 256 0) }
+    ensures { EntryFilter (shape g) n (key_is key) (before ram) (after out) }
 {
     if !geometry::entry_area(g).fills(n) {
         return;
@@ -189,8 +189,8 @@ fn put_entry_filter(g: Geometry, n: usize, key: Key, ram: &[u8], out: &mut [u8])
 
 // `filters`, which are all 0, become the new filters of a change, by their fourths: those of its deletion, then that of its entry.
 fn new_filters(g: Geometry, e: Slots, old: u32, key: Key, ram: &[u8], filters: &mut [u8])
-    requires { Sound g × (ramSize (shape g) ≤ length ram.now) × (filters.old ≡ replicate 768 0) }
-    ensures { FiltersOf (shape g) old (keyIs key) (before ram) (after filters) e }
+    requires { Sound g × (ram_size (shape g) ≤ length ram.now) × (filters.old ≡ replicate 768 0) }
+    ensures { FiltersOf (shape g) old (key_is key) (before ram) (after filters) e }
 {
     match e {
         Slots::Delete(d) => {
@@ -223,7 +223,7 @@ fn new_filters(g: Geometry, e: Slots, old: u32, key: Key, ram: &[u8], filters: &
 // Whether a change fills a page.
 pub fn programs(t: Task) -> bool
     requires { Sound t.g }
-    ensures { result ≡ programsIn (shape t.g) (taskSlots t) }
+    ensures { result ≡ programs_in (shape t.g) (task_slots t) }
 {
     let g = t.g;
     let edit = t.edit;
@@ -242,9 +242,9 @@ pub fn plan_of(t: Task) -> Plan
 
 // 7 of a change by its plan, whatever the other bytes; accepted where all is fresh that it programs.
 pub fn fresh_refusal(t: Task, p: Plan, spare: &[u8]) -> u32
-    requires { Sound t.g × Prepared t p × (spareSize (shape t.g) ≤ length spare.now) }
-    ensures { (main ram : List ℕ) → ramSize (shape t.g) ≤ length ram
-        → result ≡ changeRefusal (shape t.g) (taskOn t main (before spare) ram) (editIs t.edit) }
+    requires { Sound t.g × Prepared t p × (spare_size (shape t.g) ≤ length spare.now) }
+    ensures { (main ram : List ℕ) → ram_size (shape t.g) ≤ length ram
+        → result ≡ change_refusal (shape t.g) (task_on t main (before spare) ram) (edit_is t.edit) }
 {
     if !plan::fresh(p, spare) {
         return state::NOT_FRESH;
@@ -254,9 +254,9 @@ pub fn fresh_refusal(t: Task, p: Plan, spare: &[u8]) -> u32
 
 // How many operations of a change count as done, by its plan and the spare area alone.
 pub fn done(t: Task, p: Plan, spare: &[u8]) -> usize
-    requires { Sound t.g × Prepared t p × (spareSize (shape t.g) ≤ length spare.now) }
-    ensures { (main ram : List ℕ) → ramSize (shape t.g) ≤ length ram
-        → result ≡ doneCount (before spare) (taskPlan t main (before spare) ram) }
+    requires { Sound t.g × Prepared t p × (spare_size (shape t.g) ≤ length spare.now) }
+    ensures { (main ram : List ℕ) → ram_size (shape t.g) ≤ length ram
+        → result ≡ done_count (before spare) (task_plan t main (before spare) ram) }
 {
     plan::done(p, spare)
 }
@@ -271,10 +271,10 @@ pub fn carry_on(
     spare: &mut [u8],
     ram: &mut [u8],
 ) -> Progress
-    requires volume_fits { VolumeFits (taskOn t main.old spare.old ram.old) t.g × Prepared t p }
-    requires from_in_bounds { from ≤ length (taskPlan t main.old spare.old ram.old) }
-    ensures { Carried t.g.chip.unit (taskResult t (before main) (before spare) (before ram) from) budget
-        (flashBefore main spare) (before ram) result (flashAfter main spare) (after ram) }
+    requires volume_fits { VolumeFits (task_on t main.old spare.old ram.old) t.g × Prepared t p }
+    requires from_in_bounds { from ≤ length (task_plan t main.old spare.old ram.old) }
+    ensures { Carried t.g.chip.unit (task_result t (before main) (before spare) (before ram) from) budget
+        (flash_before main spare) (before ram) result (flash_after main spare) (after ram) }
 {
     let g = t.g;
     let edit = t.edit;
@@ -303,9 +303,9 @@ pub fn carry_on(
 
 // The RAM after a change that fills no page, whatever the chip.
 pub fn append(t: Task, ram: &mut [u8])
-    requires sound { Sound t.g × HasRoom t × (ramSize (shape t.g) ≤ length ram.old) }
-    requires t_value { programsIn (shape t.g) (taskSlots t) ≡ false }
-    ensures { (main spare : List ℕ) → after ram ≡ (taskResult t main spare (before ram) 0).volume.ram }
+    requires sound { Sound t.g × HasRoom t × (ram_size (shape t.g) ≤ length ram.old) }
+    requires t_value { programs_in (shape t.g) (task_slots t) ≡ false }
+    ensures { (main spare : List ℕ) → after ram ≡ (task_result t main spare (before ram) 0).volume.ram }
 {
     let g = t.g;
     let edit = t.edit;
@@ -317,7 +317,7 @@ pub fn append(t: Task, ram: &mut [u8])
 // The state after a change.
 pub fn counted_state(s: State, e: Edit) -> State
     requires { (s.records < 4294967295) × (s.deletions < 4294967295) }
-    ensures { result ≡ countedState s e }
+    ensures { result ≡ counted_state s e }
 {
     let mut t = s;
     match e {

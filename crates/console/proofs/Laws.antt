@@ -7,35 +7,35 @@ use native.Mathlib.Omega.{arith}
 use lib.Dec.{eqb}
 use lib.ListN.{length, take}
 use lib.Seq.{length-take-le}
-use Rattle.layout.specs.Flash.{flashOf}
+use Rattle.layout.specs.Flash.{flash_of}
 use Rattle.layout.specs.Calls.{Volume}
-use Rattle.console.specs.Buffers.{Buffers, endLine, feed, close}
-use Rattle.console.specs.Contract.{buffersOf}
+use Rattle.console.specs.Buffers.{Buffers, end_line, feed, close}
+use Rattle.console.specs.Contract.{buffers_of}
 use Rattle.console.specs.Stream.{into}
 use Rattle.console.specs.declared.stream.Fill.{Fill}
 use Rattle.console.specs.declared.ChunkResult.{ChunkResult}
-use Rattle.console.specs.Chunks.{afterChunk, FeedsPrefix, feedAll, closeIf, Short, Leaves}
+use Rattle.console.specs.Chunks.{after_chunk, FeedsPrefix, feed_all, close_if, Short, Leaves}
 
 -- ---- one chunk
 
 -- the buffers after a chunk, by those after the feed and whether the input continues
-pub chunk-is : (r : ChunkResult) (q : Fill) (K : Buffers) (line main spare ram out : List ℕ) → buffersOf q line main spare ram out ≡ K
+pub chunk_is : (r : ChunkResult) (q : Fill) (K : Buffers) (line main spare ram out : List ℕ) → buffers_of q line main spare ram out ≡ K
     → r.progress.state ≡ q.state → r.progress.fill ≡ cond r.continues q.fill 0 → r.progress.printed ≡ 0
-    → buffersOf r.progress line main spare ram out ≡ afterChunk r.continues K
-chunk-is r q K line main spare ram out e s f z = rw (← e, s, f, z)
+    → buffers_of r.progress line main spare ram out ≡ after_chunk r.continues K
+chunk_is r q K line main spare ram out e s f z = rw (← e, s, f, z)
 
 -- nothing was read: the input's end, or a failure
-pub feeds-none : (r : ChunkResult) (p : Fill) (chunk line main spare ram out : List ℕ)
+pub feeds_none : (r : ChunkResult) (p : Fill) (chunk line main spare ram out : List ℕ)
     → r.continues ≡ false → r.progress.state ≡ p.state → r.progress.fill ≡ cond r.ok p.fill 0 → r.progress.printed ≡ 0
-    → FeedsPrefix r (buffersOf p line main spare ram out) chunk (buffersOf r.progress line main spare ram out)
+    → FeedsPrefix r (buffers_of p line main spare ram out) chunk (buffers_of r.progress line main spare ram out)
 unfolding feed
-feeds-none r p chunk line main spare ram out m s f z = (0, omega arith, λ t. let a : false ≡ true = sym m ∙ t in cc, rw (s, f, z))
+feeds_none r p chunk line main spare ram out m s f z = (0, omega arith, λ t. let a : false ≡ true = sym m ∙ t in cc, rw (s, f, z))
 
 -- n bytes were read
-pub feeds-some : (r : ChunkResult) (k l : Buffers) (chunk : List ℕ) (n : ℕ) → n ≤ length chunk
-    → l ≡ afterChunk r.continues (feed k (take n chunk))
+pub feeds_some : (r : ChunkResult) (k l : Buffers) (chunk : List ℕ) (n : ℕ) → n ≤ length chunk
+    → l ≡ after_chunk r.continues (feed k (take n chunk))
     → r.ok ≡ r.continues → FeedsPrefix r k chunk l
-feeds-some r k l chunk n h e w = (n, h, λ t. w ∙ t, rw w e)
+feeds_some r k l chunk n h e w = (n, h, λ t. w ∙ t, rw w e)
 
 -- ---- chunks
 
@@ -45,27 +45,27 @@ stopped ok k = record { volume = k.volume; buffer = k.buffer; fill = cond ok k.f
 
 -- before each chunk and after the last one: what the chunks so far make of k; a chunk follows only where nothing failed
 abbrev pub SoFar : Buffers → ℕ → ℕ → Bool → Buffers → Type 0
-SoFar k most rest ok m = (chunks : List (List ℕ)) × Short most chunks × (0 < rest → ok ≡ true) × (m ≡ stopped ok (feedAll k chunks))
+SoFar k most rest ok m = (chunks : List (List ℕ)) × Short most chunks × (0 < rest → ok ≡ true) × (m ≡ stopped ok (feed_all k chunks))
 
-pub so-far-first : (k : Buffers) (most rest : ℕ) → SoFar k most rest true k
-unfolding feedAll
-so-far-first k most rest = ([], tt, λ _. refl, refl)
+pub so_far_first : (k : Buffers) (most rest : ℕ) → SoFar k most rest true k
+unfolding feed_all
+so_far_first k most rest = ([], tt, λ _. refl, refl)
 
-chunks-last : (k : Buffers) (chunks : List (List ℕ)) (chunk : List ℕ)
-    → feedAll k (chunks ++ (chunk ∷ [])) ≡ (let n : Buffers = feed (feedAll k chunks) chunk in into n n.out)
-unfolding feedAll
-chunks-last k [] chunk = refl
-chunks-last k (c ∷ cs) chunk = chunks-last (into (feed k c) (feed k c).out) cs chunk
+chunks_last : (k : Buffers) (chunks : List (List ℕ)) (chunk : List ℕ)
+    → feed_all k (chunks ++ (chunk ∷ [])) ≡ (let n : Buffers = feed (feed_all k chunks) chunk in into n n.out)
+unfolding feed_all
+chunks_last k [] chunk = refl
+chunks_last k (c ∷ cs) chunk = chunks_last (into (feed k c) (feed k c).out) cs chunk
 
-short-last : (most : ℕ) (chunks : List (List ℕ)) (chunk : List ℕ) → Short most chunks → length chunk ≤ most
+short_last : (most : ℕ) (chunks : List (List ℕ)) (chunk : List ℕ) → Short most chunks → length chunk ≤ most
     → Short most (chunks ++ (chunk ∷ []))
-short-last most [] chunk s h = (h, tt)
-short-last most (c ∷ cs) chunk s h = (s.0, short-last most cs chunk s.1 h)
+short_last most [] chunk s h = (h, tt)
+short_last most (c ∷ cs) chunk s h = (s.0, short_last most cs chunk s.1 h)
 
-chunk-last : (k m l : Buffers) (chunks : List (List ℕ)) (chunk : List ℕ) (before ok : Bool)
-    → before ≡ true → m ≡ stopped before (feedAll k chunks) → l ≡ afterChunk ok (feed m chunk)
-    → l ≡ stopped ok (feedAll k (chunks ++ (chunk ∷ [])))
-chunk-last k m l chunks chunk before ok b e f = rw (chunks-last k chunks chunk, f, e, b)
+chunk_last : (k m l : Buffers) (chunks : List (List ℕ)) (chunk : List ℕ) (before ok : Bool)
+    → before ≡ true → m ≡ stopped before (feed_all k chunks) → l ≡ after_chunk ok (feed m chunk)
+    → l ≡ stopped ok (feed_all k (chunks ++ (chunk ∷ [])))
+chunk_last k m l chunks chunk before ok b e f = rw (chunks_last k chunks chunk, f, e, b)
 
 follows : (continues : Bool) (rest next : ℕ) → next ≡ cond continues (rest - 1) 0 → 0 < next → continues ≡ true
 follows true rest next e h = refl
@@ -78,26 +78,26 @@ so_far_more k m l most rest next ok r chunk h pos t full e =
     let bytes = take t.0 chunk in
     let size : length bytes ≡ t.0 = length-take-le t.0 chunk t.1 in (
       h.0 ++ (bytes ∷ []),
-      short-last most h.0 bytes h.1 (omega (arith, t.1)),
+      short_last most h.0 bytes h.1 (omega (arith, t.1)),
       λ p. t.2 (follows r.continues rest next e p),
-      chunk-last k m l h.0 bytes ok r.ok (h.2 pos) h.3 t.3,
+      chunk_last k m l h.0 bytes ok r.ok (h.2 pos) h.3 t.3,
     )
 
-close-keeps : (empty : Bool) (k : Buffers) → (cond empty k (endLine k)).buffer ≡ k.buffer
-unfolding endLine
-close-keeps true k = refl
-close-keeps false k = refl
+close_keeps : (empty : Bool) (k : Buffers) → (cond empty k (end_line k)).buffer ≡ k.buffer
+unfolding end_line
+close_keeps true k = refl
+close_keeps false k = refl
 
-close-ends : (ok : Bool) (k m : Buffers) → m ≡ stopped ok k
-    → ((close m).volume ≡ (closeIf ok k).volume) × (m.buffer ≡ (closeIf ok k).buffer) × ((close m).out ≡ (closeIf ok k).out)
+close_ends : (ok : Bool) (k m : Buffers) → m ≡ stopped ok k
+    → ((close m).volume ≡ (close_if ok k).volume) × (m.buffer ≡ (close_if ok k).buffer) × ((close m).out ≡ (close_if ok k).out)
 unfolding close
-close-ends false k m e = rw e (refl, refl, refl)
-close-ends true k m e = rw e (refl, sym (close-keeps (eqb k.fill 0) k), refl)
+close_ends false k m e = rw e (refl, refl, refl)
+close_ends true k m e = rw e (refl, sym (close_keeps (eqb k.fill 0) k), refl)
 
 -- the end after the last chunk
-pub so-far-ends : (k m : Buffers) (most rest : ℕ) (ok : Bool) (main spare ram out : List ℕ) → SoFar k most rest ok m
-    → (flashOf main spare ≡ (close m).volume.flash) × (ram ≡ (close m).volume.ram) × (out ≡ (close m).out)
-    → (chunks : List (List ℕ)) × Short most chunks × Leaves (closeIf ok (feedAll k chunks)) m.buffer main spare ram out
-so-far-ends k m most rest ok main spare ram out h f =
-    let e = close-ends ok (feedAll k h.0) m h.3 in
+pub so_far_ends : (k m : Buffers) (most rest : ℕ) (ok : Bool) (main spare ram out : List ℕ) → SoFar k most rest ok m
+    → (flash_of main spare ≡ (close m).volume.flash) × (ram ≡ (close m).volume.ram) × (out ≡ (close m).out)
+    → (chunks : List (List ℕ)) × Short most chunks × Leaves (close_if ok (feed_all k chunks)) m.buffer main spare ram out
+so_far_ends k m most rest ok main spare ram out h f =
+    let e = close_ends ok (feed_all k h.0) m h.3 in
     (h.0, h.1, (f.0 ∙ ap (λ (v : Volume). v.flash) e.0, f.1 ∙ ap (λ (v : Volume). v.ram) e.0, e.1, f.2 ∙ e.2))

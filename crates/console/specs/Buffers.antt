@@ -17,8 +17,8 @@ pub record Buffers : Type 0 where
   pub printed : ℕ
 
 -- a line's end: it is answered behind what was printed
-unfoldable pub endLine : Buffers → Buffers
-endLine k =
+unfoldable pub end_line : Buffers → Buffers
+end_line k =
     let r : Performed = perform k.volume (command (take k.fill k.buffer)) in
     record {
       volume = r.volume;
@@ -29,8 +29,8 @@ endLine k =
     }
 
 -- any other byte is kept as long as the buffer has room
-unfoldable pub addByte : Buffers → ℕ → Buffers
-addByte k c =
+unfoldable pub add_byte : Buffers → ℕ → Buffers
+add_byte k c =
     record {
       volume = k.volume;
       buffer = write k.buffer k.fill (c ∷ []);
@@ -39,13 +39,13 @@ addByte k c =
       printed = k.printed;
     }
 
-unfoldable pub nextByte : Buffers → ℕ → Buffers
-nextByte k c = cond (eqb c (code "\n")) (endLine k) (addByte k c)
+unfoldable pub next_byte : Buffers → ℕ → Buffers
+next_byte k c = cond (eqb c (code "\n")) (end_line k) (add_byte k c)
 
 unfoldable pub feed : Buffers → List ℕ → Buffers
 feed k [] = k
-feed k (c ∷ cs) = feed (nextByte k c) cs
+feed k (c ∷ cs) = feed (next_byte k c) cs
 
 -- the input's end: a line without its line feed is answered too
 unfoldable pub close : Buffers → Buffers
-close k = cond (eqb k.fill 0) k (endLine k)
+close k = cond (eqb k.fill 0) k (end_line k)

@@ -1,6 +1,6 @@
 -- What a chunk leaves, and what a run leaves: the chunks one after the other, then the end.
 use Rattle.std.specs.Prelude.{◌≡◌, Bool, true, cond, List, [], ◌∷◌, ℕ, ◌≤◌, length, take}
-use Rattle.layout.specs.Flash.{flashOf}
+use Rattle.layout.specs.Flash.{flash_of}
 use Rattle.layout.specs.Calls.{Volume}
 use Rattle.state.specs.declared.State.{State}
 use Rattle.state.specs.Contract.{volume}
@@ -11,22 +11,22 @@ use Rattle.console.specs.declared.ChunkResult.{ChunkResult}
 -- ---- a chunk
 
 -- the buffers after a chunk: nothing is left to be written; where a read or a write failed, an unfinished line is dropped
-abbrev pub afterChunk : Bool → Buffers → Buffers
-afterChunk ok k = record { volume = k.volume; buffer = k.buffer; fill = cond ok k.fill 0; out = k.out; printed = 0 }
+abbrev pub after_chunk : Bool → Buffers → Buffers
+after_chunk ok k = record { volume = k.volume; buffer = k.buffer; fill = cond ok k.fill 0; out = k.out; printed = 0 }
 
 -- from k to l: the first bytes of the chunk as it was read are fed; no chunk follows a failure
 abbrev pub FeedsPrefix : ChunkResult → Buffers → List ℕ → Buffers → Type 0
 FeedsPrefix r k chunk l =
-    (n : ℕ) × (n ≤ length chunk) × (r.continues ≡ true → r.ok ≡ true) × (l ≡ afterChunk r.ok (feed k (take n chunk)))
+    (n : ℕ) × (n ≤ length chunk) × (r.continues ≡ true → r.ok ≡ true) × (l ≡ after_chunk r.ok (feed k (take n chunk)))
 
 -- ---- a run
 
 -- "Before any format the state is all zero"
-abbrev pub noState : State
-noState = record { sizes = record { sector_size = 0; ra_blocks = 0; da_blocks = 0; hash_count = 0 }; records = 0; deletions = 0 }
+abbrev pub no_state : State
+no_state = record { sizes = record { sector_size = 0; ra_blocks = 0; da_blocks = 0; hash_count = 0 }; records = 0; deletions = 0 }
 
 abbrev pub unformatted : List ℕ → List ℕ → List ℕ → Volume
-unformatted main spare ram = volume noState main spare ram
+unformatted main spare ram = volume no_state main spare ram
 
 -- before the first chunk
 abbrev pub initial : List ℕ → List ℕ → List ℕ → List ℕ → List ℕ → Buffers
@@ -34,13 +34,13 @@ initial line main spare ram out = record { volume = unformatted main spare ram; 
 
 -- the chunks one after the other; the answers to each are written before the next is read, so the output's buffer is used from its start
 -- again
-unfoldable pub feedAll : Buffers → List (List ℕ) → Buffers
-feedAll k [] = k
-feedAll k (chunk ∷ chunks) = let n : Buffers = feed k chunk in feedAll (into n n.out) chunks
+unfoldable pub feed_all : Buffers → List (List ℕ) → Buffers
+feed_all k [] = k
+feed_all k (chunk ∷ chunks) = let n : Buffers = feed k chunk in feed_all (into n n.out) chunks
 
 -- the end: that of the input, or a byte that could not be read or written; then an unfinished line is not answered
-abbrev pub closeIf : Bool → Buffers → Buffers
-closeIf ok k = cond ok (close k) k
+abbrev pub close_if : Bool → Buffers → Buffers
+close_if ok k = cond ok (close k) k
 
 -- no chunk is longer than the buffer that it is read into
 abbrev pub Short : ℕ → List (List ℕ) → Type 0
@@ -49,4 +49,4 @@ Short most (chunk ∷ chunks) = (length chunk ≤ most) × Short most chunks
 
 -- the lent bytes are those of the buffers
 abbrev pub Leaves : Buffers → List ℕ → List ℕ → List ℕ → List ℕ → List ℕ → Type 0
-Leaves k line main spare ram out = (flashOf main spare ≡ k.volume.flash) × (ram ≡ k.volume.ram) × (line ≡ k.buffer) × (out ≡ k.out)
+Leaves k line main spare ram out = (flash_of main spare ≡ k.volume.flash) × (ram ≡ k.volume.ram) × (line ≡ k.buffer) × (out ≡ k.out)

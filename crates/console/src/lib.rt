@@ -4,11 +4,11 @@ mod stream;
 
 ghost use Rattle.std.specs.Prelude.{◌≡◌, true, false, cond, List, ℕ, ◌*◌, ◌-◌, ◌≤◌, ◌<◌, length};
 ghost use Rattle.memory.specs.Lent.{before, after};
-ghost use Rattle.laws.specs.LentFlash.{flashAfter};
+ghost use Rattle.laws.specs.LentFlash.{flash_after};
 ghost use Rattle.console.specs.Buffers.{feed, close};
-ghost use Rattle.console.specs.Contract.{buffersBefore, buffersAfter};
+ghost use Rattle.console.specs.Contract.{buffers_before, buffers_after};
 ghost use Rattle.console.specs.Stream.{leaves};
-ghost use Rattle.console.specs.Chunks.{afterChunk, FeedsPrefix, noState, unformatted, initial, feedAll, closeIf, Short, Leaves};
+ghost use Rattle.console.specs.Chunks.{after_chunk, FeedsPrefix, no_state, unformatted, initial, feed_all, close_if, Short, Leaves};
 
 use geometry::Sizes;
 use libc::{STDERR_FILENO, STDIN_FILENO, STDOUT_FILENO};
@@ -25,7 +25,7 @@ struct ChunkResult {
 
 // "Before any format the state is all zero."
 fn begin() -> Fill
-    ensures equal { result ≡ record { state = noState; fill = 0; printed = 0 } }
+    ensures equal { result ≡ record { state = no_state; fill = 0; printed = 0 } }
     ensures zeros { (result.fill ≡ 0) × (result.printed ≡ 0) }
 {
     let sizes = Sizes {
@@ -119,8 +119,8 @@ fn answer_chunk(
 ) -> ChunkResult
     requires { (p.fill ≤ length line.old) × (p.printed ≡ 0) × (length chunk.now * 32 ≤ length out.old) }
     ensures within { (result.progress.fill ≤ length (before line)) × (result.progress.printed ≡ 0) }
-    ensures buffers { buffersAfter result.progress line main spare ram out
-        ≡ afterChunk result.continues (feed (buffersBefore p line main spare ram out) (before chunk)) }
+    ensures buffers { buffers_after result.progress line main spare ram out
+        ≡ after_chunk result.continues (feed (buffers_before p line main spare ram out) (before chunk)) }
     ensures answered { result.ok ≡ result.continues }
 {
     let q = stream::feed(p, chunk, line, main, spare, ram, out);
@@ -139,8 +139,8 @@ fn next_chunk(
 ) -> ChunkResult
     requires { (p.fill ≤ length line.old) × (p.printed ≡ 0) × (length chunk.old * 32 ≤ length out.old) }
     ensures within { (result.progress.fill ≤ length (before line)) × (result.progress.printed ≡ 0) }
-    ensures prefix { FeedsPrefix result (buffersBefore p line main spare ram out) (after chunk)
-        (buffersAfter result.progress line main spare ram out) }
+    ensures prefix { FeedsPrefix result (buffers_before p line main spare ram out) (after chunk)
+        (buffers_after result.progress line main spare ram out) }
 {
     let got = libc::read(STDIN_FILENO, chunk);
     let state = p.state;
@@ -157,9 +157,9 @@ fn next_chunk(
 // The input's end.
 fn finish(p: Fill, line: &[u8], main: &mut [u8], spare: &mut [u8], ram: &mut [u8], out: &mut [u8])
     requires { (p.fill ≤ length line.now) × (p.printed ≡ 0) × (32 ≤ length out.old) }
-    ensures { (flashAfter main spare ≡ (close (buffersBefore p line main spare ram out)).volume.flash)
-        × (after ram ≡ (close (buffersBefore p line main spare ram out)).volume.ram)
-        × (after out ≡ (close (buffersBefore p line main spare ram out)).out) }
+    ensures { (flash_after main spare ≡ (close (buffers_before p line main spare ram out)).volume.flash)
+        × (after ram ≡ (close (buffers_before p line main spare ram out)).volume.ram)
+        × (after out ≡ (close (buffers_before p line main spare ram out)).out) }
 {
     let q = stream::close(p, line, main, spare, ram, out);
     write_answers(q, out);
@@ -177,10 +177,10 @@ pub fn run(
 ) -> bool
     requires { (length chunk.old * 32 ≤ length out.old) × (32 ≤ length out.old) }
     ensures chunks { (chunks : List (List ℕ)) × Short (length (before chunk)) chunks
-        × Leaves (closeIf result (feedAll (initial (before line) (before main) (before spare) (before ram) (before out)) chunks))
+        × Leaves (close_if result (feed_all (initial (before line) (before main) (before spare) (before ram) (before out)) chunks))
         (after line) (after main) (after spare) (after ram) (after out) }
     ensures input { length (before line) ≡ 64 → ((input : List ℕ)
-        × (flashAfter main spare ≡ (leaves result (unformatted (before main) (before spare) (before ram)) input).flash)
+        × (flash_after main spare ≡ (leaves result (unformatted (before main) (before spare) (before ram)) input).flash)
         × (after ram ≡ (leaves result (unformatted (before main) (before spare) (before ram)) input).ram)) }
 {
     let mut p = begin();

@@ -3,8 +3,8 @@
 ghost use Rattle.std.specs.Prelude.{◌≡◌, [], ◌∷◌, cond, ◌+◌, ◌*◌, ◌≤◌, ltb, length};
 ghost use Rattle.memory.specs.Lists.{write};
 ghost use Rattle.memory.specs.Lent.{before, after};
-ghost use Rattle.console.specs.Buffers.{endLine, nextByte, feed, close};
-ghost use Rattle.console.specs.Contract.{buffersBefore, buffersAfter};
+ghost use Rattle.console.specs.Buffers.{end_line, next_byte, feed, close};
+ghost use Rattle.console.specs.Contract.{buffers_before, buffers_after};
 
 use state::State;
 
@@ -40,7 +40,7 @@ fn end_line(
     out: &mut [u8],
 ) -> Fill
     requires { (p.fill ≤ length line.now) × (p.printed + 32 ≤ length out.old) }
-    ensures equal { buffersAfter result line main spare ram out ≡ endLine (buffersBefore p line main spare ram out) }
+    ensures equal { buffers_after result line main spare ram out ≡ end_line (buffers_before p line main spare ram out) }
     ensures within { (result.fill ≡ 0) × (result.printed ≤ p.printed + 32) }
 {
     let state = p.state;
@@ -67,7 +67,7 @@ fn next_byte(
     out: &mut [u8],
 ) -> Fill
     requires { (p.fill ≤ length line.old) × (p.printed + 32 ≤ length out.old) }
-    ensures equal { buffersAfter result line main spare ram out ≡ nextByte (buffersBefore p line main spare ram out) c }
+    ensures equal { buffers_after result line main spare ram out ≡ next_byte (buffers_before p line main spare ram out) c }
     ensures within { (result.fill ≤ length (before line)) × (result.printed ≤ p.printed + 32) }
 {
     if c == b'\n' {
@@ -93,7 +93,7 @@ pub fn feed(
     out: &mut [u8],
 ) -> Fill
     requires { (p.fill ≤ length line.old) × (p.printed + length chunk.now * 32 ≤ length out.old) }
-    ensures equal { buffersAfter result line main spare ram out ≡ feed (buffersBefore p line main spare ram out) (before chunk) }
+    ensures equal { buffers_after result line main spare ram out ≡ feed (buffers_before p line main spare ram out) (before chunk) }
     ensures within { (result.fill ≤ length (before line)) × (result.printed ≤ length (before out)) }
 {
     let mut q = p;
@@ -115,7 +115,7 @@ pub fn close(
     out: &mut [u8],
 ) -> Fill
     requires { (p.fill ≤ length line.now) × (p.printed + 32 ≤ length out.old) }
-    ensures equal { buffersAfter result line main spare ram out ≡ close (buffersBefore p line main spare ram out) }
+    ensures equal { buffers_after result line main spare ram out ≡ close (buffers_before p line main spare ram out) }
     ensures within { result.printed ≤ length (before out) }
 {
     if p.fill == 0 {

@@ -4,121 +4,121 @@ use Rattle.std.specs.Prelude.{◌≡◌, refl, true, false, List, [], ◌∷◌,
 use Rattle.std.proofs.Common.{ap, ◌∙◌, zero-le, arith}
 use Rattle.layout.specs.Geometry.{Geometry, geometry, allowed, Sizes}
 use Rattle.layout.specs.Hash.{Family}
-use Rattle.layout.specs.Calls.{Volume, Call, Outcome, accepted, hit, miss, refused, Result, tooShort, format, call}
-use Rattle.layout.specs.FiniteMap.{Map, emptyMap, Step, step, mapOf}
-use Rattle.layout.specs.Header.{pages, onPages}
-use Rattle.layout.specs.Budgets.{callFor, callWhole}
+use Rattle.layout.specs.Calls.{Volume, Call, Outcome, accepted, hit, miss, refused, Result, too_short, format, call}
+use Rattle.layout.specs.FiniteMap.{Map, empty_map, Step, step, map_of}
+use Rattle.layout.specs.Header.{pages, on_pages}
+use Rattle.layout.specs.Budgets.{call_for, call_whole}
 use Rattle.laws.specs.Sound.{sound}
-use Rattle.history.specs.Reached.{mapAfter, Reached, reach-format}
+use Rattle.history.specs.Reached.{map_after, Reached, reach_format}
 use Rattle.history.specs.RunLaws.{run}
 use Rattle.history.specs.Runs.{after, HandedOn, Agrees, ResultAgrees}
-use Rattle.cuts.specs.Events.{lift, Event, whole, cut, idle, madeBy, calls_of, Numbers, EventNumbers, AllNumbers, eventResult}
-use Rattle.cuts.specs.Events.{eventVolume, Format, formatEnd}
-use Rattle.cuts.specs.RestartLaws.{call-outcome}
-use Rattle.cuts.specs.Uncut.{lifted-is, whole-lifted, agrees-lifted}
-use Rattle.cuts.specs.EventLaws.{key-word, event-is, event-reaches}
-use Rattle.cuts.specs.Formats.{format-end}
+use Rattle.cuts.specs.Events.{lift, Event, whole, cut, idle, made_by, calls_of, Numbers, EventNumbers, AllNumbers, event_result}
+use Rattle.cuts.specs.Events.{event_volume, Format, format_end}
+use Rattle.cuts.specs.RestartLaws.{call_outcome}
+use Rattle.cuts.specs.Uncut.{lifted_is, whole_lifted, agrees_lifted}
+use Rattle.cuts.specs.EventLaws.{key_word, event_is, event_reaches}
+use Rattle.cuts.specs.Formats.{format_end_lem}
 
 -- the map's step for a call with a budget: without a step the call is not made. It is answered all the same
-abbrev pub stepFor : Geometry → ℕ → Map → Call → Step
-stepFor g zero m c = step (mapOf g m c).says m
-stepFor g (suc b) m c = mapOf g m c
+abbrev pub step_for : Geometry → ℕ → Map → Call → Step
+step_for g zero m c = step (map_of g m c).says m
+step_for g (suc b) m c = map_of g m c
 
 -- a call c with the budget b on the volume v, answered by o, its restarts leaving w. It hands no count back
 pub record CutAgrees (sizes : Sizes) (v : Volume) (m : Map) (b : ℕ) (c : Call) (o : Outcome) (w : Volume) : Type 0 where
-  pub agrees : Agrees sizes v o 0 w (stepFor (geometry sizes) b m c)
+  pub agrees : Agrees sizes v o 0 w (step_for (geometry sizes) b m c)
   -- "a cut before the intent leaves what was there"
   pub not_made : b ≡ 0 → w ≡ v
 
 -- an event: a call with enough answers as the map does, count and all; restarts that find no call change nothing
 abbrev pub EventAgrees : Family → Sizes → Volume → Map → Event → Type 0
-EventAgrees h sizes v m (whole c) = ResultAgrees sizes v (callWhole h v c) (mapOf (geometry sizes) m c)
-EventAgrees h sizes v m (cut c b bs) = CutAgrees sizes v m b c (callFor h b v c).outcome (eventVolume h v (cut c b bs))
-EventAgrees h sizes v m (idle bs) = ((eventResult h v (idle bs)).outcome ≡ accepted) × (eventVolume h v (idle bs) ≡ v)
+EventAgrees h sizes v m (whole c) = ResultAgrees sizes v (call_whole h v c) (map_of (geometry sizes) m c)
+EventAgrees h sizes v m (cut c b bs) = CutAgrees sizes v m b c (call_for h b v c).outcome (event_volume h v (cut c b bs))
+EventAgrees h sizes v m (idle bs) = ((event_result h v (idle bs)).outcome ≡ accepted) × (event_volume h v (idle bs) ≡ v)
 
 -- of each event of a list; the map makes the steps of the calls made
 abbrev pub EventsAgree : Family → Sizes → Volume → Map → List Event → Type 0
 EventsAgree h sizes v m [] = Unit {0}
 EventsAgree h sizes v m (e ∷ es) =
-    EventAgrees h sizes v m e × EventsAgree h sizes (eventVolume h v e) (mapAfter (geometry sizes) m (calls_of e)) es
+    EventAgrees h sizes v m e × EventsAgree h sizes (event_volume h v e) (map_after (geometry sizes) m (calls_of e)) es
 
 -- a budget changes no answer
-pub lifted-outcome : (h : Family) (b : ℕ) (w : Volume) (c : Call) → (callFor h b (lift w) c).outcome ≡ (call h w c).outcome
-lifted-outcome h b w c = call-outcome h b (lift w) c ∙ ap (λ (r : Result). r.outcome) (lifted-is h w c)
+pub lifted_outcome : (h : Family) (b : ℕ) (w : Volume) (c : Call) → (call_for h b (lift w) c).outcome ≡ (call h w c).outcome
+lifted_outcome h b w c = call_outcome h b (lift w) c ∙ ap (λ (r : Result). r.outcome) (lifted_is h w c)
 
 module _ (h : Family) (sizes : Sizes) where
   abbrev g : Geometry
   g = geometry sizes
 
-  agrees-moved : (w w' : Volume) (c : Call) (s : Step) → w ≡ w' → ResultAgrees sizes w' (call h w' c) s
+  agrees_moved : (w w' : Volume) (c : Call) (s : Step) → w ≡ w' → ResultAgrees sizes w' (call h w' c) s
       → ResultAgrees sizes w (call h w c) s
-  agrees-moved w w' c s p A = rw p A
+  agrees_moved w w' c s p A = rw p A
 
-  pub call-agrees : (w : Volume) (m : Map) (c : Call) → Reached h sizes w m → Numbers c → ResultAgrees sizes w (call h w c) (mapOf g m c)
-  call-agrees w m c X n =
-      agrees-moved w _ c (mapOf g m c) X.is
-      (run h sizes (sound sizes X.can) X.can X.H w.flash w.ram m (c ∷ []) (key-word c n, tt) X.holds X.live
+  pub call_agrees : (w : Volume) (m : Map) (c : Call) → Reached h sizes w m → Numbers c → ResultAgrees sizes w (call h w c) (map_of g m c)
+  call_agrees w m c X n =
+      agrees_moved w _ c (map_of g m c) X.is
+      (run h sizes (sound sizes X.can) X.can X.H w.flash w.ram m (c ∷ []) (key_word c n, tt) X.holds X.live
       ).agrees.0
 
-  handed-same : (o : Outcome) (w : Volume) → HandedOn o w w
-  handed-same accepted w = tt
-  handed-same (hit place bytes) w = refl
-  handed-same miss w = refl
-  handed-same (refused i) w = refl
+  handed_same : (o : Outcome) (w : Volume) → HandedOn o w w
+  handed_same accepted w = tt
+  handed_same (hit place bytes) w = refl
+  handed_same miss w = refl
+  handed_same (refused i) w = refl
 
   -- a call of document 01, made if it has a step
-  made-agrees : (w : Volume) (m : Map) (b : ℕ) (c : Call) → Reached h sizes w m → Numbers c
-      → Agrees sizes w (call h w c).outcome 0 (after h w (madeBy b c)) (stepFor g b m c)
-  made-agrees w m zero c X n =
-      let A = call-agrees w m c X n in
+  made_agrees : (w : Volume) (m : Map) (b : ℕ) (c : Call) → Reached h sizes w m → Numbers c
+      → Agrees sizes w (call h w c).outcome 0 (after h w (made_by b c)) (step_for g b m c)
+  made_agrees w m zero c X n =
+      let A = call_agrees w m c X n in
       record {
         says = A.says;
-        state-is = ap (λ (x : Volume). x.state) X.is ∙ rw (X.live.n-is, X.live.d-is);
+        state_is_lem = ap (λ (x : Volume). x.state) X.is ∙ rw (X.live.n_is, X.live.d_is);
         live = rw X.is (omega (arith, X.live.count));
         once = X.live.once;
         possible = A.possible;
-        handed-on = handed-same (call h w c).outcome w;
-        count-le = zero-le;
+        handed_on = handed_same (call h w c).outcome w;
+        count_le = zero-le;
       }
-  made-agrees w m (suc b) c X n =
-      let A = call-agrees w m c X n in
+  made_agrees w m (suc b) c X n =
+      let A = call_agrees w m c X n in
       record {
         says = A.says;
-        state-is = A.state-is;
+        state_is_lem = A.state_is_lem;
         live = A.live;
         once = A.once;
         possible = A.possible;
-        handed-on = A.handed-on;
-        count-le = zero-le;
+        handed_on = A.handed_on;
+        count_le = zero-le;
       }
 
-  none_made : (w : Volume) (b : ℕ) (c : Call) → b ≡ 0 → lift (after h w (madeBy b c)) ≡ lift w
+  none_made : (w : Volume) (b : ℕ) (c : Call) → b ≡ 0 → lift (after h w (made_by b c)) ≡ lift w
   none_made w zero c e = refl
   none_made w (suc b) c e = absurd (omega (arith, e))
 
-  event-agrees : (w : Volume) (m : Map) (e : Event) → Reached h sizes w m → EventNumbers e → EventAgrees h sizes (lift w) m e
-  event-agrees w m (whole c) X n =
-      rw (whole-lifted h w c) (agrees-lifted sizes w _ _ _ (mapOf g m c) (call-agrees w m c X n))
-  event-agrees w m (cut c b bs) X n =
-      rw (lifted-outcome h b w c, (event-is h sizes w m (cut c b bs) X n).volume-is)
+  event_agrees : (w : Volume) (m : Map) (e : Event) → Reached h sizes w m → EventNumbers e → EventAgrees h sizes (lift w) m e
+  event_agrees w m (whole c) X n =
+      rw (whole_lifted h w c) (agrees_lifted sizes w _ _ _ (map_of g m c) (call_agrees w m c X n))
+  event_agrees w m (cut c b bs) X n =
+      rw (lifted_outcome h b w c, (event_is h sizes w m (cut c b bs) X n).volume_is)
       (record {
-        agrees = agrees-lifted sizes w (call h w c).outcome 0 (after h w (madeBy b c)) (stepFor g b m c) (made-agrees w m b c X n);
+        agrees = agrees_lifted sizes w (call h w c).outcome 0 (after h w (made_by b c)) (step_for g b m c) (made_agrees w m b c X n);
         not_made = none_made w b c;
       })
-  event-agrees w m (idle bs) X n = ((event-is h sizes w m (idle bs) X n).accepts, (event-is h sizes w m (idle bs) X n).volume-is)
+  event_agrees w m (idle bs) X n = ((event_is h sizes w m (idle bs) X n).accepts, (event_is h sizes w m (idle bs) X n).volume_is)
 
-  pub events-agree : (w : Volume) (m : Map) (es : List Event) → Reached h sizes w m → AllNumbers es → EventsAgree h sizes (lift w) m es
-  events-agree w m [] X n = tt
-  events-agree w m (e ∷ es) X n = (
-    event-agrees w m e X n.0,
-    rw (event-is h sizes w m e X n.0).volume-is
-        (events-agree (after h w (calls_of e)) (mapAfter g m (calls_of e)) es (event-reaches h sizes w m e X n.0) n.1),
+  pub events_agree : (w : Volume) (m : Map) (es : List Event) → Reached h sizes w m → AllNumbers es → EventsAgree h sizes (lift w) m es
+  events_agree w m [] X n = tt
+  events_agree w m (e ∷ es) X n = (
+    event_agrees w m e X n.0,
+    rw (event_is h sizes w m e X n.0).volume_is
+        (events_agree (after h w (calls_of e)) (map_after g m (calls_of e)) es (event_reaches h sizes w m e X n.0) n.1),
   )
 
 -- from a format on, uncut or cut and finished
-pub cuts-agree : (h : Family) (v : Volume) (sizes : Sizes) → allowed sizes ≡ true
-    → tooShort (geometry sizes) v.flash (pages v.ram) ≡ false → (f : Format) (es : List Event) → AllNumbers es
-    → EventsAgree h sizes (formatEnd h v sizes f) emptyMap es
-cuts-agree h v sizes can long f es n =
-    rw (format-end h v sizes can long f)
-    (events-agree h sizes (format (onPages v) sizes).volume emptyMap es (reach-format h sizes (onPages v) can long) n)
+pub cuts_agree : (h : Family) (v : Volume) (sizes : Sizes) → allowed sizes ≡ true
+    → too_short (geometry sizes) v.flash (pages v.ram) ≡ false → (f : Format) (es : List Event) → AllNumbers es
+    → EventsAgree h sizes (format_end h v sizes f) empty_map es
+cuts_agree h v sizes can long f es n =
+    rw (format_end_lem h v sizes can long f)
+    (events_agree h sizes (format (on_pages v) sizes).volume empty_map es (reach_format h sizes (on_pages v) can long) n)

@@ -10,136 +10,136 @@ use lib.Dec.{ltb, eqb}
 use lib.ListN.{length, get_or}
 use borrow.Author.Tests.{lt-ltb, le-ltb, ltb-true}
 use Rattle.memory.specs.Cases.{bool?, lt?, either}
-use Rattle.memory.specs.Numbers.{euclid, div-lt}
+use Rattle.memory.specs.Numbers.{euclid, div_lt}
 use Rattle.memory.specs.Ranges.{any}
 use Rattle.memory.specs.Words.{word}
 use Rattle.layout.specs.Geometry as layout
-use Rattle.layout.specs.Hash.{fnvFamily}
-use Rattle.layout.specs.Items.{DA, itemWord}
-use Rattle.layout.specs.Index.{inFull}
-use Rattle.layout.specs.Search.{Stop, Found, reply, ramFirst, scan, searchPages}
-use Rattle.layout.specs.Calls.{deletionIndex, deletionFilters, numberPositions, tryDeletion, maybeDeleted, testDeletion}
-use Rattle.laws.specs.SetLaws.{deletion-places-suffice}
+use Rattle.layout.specs.Hash.{fnv_family}
+use Rattle.layout.specs.Items.{DA, item_word}
+use Rattle.layout.specs.Index.{in_full}
+use Rattle.layout.specs.Search.{Stop, Found, reply, ram_first, scan, search_pages}
+use Rattle.layout.specs.Calls.{deletion_index, deletion_filters, number_positions, try_deletion, maybe_deleted, test_deletion}
+use Rattle.laws.specs.SetLaws.{deletion_places_suffice}
 use Rattle.laws.specs.Walks.{onward}
-use Rattle.laws.specs.WalkLaws.{full-mono, shut_out, newer-first, Part, free, part_free, lesser, same-order, Shown}
+use Rattle.laws.specs.WalkLaws.{full_mono, shut_out, newer_first, Part, free, part_free, lesser, same_order, Shown}
 use Rattle.geometry.specs.Shape.{shape}
-use Rattle.geometry.specs.Bounds.{deletion-index-le}
-use Rattle.items.specs.Scans.{isWord, hasWord}
-use Rattle.items.specs.Reading.{page-word, ram-word}
+use Rattle.geometry.specs.Bounds.{deletion_index_le}
+use Rattle.items.specs.Scans.{is_word, has_word}
+use Rattle.items.specs.Reading.{page_word, ram_word}
 use Rattle.kernels.specs.Blocks.{Upto}
 use Rattle.filter.specs.Filter.{IndexFits}
 use Rattle.filter.specs.Blocks.{BlockAt}
 use Rattle.filter.specs.declared.groups.Block.{Block}
 use Rattle.deletions.specs.declared.Deletions.{Deletions}
 use Rattle.deletions.specs.Test.{held, DeletionsFit}
-use Rattle.deletions.specs.Walk.{testStop, tryHeld, tryWord, pastPages, testBelow, eitherBit}
+use Rattle.deletions.specs.Walk.{test_stop, try_held, try_word, past_pages, test_below, either_bit}
 
 -- ---- numbers in a row
 
 -- a scan of numbers in a row meets the one that is among them
-pub scan-words : (bytes : List ℕ) (start j : ℕ) (try : ℕ → Option Stop) (lo n : ℕ)
-    → ((k : ℕ) → k < n → try (lo + k) ≡ tryWord bytes start j k) → scan try lo n ≡ testStop j (hasWord bytes start n j)
-unfolding scan any isWord
-scan-words bytes start j try lo zero same = refl
-scan-words bytes start j try lo (suc n) same =
+pub scan_words : (bytes : List ℕ) (start j : ℕ) (try : ℕ → Option Stop) (lo n : ℕ)
+    → ((k : ℕ) → k < n → try (lo + k) ≡ try_word bytes start j k) → scan try lo n ≡ test_stop j (has_word bytes start n j)
+unfolding scan any is_word
+scan_words bytes start j try lo zero same = refl
+scan_words bytes start j try lo (suc n) same =
     either (bool? (eqb (word bytes (start + n * 4)) j))
     (λ t. rw (same n (omega arith), t))
-    (λ t. rw (same n (omega arith), t) (scan-words bytes start j try lo n (λ k h. same k (omega arith))))
+    (λ t. rw (same n (omega arith), t) (scan_words bytes start j try lo n (λ k h. same k (omega arith))))
 
 -- those of page p, by the first byte of all
-pub scan-page : (u : ℕ) (bytes : List ℕ) (start j p at : ℕ) (t : Bool) → at ≡ start + p * layout.page u → t ≡ hasWord bytes at (16 * u) j
-    → scan (tryWord bytes start j) (p * (16 * u)) (16 * u) ≡ testStop j t
-scan-page u bytes start j p at t is e =
-    scan-words bytes at j (tryWord bytes start j) (p * (16 * u)) (16 * u)
+pub scan_page : (u : ℕ) (bytes : List ℕ) (start j p at : ℕ) (t : Bool) → at ≡ start + p * layout.page u → t ≡ has_word bytes at (16 * u) j
+    → scan (try_word bytes start j) (p * (16 * u)) (16 * u) ≡ test_stop j t
+scan_page u bytes start j p at t is e =
+    scan_words bytes at j (try_word bytes start j) (p * (16 * u)) (16 * u)
     (λ k h.
     let s : start + (p * (16 * u) + k) * 4 ≡ at + k * 4 = omega (arith, is) in
-    ap (λ (x : ℕ). testStop j (eqb (word bytes x) j)) s)
-    ∙ ap (testStop j) (sym e)
+    ap (λ (x : ℕ). test_stop j (eqb (word bytes x) j)) s)
+    ∙ ap (test_stop j) (sym e)
 
 -- ---- the deletions
 
-abbrev pub perPage : Deletions → ℕ
-perPage t = layout.deletionsPerPage t.g.chip.unit
+abbrev pub per_page : Deletions → ℕ
+per_page t = layout.deletions_per_page t.g.chip.unit
 
 -- full pages
 abbrev pub pages : Deletions → ℕ
-pages t = t.d / perPage t
+pages t = t.d / per_page t
 
-abbrev pub pagesThen : Deletions → ℕ
-pagesThen t = t.d0 / perPage t
+abbrev pub pages_then : Deletions → ℕ
+pages_then t = t.d0 / per_page t
 
 -- the first byte of page p on flash
-abbrev pub pageAt : Deletions → ℕ → ℕ
-pageAt t p = layout.daBlock (shape t.g) * layout.block t.g.chip.unit + p * layout.page t.g.chip.unit
+abbrev pub page_at : Deletions → ℕ → ℕ
+page_at t p = layout.da_block (shape t.g) * layout.block t.g.chip.unit + p * layout.page t.g.chip.unit
 
 module _ (t : Deletions) (main ram : List ℕ) (j : ℕ) where
-  one_word : (i w : ℕ) → itemWord t.g.chip.unit (DA (shape t.g)) t.d main ram i 0 ≡ w
-      → tryHeld t main ram j i ≡ testStop j (eqb w j)
-  unfolding tryDeletion
+  one_word : (i w : ℕ) → item_word t.g.chip.unit (DA (shape t.g)) t.d main ram i 0 ≡ w
+      → try_held t main ram j i ≡ test_stop j (eqb w j)
+  unfolding try_deletion
   one_word i w e = rw e
 
   -- number k of page p, which is full by now
-  pub try-flash : (p k : ℕ) → p < pages t → k < perPage t → tryHeld t main ram j (p * perPage t + k) ≡ tryWord main (pageAt t p) j k
-  try-flash p k h l =
-      one_word (p * perPage t + k) (word main (pageAt t p + k * 4))
-      (page-word t.g.chip.unit (DA (shape t.g)) t.d main ram p k 0 (omega arith) h l ∙ ap (λ (x : ℕ). word main x) (omega arith))
+  pub try_flash : (p k : ℕ) → p < pages t → k < per_page t → try_held t main ram j (p * per_page t + k) ≡ try_word main (page_at t p) j k
+  try_flash p k h l =
+      one_word (p * per_page t + k) (word main (page_at t p + k * 4))
+      (page_word t.g.chip.unit (DA (shape t.g)) t.d main ram p k 0 (omega arith) h l ∙ ap (λ (x : ℕ). word main x) (omega arith))
 
   -- number k of the page that is not full
-  pub try-ram : (k : ℕ) → k < perPage t → tryHeld t main ram j (pages t * perPage t + k) ≡ tryWord ram (layout.daRam t.g.chip.unit) j k
-  try-ram k l =
-      one_word (pages t * perPage t + k) (word ram (layout.daRam t.g.chip.unit + k * 4))
-      (ram-word t.g.chip.unit (DA (shape t.g)) t.d main ram k 0 l ∙ ap (λ (x : ℕ). word ram x) (omega arith))
+  pub try_ram : (k : ℕ) → k < per_page t → try_held t main ram j (pages t * per_page t + k) ≡ try_word ram (layout.da_ram t.g.chip.unit) j k
+  try_ram k l =
+      one_word (pages t * per_page t + k) (word ram (layout.da_ram t.g.chip.unit + k * 4))
+      (ram_word t.g.chip.unit (DA (shape t.g)) t.d main ram k 0 l ∙ ap (λ (x : ℕ). word ram x) (omega arith))
 
   -- numbers of full pages, by the first byte of an earlier one
-  try-row : (a p k : ℕ) → a + p < pages t → k < perPage t → tryHeld t main ram j ((a + p) * perPage t + k)
-      ≡ tryWord main (pageAt t a) j (p * perPage t + k)
-  try-row a p k h l =
-      let e : pageAt t (a + p) + k * 4 ≡ pageAt t a + (p * perPage t + k) * 4 = omega arith in
-      try-flash (a + p) k h l ∙ ap (λ (x : ℕ). testStop j (eqb (word main x) j)) e
+  try_row : (a p k : ℕ) → a + p < pages t → k < per_page t → try_held t main ram j ((a + p) * per_page t + k)
+      ≡ try_word main (page_at t a) j (p * per_page t + k)
+  try_row a p k h l =
+      let e : page_at t (a + p) + k * 4 ≡ page_at t a + (p * per_page t + k) * 4 = omega arith in
+      try_flash (a + p) k h l ∙ ap (λ (x : ℕ). test_stop j (eqb (word main x) j)) e
 
   -- the numbers past the last full page first
-  pub test-is : (met : Bool) → testStop j met ≡ pastPages t main ram j
-      → ramFirst (testStop j met) (testBelow t main ram j (numberPositions fnvFamily (shape t.g) j) (pagesThen t))
-      ≡ testDeletion fnvFamily (shape t.g) (held t main ram) t.d0 j
-  unfolding testDeletion
-  test-is met e =
-      ap (λ (o : Option Stop). ramFirst o (testBelow t main ram j (numberPositions fnvFamily (shape t.g) j) (pagesThen t))) e
+  pub test_is : (met : Bool) → test_stop j met ≡ past_pages t main ram j
+      → ram_first (test_stop j met) (test_below t main ram j (number_positions fnv_family (shape t.g) j) (pages_then t))
+      ≡ test_deletion fnv_family (shape t.g) (held t main ram) t.d0 j
+  unfolding test_deletion
+  test_is met e =
+      ap (λ (o : Option Stop). ram_first o (test_below t main ram j (number_positions fnv_family (shape t.g) j) (pages_then t))) e
 
   -- without a full page there is nothing more
-  pub test-open : 0 < perPage t → t.d0 < perPage t → none ≡ pastPages t main ram j
-      → reply none 0 ≡ testDeletion fnvFamily (shape t.g) (held t main ram) t.d0 j
-  unfolding searchPages
-  test-open pos few e =
-      let z : 0 ≡ pagesThen t = omega (arith, div-lt t.d0 (perPage t) 1 pos (omega (arith, few))) in
-      ap (testBelow t main ram j (numberPositions fnvFamily (shape t.g) j)) z ∙ test-is false e
+  pub test_open : 0 < per_page t → t.d0 < per_page t → none ≡ past_pages t main ram j
+      → reply none 0 ≡ test_deletion fnv_family (shape t.g) (held t main ram) t.d0 j
+  unfolding search_pages
+  test_open pos few e =
+      let z : 0 ≡ pages_then t = omega (arith, div_lt t.d0 (per_page t) 1 pos (omega (arith, few))) in
+      ap (test_below t main ram j (number_positions fnv_family (shape t.g) j)) z ∙ test_is false e
 
 -- ---- a block of filters
 
 module _ (t : Deletions) (main ram : List ℕ) (below : ℕ) (ps : List ℕ) (b : Block)
-    (B : BlockAt t.g.chip.unit (deletionIndex (shape t.g)) main ram (deletionFilters (shape t.g) t.d) (2 * below) ps b) where
-  pub first-lt : b.start / 2 < below
-  first-lt = omega (arith, B.start-lt)
+    (B : BlockAt t.g.chip.unit (deletion_index (shape t.g)) main ram (deletion_filters (shape t.g) t.d) (2 * below) ps b) where
+  pub first_lt : b.start / 2 < below
+  first_lt = omega (arith, B.start_lt)
 
-  pub first-few : below ≤ b.start / 2 + 256
-  first-few = omega (arith, B.few)
+  pub first_few : below ≤ b.start / 2 + 256
+  first_few = omega (arith, B.few)
 
   -- a word has the gates of 32 pages
-  pub block-shows : Shown eitherBit 32 (b.start / 2) below b.words (maybeDeleted (shape t.g) (held t main ram) ps)
-  unfolding Upto maybeDeleted
-  block-shows w h i l =
+  pub block_shows : Shown either_bit 32 (b.start / 2) below b.words (maybe_deleted (shape t.g) (held t main ram) ps)
+  unfolding Upto maybe_deleted
+  block_shows w h i l =
       let f : ℕ = b.start / 2 + w * 32 + i in
       let s : b.start + (w * 64 + 2 * i) ≡ 2 * f = omega (arith, B.even) in
       let r : b.start + (w * 64 + (2 * i + 1)) ≡ 2 * f + 1 = omega (arith, B.even) in
       let x = rw s at (B.shown w h (2 * i) (omega arith)) in
       let y = rw r at (B.shown w h (2 * i + 1) (omega arith)) in
       let n : ℕ = 2 * below - b.start in
-      let p = same-order (w * 64 + 2 * i) n f below (λ k. omega (arith, B.even)) (λ k. omega (arith, B.even)) in
-      let o = same-order (w * 64 + (2 * i + 1)) n f below (λ k. omega (arith, B.even)) (λ k. omega (arith, B.even)) in
+      let p = same_order (w * 64 + 2 * i) n f below (λ k. omega (arith, B.even)) (λ k. omega (arith, B.even)) in
+      let o = same_order (w * 64 + (2 * i + 1)) n f below (λ k. omega (arith, B.even)) (λ k. omega (arith, B.even)) in
       either (bool? (ltb f below)) (λ c. rw (x, y, p, o, c)) (λ c. rw (x, y, p, o, c))
 
 -- the pages of a word, whatever opens them
-module _ (first below : ℕ) (words : List ℕ) (w : ℕ) (w-lt : w < 8) (gate : ℕ → Bool)
-    (shows : Shown eitherBit 32 first below words gate) where
+module _ (first below : ℕ) (words : List ℕ) (w : ℕ) (w_lt : w < 8) (gate : ℕ → Bool)
+    (shows : Shown either_bit 32 first below words gate) where
   abbrev from : ℕ
   from = first + w * 32
 
@@ -147,121 +147,121 @@ module _ (first below : ℕ) (words : List ℕ) (w : ℕ) (w-lt : w < 8) (gate :
   bits = get_or words w 0
 
   -- one that is open is below
-  pub word_in : (i : ℕ) → i < 32 → eitherBit bits i ≡ true → from + i < below
-  word_in i h s = ltb-true (from + i) below ((and-eq-true_iff (ltb (from + i) below) (gate (from + i))).0 (sym (shows w w-lt i h) ∙ s)).0
+  pub word_in : (i : ℕ) → i < 32 → either_bit bits i ≡ true → from + i < below
+  word_in i h s = ltb-true (from + i) below ((and-eq-true_iff (ltb (from + i) below) (gate (from + i))).0 (sym (shows w w_lt i h) ∙ s)).0
 
   -- newest first, as they were found by themselves, and then those below them
-  module _ (t : Deletions) (main ram : List ℕ) (j : ℕ) (full : below ≤ pages t) (from-lt : from < below) (at : ℕ)
-      (at-is : at ≡ pageAt t from) where
+  module _ (t : Deletions) (main ram : List ℕ) (j : ℕ) (full : below ≤ pages t) (from_lt : from < below) (at : ℕ)
+      (at_is : at ≡ page_at t from) where
     -- those that are below
     abbrev n : ℕ
     n = lesser (from + 32) below - from
 
-    word_below : searchPages (eitherBit bits) (tryWord main at j) (perPage t) 32
-        ≡ searchPages (eitherBit bits) (tryWord main at j) (perPage t) n
+    word_below : search_pages (either_bit bits) (try_word main at j) (per_page t) 32
+        ≡ search_pages (either_bit bits) (try_word main at j) (per_page t) n
     word_below =
-        (shut_out (eitherBit bits) (tryWord main at j) free (perPage t) 32 n (omega arith)
-        (λ i a c. shows w w-lt i c ∙ ap (λ (x : Bool). x && gate (from + i)) (le-ltb (from + i) below (omega arith)))).0
+        (shut_out (either_bit bits) (try_word main at j) free (per_page t) 32 n (omega arith)
+        (λ i a c. shows w w_lt i c ∙ ap (λ (x : Bool). x && gate (from + i)) (le-ltb (from + i) below (omega arith)))).0
 
-    pub word-part : (met : Bool) (k : ℕ) → reply (testStop j met) k ≡ searchPages (eitherBit bits) (tryWord main at j) (perPage t) 32
-        → Part gate (tryHeld t main ram j) free (perPage t) (lesser (from + 32) below) from k 0 (testStop j met)
-    word-part met k e =
+    pub word_part : (met : Bool) (k : ℕ) → reply (test_stop j met) k ≡ search_pages (either_bit bits) (try_word main at j) (per_page t) 32
+        → Part gate (try_held t main ram j) free (per_page t) (lesser (from + 32) below) from k 0 (test_stop j met)
+    word_part met k e =
         let s : lesser (from + 32) below ≡ from + n = omega arith in
-        part_free gate (tryHeld t main ram j) (perPage t)
-        (ap (searchPages gate (tryHeld t main ram j) (perPage t)) s
-        ∙ newer-first gate (tryHeld t main ram j) free (perPage t) (eitherBit bits) (tryWord main at j) from n
-        (λ i h. sym (shows w w-lt i (omega arith) ∙ rw (lt-ltb (from + i) below (omega arith))))
-        (λ i k h l. rw at-is (try-row t main ram j from i k (omega (arith, full)) l))
-        ∙ ap (λ (r : Found). onward r.stop r.opened (searchPages gate (tryHeld t main ram j) (perPage t) from))
+        part_free gate (try_held t main ram j) (per_page t)
+        (ap (search_pages gate (try_held t main ram j) (per_page t)) s
+        ∙ newer_first gate (try_held t main ram j) free (per_page t) (either_bit bits) (try_word main at j) from n
+        (λ i h. sym (shows w w_lt i (omega arith) ∙ rw (lt-ltb (from + i) below (omega arith))))
+        (λ i k h l. rw at_is (try_row t main ram j from i k (omega (arith, full)) l))
+        ∙ ap (λ (r : Found). onward r.stop r.opened (search_pages gate (try_held t main ram j) (per_page t) from))
         (sym (e ∙ word_below)))
 
 -- ---- a ready volume
 
 module _ {t : Deletions} {main ram : List ℕ} (R : DeletionsFit t main ram) where
-  pub page-some : 0 < perPage t
-  page-some = omega (arith, R.sound.unit.1.some)
+  pub page_some : 0 < per_page t
+  page_some = omega (arith, R.sound.unit.1.some)
 
   -- sixteen full pages to a block of deletions
-  pages-le : pages t ≤ 16 * t.g.da
-  pages-le =
-      let h : t.d < (16 * t.g.da + 1) * perPage t = omega (arith, R.cap, page-some) in
-      omega (arith, div-lt t.d (perPage t) (16 * t.g.da + 1) page-some h)
+  pages_le : pages t ≤ 16 * t.g.da
+  pages_le =
+      let h : t.d < (16 * t.g.da + 1) * per_page t = omega (arith, R.cap, page_some) in
+      omega (arith, div_lt t.d (per_page t) (16 * t.g.da + 1) page_some h)
 
-  pub pages-few : pages t ≤ 65536
-  pages-few = omega (arith, pages-le, R.sound.da-most)
+  pub pages_few : pages t ≤ 65536
+  pages_few = omega (arith, pages_le, R.sound.da_most)
 
   -- those tested are among them
-  pub pages-then : pagesThen t ≤ pages t
-  pages-then = full-mono t.d0 t.d (perPage t) page-some R.bound
+  pub pages_then_lem : pages_then t ≤ pages t
+  pages_then_lem = full_mono t.d0 t.d (per_page t) page_some R.bound
 
   -- a full page lies within the flash
-  pub page-in : (p : ℕ) → p < pages t → pageAt t p + layout.page t.g.chip.unit ≤ length main
-  page-in p h =
-      let b : p + 1 ≤ 16 * t.g.da = omega (arith, pages-le) in
-      let k : layout.daBlock (shape t.g) + t.g.da ≤ layout.blocks (shape t.g) = omega arith in
+  pub page_in : (p : ℕ) → p < pages t → page_at t p + layout.page t.g.chip.unit ≤ length main
+  page_in p h =
+      let b : p + 1 ≤ 16 * t.g.da = omega (arith, pages_le) in
+      let k : layout.da_block (shape t.g) + t.g.da ≤ layout.blocks (shape t.g) = omega arith in
       let u : ℕ = t.g.chip.unit in
-      omega (arith, mul-le-mul_right (layout.page u) b, mul-le-mul_right (layout.block u) k, R.read.main-fits)
+      omega (arith, mul-le-mul_right (layout.page u) b, mul-le-mul_right (layout.block u) k, R.read.main_fits)
 
   -- numbers past the last full page are fewer than a page's
-  pub slots-lt : t.d0 % perPage t < perPage t
-  slots-lt = mod-lt t.d0 page-some
+  pub slots_lt : t.d0 % per_page t < per_page t
+  slots_lt = mod-lt t.d0 page_some
 
   -- its index
-  pub sets-le : inFull t.g.chip.unit (deletionFilters (shape t.g) t.d) ≤ layout.deletionSets (shape t.g)
-  sets-le = deletion-places-suffice t.g.chip.unit t.g.da t.d R.sound.unit.1.some R.cap
+  pub sets_le : in_full t.g.chip.unit (deletion_filters (shape t.g) t.d) ≤ layout.deletion_sets (shape t.g)
+  sets_le = deletion_places_suffice t.g.chip.unit t.g.da t.d R.sound.unit.1.some R.cap
 
-  pub index-fits : IndexFits t.g.chip.unit (deletionIndex (shape t.g)) (layout.deletionSets (shape t.g)) main ram
-  index-fits = record {
+  pub index_fits : IndexFits t.g.chip.unit (deletion_index (shape t.g)) (layout.deletion_sets (shape t.g)) main ram
+  index_fits = record {
     unit = R.sound.unit;
-    near = omega (arith, deletion-index-le t.g R.sound);
-    on-flash = omega (arith, R.read.main-fits);
-    in-ram = omega (arith, R.read.ram-fits);
+    near = omega (arith, deletion_index_le t.g R.sound);
+    on_flash_lem = omega (arith, R.read.main_fits);
+    in_ram_lem = omega (arith, R.read.ram_fits);
   }
 
   -- ---- the page that d₀ deletions do not fill, with q numbers to a page
 
-  module _ (q : ℕ) (q-is : q ≡ perPage t) (count full : ℕ) (count-is : count ≡ t.d0 % q) (Full-is : full ≡ t.d0 - count) where
-    full-then : full ≡ pagesThen t * perPage t
-    full-then =
-        let E = euclid t.d0 (perPage t) page-some in
-        let c : count ≡ t.d0 % perPage t = rw q-is at count-is in
+  module _ (q : ℕ) (q_is : q ≡ per_page t) (count full : ℕ) (count_is : count ≡ t.d0 % q) (Full-is : full ≡ t.d0 - count) where
+    full_then : full ≡ pages_then t * per_page t
+    full_then =
+        let E = euclid t.d0 (per_page t) page_some in
+        let c : count ≡ t.d0 % per_page t = rw q_is at count_is in
         omega (arith, Full-is, c, E.whole)
 
     -- by now it may be full
-    module _ (filled : full < t.d / q * q) (start : ℕ) (at : start ≡ layout.daBlock (shape t.g) * layout.block t.g.chip.unit) where
-      filled_is : pagesThen t < pages t
+    module _ (filled : full < t.d / q * q) (start : ℕ) (at : start ≡ layout.da_block (shape t.g) * layout.block t.g.chip.unit) where
+      filled_is : pages_then t < pages t
       filled_is =
-          let f : full < pages t * perPage t = rw q-is at filled in
-          either (lt? (pagesThen t) (pages t)) (λ c. c.1) (λ c. absurd (omega (arith, mul-le-mul_right (perPage t) c.1, f, full-then)))
+          let f : full < pages t * per_page t = rw q_is at filled in
+          either (lt? (pages_then t) (pages t)) (λ c. c.1) (λ c. absurd (omega (arith, mul-le-mul_right (per_page t) c.1, f, full_then)))
 
-      pub open-in-flash : start + full * 4 + count * 4 ≤ length main
-      open-in-flash =
-          let c : count ≡ t.d0 % perPage t = rw q-is at count-is in
-          omega (arith, c, slots-lt, at, full-then, page-in (pagesThen t) filled_is)
+      pub open_in_flash : start + full * 4 + count * 4 ≤ length main
+      open_in_flash =
+          let c : count ≡ t.d0 % per_page t = rw q_is at count_is in
+          omega (arith, c, slots_lt, at, full_then, page_in (pages_then t) filled_is)
 
-      pub open-on-flash : (j : ℕ) (met : Bool) → met ≡ hasWord main (start + full * 4) count j
-          → testStop j met ≡ pastPages t main ram j
-      open-on-flash j met e =
-          let c : count ≡ t.d0 % perPage t = rw q-is at count-is in
-          let a : start + full * 4 ≡ pageAt t (pagesThen t) = omega (arith, at, full-then) in
-          ap (testStop j) (rw (a, c) at e)
-          ∙ sym (scan-words main (pageAt t (pagesThen t)) j (tryHeld t main ram j) (pagesThen t * perPage t) (t.d0 % perPage t)
-          (λ k h. try-flash t main ram j (pagesThen t) k filled_is (omega (arith, slots-lt))))
+      pub open_on_flash : (j : ℕ) (met : Bool) → met ≡ has_word main (start + full * 4) count j
+          → test_stop j met ≡ past_pages t main ram j
+      open_on_flash j met e =
+          let c : count ≡ t.d0 % per_page t = rw q_is at count_is in
+          let a : start + full * 4 ≡ page_at t (pages_then t) = omega (arith, at, full_then) in
+          ap (test_stop j) (rw (a, c) at e)
+          ∙ sym (scan_words main (page_at t (pages_then t)) j (try_held t main ram j) (pages_then t * per_page t) (t.d0 % per_page t)
+          (λ k h. try_flash t main ram j (pages_then t) k filled_is (omega (arith, slots_lt))))
 
-    module _ (start : ℕ) (at : start ≡ layout.daRam t.g.chip.unit) where
-      pub open-in-ram : start + count * 4 ≤ length ram
-      open-in-ram =
-          let c : count ≡ t.d0 % perPage t = rw q-is at count-is in
-          omega (arith, c, slots-lt, at, R.read.ram-fits)
+    module _ (start : ℕ) (at : start ≡ layout.da_ram t.g.chip.unit) where
+      pub open_in_ram : start + count * 4 ≤ length ram
+      open_in_ram =
+          let c : count ≡ t.d0 % per_page t = rw q_is at count_is in
+          omega (arith, c, slots_lt, at, R.read.ram_fits)
 
-      pub open-on-ram : t.d / q * q ≤ full → (j : ℕ) (met : Bool) → met ≡ hasWord ram start count j
-          → testStop j met ≡ pastPages t main ram j
-      open-on-ram h j met e =
-          let c : count ≡ t.d0 % perPage t = rw q-is at count-is in
-          let l : pages t * perPage t ≤ full = rw q-is at h in
-          let same : pagesThen t ≡ pages t = either (lt? (pagesThen t) (pages t))
-          (λ c. absurd (omega (arith, mul-le-mul_right (perPage t) c.1, l, full-then, page-some)))
-          (λ c. omega (arith, c.1, pages-then)) in
-          ap (testStop j) (rw (at, c) at e)
-          ∙ sym (scan-words ram (layout.daRam t.g.chip.unit) j (tryHeld t main ram j) (pagesThen t * perPage t) (t.d0 % perPage t)
-          (λ k h. rw same (try-ram t main ram j k (omega (arith, slots-lt)))))
+      pub open_on_ram : t.d / q * q ≤ full → (j : ℕ) (met : Bool) → met ≡ has_word ram start count j
+          → test_stop j met ≡ past_pages t main ram j
+      open_on_ram h j met e =
+          let c : count ≡ t.d0 % per_page t = rw q_is at count_is in
+          let l : pages t * per_page t ≤ full = rw q_is at h in
+          let same : pages_then t ≡ pages t = either (lt? (pages_then t) (pages t))
+          (λ c. absurd (omega (arith, mul-le-mul_right (per_page t) c.1, l, full_then, page_some)))
+          (λ c. omega (arith, c.1, pages_then_lem)) in
+          ap (test_stop j) (rw (at, c) at e)
+          ∙ sym (scan_words ram (layout.da_ram t.g.chip.unit) j (try_held t main ram j) (pages_then t * per_page t) (t.d0 % per_page t)
+          (λ k h. rw same (try_ram t main ram j k (omega (arith, slots_lt)))))

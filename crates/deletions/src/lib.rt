@@ -2,15 +2,15 @@
 // page being opened only if one of its two filters has all bits of the number's positions. Document 02, §5.
 ghost use Rattle.std.specs.Prelude.{◌≡◌, ◌/◌, ◌≤◌, ◌<◌, take};
 ghost use Rattle.memory.specs.Lent.{before};
-ghost use Rattle.layout.specs.Geometry.{deletionsPerPage};
-ghost use Rattle.layout.specs.Hash.{fnvFamily};
-ghost use Rattle.layout.specs.Search.{searchPages};
-ghost use Rattle.layout.specs.Calls.{testDeletion};
+ghost use Rattle.layout.specs.Geometry.{deletions_per_page};
+ghost use Rattle.layout.specs.Hash.{fnv_family};
+ghost use Rattle.layout.specs.Search.{search_pages};
+ghost use Rattle.layout.specs.Calls.{test_deletion};
 ghost use Rattle.laws.specs.Units.{UnitSound};
 ghost use Rattle.laws.specs.Walks.{onward, Low};
 ghost use Rattle.geometry.specs.Shape.{shape, Sound};
 ghost use Rattle.deletions.specs.Test.{tested_of, held, DeletionsFit};
-ghost use Rattle.deletions.specs.Walk.{testStop, tryWord, pastPages, testBelow, eitherBit, WordPagesIn, deletionFiltersOf};
+ghost use Rattle.deletions.specs.Walk.{test_stop, try_word, past_pages, test_below, either_bit, WordPagesIn, deletion_filters_of};
 
 use filter::Filters;
 use geometry::{Chip, Geometry, areas, sets};
@@ -35,7 +35,7 @@ pub struct Tested {
 // Those of the page that d0 deletions do not fill: in RAM, unless it has been filled since.
 fn in_open(t: Deletions, j: u32, main: &[u8], ram: &[u8]) -> bool
     requires { DeletionsFit t main.now ram.now }
-    ensures { testStop j result ≡ pastPages t (before main) (before ram) j }
+    ensures { test_stop j result ≡ past_pages t (before main) (before ram) j }
 {
     let per_page = t.g.deletions_per_page();
     let count = areas::slot(per_page, t.d0);
@@ -52,7 +52,7 @@ fn in_open(t: Deletions, j: u32, main: &[u8], ram: &[u8]) -> bool
 // The filters of the volume's deletions, two to a page.
 fn filters(t: Deletions) -> Filters
     requires { Sound t.g }
-    ensures { result ≡ deletionFiltersOf t }
+    ensures { result ≡ deletion_filters_of t }
 {
     let chip = t.g.chip;
     let index = sets::deletion_index(t.g);
@@ -76,7 +76,7 @@ struct BlockTest {
 fn in_word(chip: Chip, start: usize, bits: u64, j: u32, main: &[u8]) -> Tested
     requires { UnitSound chip.unit × WordPagesIn chip.unit start bits main.now }
     ensures { tested_of j result
-        ≡ searchPages (eitherBit bits) (tryWord (before main) start j) (deletionsPerPage chip.unit) 32 }
+        ≡ search_pages (either_bit bits) (try_word (before main) start j) (deletions_per_page chip.unit) 32 }
 {
     let mut left = kernels::pairs(bits);
     let mut opened: u32 = 0;
@@ -103,10 +103,10 @@ fn in_block(
     ram: &[u8],
 ) -> BlockTest
     requires deletions_fit { DeletionsFit t main.now ram.now × Low t.g.chip.unit count ps }
-    requires below_nonzero { (0 < below) × (below ≤ t.d0 / deletionsPerPage t.g.chip.unit) }
+    requires below_nonzero { (0 < below) × (below ≤ t.d0 / deletions_per_page t.g.chip.unit) }
     ensures start { result.start < below }
-    ensures found { testBelow t (before main) (before ram) j (take count ps) below
-        ≡ onward (testStop j result.met) result.opened (testBelow t (before main) (before ram) j (take count ps) result.start) }
+    ensures found { test_below t (before main) (before ram) j (take count ps) below
+        ≡ onward (test_stop j result.met) result.opened (test_below t (before main) (before ram) j (take count ps) result.start) }
 {
     let b = filter::block_below(filters(t), 2 * below, ps, count, main, ram);
     let first = b.start / 2;
@@ -137,7 +137,7 @@ fn in_block(
 fn in_pages(t: Deletions, j: u32, ps: [u32; 8], count: usize, main: &[u8], ram: &[u8]) -> Tested
     requires { DeletionsFit t main.now ram.now × Low t.g.chip.unit count ps }
     ensures { tested_of j result
-        ≡ testBelow t (before main) (before ram) j (take count ps) (t.d0 / deletionsPerPage t.g.chip.unit) }
+        ≡ test_below t (before main) (before ram) j (take count ps) (t.d0 / deletions_per_page t.g.chip.unit) }
 {
     let mut opened: u32 = 0;
     let mut below = t.d0 / t.g.deletions_per_page();
@@ -157,7 +157,7 @@ fn in_pages(t: Deletions, j: u32, ps: [u32; 8], count: usize, main: &[u8], ram: 
 // Is record number j among the first d0 deletions.
 pub fn test(t: Deletions, j: u32, main: &[u8], ram: &[u8]) -> Tested
     requires { DeletionsFit t main.now ram.now }
-    ensures { tested_of j result ≡ testDeletion fnvFamily (shape t.g) (held t (before main) (before ram)) t.d0 j }
+    ensures { tested_of j result ≡ test_deletion fnv_family (shape t.g) (held t (before main) (before ram)) t.d0 j }
 {
     if in_open(t, j, main, ram) {
         return Tested {

@@ -8,8 +8,8 @@ use native.Mathlib.Omega.{arith}
 use lib.ListN.{length, get_or, take, drop}
 use Rattle.memory.specs.Cases.{lt?, either}
 use Rattle.memory.specs.Lists.{tabulate}
-use Rattle.memory.specs.Numbers.{div-of, mod-of}
-use Rattle.fields.specs.Sources.{runByte, Whole, Size, Runs}
+use Rattle.memory.specs.Numbers.{div_of, mod_of}
+use Rattle.fields.specs.Sources.{run_byte, Whole, Size, Runs}
 use Rattle.fields.specs.Lists.{part_at}
 
 -- byte x of the runs begins run k, which lies at a
@@ -19,13 +19,13 @@ pub record At (at stride n x a : ℕ) : Type 0 where
   pub run : a ≡ at + k * stride
 
 -- the first byte
-pub first-at : (at stride n y : ℕ) → 0 < n → Whole n y → At at stride n (y + 0) (at + y / n * stride)
-first-at at stride n y pn W =
+pub first_at : (at stride n y : ℕ) → 0 < n → Whole n y → At at stride n (y + 0) (at + y / n * stride)
+first_at at stride n y pn W =
     let e : y ≡ W.0 * n + 0 = omega (arith, W.1) in
-    record { k = y / n; byte = rw (div-of y n W.0 0 e pn) (omega (arith, W.1)); run = refl }
+    record { k = y / n; byte = rw (div_of y n W.0 0 e pn) (omega (arith, W.1)); run = refl }
 
-pub first-in : (len at stride n y k : ℕ) → Runs len at stride n y k → 0 < k → at + y / n * stride < len
-first-in len at stride n y k R h = let e : y + 0 ≡ y = omega arith in omega (arith, rw e at (R 0 h))
+pub first_in : (len at stride n y k : ℕ) → Runs len at stride n y k → 0 < k → at + y / n * stride < len
+first_in len at stride n y k R h = let e : y + 0 ≡ y = omega arith in omega (arith, rw e at (R 0 h))
 
 -- so many runs
 order : (a b n : ℕ) → a * n < b * n → a + 1 ≤ b
@@ -34,8 +34,8 @@ order a b n h = either (lt? a b) (λ l. omega (arith, l.1)) (λ l. absurd (omega
 -- a run of the `len` bytes wanted
 module _ (bytes : List ℕ) (at stride n y len i a : ℕ) (pn : 0 < n) (R : Runs (length bytes) at stride n y len) (Y : Whole n y) (L : Whole n len)
     (h : i < len) (T : At at stride n (y + i) a) where
-  pub turn-fits : i + n ≤ len
-  turn-fits =
+  pub turn_fits : i + n ≤ len
+  turn_fits =
       let e : (Y.0 + L.0) * n ≡ y + len = omega (arith, Y.1, L.1) in
       let o = order T.k (Y.0 + L.0) n (omega (arith, T.byte)) in
       omega (arith, mul-le-mul_right n o, T.byte)
@@ -43,20 +43,20 @@ module _ (bytes : List ℕ) (at stride n y len i a : ℕ) (pn : 0 < n) (R : Runs
   place : (j : ℕ) → j < n → at + ((y + (i + j)) / n * stride + (y + (i + j)) % n) ≡ a + j
   place j l =
       let e : y + (i + j) ≡ T.k * n + j = omega (arith, T.byte) in
-      rw (div-of (y + (i + j)) n T.k j e l, mod-of (y + (i + j)) n T.k j e l) (omega (arith, T.run))
+      rw (div_of (y + (i + j)) n T.k j e l, mod_of (y + (i + j)) n T.k j e l) (omega (arith, T.run))
 
   pub turn_inside : a + n ≤ length bytes
   turn_inside =
-      let l = R (i + (n - 1)) (omega (arith, turn-fits)) in
+      let l = R (i + (n - 1)) (omega (arith, turn_fits)) in
       let e = place (n - 1) (omega arith) in
       omega arith
 
-  pub turn-bytes : (j : ℕ) → j < n → get_or (take (a + n - a) (drop a bytes)) j 0 ≡ runByte bytes at stride n (y + (i + j))
-  turn-bytes j l = part_at bytes a n j l ∙ ap (λ (x : ℕ). get_or bytes x 0) (sym (place j l))
+  pub turn_bytes : (j : ℕ) → j < n → get_or (take (a + n - a) (drop a bytes)) j 0 ≡ run_byte bytes at stride n (y + (i + j))
+  turn_bytes j l = part_at bytes a n j l ∙ ap (λ (x : ℕ). get_or bytes x 0) (sym (place j l))
 
   -- the next run
-  pub turn-next : At at stride n (y + (i + n)) (a + stride)
-  turn-next = record { k = T.k + 1; byte = omega (arith, T.byte); run = omega (arith, T.run) }
+  pub turn_next : At at stride n (y + (i + n)) (a + stride)
+  turn_next = record { k = T.k + 1; byte = omega (arith, T.byte); run = omega (arith, T.run) }
 
 -- ---- runs of a known size
 
@@ -65,13 +65,13 @@ pub at_size : (len at stride n y k m : ℕ) → n ≡ m → 0 < m
     → ((0 < m) × (stride < 2 ^ 61) × (0 < k) × Runs len at stride m y k) × (Whole m y × Whole m k)
 at_size len at stride n y k m e h p = ((h, p.0.1, p.0.2, rw e at p.0.3), rw e at p.1)
 
-pub of_size : (bytes : List ℕ) (at stride n y k m : ℕ) (out : List ℕ) → n ≡ m → out ≡ tabulate k (λ i. runByte bytes at stride m (y + i))
-    → out ≡ tabulate k (λ i. runByte bytes at stride n (y + i))
+pub of_size : (bytes : List ℕ) (at stride n y k m : ℕ) (out : List ℕ) → n ≡ m → out ≡ tabulate k (λ i. run_byte bytes at stride m (y + i))
+    → out ≡ tabulate k (λ i. run_byte bytes at stride n (y + i))
 of_size bytes at stride n y k m out e p = rw e p
 
-pub last-size : (n : ℕ) → Size n → n ≢ 1 → n ≢ 2 → n ≢ 4 → n ≢ 8 → n ≡ 16
-last-size n (inl e) a b c d = absurd (a e)
-last-size n (inr (inl e)) a b c d = absurd (b e)
-last-size n (inr (inr (inl e))) a b c d = absurd (c e)
-last-size n (inr (inr (inr (inl e)))) a b c d = absurd (d e)
-last-size n (inr (inr (inr (inr e)))) a b c d = e
+pub last_size : (n : ℕ) → Size n → n ≢ 1 → n ≢ 2 → n ≢ 4 → n ≢ 8 → n ≡ 16
+last_size n (inl e) a b c d = absurd (a e)
+last_size n (inr (inl e)) a b c d = absurd (b e)
+last_size n (inr (inr (inl e))) a b c d = absurd (c e)
+last_size n (inr (inr (inr (inl e)))) a b c d = absurd (d e)
+last_size n (inr (inr (inr (inr e)))) a b c d = e

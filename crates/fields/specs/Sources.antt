@@ -1,15 +1,15 @@
 -- Fields of bits in a row of bytes, and the bytes that they make when w bits of each are taken, one field after another.
 use Rattle.std.specs.Prelude.{◌≡◌, ◌⊎◌, List, ℕ, ◌+◌, ◌*◌, ◌/◌, ◌%◌, ◌^◌, ◌≤◌, ◌<◌, get_or}
-use Rattle.memory.specs.Bits.{bitIn, pack}
+use Rattle.memory.specs.Bits.{bit_in, pack}
 use Rattle.fields.specs.declared.Source.{Source}
 
 -- byte y of a row that takes w bits of each field of a source, one field after another
-unfoldable pub fieldByte : List ℕ → Source → ℕ → ℕ → ℕ
-fieldByte bytes s w y = pack 8 (λ b. bitIn bytes s.at ((y * 8 + b) / w * s.step + (s.low + (y * 8 + b) % w)))
+unfoldable pub field_byte : List ℕ → Source → ℕ → ℕ → ℕ
+field_byte bytes s w y = pack 8 (λ b. bit_in bytes s.at ((y * 8 + b) / w * s.step + (s.low + (y * 8 + b) % w)))
 
 -- byte y of runs of n bytes, `stride` bytes from one to the next, the first from byte `at` on
-abbrev pub runByte : List ℕ → ℕ → ℕ → ℕ → ℕ → ℕ
-runByte bytes at stride n y = get_or bytes (at + (y / n * stride + y % n)) 0
+abbrev pub run_byte : List ℕ → ℕ → ℕ → ℕ → ℕ → ℕ
+run_byte bytes at stride n y = get_or bytes (at + (y / n * stride + y % n)) 0
 
 -- ---- where the code may read
 
@@ -17,11 +17,11 @@ runByte bytes at stride n y = get_or bytes (at + (y / n * stride + y % n)) 0
 pub record Aligned (s : Source) (w : ℕ) : Type 0 where
   pub k : ℕ
   pub small : k < 8
-  pub w-is : w ≡ 2 ^ k
+  pub w_is : w ≡ 2 ^ k
   pub steps : ℕ
   pub step_is : s.step ≡ steps * w
   pub lows : ℕ
-  pub low-is : s.low ≡ lows * w
+  pub low_is : s.low ≡ lows * w
   pub room : s.low + w ≤ s.step
 
 -- fields of less than a byte are taken whole or by half

@@ -11,11 +11,11 @@ use lib.Dec.{eqb}
 use lib.ListN.{length, get_or, take}
 use lib.Pow.{pow_pos}
 use lib.Bits.{bit_or, bit_xor, or_add_and, xor_add_and, and_le_l, and_le_r, or_shr, xor_shr}
-use Rattle.memory.specs.Bits.{bit, bitIn, bit-or, bit-zero}
+use Rattle.memory.specs.Bits.{bit, bit_in, bit_or_lem, bit_zero}
 use Rattle.memory.specs.Cases.{either, bool?, lt?}
-use Rattle.memory.specs.Ranges.{any, any_at, all_of, any-no}
-use Rattle.kernels.specs.Masks.{hasMask}
-use Rattle.filter.specs.Groups.{row_at, levelHas}
+use Rattle.memory.specs.Ranges.{any, any_at, all_of, any_no}
+use Rattle.kernels.specs.Masks.{has_mask}
+use Rattle.filter.specs.Groups.{row_at, level_has}
 use Rattle.filter.specs.Recent.{MaskOf, OneRow}
 use Rattle.filter.specs.declared.groups.Level.{Level}
 use Rattle.filter.proofs.Rows.{all_take}
@@ -31,23 +31,23 @@ any_some f (suc n) e =
     (λ h. (n, omega arith, h))
     (λ h. let r = any_some f n (rw h at e) in (r.0, omega (arith, r.1), r.2))
 
-all-at : (f : ℕ → Bool) (ps : List ℕ) (k i : ℕ) → k ≤ length ps → all_of f (take k ps) ≡ true → i < k → f (get_or ps i 0) ≡ true
-all-at f ps zero i h e l = absurd (omega arith)
-all-at f ps (suc k) i h e l =
+all_at : (f : ℕ → Bool) (ps : List ℕ) (k i : ℕ) → k ≤ length ps → all_of f (take k ps) ≡ true → i < k → f (get_or ps i 0) ≡ true
+all_at f ps zero i h e l = absurd (omega arith)
+all_at f ps (suc k) i h e l =
     let s = sym (all_take f ps k h) ∙ e in
     either (bool? (f (get_or ps k 0)))
     (λ t. either (lt? i k)
-    (λ q. all-at f ps k i (omega arith) (rw t at s) q.1)
+    (λ q. all_at f ps k i (omega arith) (rw t at s) q.1)
     (λ q. let z : i ≡ k = omega (arith, q.1) in rw z t))
     (λ t. absurd (false≢true (rw t at s)))
 
-all-not : (f : ℕ → Bool) (ps : List ℕ) (k : ℕ) → k ≤ length ps → all_of f (take k ps) ≡ false → (i : ℕ) × (i < k) × (f (get_or ps i 0) ≡ false)
+all_not : (f : ℕ → Bool) (ps : List ℕ) (k : ℕ) → k ≤ length ps → all_of f (take k ps) ≡ false → (i : ℕ) × (i < k) × (f (get_or ps i 0) ≡ false)
 unfolding all_of
-all-not f ps zero h e = absurd (false≢true (sym e))
-all-not f ps (suc k) h e =
+all_not f ps zero h e = absurd (false≢true (sym e))
+all_not f ps (suc k) h e =
     let s = sym (all_take f ps k h) ∙ e in
     either (bool? (f (get_or ps k 0)))
-    (λ t. let r = all-not f ps k (omega arith) (rw t at s) in (r.0, omega (arith, r.1), r.2))
+    (λ t. let r = all_not f ps k (omega arith) (rw t at s) in (r.0, omega (arith, r.1), r.2))
     (λ t. (k, omega arith, t))
 
 pub all_same : (f g : ℕ → Bool) (ps : List ℕ) (k : ℕ) → k ≤ length ps → ((i : ℕ) → i < k → f (get_or ps i 0) ≡ g (get_or ps i 0))
@@ -62,55 +62,55 @@ all_same f g ps (suc k) h e =
 
 module _ (ps : List ℕ) (count w m : ℕ) (few : count ≤ length ps) (W : 0 < w) (top : w ≤ 64) (M : MaskOf ps count w m) (bytes : List ℕ) (row g : ℕ) where
   abbrev has : ℕ → Bool
-  has x = bitIn bytes row (g * w + x % w)
+  has x = bit_in bytes row (g * w + x % w)
 
   abbrev shut : ℕ → Bool
-  shut b = bit m b && not (bitIn bytes row (g * w + b))
+  shut b = bit m b && not (bit_in bytes row (g * w + b))
 
-  open-all : all_of has (take count ps) ≡ true → (b : ℕ) → b < w → shut b ≡ false
-  open-all e b h =
+  open_all : all_of has (take count ps) ≡ true → (b : ℕ) → b < w → shut b ≡ false
+  open_all e b h =
       either (bool? (bit m b))
       (λ t.
       let s = any_some (λ i. eqb b (get_or ps i 0 % w)) count (sym (M b (omega arith)) ∙ t) in
       let q : get_or ps s.0 0 % w ≡ b = sym (eqb-true b (get_or ps s.0 0 % w) s.2) in
-      let y : bitIn bytes row (g * w + b) ≡ true = rw q at (all-at has ps count s.0 few e s.1) in
+      let y : bit_in bytes row (g * w + b) ≡ true = rw q at (all_at has ps count s.0 few e s.1) in
       rw (t, y) refl)
       (λ t. rw t refl)
 
-  pub mask-all : hasMask bytes row w m g ≡ all_of (λ x. bitIn bytes row (g * w + x % w)) (take count ps)
-  unfolding hasMask
-  mask-all =
+  pub mask_all : has_mask bytes row w m g ≡ all_of (λ x. bit_in bytes row (g * w + x % w)) (take count ps)
+  unfolding has_mask
+  mask_all =
       either (bool? (all_of has (take count ps)))
-      (λ e. rw (any-no shut w (open-all e)) (sym e))
+      (λ e. rw (any_no shut w (open_all e)) (sym e))
       (λ e.
-      let s = all-not has ps count few e in
+      let s = all_not has ps count few e in
       let b : ℕ = get_or ps s.0 0 % w in
       let l : b < w = mod-lt (get_or ps s.0 0) W in
       let t : bit m b ≡ true = M b (omega arith) ∙ any_at (λ i. eqb b (get_or ps i 0 % w)) count s.0 s.1 (eq-eqb b b refl) in
       let y : shut b ≡ true = rw (t, s.2) refl in
       rw (any_at shut w b l y) (sym e))
 
-pub mask-none : (ps : List ℕ) (w : ℕ) → MaskOf ps 0 w 0
+pub mask_none : (ps : List ℕ) (w : ℕ) → MaskOf ps 0 w 0
 unfolding any
-mask-none ps w b h = bit-zero b
+mask_none ps w b h = bit_zero b
 
 -- a position more
-pub mask-more : (ps : List ℕ) (i w m x : ℕ) → MaskOf ps i w m → ((b : ℕ) → b < 64 → bit x b ≡ eqb b (get_or ps i 0 % w)) → MaskOf ps (i + 1) w (bit_or m x)
+pub mask_more : (ps : List ℕ) (i w m x : ℕ) → MaskOf ps i w m → ((b : ℕ) → b < 64 → bit x b ≡ eqb b (get_or ps i 0 % w)) → MaskOf ps (i + 1) w (bit_or m x)
 unfolding any
-mask-more ps i w m x M X b h =
-    rw add-one (bit-or m x b ∙ (rw (M b h, X b h) (or_comm (any (λ j. eqb b (get_or ps j 0 % w)) i) (eqb b (get_or ps i 0 % w)))))
+mask_more ps i w m x M X b h =
+    rw add-one (bit_or_lem m x b ∙ (rw (M b h, X b h) (or_comm (any (λ j. eqb b (get_or ps j 0 % w)) i) (eqb b (get_or ps i 0 % w)))))
 
 -- the filters of a level by a mask
 module _ (l : Level) (ps : List ℕ) (count m : ℕ) (few : count ≤ length ps) (top : 2 ^ l.exponent ≤ 64) (M : MaskOf ps count (2 ^ l.exponent) m)
     (one : (i : ℕ) → i < count → get_or ps i 0 / 2 ^ l.exponent ≡ get_or ps 0 0 / 2 ^ l.exponent) where
-  pub level-mask : (bytes : List ℕ) (g : ℕ) → hasMask bytes (row_at l (get_or ps 0 0)) (2 ^ l.exponent) m g ≡ levelHas l bytes (take count ps) g
-  level-mask bytes g =
-      mask-all ps count (2 ^ l.exponent) m few (pow_pos l.exponent) top M bytes (row_at l (get_or ps 0 0)) g
+  pub level_mask : (bytes : List ℕ) (g : ℕ) → has_mask bytes (row_at l (get_or ps 0 0)) (2 ^ l.exponent) m g ≡ level_has l bytes (take count ps) g
+  level_mask bytes g =
+      mask_all ps count (2 ^ l.exponent) m few (pow_pos l.exponent) top M bytes (row_at l (get_or ps 0 0)) g
       ∙ all_same
-      (λ x. bitIn bytes (row_at l (get_or ps 0 0)) (g * 2 ^ l.exponent + x % 2 ^ l.exponent))
-      (λ x. bitIn bytes (row_at l x) (g * 2 ^ l.exponent + x % 2 ^ l.exponent))
+      (λ x. bit_in bytes (row_at l (get_or ps 0 0)) (g * 2 ^ l.exponent + x % 2 ^ l.exponent))
+      (λ x. bit_in bytes (row_at l x) (g * 2 ^ l.exponent + x % 2 ^ l.exponent))
       ps count few
-      (λ i h. ap (λ (z : ℕ). bitIn bytes (l.base + z * l.stride) (g * 2 ^ l.exponent + get_or ps i 0 % 2 ^ l.exponent)) (sym (one i h)))
+      (λ i h. ap (λ (z : ℕ). bit_in bytes (l.base + z * l.stride) (g * 2 ^ l.exponent + get_or ps i 0 % 2 ^ l.exponent)) (sym (one i h)))
 
 -- ---- in one row
 

@@ -8,35 +8,35 @@ use native.Mathlib.Omega.{arith}
 use borrow.Author.Tests.{lt-ltb, le-ltb}
 use lib.Dec.{ltb}
 use lib.ListN.{length, get_or, take}
-use Rattle.memory.specs.Bits.{bit, bit-zero}
+use Rattle.memory.specs.Bits.{bit, bit_zero}
 use Rattle.memory.specs.Cases.{either, lt?}
 use Rattle.kernels.specs.Blocks.{Open, Upto, open_none}
-use Rattle.kernels.specs.Masks.{hasMask, Shut, Had, Lacked}
+use Rattle.kernels.specs.Masks.{has_mask, Shut, Had, Lacked}
 use Rattle.filter.specs.Groups.{row_at}
-use Rattle.filter.specs.Recent.{MaskOf, OneRow, recentHas, RecentIn, RecentOf}
+use Rattle.filter.specs.Recent.{MaskOf, OneRow, recent_has, RecentIn, RecentOf}
 use Rattle.filter.specs.declared.groups.Block.{Block}
 use Rattle.filter.specs.declared.groups.Recent.{Recent}
-use Rattle.filter.proofs.Recent.{open-map, l1-gate, ska-gate, mask-later, upto-two}
+use Rattle.filter.proofs.Recent.{open_map, l1_gate, ska_gate, mask_later, upto_two}
 
 -- ---- one word or two
 
 -- counted from filter 64 on
-open-64 : (gate : ℕ → Bool) (m r : ℕ) → Open (λ g. gate (64 + g)) 0 m r → Open gate 64 m r
-open-64 gate m r O = open-map (λ g. gate (64 + g)) gate 0 64 m r (λ i h. let z : 0 + i ≡ i = omega arith in rw z) O
+open_64 : (gate : ℕ → Bool) (m r : ℕ) → Open (λ g. gate (64 + g)) 0 m r → Open gate 64 m r
+open_64 gate m r O = open_map (λ g. gate (64 + g)) gate 0 64 m r (λ i h. let z : 0 + i ≡ i = omega arith in rw z) O
 
-pub shut-two : (n a b x y : ℕ) → 64 < n → n ≤ 128 → Had a 64 x → Had b (n - 64) y
+pub shut_two : (n a b x y : ℕ) → 64 < n → n ≤ 128 → Had a 64 x → Had b (n - 64) y
     → (gate : ℕ → Bool) → Shut gate ((min n 64 + 3) / 4) a → Shut (λ g. gate (64 + g)) ((n - 64 + 3) / 4) b
     → Upto (λ j i. gate (j * 64 + i)) n (x ∷ y ∷ 0 ∷ 0 ∷ 0 ∷ 0 ∷ 0 ∷ 0 ∷ [])
-shut-two n a b x y lt le X Y gate A B =
+shut_two n a b x y lt le X Y gate A B =
     let e : min n 64 ≡ 64 = omega arith in
-    upto-two gate n x y le (rw e (X gate (rw e at A))) (open-64 gate (n - 64) y (Y (λ g. gate (64 + g)) B))
+    upto_two gate n x y le (rw e (X gate (rw e at A))) (open_64 gate (n - 64) y (Y (λ g. gate (64 + g)) B))
 
 pub shut_one : (n a b x : ℕ) → n ≤ 64 → Had a n x
     → (gate : ℕ → Bool) → Shut gate ((min n 64 + 3) / 4) a → Shut (λ g. gate (64 + g)) ((n - 64 + 3) / 4) b
     → Upto (λ j i. gate (j * 64 + i)) n (x ∷ 0 ∷ 0 ∷ 0 ∷ 0 ∷ 0 ∷ 0 ∷ 0 ∷ [])
 shut_one n a b x le X gate A B =
     let e : min n 64 ≡ n = omega arith in
-    upto-two gate n x 0 (omega arith) (rw e (X gate (rw e at A))) (open_none gate 64 (n - 64) (omega arith))
+    upto_two gate n x 0 (omega arith) (rw e (X gate (rw e at A))) (open_none gate 64 (n - 64) (omega arith))
 
 -- ---- words of L1, then of the SKA page
 
@@ -44,55 +44,55 @@ shut_one n a b x le X gate A B =
 shut_none : (gate : ℕ → Bool) → Shut gate 0 0
 unfolding Shut
 shut_none gate i j h l =
-    bit-zero (16 * i + j) ∙ sym (ap (λ (t : Bool). not t && not (gate (4 * (j + 0 - 16) + i))) (lt-ltb j (16 - 0) (omega arith)))
+    bit_zero (16 * i + j) ∙ sym (ap (λ (t : Bool). not t && not (gate (4 * (j + 0 - 16) + i))) (lt-ltb j (16 - 0) (omega arith)))
 
 -- n filters, L1's in so many words, then k of the SKA page: none of these, or L1's words are an even number
 abbrev Parts : ℕ → ℕ → ℕ → Type 0
 Parts n words k = ((k ≡ 0) × (words ≡ (n + 3) / 4)) ⊎ ((words % 2 ≡ 0) × (n ≡ 4 * words + k) × (k ≤ 8))
 
-parts-1 : (s below top words : ℕ) → top ≡ below → words ≡ (top - s + 3) / 4 → (below - top ≡ 0) × (words ≡ (below - s + 3) / 4)
-parts-1 s below top words e W = (omega arith, rw (← e) W)
+parts_1 : (s below top words : ℕ) → top ≡ below → words ≡ (top - s + 3) / 4 → (below - top ≡ 0) × (words ≡ (below - s + 3) / 4)
+parts_1 s below top words e W = (omega arith, rw (← e) W)
 
-even-words : (d words : ℕ) → d % 8 ≡ 0 → words ≡ (d + 3) / 4 → (words % 2 ≡ 0) × (4 * words ≡ d)
-even-words d words e W =
+even_words : (d words : ℕ) → d % 8 ≡ 0 → words ≡ (d + 3) / 4 → (words % 2 ≡ 0) × (4 * words ≡ d)
+even_words d words e W =
     let k : ℕ = d / 8 in
     let f : d ≡ 8 * k = omega arith in
     let g : words ≡ 2 * k = omega arith in
     (omega (arith, g), omega (arith, f, g))
 
-parts-2 : (s t below top words : ℕ) → top ≡ t → words ≡ (top - s + 3) / 4 → (t - s) % 8 ≡ 0 → s ≤ t → below ≤ t + 8 → t < below
+parts_2 : (s t below top words : ℕ) → top ≡ t → words ≡ (top - s + 3) / 4 → (t - s) % 8 ≡ 0 → s ≤ t → below ≤ t + 8 → t < below
     → (words % 2 ≡ 0) × (below - s ≡ 4 * words + (below - top)) × (below - top ≤ 8)
-parts-2 s t below top words e W F O le lt =
-    let q = even-words (t - s) words F (rw e at W) in
+parts_2 s t below top words e W F O le lt =
+    let q = even_words (t - s) words F (rw e at W) in
     (q.0, omega (arith, q.1, e), omega arith)
 
 module _ (n words k : ℕ) (P : Parts n words k) where
-  sum-few : words < 16 → words + (k + 3) / 4 ≡ (min n 64 + 3) / 4
-  sum-few h = either P (λ p. omega (arith, p.0, p.1, h)) (λ p. omega (arith, p.0, p.1, p.2, h))
+  sum_few : words < 16 → words + (k + 3) / 4 ≡ (min n 64 + 3) / 4
+  sum_few h = either P (λ p. omega (arith, p.0, p.1, h)) (λ p. omega (arith, p.0, p.1, p.2, h))
 
-  room-few : words < 16 → words + (k + 3) / 4 ≤ 16
-  room-few h = either P (λ p. omega (arith, p.0, p.1, h)) (λ p. omega (arith, p.0, p.1, p.2, h))
+  room_few : words < 16 → words + (k + 3) / 4 ≤ 16
+  room_few h = either P (λ p. omega (arith, p.0, p.1, h)) (λ p. omega (arith, p.0, p.1, p.2, h))
 
-  rest-few : words < 16 → 0 ≡ (n - 64 + 3) / 4
-  rest-few h = either P (λ p. omega (arith, p.0, p.1, h)) (λ p. omega (arith, p.0, p.1, p.2, h))
+  rest_few : words < 16 → 0 ≡ (n - 64 + 3) / 4
+  rest_few h = either P (λ p. omega (arith, p.0, p.1, h)) (λ p. omega (arith, p.0, p.1, p.2, h))
 
-  sum-many : 16 ≤ words → 16 ≡ (min n 64 + 3) / 4
-  sum-many h = either P (λ p. omega (arith, p.0, p.1, h)) (λ p. omega (arith, p.0, p.1, p.2, h))
+  sum_many : 16 ≤ words → 16 ≡ (min n 64 + 3) / 4
+  sum_many h = either P (λ p. omega (arith, p.0, p.1, h)) (λ p. omega (arith, p.0, p.1, p.2, h))
 
-  rest-many : 16 ≤ words → words - 16 + (k + 3) / 4 ≡ (n - 64 + 3) / 4
-  rest-many h = either P (λ p. omega (arith, p.0, p.1, h)) (λ p. omega (arith, p.0, p.1, p.2, h))
+  rest_many : 16 ≤ words → words - 16 + (k + 3) / 4 ≡ (n - 64 + 3) / 4
+  rest_many h = either P (λ p. omega (arith, p.0, p.1, h)) (λ p. omega (arith, p.0, p.1, p.2, h))
 
-  room-many : 16 ≤ words → words ≤ 31 → words - 16 + (k + 3) / 4 ≤ 16
-  room-many h l = either P (λ p. omega (arith, p.0, p.1, h, l)) (λ p. omega (arith, p.0, p.1, p.2, h, l))
+  room_many : 16 ≤ words → words ≤ 31 → words - 16 + (k + 3) / 4 ≤ 16
+  room_many h l = either P (λ p. omega (arith, p.0, p.1, h, l)) (λ p. omega (arith, p.0, p.1, p.2, h, l))
 
-all-few : (words less : ℕ) → less ≡ min words 16 → words < 16 → (less ≡ words) × (words - less ≡ 0)
-all-few words less L h = (omega arith, omega arith)
+all_few : (words less : ℕ) → less ≡ min words 16 → words < 16 → (less ≡ words) × (words - less ≡ 0)
+all_few words less L h = (omega arith, omega arith)
 
-some-many : (words less : ℕ) → less ≡ min words 16 → 16 ≤ words → less ≡ 16
-some-many words less L h = omega arith
+some_many : (words less : ℕ) → less ≡ min words 16 → 16 ≤ words → less ≡ 16
+some_many words less L h = omega arith
 
-past-64 : (words g d : ℕ) → 16 ≤ words → 4 * words ≡ d → 64 + (4 * (words - 16) + g) ≡ d + g
-past-64 words g d h e = omega arith
+past_64 : (words g d : ℕ) → 16 ≤ words → 4 * words ≡ d → 64 + (4 * (words - 16) + g) ≡ d + g
+past_64 words g d h e = omega arith
 
 module _ (rs : Recent) (count : ℕ) (ps : List ℕ) (main ram : ℕ) (R : RecentIn rs count ps main ram) where
   abbrev s : ℕ
@@ -112,38 +112,38 @@ module _ (rs : Recent) (count : ℕ) (ps : List ℕ) (main ram : ℕ) (R : Recen
     parts : Parts (rs.below - rs.l1.start) words (rs.below - top)
     parts =
         either (lt? rs.ska.start rs.below)
-        (λ h. inr (parts-2 s t rs.below top words (omega (arith, h.1)) W R.flushes R.order R.below-le h.1))
-        (λ h. inl (parts-1 s rs.below top words (omega (arith, h.1)) W))
+        (λ h. inr (parts_2 s t rs.below top words (omega (arith, h.1)) W R.flushes R.order R.below_le h.1))
+        (λ h. inl (parts_1 s rs.below top words (omega (arith, h.1)) W))
 
-    pub few-more : (rs.below - top + 3) / 4 ≤ 2
-    few-more = omega (arith, R.below-le)
+    pub few_more : (rs.below - top + 3) / 4 ≤ 2
+    few_more = omega (arith, R.below_le)
 
     pub few_words : words ≤ 31
     few_words = omega (arith, whole, R.round)
 
-  pub on-flash-256 : 0 < count → rs.l1.exponent ≡ 4 → row_at rs.l1 (get_or ps 0 0) + 256 ≤ main
-  on-flash-256 h four = let w : 2 ^ rs.l1.exponent ≡ 16 = rw four refl in omega (arith, R.on-flash 0 h, w)
+  pub on_flash_256 : 0 < count → rs.l1.exponent ≡ 4 → row_at rs.l1 (get_or ps 0 0) + 256 ≤ main
+  on_flash_256 h four = let w : 2 ^ rs.l1.exponent ≡ 16 = rw four refl in omega (arith, R.on_flash_lem 0 h, w)
 
-  pub in-ram-16 : 0 < count → rs.l1.exponent ≡ 4 → row_at rs.ska (get_or ps 0 0) + 16 ≤ ram
-  in-ram-16 h four = let w : 2 ^ rs.l1.exponent ≡ 16 = rw four refl in omega (arith, R.in-ram 0 h, w)
+  pub in_ram_16 : 0 < count → rs.l1.exponent ≡ 4 → row_at rs.ska (get_or ps 0 0) + 16 ≤ ram
+  in_ram_16 h four = let w : 2 ^ rs.l1.exponent ≡ 16 = rw four refl in omega (arith, R.in_ram_lem 0 h, w)
 
   pub size : (0 < rs.below - rs.l1.start) × (rs.below - rs.l1.start ≤ 128)
-  size = (omega (arith, R.start-lt), omega (arith, R.below-le, R.round, R.flushes, R.order))
+  size = (omega (arith, R.start_lt), omega (arith, R.below_le, R.round, R.flushes, R.order))
 
 module _ (rs : Recent) (count : ℕ) (ps main ram : List ℕ) (R : RecentIn rs count ps (length main) (length ram)) (four : rs.l1.exponent ≡ 4)
     (few : count ≤ length ps) (m : ℕ) (M : MaskOf ps count 16 m) (one : OneRow ps count 4) where
   -- filter g from L1's first on
   abbrev pub gate : ℕ → Bool
-  gate g = recentHas rs main ram (take count ps) (rs.l1.start + g)
+  gate g = recent_has rs main ram (take count ps) (rs.l1.start + g)
 
   width : 2 ^ rs.l1.exponent ≡ 16
   width = ap (λ (e : ℕ). 2 ^ e) four
 
-  of-l1 : (g : ℕ) → g < rs.ska.start - rs.l1.start → gate g ≡ hasMask main (row_at rs.l1 (get_or ps 0 0)) 16 m g
-  of-l1 g h = sym (l1-gate rs count ps main ram m 16 R few width (omega arith) M (rw four one) g h)
+  of_l1 : (g : ℕ) → g < rs.ska.start - rs.l1.start → gate g ≡ has_mask main (row_at rs.l1 (get_or ps 0 0)) 16 m g
+  of_l1 g h = sym (l1_gate rs count ps main ram m 16 R few width (omega arith) M (rw four one) g h)
 
-  of-ska : (g : ℕ) → gate (rs.ska.start - rs.l1.start + g) ≡ hasMask ram (row_at rs.ska (get_or ps 0 0)) 16 m g
-  of-ska g = sym (ska-gate rs count ps main ram m 16 R few width (omega arith) M (rw four one) g)
+  of_ska : (g : ℕ) → gate (rs.ska.start - rs.l1.start + g) ≡ has_mask ram (row_at rs.ska (get_or ps 0 0)) 16 m g
+  of_ska g = sym (ska_gate rs count ps main ram m 16 R few width (omega arith) M (rw four one) g)
 
   module _ (top words less row at a b : ℕ) (T : top ≡ min rs.below rs.ska.start) (W : words ≡ (top - rs.l1.start + 3) / 4) (L : less ≡ min words 16)
       (E : row ≡ row_at rs.l1 (get_or ps 0 0)) (F : at ≡ row_at rs.ska (get_or ps 0 0))
@@ -157,8 +157,8 @@ module _ (rs : Recent) (count : ℕ) (ps main ram : List ℕ) (R : RecentIn rs c
     whole_words : 4 * words ≤ rs.ska.start - rs.l1.start
     whole_words = whole rs count ps (length main) (length ram) R top words T W
 
-    behind-words : (g : ℕ) → g < 4 * more → 4 * words ≡ rs.ska.start - rs.l1.start
-    behind-words = behind rs count ps (length main) (length ram) R top words T W
+    behind_words : (g : ℕ) → g < 4 * more → 4 * words ≡ rs.ska.start - rs.l1.start
+    behind_words = behind rs count ps (length main) (length ram) R top words T W
 
     in_parts : Parts n words (rs.below - top)
     in_parts = parts rs count ps (length main) (length ram) R top words T W
@@ -167,7 +167,7 @@ module _ (rs : Recent) (count : ℕ) (ps main ram : List ℕ) (R : RecentIn rs c
     first =
         let e : 0 + less ≡ less = omega arith in
         rw e at (A gate 0 (omega (arith, L)) (shut_none gate)
-        (λ g h. let z : 4 * 0 + g ≡ g = omega arith in rw (z, E) (of-l1 g (omega (arith, whole_words, L, h)))))
+        (λ g h. let z : 4 * 0 + g ≡ g = omega arith in rw (z, E) (of_l1 g (omega (arith, whole_words, L, h)))))
 
     second : Shut (λ g. gate (64 + g)) (words - less) b
     second =
@@ -175,39 +175,39 @@ module _ (rs : Recent) (count : ℕ) (ps main ram : List ℕ) (R : RecentIn rs c
         rw e at (B (λ g. gate (64 + g)) 0 (omega (arith, whole_words, R.round, L)) (shut_none (λ g. gate (64 + g)))
         (λ g h.
         let z : 4 * 0 + g ≡ g = omega arith in
-        rw z (of-l1 (64 + g) (omega (arith, whole_words, L, h)) ∙ (rw (← E) (sym (mask-later main row 16 m g))))))
+        rw z (of_l1 (64 + g) (omega (arith, whole_words, L, h)) ∙ (rw (← E) (sym (mask_later main row 16 m g))))))
 
     module _ (c : ℕ) where
-      pub shut-few : words < 16 → Lacked a m at more ram c
+      pub shut_few : words < 16 → Lacked a m at more ram c
           → Shut gate ((min n 64 + 3) / 4) c × Shut (λ g. gate (64 + g)) ((n - 64 + 3) / 4) b
-      shut-few lt C =
-          let e = all-few words less L lt in
-          let q : words - less ≡ (n - 64 + 3) / 4 = e.1 ∙ rest-few n words (rs.below - top) in_parts lt in (
-            rw (sum-few n words (rs.below - top) in_parts lt) at
-                (C gate words (room-few n words (rs.below - top) in_parts lt) (rw e.0 at first) (λ g h. rw (behind-words g h, F) (of-ska g))),
+      shut_few lt C =
+          let e = all_few words less L lt in
+          let q : words - less ≡ (n - 64 + 3) / 4 = e.1 ∙ rest_few n words (rs.below - top) in_parts lt in (
+            rw (sum_few n words (rs.below - top) in_parts lt) at
+                (C gate words (room_few n words (rs.below - top) in_parts lt) (rw e.0 at first) (λ g h. rw (behind_words g h, F) (of_ska g))),
             rw q at second,
           )
 
-      pub shut-many : 16 ≤ words → Lacked b m at more ram c
+      pub shut_many : 16 ≤ words → Lacked b m at more ram c
           → Shut gate ((min n 64 + 3) / 4) a × Shut (λ g. gate (64 + g)) ((n - 64 + 3) / 4) c
-      shut-many le C =
-          let e = some-many words less L le in
-          let q : less ≡ (min n 64 + 3) / 4 = e ∙ sum-many n words (rs.below - top) in_parts le in
+      shut_many le C =
+          let e = some_many words less L le in
+          let q : less ≡ (min n 64 + 3) / 4 = e ∙ sum_many n words (rs.below - top) in_parts le in
           let k : words ≤ 31 = few_words rs count ps (length main) (length ram) R top words T W in (
             rw q at first,
-            rw (rest-many n words (rs.below - top) in_parts le) at
-                (C (λ g. gate (64 + g)) (words - 16) (room-many n words (rs.below - top) in_parts le k) (rw e at second)
-                (λ g h. rw (past-64 words g (rs.ska.start - rs.l1.start) le (behind-words g h), F) (of-ska g))),
+            rw (rest_many n words (rs.below - top) in_parts le) at
+                (C (λ g. gate (64 + g)) (words - 16) (room_many n words (rs.below - top) in_parts le k) (rw e at second)
+                (λ g h. rw (past_64 words g (rs.ska.start - rs.l1.start) le (behind_words g h), F) (of_ska g))),
           )
 
   -- the block
-  pub recent-shown : (b : Block) → b.start ≡ rs.l1.start → Upto (λ j i. gate (j * 64 + i)) (rs.below - rs.l1.start) b.words
+  pub recent_shown : (b : Block) → b.start ≡ rs.l1.start → Upto (λ j i. gate (j * 64 + i)) (rs.below - rs.l1.start) b.words
       → RecentOf rs main ram (take count ps) b
-  recent-shown b e U =
+  recent_shown b e U =
       record {
-        start-le = omega (arith, e);
-        start-lt = omega (arith, e, R.start-lt);
-        few = omega (arith, e, R.below-le, R.round);
+        start_le = omega (arith, e);
+        start_lt = omega (arith, e, R.start_lt);
+        few = omega (arith, e, R.below_le, R.round);
         pairs = omega (arith, e);
         shown = rw e U;
       }

@@ -9,14 +9,14 @@ use lib.Bits.{bit_or}
 use lib.Dec.{ltb}
 use lib.ListN.{length, get_or, take}
 use lib.Pow.{pow_pos}
-use Rattle.memory.specs.Bits.{bit, bit-or, bit-zero, bit-mod, bit-low, bit_high}
+use Rattle.memory.specs.Bits.{bit, bit_or_lem, bit_zero, bit_mod, bit_low, bit_high}
 use Rattle.memory.specs.Cases.{either, lt?}
 use Rattle.kernels.specs.Blocks.{Open, open_none}
-use Rattle.kernels.specs.Masks.{hasMask}
+use Rattle.kernels.specs.Masks.{has_mask}
 use Rattle.filter.specs.Groups.{row_at}
-use Rattle.filter.specs.Recent.{MaskOf, OneRow, recentHas, RecentIn, RecentOf}
+use Rattle.filter.specs.Recent.{MaskOf, OneRow, recent_has, RecentIn, RecentOf}
 use Rattle.filter.specs.declared.groups.Recent.{Recent}
-use Rattle.filter.proofs.Recent.{open-map, l1-gate, ska-gate, mask-later, recent-two}
+use Rattle.filter.proofs.Recent.{open_map, l1_gate, ska_gate, mask_later, recent_two}
 
 -- ---- words that show tests
 
@@ -25,21 +25,21 @@ or-false true = refl
 or-false false = refl
 
 -- n more behind k
-pub open-join : (G : ℕ → Bool) (f k n a c : ℕ) → k + n ≤ 64 → Open G f k a → Open G (f + k) n c → Open G f (k + n) (bit_or a ((c * 2 ^ k) % 2 ^ 64))
+pub open_join : (G : ℕ → Bool) (f k n a c : ℕ) → k + n ≤ 64 → Open G f k a → Open G (f + k) n c → Open G f (k + n) (bit_or a ((c * 2 ^ k) % 2 ^ 64))
 unfolding Open
-open-join G f k n a c fits A C i h =
-    bit-or a ((c * 2 ^ k) % 2 ^ 64) i
+open_join G f k n a c fits A C i h =
+    bit_or_lem a ((c * 2 ^ k) % 2 ^ 64) i
     ∙ either (lt? i k)
     (λ l.
     let e : c * 2 ^ k ≡ c * 2 ^ k + 0 = omega arith in
-    let z : bit ((c * 2 ^ k) % 2 ^ 64) i ≡ false = bit-mod (c * 2 ^ k) 64 i h ∙ (ap (λ (y : ℕ). bit y i) e ∙ (bit-low k c 0 i l.1 ∙ bit-zero i)) in
+    let z : bit ((c * 2 ^ k) % 2 ^ 64) i ≡ false = bit_mod (c * 2 ^ k) 64 i h ∙ (ap (λ (y : ℕ). bit y i) e ∙ (bit_low k c 0 i l.1 ∙ bit_zero i)) in
     rw (z, A i h, l.0, lt-ltb i (k + n) (omega (arith, l.1))) (or-false (G (f + i))))
     (λ l.
     let e : c * 2 ^ k ≡ c * 2 ^ k + 0 = omega arith in
     let s : k + (i - k) ≡ i = omega (arith, l.1) in
     let j : f + k + (i - k) ≡ f + i = omega (arith, l.1) in
     let y : bit (c * 2 ^ k) i ≡ bit c (i - k) = ap (λ (y : ℕ). bit y i) e ∙ rw s at (bit_high k c 0 (i - k) (pow_pos k)) in
-    let z : bit ((c * 2 ^ k) % 2 ^ 64) i ≡ bit c (i - k) = bit-mod (c * 2 ^ k) 64 i h ∙ y in
+    let z : bit ((c * 2 ^ k) % 2 ^ 64) i ≡ bit c (i - k) = bit_mod (c * 2 ^ k) 64 i h ∙ y in
     rw (z, A i h, l.0) (C (i - k) (omega arith) ∙ rw j (ap (λ (t : Bool). t && G (f + i)) (tests k n i l.1))))
   where
     tests : (k n i : ℕ) → k ≤ i → ltb (i - k) n ≡ ltb i (k + n)
@@ -70,23 +70,23 @@ most l s b order whole round le = let k : s - l ≤ 120 = omega arith in omega (
 
 -- in one word, and in two
 module _ (few all more n : ℕ) (F : few ≡ min all 64) (S : all + more ≡ n) where
-  low-few : all < 64 → few ≡ all
-  low-few h = omega arith
+  low_few : all < 64 → few ≡ all
+  low_few h = omega arith
 
-  low-all : n ≤ 64 → all + more ≡ min n 64
-  low-all h = omega arith
+  low_all : n ≤ 64 → all + more ≡ min n 64
+  low_all h = omega arith
 
-  low-rest : n ≤ 64 → n - 64 ≡ 0
-  low-rest h = omega arith
+  low_rest : n ≤ 64 → n - 64 ≡ 0
+  low_rest h = omega arith
 
-  high-few : 64 ≤ all → few ≡ min n 64
-  high-few h = omega arith
+  high_few : 64 ≤ all → few ≡ min n 64
+  high_few h = omega arith
 
-  high-more : 64 ≤ all → all - few ≡ all - 64
-  high-more h = omega arith
+  high_more : 64 ≤ all → all - few ≡ all - 64
+  high_more h = omega arith
 
-  high-all : 64 ≤ all → all - 64 + more ≡ n - 64
-  high-all h = omega arith
+  high_all : 64 ≤ all → all - 64 + more ≡ n - 64
+  high_all h = omega arith
 
   high_fits : 64 ≤ all → n ≤ 128 → all - 64 + more ≤ 64
   high_fits h l = omega arith
@@ -94,20 +94,20 @@ module _ (few all more n : ℕ) (F : few ≡ min all 64) (S : all + more ≡ n) 
 under : (b l k : ℕ) → b - l ≤ k → b ≤ l + k
 under b l k h = omega arith
 
-under-round : (b l : ℕ) → b - l ≤ 64 → b ≤ l + 128
-under-round b l h = omega arith
+under_round : (b l : ℕ) → b - l ≤ 64 → b ≤ l + 128
+under_round b l h = omega arith
 
-zero-add : (all : ℕ) → 0 + all ≡ all
-zero-add all = omega arith
+zero_add : (all : ℕ) → 0 + all ≡ all
+zero_add all = omega arith
 
 back : (all : ℕ) → 64 ≤ all → 64 + (all - 64) ≡ all
 back all h = omega arith
 
 module _ (rs : Recent) (count : ℕ) (ps main ram : List ℕ) (m all few more a b c : ℕ) (R : RecentIn rs count ps (length main) (length ram)) (eight : count ≤ length ps)
-    (six : rs.l1.exponent ≡ 6) (one : OneRow ps count 6) (M : MaskOf ps count 64 m) (all-is : all ≡ min rs.below rs.ska.start - rs.l1.start)
-    (few-is : few ≡ min all 64) (more-is : more ≡ rs.below - min rs.below rs.ska.start)
-    (A : Open (hasMask main (row_at rs.l1 (get_or ps 0 0)) 64 m) 0 few a) (B : Open (hasMask main (row_at rs.l1 (get_or ps 0 0) + 512) 64 m) 0 (all - few) b)
-    (C : Open (hasMask ram (row_at rs.ska (get_or ps 0 0)) 64 m) 0 more c) where
+    (six : rs.l1.exponent ≡ 6) (one : OneRow ps count 6) (M : MaskOf ps count 64 m) (all_is : all ≡ min rs.below rs.ska.start - rs.l1.start)
+    (few_is : few ≡ min all 64) (more_is : more ≡ rs.below - min rs.below rs.ska.start)
+    (A : Open (has_mask main (row_at rs.l1 (get_or ps 0 0)) 64 m) 0 few a) (B : Open (has_mask main (row_at rs.l1 (get_or ps 0 0) + 512) 64 m) 0 (all - few) b)
+    (C : Open (has_mask ram (row_at rs.ska (get_or ps 0 0)) 64 m) 0 more c) where
   width : 2 ^ rs.l1.exponent ≡ 64
   width = ap (λ (e : ℕ). 2 ^ e) six
 
@@ -115,7 +115,7 @@ module _ (rs : Recent) (count : ℕ) (ps main ram : List ℕ) (m all few more a 
   in_row = rw six one
 
   abbrev gate : ℕ → Bool
-  gate g = recentHas rs main ram (take count ps) (rs.l1.start + g)
+  gate g = recent_has rs main ram (take count ps) (rs.l1.start + g)
 
   abbrev n : ℕ
   n = rs.below - rs.l1.start
@@ -123,49 +123,49 @@ module _ (rs : Recent) (count : ℕ) (ps main ram : List ℕ) (m all few more a 
   -- L1's filters
   first : Open gate 0 few a
   first =
-      open-map (hasMask main (row_at rs.l1 (get_or ps 0 0)) 64 m) gate 0 0 few a
+      open_map (has_mask main (row_at rs.l1 (get_or ps 0 0)) 64 m) gate 0 0 few a
       (λ i l.
       let z : 0 + i ≡ i = omega arith in
-      rw z (l1-gate rs count ps main ram m 64 R eight width (omega arith) M in_row i (omega (arith, R.order, R.start-lt)))) A
+      rw z (l1_gate rs count ps main ram m 64 R eight width (omega arith) M in_row i (omega (arith, R.order, R.start_lt)))) A
 
   second : Open gate 64 (all - few) b
   second =
-      open-map (hasMask main (row_at rs.l1 (get_or ps 0 0) + 512) 64 m) gate 0 64 (all - few) b
+      open_map (has_mask main (row_at rs.l1 (get_or ps 0 0) + 512) 64 m) gate 0 64 (all - few) b
       (λ i l.
       let z : 0 + i ≡ i = omega arith in
-      rw z (mask-later main (row_at rs.l1 (get_or ps 0 0)) 64 m i ∙ l1-gate rs count ps main ram m 64 R eight width (omega arith) M in_row (64 + i) (omega (arith, R.order, R.start-lt)))) B
+      rw z (mask_later main (row_at rs.l1 (get_or ps 0 0)) 64 m i ∙ l1_gate rs count ps main ram m 64 R eight width (omega arith) M in_row (64 + i) (omega (arith, R.order, R.start_lt)))) B
 
   -- those behind them
   third : Open gate all more c
   third =
-      open-map (hasMask ram (row_at rs.ska (get_or ps 0 0)) 64 m) gate 0 all more c
+      open_map (has_mask ram (row_at rs.ska (get_or ps 0 0)) 64 m) gate 0 all more c
       (λ i l.
       let z : 0 + i ≡ i = omega arith in
-      let d : all ≡ rs.ska.start - rs.l1.start = omega (arith, R.order, R.start-lt) in
-      rw (z, d) (ska-gate rs count ps main ram m 64 R eight width (omega arith) M in_row i)) C
+      let d : all ≡ rs.ska.start - rs.l1.start = omega (arith, R.order, R.start_lt) in
+      rw (z, d) (ska_gate rs count ps main ram m 64 R eight width (omega arith) M in_row i)) C
 
-  pub words-low : all < 64
+  pub words_low : all < 64
       → RecentOf rs main ram (take count ps) (record { start = rs.l1.start; words = bit_or a ((c * 2 ^ all) % 2 ^ 64) ∷ 0 ∷ 0 ∷ 0 ∷ 0 ∷ 0 ∷ 0 ∷ 0 ∷ [] })
-  words-low h =
-      let q = sum rs.l1.start rs.ska.start rs.below all more all-is more-is R.order R.start-lt in
-      let k = fits rs.l1.start rs.ska.start rs.below all all-is R.order R.flushes R.start-lt R.below-le h in
-      let f = low-few few all more n few-is q h in
-      let s = low-all few all more n few-is q k in
-      let t = low-rest few all more n few-is q k in
-      let z : 0 + all ≡ all = zero-add all in
-      recent-two rs main ram (take count ps) (bit_or a ((c * 2 ^ all) % 2 ^ 64)) 0 R.start-lt (under-round rs.below rs.l1.start k)
-      (rw s at (open-join gate 0 all more a c (rw q k) (rw f at first) (rw z third)))
+  words_low h =
+      let q = sum rs.l1.start rs.ska.start rs.below all more all_is more_is R.order R.start_lt in
+      let k = fits rs.l1.start rs.ska.start rs.below all all_is R.order R.flushes R.start_lt R.below_le h in
+      let f = low_few few all more n few_is q h in
+      let s = low_all few all more n few_is q k in
+      let t = low_rest few all more n few_is q k in
+      let z : 0 + all ≡ all = zero_add all in
+      recent_two rs main ram (take count ps) (bit_or a ((c * 2 ^ all) % 2 ^ 64)) 0 R.start_lt (under_round rs.below rs.l1.start k)
+      (rw s at (open_join gate 0 all more a c (rw q k) (rw f at first) (rw z third)))
       (open_none gate 64 (n - 64) t)
 
-  pub words-high : 64 ≤ all
+  pub words_high : 64 ≤ all
       → RecentOf rs main ram (take count ps) (record { start = rs.l1.start; words = a ∷ bit_or b ((c * 2 ^ (all - 64)) % 2 ^ 64) ∷ 0 ∷ 0 ∷ 0 ∷ 0 ∷ 0 ∷ 0 ∷ [] })
-  words-high h =
-      let q = sum rs.l1.start rs.ska.start rs.below all more all-is more-is R.order R.start-lt in
-      let r = most rs.l1.start rs.ska.start rs.below R.order R.flushes R.round R.below-le in
-      let f = high-few few all more n few-is q h in
-      let k = high-more few all more n few-is q h in
-      let s = high-all few all more n few-is q h in
+  words_high h =
+      let q = sum rs.l1.start rs.ska.start rs.below all more all_is more_is R.order R.start_lt in
+      let r = most rs.l1.start rs.ska.start rs.below R.order R.flushes R.round R.below_le in
+      let f = high_few few all more n few_is q h in
+      let k = high_more few all more n few_is q h in
+      let s = high_all few all more n few_is q h in
       let t = back all h in
-      recent-two rs main ram (take count ps) a (bit_or b ((c * 2 ^ (all - 64)) % 2 ^ 64)) R.start-lt (under rs.below rs.l1.start 128 r)
+      recent_two rs main ram (take count ps) a (bit_or b ((c * 2 ^ (all - 64)) % 2 ^ 64)) R.start_lt (under rs.below rs.l1.start 128 r)
       (rw f at first)
-      (rw s at (open-join gate 64 (all - 64) more b c (high_fits few all more n few-is q h r) (rw k at second) (rw t third)))
+      (rw s at (open_join gate 64 (all - 64) more b c (high_fits few all more n few_is q h r) (rw k at second) (rw t third)))

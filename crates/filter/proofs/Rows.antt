@@ -9,14 +9,14 @@ use borrow.Author.Tests.{lt-ltb, le-ltb}
 use lib.Bits.{bit_and}
 use lib.Dec.{ltb}
 use lib.ListN.{length, get_or, take}
-use Rattle.memory.specs.Bits.{bit, bitIn, pack, bit-pack, bit-zero, bit_high, bit-and}
+use Rattle.memory.specs.Bits.{bit, bit_in, pack, bit_pack, bit_zero, bit_high, bit_and_lem}
 use Rattle.memory.specs.Cases.{either, lt?}
 use Rattle.memory.specs.Lists.{Done}
 use Rattle.memory.specs.Ranges.{all_of}
-use Rattle.layout.specs.Index.{Index, filterBit}
-use Rattle.kernels.specs.Rows.{allIn}
+use Rattle.layout.specs.Index.{Index, filter_bit}
+use Rattle.kernels.specs.Rows.{all_in}
 use Rattle.kernels.specs.Blocks.{Shows, Upto}
-use Rattle.filter.specs.Groups.{row_at, levelHas}
+use Rattle.filter.specs.Groups.{row_at, level_has}
 use Rattle.filter.specs.Blocks.{BlockOf, BlockAt}
 use Rattle.filter.specs.declared.groups.Block.{Block}
 use Rattle.filter.specs.declared.groups.Level.{Level}
@@ -28,37 +28,37 @@ Filled f i l = (length l ≡ 8) × Done f l i
 
 -- ---- the test of the first positions, from the last on
 
-and-swap : (a b c : Bool) → (a && (b && c)) ≡ (b && (a && c))
-and-swap true b c = refl
-and-swap false true c = refl
-and-swap false false c = refl
+and_swap : (a b c : Bool) → (a && (b && c)) ≡ (b && (a && c))
+and_swap true b c = refl
+and_swap false true c = refl
+and_swap false false c = refl
 
 pub all_take : (f : ℕ → Bool) (ps : List ℕ) (k : ℕ) → k < length ps → all_of f (take (suc k) ps) ≡ (f (get_or ps k 0) && all_of f (take k ps))
 unfolding all_of
 all_take f [] k h = absurd (omega arith)
 all_take f (x ∷ xs) zero h = refl
 all_take f (x ∷ xs) (suc k) h =
-    ap (λ (b : Bool). f x && b) (all_take f xs k (omega arith)) ∙ and-swap (f x) (f (get_or xs k 0)) (all_of f (take k xs))
+    ap (λ (b : Bool). f x && b) (all_take f xs k (omega arith)) ∙ and_swap (f x) (f (get_or xs k 0)) (all_of f (take k xs))
 
-all-ext : (f g : ℕ → Bool) (ps : List ℕ) → ((x : ℕ) → f x ≡ g x) → all_of f ps ≡ all_of g ps
+all_ext : (f g : ℕ → Bool) (ps : List ℕ) → ((x : ℕ) → f x ≡ g x) → all_of f ps ≡ all_of g ps
 unfolding all_of
-all-ext f g [] h = refl
-all-ext f g (x ∷ xs) h = rw (h x, all-ext f g xs h)
+all_ext f g [] h = refl
+all_ext f g (x ∷ xs) h = rw (h x, all_ext f g xs h)
 
 -- a filter has all bits of its positions if it has them in its rows
-pub all-rows : (bytes at low : List ℕ) (w g : ℕ) (f : ℕ → Bool) (ps : List ℕ) (k : ℕ) → k ≤ length ps
-    → ((i : ℕ) → i < k → f (get_or ps i 0) ≡ bitIn bytes (get_or at i 0) (g * w + get_or low i 0))
-    → all_of f (take k ps) ≡ allIn bytes at low w k g
-unfolding all_of allIn
-all-rows bytes at low w g f ps zero h same = refl
-all-rows bytes at low w g f ps (suc k) h same =
-    all_take f ps k h ∙ rw (same k (omega arith), all-rows bytes at low w g f ps k (omega arith) (λ i l. same i (omega arith)))
+pub all_rows : (bytes at low : List ℕ) (w g : ℕ) (f : ℕ → Bool) (ps : List ℕ) (k : ℕ) → k ≤ length ps
+    → ((i : ℕ) → i < k → f (get_or ps i 0) ≡ bit_in bytes (get_or at i 0) (g * w + get_or low i 0))
+    → all_of f (take k ps) ≡ all_in bytes at low w k g
+unfolding all_of all_in
+all_rows bytes at low w g f ps zero h same = refl
+all_rows bytes at low w g f ps (suc k) h same =
+    all_take f ps k h ∙ rw (same k (omega arith), all_rows bytes at low w g f ps k (omega arith) (λ i l. same i (omega arith)))
 
 -- ---- a position more: bit i of a word is the test of filter `first` + i
 
 all_ones : (i : ℕ) → i < 64 → bit 18446744073709551615 i ≡ true
 unfolding pack
-all_ones i h = bit-pack 64 (λ j. true) i h
+all_ones i h = bit_pack 64 (λ j. true) i h
 
 module _ (F : ℕ → ℕ → Bool) (ps : List ℕ) (first m : ℕ) where
   -- of the first k positions
@@ -70,35 +70,35 @@ module _ (F : ℕ → ℕ → Bool) (ps : List ℕ) (first m : ℕ) where
   One k y = (i : ℕ) → i < m → bit y i ≡ F (get_or ps k 0) (first + i)
 
   -- without a position every filter passes
-  pub tested-none : m ≤ 64 → Tested 0 18446744073709551615
+  pub tested_none : m ≤ 64 → Tested 0 18446744073709551615
   unfolding Shows all_of
-  tested-none h i l = all_ones i (omega arith)
+  tested_none h i l = all_ones i (omega arith)
 
-  pub tested-one : 0 < length ps → (r : ℕ) → One 0 r → Tested 1 r
+  pub tested_one : 0 < length ps → (r : ℕ) → One 0 r → Tested 1 r
   unfolding Shows all_of
-  tested-one h r R i l = R i l ∙ sym (all_take (λ x. F x (first + i)) ps 0 h ∙ and-true (F (get_or ps 0 0) (first + i)))
+  tested_one h r R i l = R i l ∙ sym (all_take (λ x. F x (first + i)) ps 0 h ∙ and-true (F (get_or ps 0 0) (first + i)))
 
-  pub tested-more : (k : ℕ) → k < length ps → (r y : ℕ) → Tested k r → One k y → Tested (k + 1) (bit_and r y)
+  pub tested_more : (k : ℕ) → k < length ps → (r y : ℕ) → Tested k r → One k y → Tested (k + 1) (bit_and r y)
   unfolding Shows
-  tested-more k h r y R Y i l =
-      rw add-one (bit-and r y i ∙ (and_comm (bit r i) (bit y i) ∙ rw (Y i l, R i l) (sym (all_take (λ x. F x (first + i)) ps k h))))
+  tested_more k h r y R Y i l =
+      rw add-one (bit_and_lem r y i ∙ (and_comm (bit r i) (bit y i) ∙ rw (Y i l, R i l) (sym (all_take (λ x. F x (first + i)) ps k h))))
 
 -- a number of n bits has no bit from n on
-pub bits-only : (n r i : ℕ) → r < 2 ^ n → bit r i ≡ (ltb i n && bit r i)
-bits-only n r i h =
+pub bits_only : (n r i : ℕ) → r < 2 ^ n → bit r i ≡ (ltb i n && bit r i)
+bits_only n r i h =
     either (lt? i n)
     (λ t. rw (lt-ltb i n t.1))
     (λ t.
     let e : r ≡ 0 * 2 ^ n + r = omega arith in
     let k : i ≡ n + (i - n) = omega (arith, t.1) in
-    rw (le-ltb i n t.1) (ap (λ (z : ℕ). bit z i) e ∙ (ap (bit (0 * 2 ^ n + r)) k ∙ (bit_high n 0 r (i - n) h ∙ bit-zero (i - n)))))
+    rw (le-ltb i n t.1) (ap (λ (z : ℕ). bit z i) e ∙ (ap (bit (0 * 2 ^ n + r)) k ∙ (bit_high n 0 r (i - n) h ∙ bit_zero (i - n)))))
 
 -- ---- blocks
 
 -- only the first n bits count
-pub upto-same : (G H : ℕ → ℕ → Bool) (n : ℕ) (r : List ℕ) → ((j i : ℕ) → j * 64 + i < n → G j i ≡ H j i) → Upto G n r → Upto H n r
+pub upto_same : (G H : ℕ → ℕ → Bool) (n : ℕ) (r : List ℕ) → ((j i : ℕ) → j * 64 + i < n → G j i ≡ H j i) → Upto G n r → Upto H n r
 unfolding Upto
-upto-same G H n r e R j l i h =
+upto_same G H n r e R j l i h =
     R j l i h
     ∙ either (lt? (j * 64 + i) n)
     (λ t. ap (λ (b : Bool). ltb (j * 64 + i) n && b) (e j i t.1))
@@ -115,77 +115,77 @@ none (suc (suc (suc (suc (suc zero))))) = refl
 none (suc (suc (suc (suc (suc (suc zero)))))) = refl
 none (suc (suc (suc (suc (suc (suc (suc j))))))) = refl
 
-upto-one : (G : ℕ → ℕ → Bool) (n y : ℕ) → n ≤ 64 → ((i : ℕ) → i < 64 → bit y i ≡ (ltb i n && G 0 i))
+upto_one : (G : ℕ → ℕ → Bool) (n y : ℕ) → n ≤ 64 → ((i : ℕ) → i < 64 → bit y i ≡ (ltb i n && G 0 i))
     → Upto G n (y ∷ 0 ∷ 0 ∷ 0 ∷ 0 ∷ 0 ∷ 0 ∷ 0 ∷ [])
 unfolding Upto
-upto-one G n y h Y zero l i k = let e : 0 * 64 + i ≡ i = omega arith in rw e (Y i k)
-upto-one G n y h Y (suc j) l i k =
-    ap (λ (z : ℕ). bit z i) (none j) ∙ (bit-zero i ∙ sym (ap (λ (b : Bool). b && G (suc j) i) (le-ltb (suc j * 64 + i) n (omega arith))))
+upto_one G n y h Y zero l i k = let e : 0 * 64 + i ≡ i = omega arith in rw e (Y i k)
+upto_one G n y h Y (suc j) l i k =
+    ap (λ (z : ℕ). bit z i) (none j) ∙ (bit_zero i ∙ sym (ap (λ (b : Bool). b && G (suc j) i) (le-ltb (suc j * 64 + i) n (omega arith))))
 
 module _ (l : Level) (bytes : List ℕ) (below : ℕ) (ps : List ℕ) where
   -- one word: the lowest n bits of one that shows as many or more
-  pub word-block : (first n m r y : ℕ) → below - l.start ≡ first + n → l.start < below → 0 < n → n ≤ 64 → n ≤ m → first % 2 ≡ 0
-      → Shows (levelHas l bytes ps) first m r → ((i : ℕ) → i < 64 → bit y i ≡ (ltb i n && bit r i))
+  pub word_block : (first n m r y : ℕ) → below - l.start ≡ first + n → l.start < below → 0 < n → n ≤ 64 → n ≤ m → first % 2 ≡ 0
+      → Shows (level_has l bytes ps) first m r → ((i : ℕ) → i < 64 → bit y i ≡ (ltb i n && bit r i))
       → BlockOf l bytes below ps (record { start = l.start + first; words = y ∷ 0 ∷ 0 ∷ 0 ∷ 0 ∷ 0 ∷ 0 ∷ 0 ∷ [] })
   unfolding Shows
-  word-block first n m r y is lt some few le even R Y =
+  word_block first n m r y is lt some few le even R Y =
       let z : below - (l.start + first) ≡ n = omega arith in
       record {
-        start-le = omega arith;
-        start-lt = omega arith;
+        start_le = omega arith;
+        start_lt = omega arith;
         few = omega arith;
         pairs = omega arith;
-        shown = rw z (upto-one (λ j i. levelHas l bytes ps (l.start + first + (j * 64 + i) - l.start)) n y few
+        shown = rw z (upto_one (λ j i. level_has l bytes ps (l.start + first + (j * 64 + i) - l.start)) n y few
             (λ i h.
             Y i h
             ∙ either (lt? i n)
             (λ t.
             let e : first + i ≡ l.start + first + (0 * 64 + i) - l.start = omega arith in
-            ap (λ (b : Bool). ltb i n && b) (R i (omega (arith, t.1)) ∙ ap (levelHas l bytes ps) e))
+            ap (λ (b : Bool). ltb i n && b) (R i (omega (arith, t.1)) ∙ ap (level_has l bytes ps) e))
             (λ t. rw (le-ltb i n t.1))));
       }
 
   -- one word of all the level's filters
-  pub few-block : (n r : ℕ) → below - l.start ≡ n → l.start < below → n ≤ 64 → r < 2 ^ n → Shows (levelHas l bytes ps) 0 n r
+  pub few_block : (n r : ℕ) → below - l.start ≡ n → l.start < below → n ≤ 64 → r < 2 ^ n → Shows (level_has l bytes ps) 0 n r
       → BlockOf l bytes below ps (record { start = l.start; words = r ∷ 0 ∷ 0 ∷ 0 ∷ 0 ∷ 0 ∷ 0 ∷ 0 ∷ [] })
-  few-block n r is lt few small R =
+  few_block n r is lt few small R =
       let e : l.start + 0 ≡ l.start = omega arith in
-      rw e at (word-block 0 n n r r (omega arith) lt (omega arith) few (omega arith) (omega arith) R (λ i h. bits-only n r i small))
+      rw e at (word_block 0 n n r r (omega arith) lt (omega arith) few (omega arith) (omega arith) R (λ i h. bits_only n r i small))
 
   -- eight words
-  pub words-block : (gate : ℕ → Bool) (first n : ℕ) (words : List ℕ) → below - l.start ≡ first + n → l.start < below → 0 < n → n ≤ 512 → first % 2 ≡ 0
-      → ((g : ℕ) → g < first + n → gate g ≡ levelHas l bytes ps g) → Upto (λ j i. gate (first + (j * 64 + i))) n words
+  pub words_block : (gate : ℕ → Bool) (first n : ℕ) (words : List ℕ) → below - l.start ≡ first + n → l.start < below → 0 < n → n ≤ 512 → first % 2 ≡ 0
+      → ((g : ℕ) → g < first + n → gate g ≡ level_has l bytes ps g) → Upto (λ j i. gate (first + (j * 64 + i))) n words
       → BlockOf l bytes below ps (record { start = l.start + first; words = words })
-  words-block gate first n words is lt some few even same W =
+  words_block gate first n words is lt some few even same W =
       let z : below - (l.start + first) ≡ n = omega arith in
       record {
-        start-le = omega arith;
-        start-lt = omega arith;
+        start_le = omega arith;
+        start_lt = omega arith;
         few = omega arith;
         pairs = omega arith;
-        shown = rw z (upto-same (λ j i. gate (first + (j * 64 + i))) (λ j i. levelHas l bytes ps (l.start + first + (j * 64 + i) - l.start)) n words
+        shown = rw z (upto_same (λ j i. gate (first + (j * 64 + i))) (λ j i. level_has l bytes ps (l.start + first + (j * 64 + i) - l.start)) n words
             (λ j i h.
             let e : first + (j * 64 + i) ≡ l.start + first + (j * 64 + i) - l.start = omega arith in
-            same (first + (j * 64 + i)) (omega arith) ∙ ap (levelHas l bytes ps) e)
+            same (first + (j * 64 + i)) (omega arith) ∙ ap (level_has l bytes ps) e)
             W);
       }
 
 -- a level's filters are those of the index
-pub level-same : (u : ℕ) (ix : Index) (main ram : List ℕ) (F : ℕ) (l : Level) (ps bytes : List ℕ) (f : ℕ)
-    → Lies u ix main ram F l bytes f → all_of (filterBit u ix main ram F f) ps ≡ levelHas l bytes ps (f - l.start)
-level-same u ix main ram F l ps bytes f L =
+pub level_same : (u : ℕ) (ix : Index) (main ram : List ℕ) (F : ℕ) (l : Level) (ps bytes : List ℕ) (f : ℕ)
+    → Lies u ix main ram F l bytes f → all_of (filter_bit u ix main ram F f) ps ≡ level_has l bytes ps (f - l.start)
+level_same u ix main ram F l ps bytes f L =
     let w : ℕ = 2 ^ l.exponent in
-    all-ext (filterBit u ix main ram F f) (λ x. bitIn bytes (row_at l x) ((f - l.start) * w + x % w)) ps L
+    all_ext (filter_bit u ix main ram F f) (λ x. bit_in bytes (row_at l x) ((f - l.start) * w + x % w)) ps L
 
 -- a level's block is one of the index
 pub block_at : (u : ℕ) (ix : Index) (main ram : List ℕ) (F below : ℕ) (l : Level) (ps : List ℕ) (b : Block)
     → LevelAt u ix main ram F below l → BlockOf l main below ps b → BlockAt u ix main ram F below ps b
 block_at u ix main ram F below l ps b L B =
     record {
-      start-lt = B.start-lt;
+      start_lt = B.start_lt;
       few = B.few;
-      even = omega (arith, L.even, B.pairs, B.start-le);
-      shown = upto-same (λ j i. levelHas l main ps (b.start + (j * 64 + i) - l.start))
-          (λ j i. all_of (filterBit u ix main ram F (b.start + (j * 64 + i))) ps) (below - b.start) b.words
-          (λ j i h. sym (level-same u ix main ram F l ps main (b.start + (j * 64 + i)) (L.lies (b.start + (j * 64 + i)) (omega (arith, B.start-le)) (omega (arith, B.start-lt))))) B.shown;
+      even = omega (arith, L.even, B.pairs, B.start_le);
+      shown = upto_same (λ j i. level_has l main ps (b.start + (j * 64 + i) - l.start))
+          (λ j i. all_of (filter_bit u ix main ram F (b.start + (j * 64 + i))) ps) (below - b.start) b.words
+          (λ j i h. sym (level_same u ix main ram F l ps main (b.start + (j * 64 + i)) (L.lies (b.start + (j * 64 + i)) (omega (arith, B.start_le)) (omega (arith, B.start_lt))))) B.shown;
     }

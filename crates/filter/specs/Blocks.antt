@@ -1,9 +1,9 @@
 -- Blocks of filters: up to 512 of a level or of an index, and which of them have all bits of some positions.
 use Rattle.std.specs.Prelude.{◌≡◌, List, ℕ, ◌+◌, ◌-◌, ◌*◌, ◌/◌, ◌%◌, ◌^◌, ◌≤◌, ◌<◌}
 use Rattle.memory.specs.Ranges.{all_of}
-use Rattle.layout.specs.Index.{Index, filterBit}
+use Rattle.layout.specs.Index.{Index, filter_bit}
 use Rattle.kernels.specs.Blocks.{OpenBlock}
-use Rattle.filter.specs.Groups.{row_at, levelHas}
+use Rattle.filter.specs.Groups.{row_at, level_has}
 use Rattle.filter.specs.declared.groups.Block.{Block}
 use Rattle.filter.specs.declared.groups.Level.{Level}
 
@@ -21,15 +21,15 @@ pub record BlocksIn (l : Level) (x n len : ℕ) : Type 0 where
 -- the block has the level's filters from its start to `below` - 1, 512 at the most and from an even one of the level on, and shows which of
 -- them have all of the positions
 pub record BlockOf (l : Level) (bytes : List ℕ) (below : ℕ) (ps : List ℕ) (b : Block) : Type 0 where
-  pub start-le : l.start ≤ b.start
-  pub start-lt : b.start < below
+  pub start_le : l.start ≤ b.start
+  pub start_lt : b.start < below
   pub few : below ≤ b.start + 512
   pub pairs : (b.start - l.start) % 2 ≡ 0
-  pub shown : OpenBlock (λ f. levelHas l bytes ps (f - l.start)) b.start (below - b.start) b.words
+  pub shown : OpenBlock (λ f. level_has l bytes ps (f - l.start)) b.start (below - b.start) b.words
 
 -- the same of an index with F filters, every level of which starts at an even one
 pub record BlockAt (u : ℕ) (ix : Index) (main ram : List ℕ) (F below : ℕ) (ps : List ℕ) (b : Block) : Type 0 where
-  pub start-lt : b.start < below
+  pub start_lt : b.start < below
   pub few : below ≤ b.start + 512
   pub even : b.start % 2 ≡ 0
-  pub shown : OpenBlock (λ f. all_of (filterBit u ix main ram F f) ps) b.start (below - b.start) b.words
+  pub shown : OpenBlock (λ f. all_of (filter_bit u ix main ram F f) ps) b.start (below - b.start) b.words

@@ -2,19 +2,19 @@
 // Document 01, "Filters". A `Stage` says how many filters each of these has, a `Level` where one of them lies, a `Block` which of up to 512
 // of its filters have all bits of some positions.
 ghost use Rattle.std.specs.Prelude.{◌≡◌, Bool, true, ◌⊎◌, ℕ, ◌+◌, ◌-◌, ◌*◌, ◌/◌, ◌%◌, ◌^◌, ◌<◌, ◌≤◌, min, length, get_or, take};
-ghost use Rattle.memory.specs.Bits.{bit, bitIn};
+ghost use Rattle.memory.specs.Bits.{bit, bit_in};
 ghost use Rattle.memory.specs.Power.{log2up};
 ghost use Rattle.memory.specs.Lent.{before};
-ghost use Rattle.layout.specs.Geometry.{filterBits, sideBlocks};
-ghost use Rattle.layout.specs.Index.{filtersPerRound, inFull};
+ghost use Rattle.layout.specs.Geometry.{filter_bits, side_blocks};
+ghost use Rattle.layout.specs.Index.{filters_per_round, in_full};
 ghost use Rattle.laws.specs.Units.{UnitIs};
 ghost use Rattle.geometry.specs.Indexes.{index_of};
 ghost use Rattle.kernels.specs.Blocks.{Shows, Upto};
 ghost use Rattle.kernels.specs.Masks.{Shut};
 ghost use Rattle.filter.specs.Filter.{IndexFits};
-ghost use Rattle.filter.specs.Groups.{stageOf, skaLevel, l1Level, setLevel, fullLevel, levelInSets, row_at, levelHas};
+ghost use Rattle.filter.specs.Groups.{stage_of, ska_level, l1_level, set_level, full_level, level_in_sets, row_at, level_has};
 ghost use Rattle.filter.specs.Blocks.{EightsIn, BlocksIn, BlockOf, BlockAt};
-ghost use Rattle.filter.specs.Recent.{MaskOf, OneRow, recentHas, RecentIn, RecentOf};
+ghost use Rattle.filter.specs.Recent.{MaskOf, OneRow, recent_has, RecentIn, RecentOf};
 
 use geometry::sets::Index;
 use geometry::{Chip, sets};
@@ -89,7 +89,7 @@ fn shifted(x: usize, e: usize) -> usize
 
 fn ska_level(chip: Chip, e: usize, ix: Index, flash: usize) -> Level
     requires { (chip.unit ≤ 32) × (e < 6) }
-    ensures { result ≡ skaLevel chip.unit e (index_of ix) flash }
+    ensures { result ≡ ska_level chip.unit e (index_of ix) flash }
 {
     Level {
         start: flash,
@@ -102,7 +102,7 @@ fn ska_level(chip: Chip, e: usize, ix: Index, flash: usize) -> Level
 // Sixteen flushes lie side by side, so that L1 is one group.
 fn l1_level(chip: Chip, e: usize, ix: Index, partitioned: usize) -> Level
     requires { (chip.unit ≤ 32) × (e < 6) × (ix.first ≤ 20000) }
-    ensures { result ≡ l1Level chip.unit e (index_of ix) partitioned }
+    ensures { result ≡ l1_level chip.unit e (index_of ix) partitioned }
 {
     Level {
         start: partitioned,
@@ -115,7 +115,7 @@ fn l1_level(chip: Chip, e: usize, ix: Index, partitioned: usize) -> Level
 // The current set after c rounds.
 fn set_level(chip: Chip, e: usize, ix: Index, c: usize, full: usize) -> Level
     requires { (chip.unit ≤ 32) × (e < 6) × (ix.first ≤ 20000) × (0 < c) × (c ≤ 128) × (log2up c ≤ e + 2) }
-    ensures { result ≡ setLevel chip.unit e (index_of ix) c full }
+    ensures { result ≡ set_level chip.unit e (index_of ix) c full }
 {
     Level {
         start: full,
@@ -128,7 +128,7 @@ fn set_level(chip: Chip, e: usize, ix: Index, c: usize, full: usize) -> Level
 // Full set k.
 fn full_level(chip: Chip, ix: Index, k: usize) -> Level
     requires { (chip.unit ≤ 32) × (ix.first ≤ 20000) × (k ≤ 2048) }
-    ensures { result ≡ fullLevel chip.unit (index_of ix) k }
+    ensures { result ≡ full_level chip.unit (index_of ix) k }
 {
     Level {
         start: k * (sets::FILTERS_PER_ROUND * chip.side_blocks()),
@@ -142,7 +142,7 @@ fn full_level(chip: Chip, ix: Index, k: usize) -> Level
 
 fn stage_of(chip: Chip, e: usize, filters: usize) -> Stage
     requires { UnitIs chip.unit e × (filters ≤ 2 ^ 20) }
-    ensures { result ≡ stageOf chip.unit filters }
+    ensures { result ≡ stage_of chip.unit filters }
 {
     let side = chip.side_blocks();
     let flushes = filters / sets::FILTERS_PER_FLUSH;
@@ -155,9 +155,9 @@ fn stage_of(chip: Chip, e: usize, filters: usize) -> Stage
 
 // The set that has filter `below` - 1.
 fn level_in_sets(chip: Chip, e: usize, ix: Index, st: Stage, below: usize) -> Level
-    requires unit_is { UnitIs chip.unit e × (ix.first ≤ 20000) × (st.rounds < sideBlocks chip.unit) }
-    requires below_bound { (below ≤ st.full + filtersPerRound * st.rounds) × (0 < below) × (below ≤ 2 ^ 20) }
-    ensures { result ≡ levelInSets chip.unit e (index_of ix) st below }
+    requires unit_is { UnitIs chip.unit e × (ix.first ≤ 20000) × (st.rounds < side_blocks chip.unit) }
+    requires below_bound { (below ≤ st.full + filters_per_round * st.rounds) × (0 < below) × (below ≤ 2 ^ 20) }
+    ensures { result ≡ level_in_sets chip.unit e (index_of ix) st below }
 {
     if below > st.full {
         return set_level(chip, e, ix, st.rounds, st.full);
@@ -181,7 +181,7 @@ fn row_of(l: Level, p: u32) -> usize
 fn few_bits(l: Level, p: u32, n: usize, bytes: &[u8]) -> u64
     requires { (n ≤ 8) × EightsIn l p n (length bytes.now) }
     ensures { (result < 2 ^ n)
-        × ((i : ℕ) → i < n → bit result i ≡ bitIn (before bytes) (row_at l p) (i * 2 ^ l.exponent + p % 2 ^ l.exponent)) }
+        × ((i : ℕ) → i < n → bit result i ≡ bit_in (before bytes) (row_at l p) (i * 2 ^ l.exponent + p % 2 ^ l.exponent)) }
 {
     let w = power(l.exponent);
     let low = numbers::usize_of_u32(p) % w;
@@ -214,7 +214,7 @@ fn block_of_few(l: Level, below: usize, ps: [u32; 8], count: usize, bytes: &[u8]
 fn position_bits(l: Level, p: u32, first: usize, n: usize, bytes: &[u8]) -> u64
     requires { (n ≤ 8) × EightsIn l p (first + n * 8) (length bytes.now) }
     ensures { (i : ℕ) → i < n * 8
-        → bit result i ≡ bitIn (before bytes) (row_at l p) ((first + i) * 2 ^ l.exponent + p % 2 ^ l.exponent) }
+        → bit result i ≡ bit_in (before bytes) (row_at l p) ((first + i) * 2 ^ l.exponent + p % 2 ^ l.exponent) }
 {
     let w = power(l.exponent);
     let step = w / 8;
@@ -233,7 +233,7 @@ fn position_bits(l: Level, p: u32, first: usize, n: usize, bytes: &[u8]) -> u64
 fn eights(l: Level, ps: [u32; 8], count: usize, first: usize, n: usize, bytes: &[u8]) -> u64
     requires { (1 ≤ count) × (count ≤ 8) × (n ≤ 8)
         × ((i : ℕ) → i < count → EightsIn l (get_or ps i 0) (first + n * 8) (length bytes.now)) }
-    ensures { Shows (levelHas l (before bytes) (take count ps)) first (n * 8) result }
+    ensures { Shows (level_has l (before bytes) (take count ps)) first (n * 8) result }
 {
     let mut r: u64 = 0xffff_ffff_ffff_ffff;
     let mut i = 0;
@@ -403,7 +403,7 @@ fn recent_16(rs: Recent, mask: u64, ps: [u32; 8], count: usize, main: &[u8], ram
 fn recent_word(rs: Recent, first: usize, ps: [u32; 8], count: usize, main: &[u8], ram: &[u8]) -> u64
     requires { ((first ≡ 0) ⊎ (first ≡ 64)) × (rs.l1.start + first < rs.below) × (count ≤ 8)
         × RecentIn rs count ps (length main.now) (length ram.now) }
-    ensures { Shows (λ g. recentHas rs (before main) (before ram) (take count ps) (rs.l1.start + g))
+    ensures { Shows (λ g. recent_has rs (before main) (before ram) (take count ps) (rs.l1.start + g))
         first (min (rs.below - rs.l1.start - first) 64) result }
 {
     let w = power(rs.l1.exponent);
@@ -500,10 +500,10 @@ pub fn block_below(
     main: &[u8],
     ram: &[u8],
 ) -> Block
-    requires by_index { ((Z : ℕ) × (inFull fs.chip.unit fs.count ≤ Z)
+    requires by_index { ((Z : ℕ) × (in_full fs.chip.unit fs.count ≤ Z)
         × IndexFits fs.chip.unit (index_of fs.index) Z main.now ram.now)
         × (fs.count ≤ 2 ^ 20) × (0 < below) × (below ≤ fs.count) }
-    requires le_count { (1 ≤ count) × (count ≤ 8) × ((i : ℕ) → i < count → get_or ps i 0 < filterBits fs.chip.unit) }
+    requires le_count { (1 ≤ count) × (count ≤ 8) × ((i : ℕ) → i < count → get_or ps i 0 < filter_bits fs.chip.unit) }
     ensures { BlockAt fs.chip.unit (index_of fs.index) (before main) (before ram) fs.count below (take count ps) result }
 {
     let chip = fs.chip;

@@ -1,11 +1,11 @@
 // A page's bloom filter. Document 01, "Filters".
 ghost use Rattle.std.specs.Prelude.{◌≡◌, ◌||◌, ℕ, ◌+◌, ◌-◌, ◌*◌, ◌%◌, ◌<◌, ◌≤◌, eqb, length, replicate};
 ghost use Rattle.memory.specs.Lent.{before, after};
-ghost use Rattle.layout.specs.Geometry.{page, entriesPerPage};
-ghost use Rattle.layout.specs.Items.{deletionSize};
+ghost use Rattle.layout.specs.Geometry.{page, entries_per_page};
+ghost use Rattle.layout.specs.Items.{deletion_size};
 ghost use Rattle.laws.specs.Units.{UnitSound};
 ghost use Rattle.fnv.specs.Hashed.{bytes_of};
-ghost use Rattle.filter.specs.Filter.{arrayBit, keyBit, itemBytes, withKey, halfBits};
+ghost use Rattle.filter.specs.Filter.{array_bit, key_bit, item_bytes, with_key, half_bits};
 ghost use Rattle.filter.specs.Fourths.{FourthsOf, FilterPut};
 
 use fnv::Hashed;
@@ -15,7 +15,7 @@ use words::numbers;
 // Sets bit p.
 fn set_bit(p: u32, bits: &mut [u8])
     requires { (length bits.old ≡ 256) × (p < 2048) }
-    ensures { (x : ℕ) → x < 2048 → arrayBit (after bits) x ≡ (eqb p x || arrayBit (before bits) x) }
+    ensures { (x : ℕ) → x < 2048 → array_bit (after bits) x ≡ (eqb p x || array_bit (before bits) x) }
 {
     let x = p as usize;
     let i = x / 8;
@@ -26,7 +26,7 @@ fn set_bit(p: u32, bits: &mut [u8])
 fn set_key(chip: Chip, count: usize, key: Hashed, bits: &mut [u8])
     requires { UnitSound chip.unit × (count ≤ 8) × (length bits.old ≡ 256) }
     ensures { (x : ℕ) → x < 2048
-        → arrayBit (after bits) x ≡ (keyBit chip.unit count (bytes_of key) x || arrayBit (before bits) x) }
+        → array_bit (after bits) x ≡ (key_bit chip.unit count (bytes_of key) x || array_bit (before bits) x) }
 {
     let ps = fnv::positions(chip, count, key);
     let mut i = 0;
@@ -39,7 +39,7 @@ fn set_key(chip: Chip, count: usize, key: Hashed, bits: &mut [u8])
 // What is hashed of the item from byte `at` on, its first word: an entry's key or a deletion's number.
 fn hashed_at(at: usize, ram: &[u8]) -> Hashed
     requires { at + 4 ≤ length ram.now }
-    ensures { bytes_of result ≡ itemBytes (before ram) at }
+    ensures { bytes_of result ≡ item_bytes (before ram) at }
 {
     fnv::of_number(words::get32(ram, at))
 }
@@ -56,9 +56,9 @@ pub fn new_filter(
     bits: &mut [u8],
 )
     requires unit_sound { UnitSound chip.unit × (count ≤ 8) × (4 ≤ step)
-        × (at + (entriesPerPage chip.unit - 1) * step ≤ length ram.now) }
+        × (at + (entries_per_page chip.unit - 1) * step ≤ length ram.now) }
     requires bits_value { bits.old ≡ replicate 256 0 }
-    ensures { (x : ℕ) → x < 2048 → arrayBit (after bits) x ≡ withKey chip.unit count at step (bytes_of key) (before ram) x }
+    ensures { (x : ℕ) → x < 2048 → array_bit (after bits) x ≡ with_key chip.unit count at step (bytes_of key) (before ram) x }
 {
     let last = chip.entries_per_page() - 1;
     let mut i = 0;
@@ -73,7 +73,7 @@ pub fn new_filter(
 // The fourths of filter f of two go to their places in `out`: there the fourths of a sector lie one after the other.
 fn put_fourths(chip: Chip, f: usize, bits: &[u8], out: &mut [u8])
     requires { (0 < chip.unit) × (chip.unit ≤ 32) × (f < 2) × (length bits.now ≡ 256) × (length out.old ≡ 512) }
-    ensures { FilterPut chip.unit f (arrayBit (before bits)) (before out) (after out) }
+    ensures { FilterPut chip.unit f (array_bit (before bits)) (before out) (after out) }
 {
     let piece = chip.fourth_size();
     let mut i = 0;
@@ -96,9 +96,9 @@ fn half_filter(
     ram: &[u8],
     out: &mut [u8],
 )
-    requires unit_sound { UnitSound chip.unit × (count ≤ 8) × (at + (entriesPerPage chip.unit - 1) * deletionSize ≤ length ram.now) }
+    requires unit_sound { UnitSound chip.unit × (count ≤ 8) × (at + (entries_per_page chip.unit - 1) * deletion_size ≤ length ram.now) }
     requires f_bound { (f < 2) × (length out.old ≡ 512) }
-    ensures { FilterPut chip.unit f (withKey chip.unit count at deletionSize (bytes_of last) (before ram))
+    ensures { FilterPut chip.unit f (with_key chip.unit count at deletion_size (bytes_of last) (before ram))
         (before out) (after out) }
 {
     let mut bits = [0u8; 256];
@@ -111,7 +111,7 @@ fn half_filter(
 pub fn number_filters(chip: Chip, count: usize, at: usize, number: u32, ram: &[u8], out: &mut [u8])
     requires unit_sound { UnitSound chip.unit × (count ≤ 8) × (at + page chip.unit ≤ length ram.now) }
     requires out_len { length out.old ≡ 512 }
-    ensures { FourthsOf chip.unit 2 (halfBits chip.unit count at number (before ram)) (after out) }
+    ensures { FourthsOf chip.unit 2 (half_bits chip.unit count at number (before ram)) (after out) }
 {
     let step = areas::DELETION_SIZE;
     let middle = at + chip.deletions_per_filter() * step;

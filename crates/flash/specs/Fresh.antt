@@ -3,11 +3,11 @@ use Rattle.std.specs.Prelude.{Bool, true, ◌&&◌, cond, List, ℕ, zero, suc, 
 use Rattle.layout.specs.Flash.{fresh}
 
 -- are k sectors fresh, from s on in steps of d
-unfoldable pub freshRun : List ℕ → ℕ → ℕ → ℕ → Bool
-freshRun spare d s zero = true
-freshRun spare d s (suc k) = fresh (get_or spare s 0) && freshRun spare d (s + d) k
+unfoldable pub fresh_run : List ℕ → ℕ → ℕ → ℕ → Bool
+fresh_run spare d s zero = true
+fresh_run spare d s (suc k) = fresh (get_or spare s 0) && fresh_run spare d (s + d) k
 
 -- one more than the place of the last that is not fresh, of k sectors from s on in steps of d; 0 if all are fresh
-unfoldable pub lastProgrammed : List ℕ → ℕ → ℕ → ℕ → ℕ
-lastProgrammed spare d s zero = 0
-lastProgrammed spare d s (suc k) = cond (fresh (get_or spare (s + k * d) 0)) (lastProgrammed spare d s k) (suc k)
+unfoldable pub last_programmed : List ℕ → ℕ → ℕ → ℕ → ℕ
+last_programmed spare d s zero = 0
+last_programmed spare d s (suc k) = cond (fresh (get_or spare (s + k * d) 0)) (last_programmed spare d s k) (suc k)

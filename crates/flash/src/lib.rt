@@ -2,11 +2,11 @@
 // blocks and looking whether sectors are fresh. Document 01, "The chip and the desk".
 ghost use Rattle.std.specs.Prelude.{◌≡◌, ◌++◌, ◌+◌, ◌*◌, ◌≤◌, ◌<◌, length};
 ghost use Rattle.memory.specs.Lent.{before};
-ghost use Rattle.layout.specs.Geometry.{sectorsPerBlock, sector, block};
-ghost use Rattle.layout.specs.Flash.{program, erase, fresh, apply, applyAll, erases};
-ghost use Rattle.laws.specs.LentFlash.{flashBefore, flashAfter};
-ghost use Rattle.flash.specs.Fresh.{freshRun, lastProgrammed};
-ghost use Rattle.flash.specs.Sectors.{programmedRow};
+ghost use Rattle.layout.specs.Geometry.{sectors_per_block, sector, block};
+ghost use Rattle.layout.specs.Flash.{program, erase, fresh, apply, apply_all, erases};
+ghost use Rattle.laws.specs.LentFlash.{flash_before, flash_after};
+ghost use Rattle.flash.specs.Fresh.{fresh_run, last_programmed};
+ghost use Rattle.flash.specs.Sectors.{programmed_row};
 
 use geometry::Chip;
 
@@ -30,7 +30,7 @@ fn is_fresh(byte: u8) -> bool
 pub fn program_sector(chip: Chip, s: usize, src: &[u8], main: &mut [u8], spare: &mut [u8])
     requires unit_bound { (chip.unit ≤ 32) × (length src.now ≡ sector chip.unit) }
     requires unit_in_bounds { (s * sector chip.unit + sector chip.unit ≤ length main.old) × (s < length spare.old) }
-    ensures { flashAfter main spare ≡ apply chip.unit (program s (before src)) (flashBefore main spare) }
+    ensures { flash_after main spare ≡ apply chip.unit (program s (before src)) (flash_before main spare) }
 {
     words::copy_at(main, chip.sector_address(s), src);
     spare[s] = PROGRAMMED;
@@ -47,7 +47,7 @@ pub fn program_sectors(
 )
     requires unit_bound { (chip.unit ≤ 32) × (length src.now ≡ k * sector chip.unit) }
     requires unit_in_bounds { ((s + k) * sector chip.unit ≤ length main.old) × (s + k ≤ length spare.old) }
-    ensures { flashAfter main spare ≡ programmedRow chip.unit s k (before src) (flashBefore main spare) }
+    ensures { flash_after main spare ≡ programmed_row chip.unit s k (before src) (flash_before main spare) }
 {
     words::copy_at(main, chip.sector_address(s), src);
     words::fill_at(spare, s, k, PROGRAMMED);
@@ -57,8 +57,8 @@ pub fn program_sectors(
 pub fn program_joined(chip: Chip, s: usize, a: &[u8], b: &[u8], main: &mut [u8], spare: &mut [u8])
     requires unit_bound { (chip.unit ≤ 32) × (length a.now + length b.now ≡ sector chip.unit) }
     requires unit_in_bounds { (s * sector chip.unit + sector chip.unit ≤ length main.old) × (s < length spare.old) }
-    ensures { flashAfter main spare
-        ≡ apply chip.unit (program s (before a ++ before b)) (flashBefore main spare) }
+    ensures { flash_after main spare
+        ≡ apply chip.unit (program s (before a ++ before b)) (flash_before main spare) }
 {
     let at = chip.sector_address(s);
     words::copy_at(main, at, a);
@@ -69,8 +69,8 @@ pub fn program_joined(chip: Chip, s: usize, a: &[u8], b: &[u8], main: &mut [u8],
 // One block operation.
 fn erase_block(chip: Chip, b: usize, main: &mut [u8], spare: &mut [u8])
     requires unit_bound { (chip.unit ≤ 32) × (b * block chip.unit + block chip.unit ≤ length main.old) }
-    requires sectors_per_block_in_bounds { b * sectorsPerBlock + sectorsPerBlock ≤ length spare.old }
-    ensures { flashAfter main spare ≡ apply chip.unit (erase b) (flashBefore main spare) }
+    requires sectors_per_block_in_bounds { b * sectors_per_block + sectors_per_block ≤ length spare.old }
+    ensures { flash_after main spare ≡ apply chip.unit (erase b) (flash_before main spare) }
 {
     let at = chip.block_address(b);
     words::fill_at(main, at, chip.block_size(), ERASED);
@@ -81,8 +81,8 @@ fn erase_block(chip: Chip, b: usize, main: &mut [u8], spare: &mut [u8])
 // k blocks in a row.
 pub fn erase_blocks(chip: Chip, b: usize, k: usize, main: &mut [u8], spare: &mut [u8])
     requires unit_bound { (chip.unit ≤ 32) × ((b + k) * block chip.unit ≤ length main.old) }
-    requires sectors_per_block_in_bounds { (b + k) * sectorsPerBlock ≤ length spare.old }
-    ensures { flashAfter main spare ≡ applyAll chip.unit (erases b k) (flashBefore main spare) }
+    requires sectors_per_block_in_bounds { (b + k) * sectors_per_block ≤ length spare.old }
+    ensures { flash_after main spare ≡ apply_all chip.unit (erases b k) (flash_before main spare) }
 {
     let mut i = 0;
     while i < k {
@@ -94,7 +94,7 @@ pub fn erase_blocks(chip: Chip, b: usize, k: usize, main: &mut [u8], spare: &mut
 // Are sectors s, s + stride, .. fresh, k of them. Each spare byte is tested by itself, and all are, so that many are counted at once.
 pub fn all_fresh(s: usize, stride: usize, k: usize, spare: &[u8]) -> bool
     requires { s + k * stride < length spare.now + stride }
-    ensures { result ≡ freshRun (before spare) stride s k }
+    ensures { result ≡ fresh_run (before spare) stride s k }
 {
     let mut all = true;
     let mut i = 0;
@@ -109,7 +109,7 @@ pub fn all_fresh(s: usize, stride: usize, k: usize, spare: &[u8]) -> bool
 // fresh.
 pub fn last_programmed(first: usize, step: usize, count: usize, spare: &[u8]) -> usize
     requires { first + count * step < length spare.now + step }
-    ensures { result ≡ lastProgrammed (before spare) step first count }
+    ensures { result ≡ last_programmed (before spare) step first count }
 {
     let mut k = count;
     while 0 < k {

@@ -3,36 +3,36 @@ use Rattle.std.proofs.Common.{◌≡◌, ℕ, ◌+◌, ◌-◌, ◌*◌, ◌%◌
 use lib.Bits.{bit_xor}
 use lib.ListN.{length-replicate, get_or-replicate, get_or-append}
 use Rattle.memory.specs.Cases.{either, lt?, eq?}
-use Rattle.memory.specs.Lists.{tabulate, length-tabulate, get_d_tabulate}
+use Rattle.memory.specs.Lists.{tabulate, length_tabulate, get_d_tabulate}
 use Rattle.memory.specs.Power.{PowerOfTwo}
-use Rattle.layout.specs.Hash.{fnvFrom, Family, positions}
-use Rattle.laws.specs.Positions.{positionArray}
-use Rattle.laws.specs.Units.{UnitSound, unit-times}
+use Rattle.layout.specs.Hash.{fnv_from, Family, positions}
+use Rattle.laws.specs.Positions.{position_array}
+use Rattle.laws.specs.Units.{UnitSound, unit_times}
 
 -- from h over what is left, with the byte at i absorbed
-pub fnv-more : (h i : ℕ) (l : List ℕ) → i < length l → fnvFrom h (drop i l) ≡ fnvFrom (bit_xor h (get_or l i 0) * 16777619 % 2 ^ 32) (drop (i + 1) l)
-unfolding fnvFrom
-fnv-more h i l p = rw (add-one, drop-cons l i 0)
+pub fnv_more : (h i : ℕ) (l : List ℕ) → i < length l → fnv_from h (drop i l) ≡ fnv_from (bit_xor h (get_or l i 0) * 16777619 % 2 ^ 32) (drop (i + 1) l)
+unfolding fnv_from
+fnv_more h i l p = rw (add-one, drop-cons l i 0)
 
 -- nothing is left
-pub fnv-end : (h i : ℕ) (l : List ℕ) → length l ≤ i → fnvFrom h (drop i l) ≡ h
-unfolding fnvFrom
-fnv-end h i l p = rw drop_of_length-le
+pub fnv_end : (h i : ℕ) (l : List ℕ) → length l ≤ i → fnv_from h (drop i l) ≡ h
+unfolding fnv_from
+fnv_end h i l p = rw drop_of_length-le
 
 -- one step after another over five bytes is the hash of the five
-pub fnv-five : (h x a b c d : ℕ) {r₀ r₁ r₂ r₃ r₄ : ℕ}
+pub fnv_five : (h x a b c d : ℕ) {r₀ r₁ r₂ r₃ r₄ : ℕ}
     → r₀ ≡ bit_xor h x * 16777619 % 2 ^ 32
     → r₁ ≡ bit_xor r₀ a * 16777619 % 2 ^ 32
     → r₂ ≡ bit_xor r₁ b * 16777619 % 2 ^ 32
     → r₃ ≡ bit_xor r₂ c * 16777619 % 2 ^ 32
     → r₄ ≡ bit_xor r₃ d * 16777619 % 2 ^ 32
-    → r₄ ≡ fnvFrom h (x ∷ a ∷ b ∷ c ∷ d ∷ [])
-unfolding fnvFrom
-fnv-five h x a b c d e₀ e₁ e₂ e₃ e₄ = rw (e₄, e₃, e₂, e₁, e₀)
+    → r₄ ≡ fnv_from h (x ∷ a ∷ b ∷ c ∷ d ∷ [])
+unfolding fnv_from
+fnv_five h x a b c d e₀ e₁ e₂ e₃ e₄ = rw (e₄, e₃, e₂, e₁, e₀)
 
 -- a fourth of a filter has as many bits as a sector has bytes
-pub fourth-power : (u size : ℕ) → UnitSound u → size ≡ 16 * u → PowerOfTwo size
-fourth-power u size s e = rw e (unit-times 4 u s)
+pub fourth_power : (u size : ℕ) → UnitSound u → size ≡ 16 * u → PowerOfTwo size
+fourth_power u size s e = rw e (unit_times 4 u s)
 
 -- position j of some bytes
 abbrev pub position : Family → ℕ → List ℕ → ℕ → ℕ
@@ -42,10 +42,10 @@ position f u l j = f 0 l % 4 * (16 * u) + f (j + 1) l % (16 * u)
 pub filled : (f : Family) (k u : ℕ) (l ps : List ℕ) → k ≤ 8 → length ps ≡ 8
     → ((j : ℕ) → j < k → get_or ps j 0 ≡ position f u l j)
     → ((j : ℕ) → k ≤ j → j < 8 → get_or ps j 0 ≡ 0)
-    → ps ≡ positionArray f k u l
+    → ps ≡ position_array f k u l
 unfolding positions
 filled f k u l ps few long front rest =
-    let t = length-tabulate k (position f u l) in
+    let t = length_tabulate k (position f u l) in
     ext_get_or 0 ps (tabulate k (position f u l) ++ replicate (8 - k) 0)
     (long ∙ rw (length-append, t, length-replicate) (omega arith))
     (λ i h.

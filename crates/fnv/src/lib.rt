@@ -2,12 +2,12 @@
 ghost use Rattle.std.specs.Prelude.{◌≡◌, ℕ, ◌+◌, ◌*◌, ◌%◌, ◌^◌, ◌<◌, ◌≤◌, bit_xor, slice_index};
 ghost use Rattle.memory.specs.Power.{PowerOfTwo};
 ghost use Rattle.memory.specs.Words.{bytes4};
-ghost use Rattle.layout.specs.Keys.{keyBytes};
-ghost use Rattle.layout.specs.Geometry.{sector, filterBits};
-ghost use Rattle.layout.specs.Hash.{fnv1a, fnvFamily};
-ghost use Rattle.laws.specs.Positions.{positionArray};
+ghost use Rattle.layout.specs.Keys.{key_bytes};
+ghost use Rattle.layout.specs.Geometry.{sector, filter_bits};
+ghost use Rattle.layout.specs.Hash.{fnv1a, fnv_family};
+ghost use Rattle.laws.specs.Positions.{position_array};
 ghost use Rattle.laws.specs.Units.{UnitSound};
-ghost use Rattle.keys.specs.Key.{keyIs};
+ghost use Rattle.keys.specs.Key.{key_is};
 ghost use Rattle.fnv.specs.Hashed.{bytes_of};
 
 use geometry::Chip;
@@ -70,7 +70,7 @@ pub struct Hashed {
 
 // Of a key, its bytes.
 pub fn of_key(key: Key) -> Hashed
-    ensures { bytes_of result ≡ keyBytes (keyIs key) }
+    ensures { bytes_of result ≡ key_bytes (key_is key) }
 {
     Hashed { number: key.level }
 }
@@ -84,7 +84,7 @@ pub fn of_number(j: u32) -> Hashed
 
 // Hash j: FNV-1a over five bytes, j and then the number's four, lowest first.
 pub fn hash(j: u8, x: Hashed) -> u32
-    ensures { result ≡ fnvFamily j (bytes_of x) }
+    ensures { result ≡ fnv_family j (bytes_of x) }
 {
     let x0 = x.number;
     let x1 = x0 / 256;
@@ -116,7 +116,7 @@ fn within(base: u32, size: u32, h: u32) -> u32
 // The first bit of the fourth of a filter that has the positions: hash 0 picks it.
 fn fourth_of(chip: Chip, x: Hashed) -> u32
     requires { UnitSound chip.unit }
-    ensures { (result ≡ fnvFamily 0 (bytes_of x) % 4 * sector chip.unit) × (result ≤ 3 * sector chip.unit) }
+    ensures { (result ≡ fnv_family 0 (bytes_of x) % 4 * sector chip.unit) × (result ≤ 3 * sector chip.unit) }
 {
     let size = chip.sector_size() as u32;
     fourth(size, hash(0, x))
@@ -125,7 +125,7 @@ fn fourth_of(chip: Chip, x: Hashed) -> u32
 // Position i, in the fourth that starts at `start`.
 fn position(chip: Chip, start: u32, i: usize, x: Hashed) -> u32
     requires { UnitSound chip.unit × (start ≤ 3 * sector chip.unit) × (i < 8) }
-    ensures { (result ≡ start + fnvFamily (i + 1) (bytes_of x) % sector chip.unit) × (result < filterBits chip.unit) }
+    ensures { (result ≡ start + fnv_family (i + 1) (bytes_of x) % sector chip.unit) × (result < filter_bits chip.unit) }
 {
     let size = chip.sector_size() as u32;
     within(start, size, hash((i + 1) as u8, x))
@@ -134,8 +134,8 @@ fn position(chip: Chip, start: u32, i: usize, x: Hashed) -> u32
 // The `count` positions in a filter of 4S bits, (h0 mod 4) S + (hj mod S) for j = 1 to `count`, and zeros after them.
 pub fn positions(chip: Chip, count: usize, x: Hashed) -> [u32; 8]
     requires { UnitSound chip.unit × (count ≤ 8) }
-    ensures equal { result ≡ positionArray fnvFamily count chip.unit (bytes_of x) }
-    ensures below { (i : ℕ) → i < count → slice_index result i < filterBits chip.unit }
+    ensures equal { result ≡ position_array fnv_family count chip.unit (bytes_of x) }
+    ensures below { (i : ℕ) → i < count → slice_index result i < filter_bits chip.unit }
 {
     let start = fourth_of(chip, x);
     let mut ps = [0u32; 8];

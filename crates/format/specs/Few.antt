@@ -7,27 +7,27 @@ use Rattle.memory.specs.Cases.{either, bool?}
 use Rattle.layout.specs.Geometry as layout
 use Rattle.layout.specs.Flash.{erases}
 use Rattle.layout.specs.Refusals as refusal
-use Rattle.layout.specs.Calls.{Volume, refuse, tooShort, format, formatted}
-use Rattle.geometry.specs.Shape.{geometryFor}
-use Rattle.geometry.specs.Allowed.{allowed-sound}
-use Rattle.geometry.specs.Bounds.{blocks-le}
+use Rattle.layout.specs.Calls.{Volume, refuse, too_short, format, formatted}
+use Rattle.geometry.specs.Shape.{geometry_for}
+use Rattle.geometry.specs.Allowed.{allowed_sound}
+use Rattle.geometry.specs.Bounds.{blocks_le}
 
-pub erases-length : (b k : ℕ) → length (erases b k) ≡ k
-erases-length b zero = refl
-erases-length b (suc k) = omega (arith, erases-length (suc b) k)
+pub erases_length : (b k : ℕ) → length (erases b k) ≡ k
+erases_length b zero = refl
+erases_length b (suc k) = omega (arith, erases_length (suc b) k)
 
 module _ (w : Volume) (sizes : layout.Sizes) where
-  pub formatted-length : length (formatted w sizes).ops ≡ layout.blocks (layout.geometry sizes)
+  pub formatted_length : length (formatted w sizes).ops ≡ layout.blocks (layout.geometry sizes)
   unfolding formatted
-  formatted-length = erases-length 0 (layout.blocks (layout.geometry sizes))
+  formatted_length = erases_length 0 (layout.blocks (layout.geometry sizes))
 
-  pub few-format : length (format w sizes).ops + 2 ≤ 18446744073709551615
+  pub few_format : length (format w sizes).ops + 2 ≤ 18446744073709551615
   unfolding format
-  few-format =
-      either (bool? (layout.allowed sizes)) (λ a. rw a (of a (tooShort (layout.geometry sizes) w.flash w.ram)))
+  few_format =
+      either (bool? (layout.allowed sizes)) (λ a. rw a (of a (too_short (layout.geometry sizes) w.flash w.ram)))
       (λ a. rw a (omega arith))
     where
       of : layout.allowed sizes ≡ true → (t : Bool)
-          → length (cond t (refuse w refusal.tooShort) (formatted w sizes)).ops + 2 ≤ 18446744073709551615
+          → length (cond t (refuse w refusal.too_short) (formatted w sizes)).ops + 2 ≤ 18446744073709551615
       of a true = omega arith
-      of a false = omega (arith, formatted-length, blocks-le (geometryFor sizes) (allowed-sound sizes a))
+      of a false = omega (arith, formatted_length, blocks_le (geometry_for sizes) (allowed_sound sizes a))

@@ -1,12 +1,12 @@
 // Format: a new volume, in steps. Document 01, "Calls"; document 02, request 8.
 ghost use Rattle.std.specs.Prelude.{◌≡◌, ◌≤◌, length};
-ghost use Rattle.layout.specs.Hash.{fnvFamily};
-ghost use Rattle.layout.specs.Flash.{flashOf};
+ghost use Rattle.layout.specs.Hash.{fnv_family};
+ghost use Rattle.layout.specs.Flash.{flash_of};
 ghost use Rattle.layout.specs.Calls.{formatted};
-ghost use Rattle.layout.specs.Header.{headerSize, pages, onPages, formatting, pendingIn};
-ghost use Rattle.layout.specs.Budgets.{lastSteps, formatCut, formatWhole, restartCut};
-ghost use Rattle.geometry.specs.Shape.{sizesIs};
-ghost use Rattle.state.specs.Contract.{effect_of, effectBy, given, cut_of, cutBy, memoryBefore, memoryAfter, Ran};
+ghost use Rattle.layout.specs.Header.{header_size, pages, on_pages, formatting, pending_in};
+ghost use Rattle.layout.specs.Budgets.{last_steps, format_cut, format_whole, restart_cut};
+ghost use Rattle.geometry.specs.Shape.{sizes_is};
+ghost use Rattle.state.specs.Contract.{effect_of, effect_by, given, cut_of, cut_by, memory_before, memory_after, Ran};
 ghost use Rattle.state.specs.Judge.{FormatFits};
 
 use geometry::{Geometry, Sizes};
@@ -32,10 +32,10 @@ fn finish(
     spare: &mut [u8],
     ram: &mut [u8],
 ) -> Progress
-    requires { (headerSize ≤ length ram.old)
-        × FormatFits (sizesIs sizes) (flashOf main.old spare.old) (pages ram.old) g }
-    ensures { (s : State) → Ran g.chip.unit (lastSteps (formatted (onPages (given s main spare ram)) (sizesIs sizes))) budget
-        (memoryBefore main spare ram) (memoryAfter main spare ram) result }
+    requires { (header_size ≤ length ram.old)
+        × FormatFits (sizes_is sizes) (flash_of main.old spare.old) (pages ram.old) g }
+    ensures { (s : State) → Ran g.chip.unit (last_steps (formatted (on_pages (given s main spare ram)) (sizes_is sizes))) budget
+        (memory_before main spare ram) (memory_after main spare ram) result }
 {
     let blocks = g.blocks();
     if budget <= blocks {
@@ -63,7 +63,7 @@ pub fn format_for(
     spare: &mut [u8],
     ram: &mut [u8],
 ) -> Cut
-    ensures { cutBy result main spare ram ≡ cut_of (formatCut budget (given old main spare ram) (sizesIs sizes)) }
+    ensures { cut_by result main spare ram ≡ cut_of (format_cut budget (given old main spare ram) (sizes_is sizes)) }
 {
     match state::judge_new(sizes, main, spare, ram) {
         Judgement::Refused(i) => {
@@ -97,8 +97,8 @@ pub fn restart_format(
     spare: &mut [u8],
     ram: &mut [u8],
 ) -> Cut
-    requires { (headerSize ≤ length ram.old) × (pendingIn ram.old ≡ formatting (sizesIs sizes)) }
-    ensures { cutBy result main spare ram ≡ cut_of (restartCut fnvFamily budget (given s main spare ram)) }
+    requires { (header_size ≤ length ram.old) × (pending_in ram.old ≡ formatting (sizes_is sizes)) }
+    ensures { cut_by result main spare ram ≡ cut_of (restart_cut fnv_family budget (given s main spare ram)) }
 {
     match state::judge_new(sizes, main, spare, ram) {
         Judgement::Refused(i) => {
@@ -113,7 +113,7 @@ pub fn restart_format(
 
 // A new volume of the given sizes.
 pub fn format(old: State, sizes: Sizes, main: &mut [u8], spare: &mut [u8], ram: &mut [u8]) -> Change
-    ensures { effectBy result main spare ram ≡ effect_of (formatWhole (given old main spare ram) (sizesIs sizes)) }
+    ensures { effect_by result main spare ram ≡ effect_of (format_whole (given old main spare ram) (sizes_is sizes)) }
 {
     state::uncut(format_for(state::ENOUGH, old, sizes, main, spare, ram))
 }

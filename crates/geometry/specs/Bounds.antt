@@ -10,31 +10,31 @@ pub product_le : (a b m n : ℕ) → a ≤ m → b ≤ n → a * b ≤ m * n
 product_le a b m n h k = le_trans (mul-le-mul_right b h) (mul-le-mul_left m k)
 
 module _ (g : Geometry) (s : Sound g) where
-  pub index-le : layout.indexBlock (shape g) ≤ 10240
-  index-le = omega arith
+  pub index_le : layout.index_block (shape g) ≤ 10240
+  index_le = omega arith
 
   -- the full sets' blocks: a sixteenth of those of records
-  pub full-le : layout.fullSets (shape g) * layout.sideBlocks g.chip.unit ≤ 256
-  full-le = omega (arith, div-mul-le_self g.ra (64 * g.chip.unit))
+  pub full_le : layout.full_sets (shape g) * layout.side_blocks g.chip.unit ≤ 256
+  full_le = omega (arith, div-mul-le_self g.ra (64 * g.chip.unit))
 
   -- those of the index over the deletions: a fourth of theirs
-  pub deletion-full-le : layout.deletionSets (shape g) * layout.sideBlocks g.chip.unit ≤ 1024
-  deletion-full-le = omega (arith, div-mul-le_self g.da (16 * g.chip.unit))
+  pub deletion_full_le : layout.deletion_sets (shape g) * layout.side_blocks g.chip.unit ≤ 1024
+  deletion_full_le = omega (arith, div-mul-le_self g.da (16 * g.chip.unit))
 
-  pub deletion-index-le : layout.deletionIndexBlock (shape g) ≤ 10753
-  deletion-index-le =
-      let i = index-le in
-      let f = full-le in
+  pub deletion_index_le : layout.deletion_index_block (shape g) ≤ 10753
+  deletion_index_le =
+      let i = index_le in
+      let f = full_le in
       omega arith
 
-  pub blocks-le : layout.blocks (shape g) ≤ 12034
-  blocks-le =
-      let i = deletion-index-le in
-      let f = deletion-full-le in
+  pub blocks_le : layout.blocks (shape g) ≤ 12034
+  blocks_le =
+      let i = deletion_index_le in
+      let f = deletion_full_le in
       omega arith
 
-  pub record-capacity-le : layout.recordCapacity (shape g) ≤ 8388608
-  record-capacity-le = omega (arith, product_le g.ra g.chip.unit 4096 32 s.ra-most s.unit.1.most)
+  pub record_capacity_le : layout.record_capacity (shape g) ≤ 8388608
+  record_capacity_le = omega (arith, product_le g.ra g.chip.unit 4096 32 s.ra_most s.unit.1.most)
 
-  pub deletion-capacity-le : layout.deletionCapacity (shape g) ≤ 33554432
-  deletion-capacity-le = omega (arith, product_le g.da g.chip.unit 4096 32 s.da-most s.unit.1.most)
+  pub deletion_capacity_le : layout.deletion_capacity (shape g) ≤ 33554432
+  deletion_capacity_le = omega (arith, product_le g.da g.chip.unit 4096 32 s.da_most s.unit.1.most)

@@ -24,35 +24,35 @@ row_of i = get_or rows i (row 0 0 0 0)
 
 -- ---- the table's rules: "records a page (S/4)", "entries a page (S/2)", "filter bits m (4S)"
 
-abbrev pub recordsOf : ℕ → ℕ
-recordsOf S = S / 4
+abbrev pub records_of : ℕ → ℕ
+records_of S = S / 4
 
-abbrev pub entriesOf : ℕ → ℕ
-entriesOf S = S / 2
+abbrev pub entries_of : ℕ → ℕ
+entries_of S = S / 2
 
 abbrev pub bits_of : ℕ → ℕ
 bits_of S = 4 * S
 
 -- a sector is 16 times a power of two, and 512 bytes at most
-abbrev pub powerOf : ℕ → ℕ
-powerOf S = 16 * 2 ^ log2up (S / 16)
+abbrev pub power_of : ℕ → ℕ
+power_of S = 16 * 2 ^ log2up (S / 16)
 
 -- the row of a sector size, by the rules
-abbrev pub rowFor : ℕ → SizeRow
-rowFor S = row S (recordsOf S) (entriesOf S) (bits_of S)
+abbrev pub row_for : ℕ → SizeRow
+row_for S = row S (records_of S) (entries_of S) (bits_of S)
 
 pub record Ruled (r : SizeRow) : Type 0 where
-  pub records : r.records ≡ recordsOf r.sector
-  pub entries : r.entries ≡ entriesOf r.sector
+  pub records : r.records ≡ records_of r.sector
+  pub entries : r.entries ≡ entries_of r.sector
   pub bits : r.bits ≡ bits_of r.sector
-  pub power : r.sector ≡ powerOf r.sector
+  pub power : r.sector ≡ power_of r.sector
   pub most : r.sector ≤ 512
 
 abbrev test : SizeRow → Bool
 test r =
-    eqb r.records (recordsOf r.sector)
-    && (eqb r.entries (entriesOf r.sector)
-    && (eqb r.bits (bits_of r.sector) && (eqb r.sector (powerOf r.sector) && leb r.sector 512)))
+    eqb r.records (records_of r.sector)
+    && (eqb r.entries (entries_of r.sector)
+    && (eqb r.bits (bits_of r.sector) && (eqb r.sector (power_of r.sector) && leb r.sector 512)))
 
 -- what a test of five parts says
 module _ (a b c d e : Bool) (t : (a && (b && (c && (d && e)))) ≡ true) where
@@ -85,8 +85,8 @@ rule i h =
     let t : test r ≡ true = at test (row 0 0 0 0) rows all_pass i h in
     let S : ℕ = r.sector in
     let f =
-    five (eqb r.records (recordsOf S)) (eqb r.entries (entriesOf S)) (eqb r.bits (bits_of S))
-    (eqb S (powerOf S)) (leb S 512) t in
+    five (eqb r.records (records_of S)) (eqb r.entries (entries_of S)) (eqb r.bits (bits_of S))
+    (eqb S (power_of S)) (leb S 512) t in
     record {
       records = eqb-true _ _ f.0;
       entries = eqb-true _ _ f.1;
@@ -96,5 +96,5 @@ rule i h =
     }
 
 -- a row of the table is the one that its sector size makes
-pub row_is : (r : SizeRow) (S : ℕ) → Ruled r → r.sector ≡ S → r ≡ rowFor S
+pub row_is : (r : SizeRow) (S : ℕ) → Ruled r → r.sector ≡ S → r ≡ row_for S
 row_is r S k e = rw (← e, k.records, k.entries, k.bits)

@@ -2,7 +2,7 @@
 ghost use Rattle.std.specs.Prelude.{◌≡◌, ◌*◌, ◌/◌, ◌%◌, ◌<◌};
 ghost use Rattle.memory.specs.Power.{PowerOfTwo};
 ghost use Rattle.layout.specs.Items as layout;
-ghost use Rattle.layout.specs.Items.{Ra, KA, DA, itemPlace};
+ghost use Rattle.layout.specs.Items.{Ra, KA, DA, item_place};
 ghost use Rattle.geometry.specs.Shape.{shape, Sound, area, place, AreaSound};
 
 use crate::Geometry;
@@ -113,7 +113,7 @@ pub fn item_place(g: Geometry, a: Area, n: usize, j: usize) -> Place
     requires sound { Sound g }
     requires area_sound { AreaSound a }
     requires n_bound { (n < 4294967296) × (j < 4294967296) }
-    ensures { place result ≡ itemPlace (shape g).u (area a) n j }
+    ensures { place result ≡ item_place (shape g).u (area a) n j }
 {
     let size = a.size;
     let per_page = a.per_page;

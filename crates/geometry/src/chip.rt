@@ -1,7 +1,7 @@
 // A flash chip: sectors, pages and blocks, their sizes and their addresses. Document 01, "The chip and the desk".
 ghost use Rattle.std.specs.Prelude.{◌≡◌, ◌*◌, ◌/◌, ◌^◌, ◌<◌, ◌≤◌};
-ghost use Rattle.layout.specs.Geometry.{sectorsPerPage, sectorsPerBlock, sector, page, block, entriesPerPage, deletionsPerPage};
-ghost use Rattle.layout.specs.Geometry.{deletionsPerFilter, filterBits, fourthSize, sideBlocks, indexBlocks};
+ghost use Rattle.layout.specs.Geometry.{sectors_per_page, sectors_per_block, sector, page, block, entries_per_page, deletions_per_page};
+ghost use Rattle.layout.specs.Geometry.{deletions_per_filter, filter_bits, fourth_size, side_blocks, index_blocks};
 
 // A chip by its unit, a sixteenth of the sector size.
 #[derive(Drop)]
@@ -51,7 +51,7 @@ impl Chip {
     // Entries a page: S/2.
     pub fn entries_per_page(self) -> usize
         requires { self.unit ≤ 32 }
-        ensures { result ≡ entriesPerPage self.unit }
+        ensures { result ≡ entries_per_page self.unit }
     {
         self.sector_size() / 2
     }
@@ -59,7 +59,7 @@ impl Chip {
     // Deletions a page: S.
     pub fn deletions_per_page(self) -> usize
         requires { self.unit ≤ 32 }
-        ensures { result ≡ deletionsPerPage self.unit }
+        ensures { result ≡ deletions_per_page self.unit }
     {
         self.sector_size()
     }
@@ -67,7 +67,7 @@ impl Chip {
     // Deletions of a filter, half a page of them: S/2.
     pub fn deletions_per_filter(self) -> usize
         requires { self.unit ≤ 32 }
-        ensures { result ≡ deletionsPerFilter self.unit }
+        ensures { result ≡ deletions_per_filter self.unit }
     {
         self.sector_size() / 2
     }
@@ -75,7 +75,7 @@ impl Chip {
     // Bits of a filter: 4S.
     pub fn filter_bits(self) -> usize
         requires { self.unit ≤ 32 }
-        ensures { result ≡ filterBits self.unit }
+        ensures { result ≡ filter_bits self.unit }
     {
         4 * self.sector_size()
     }
@@ -83,7 +83,7 @@ impl Chip {
     // Bytes of a fourth of a filter: S/8.
     pub fn fourth_size(self) -> usize
         requires { self.unit ≤ 32 }
-        ensures { result ≡ fourthSize self.unit }
+        ensures { result ≡ fourth_size self.unit }
     {
         self.sector_size() / 8
     }
@@ -91,15 +91,15 @@ impl Chip {
     // Blocks of a side, and of a full partition set: S/4.
     pub fn side_blocks(self) -> usize
         requires { self.unit ≤ 32 }
-        ensures { result ≡ sideBlocks self.unit }
+        ensures { result ≡ side_blocks self.unit }
     {
         self.sector_size() / 4
     }
 
     // Blocks of an index with so many places for full sets: L1, both sides, the places.
     pub fn index_blocks(self, places: usize) -> usize
-        requires { (self.unit ≤ 32) × (places * sideBlocks self.unit ≤ 1024) }
-        ensures { result ≡ indexBlocks self.unit places }
+        requires { (self.unit ≤ 32) × (places * side_blocks self.unit ≤ 1024) }
+        ensures { result ≡ index_blocks self.unit places }
     {
         let side = self.side_blocks();
         1 + 2 * side + places * side
@@ -132,16 +132,16 @@ impl Chip {
 
     // Sectors of so many pages.
     pub fn page_sectors(pages: usize) -> usize
-        requires { pages * sectorsPerPage < 2 ^ 64 }
-        ensures { result ≡ pages * sectorsPerPage }
+        requires { pages * sectors_per_page < 2 ^ 64 }
+        ensures { result ≡ pages * sectors_per_page }
     {
         pages * Chip::SECTORS_PER_PAGE
     }
 
     // The first sector of a block.
     pub fn first_sector(b: usize) -> usize
-        requires { b * sectorsPerBlock < 2 ^ 64 }
-        ensures { result ≡ b * sectorsPerBlock }
+        requires { b * sectors_per_block < 2 ^ 64 }
+        ensures { result ≡ b * sectors_per_block }
     {
         b * Chip::SECTORS_PER_BLOCK
     }

@@ -6,8 +6,8 @@ pub mod table;
 
 ghost use Rattle.std.specs.Prelude.{◌≡◌};
 ghost use Rattle.layout.specs.Geometry as layout;
-ghost use Rattle.geometry.specs.Rows.{rowFor};
-ghost use Rattle.geometry.specs.Shape.{sizesIs, shape, Sound, restAllowed, shapedBy, shapedOf, GoodSound};
+ghost use Rattle.geometry.specs.Rows.{row_for};
+ghost use Rattle.geometry.specs.Shape.{sizes_is, shape, Sound, rest_allowed, shaped_by, shaped_of, GoodSound};
 
 pub use areas::{Area, Place, deletion_area, entry_area, item_place, record_area};
 pub use chip::Chip;
@@ -58,28 +58,28 @@ impl Geometry {
 
     pub fn records_per_page(self) -> usize
         requires { Sound self }
-        ensures { result ≡ layout.recordsPerPage (shape self).u }
+        ensures { result ≡ layout.records_per_page (shape self).u }
     {
         self.row.records as usize
     }
 
     pub fn entries_per_page(self) -> usize
         requires { Sound self }
-        ensures { result ≡ layout.entriesPerPage (shape self).u }
+        ensures { result ≡ layout.entries_per_page (shape self).u }
     {
         self.row.entries as usize
     }
 
     pub fn deletions_per_page(self) -> usize
         requires { Sound self }
-        ensures { result ≡ layout.deletionsPerPage (shape self).u }
+        ensures { result ≡ layout.deletions_per_page (shape self).u }
     {
         self.chip.deletions_per_page()
     }
 
     pub fn filter_bits(self) -> usize
         requires { Sound self }
-        ensures { result ≡ layout.filterBits (shape self).u }
+        ensures { result ≡ layout.filter_bits (shape self).u }
     {
         self.row.bits as usize
     }
@@ -88,35 +88,35 @@ impl Geometry {
 
     pub fn ka_block(self) -> usize
         requires { Sound self }
-        ensures { result ≡ layout.kaBlock (shape self) }
+        ensures { result ≡ layout.ka_block (shape self) }
     {
         self.ra
     }
 
     pub fn ka_blocks(self) -> usize
         requires { Sound self }
-        ensures { result ≡ layout.kaBlocks (shape self) }
+        ensures { result ≡ layout.ka_blocks (shape self) }
     {
         (self.ra + 1) / 2
     }
 
     pub fn da_block(self) -> usize
         requires { Sound self }
-        ensures { result ≡ layout.daBlock (shape self) }
+        ensures { result ≡ layout.da_block (shape self) }
     {
         self.ka_block() + self.ka_blocks()
     }
 
     pub fn index_block(self) -> usize
         requires { Sound self }
-        ensures { result ≡ layout.indexBlock (shape self) }
+        ensures { result ≡ layout.index_block (shape self) }
     {
         self.da_block() + self.da
     }
 
     pub fn full_sets(self) -> usize
         requires { Sound self }
-        ensures { result ≡ layout.fullSets (shape self) }
+        ensures { result ≡ layout.full_sets (shape self) }
     {
         self.ra / self.filter_bits()
     }
@@ -124,7 +124,7 @@ impl Geometry {
     // The index over the deletions.
     pub fn deletion_index_block(self) -> usize
         requires { Sound self }
-        ensures { result ≡ layout.deletionIndexBlock (shape self) }
+        ensures { result ≡ layout.deletion_index_block (shape self) }
     {
         let places = self.full_sets();
         self.index_block() + self.chip.index_blocks(places)
@@ -132,7 +132,7 @@ impl Geometry {
 
     pub fn deletion_sets(self) -> usize
         requires { Sound self }
-        ensures { result ≡ layout.deletionSets (shape self) }
+        ensures { result ≡ layout.deletion_sets (shape self) }
     {
         self.da / self.chip.sector_size()
     }
@@ -150,7 +150,7 @@ impl Geometry {
 
     pub fn record_capacity(self) -> usize
         requires { Sound self }
-        ensures { result ≡ layout.recordCapacity (shape self) }
+        ensures { result ≡ layout.record_capacity (shape self) }
     {
         let ra = self.ra;
         let size = self.chip.sector_size();
@@ -159,7 +159,7 @@ impl Geometry {
 
     pub fn deletion_capacity(self) -> usize
         requires { Sound self }
-        ensures { result ≡ layout.deletionCapacity (shape self) }
+        ensures { result ≡ layout.deletion_capacity (shape self) }
     {
         let da = self.da;
         let size = self.chip.sector_size();
@@ -168,21 +168,21 @@ impl Geometry {
 
     pub fn main_size(self) -> usize
         requires { Sound self }
-        ensures { result ≡ layout.mainSize (shape self) }
+        ensures { result ≡ layout.main_size (shape self) }
     {
         self.chip.block_address(self.blocks())
     }
 
     pub fn spare_size(self) -> usize
         requires { Sound self }
-        ensures { result ≡ layout.spareSize (shape self) }
+        ensures { result ≡ layout.spare_size (shape self) }
     {
         Chip::first_sector(self.blocks())
     }
 
     pub fn ram_size(self) -> usize
         requires { Sound self }
-        ensures { result ≡ layout.ramSize (shape self) }
+        ensures { result ≡ layout.ram_size (shape self) }
     {
         self.chip.page_address(Geometry::RAM_PAGES)
     }
@@ -191,42 +191,42 @@ impl Geometry {
 
     pub fn ra_ram(self) -> usize
         requires { Sound self }
-        ensures { result ≡ layout.raRam (shape self).u }
+        ensures { result ≡ layout.ra_ram (shape self).u }
     {
         self.chip.page_address(Geometry::RA_PAGE)
     }
 
     pub fn ka_ram(self) -> usize
         requires { Sound self }
-        ensures { result ≡ layout.kaRam (shape self).u }
+        ensures { result ≡ layout.ka_ram (shape self).u }
     {
         self.chip.page_address(Geometry::KA_PAGE)
     }
 
     pub fn da_ram(self) -> usize
         requires { Sound self }
-        ensures { result ≡ layout.daRam (shape self).u }
+        ensures { result ≡ layout.da_ram (shape self).u }
     {
         self.chip.page_address(Geometry::DA_PAGE)
     }
 
     pub fn ska_ram(self) -> usize
         requires { Sound self }
-        ensures { result ≡ layout.skaRam (shape self).u }
+        ensures { result ≡ layout.ska_ram (shape self).u }
     {
         self.chip.page_address(Geometry::SKA_PAGE)
     }
 
     pub fn work_ram(self) -> usize
         requires { Sound self }
-        ensures { result ≡ layout.workRam (shape self).u }
+        ensures { result ≡ layout.work_ram (shape self).u }
     {
         self.chip.page_address(Geometry::WORK_PAGE)
     }
 
     pub fn deletion_ska_ram(self) -> usize
         requires { Sound self }
-        ensures { result ≡ layout.deletionSkaRam (shape self).u }
+        ensures { result ≡ layout.deletion_ska_ram (shape self).u }
     {
         self.chip.page_address(Geometry::DELETION_SKA_PAGE)
     }
@@ -241,21 +241,21 @@ pub enum Shaped {
 }
 
 fn blocks_allowed(b: u32) -> bool
-    ensures { result ≡ layout.blocksAllowed b }
+    ensures { result ≡ layout.blocks_allowed b }
 {
     1 <= b && b <= 4096
 }
 
 fn hashes_allowed(k: u32) -> bool
-    ensures { result ≡ layout.hashesAllowed k }
+    ensures { result ≡ layout.hashes_allowed k }
 {
     1 <= k && k <= 8
 }
 
 // What is left to test once the row of the sector size is found.
 fn with_blocks(row: SizeRow, sizes: Sizes) -> Shaped
-    requires { row ≡ rowFor sizes.sector_size }
-    ensures { result ≡ shapedBy (restAllowed (sizesIs sizes)) (sizesIs sizes) }
+    requires { row ≡ row_for sizes.sector_size }
+    ensures { result ≡ shaped_by (rest_allowed (sizes_is sizes)) (sizes_is sizes) }
 {
     if !blocks_allowed(sizes.ra_blocks) {
         return Shaped::Bad;
@@ -276,7 +276,7 @@ fn with_blocks(row: SizeRow, sizes: Sizes) -> Shaped
 }
 
 pub fn geometry_for(sizes: Sizes) -> Shaped
-    ensures equal { result ≡ shapedOf (sizesIs sizes) }
+    ensures equal { result ≡ shaped_of (sizes_is sizes) }
     ensures sound { GoodSound result }
 {
     let size = sizes.sector_size as usize;

@@ -2,11 +2,11 @@
 // "Filters". A set of c rounds is set number c + 1.
 ghost use Rattle.std.specs.Prelude.{◌≡◌, ◌+◌, ◌*◌, ◌<◌, ◌≤◌, eqb};
 ghost use Rattle.memory.specs.Power.{log2up};
-ghost use Rattle.layout.specs.Geometry.{sideBlocks};
-ghost use Rattle.layout.specs.Calls.{deletionFilters};
-ghost use Rattle.layout.specs.Index.{filtersPerFlush, inSka, setPages, setWidth, setBlocks, sideBlock, fullBlock, setBlock};
+ghost use Rattle.layout.specs.Geometry.{side_blocks};
+ghost use Rattle.layout.specs.Calls.{deletion_filters};
+ghost use Rattle.layout.specs.Index.{filters_per_flush, in_ska, set_pages, set_width, set_blocks, side_block, full_block, set_block};
 ghost use Rattle.geometry.specs.Shape.{shape, Sound};
-ghost use Rattle.geometry.specs.Indexes.{index_of, indexFor, deletionIndexFor};
+ghost use Rattle.geometry.specs.Indexes.{index_of, index_for, deletion_index_for};
 
 use crate::{Chip, Geometry};
 
@@ -23,7 +23,7 @@ pub const PAGES_PER_FOURTH: usize = FLUSHES_PER_ROUND / Chip::SECTORS_PER_PAGE;
 
 // Does filter number `filters` fill the SKA page.
 pub fn fills_ska(filters: usize) -> bool
-    ensures { result ≡ eqb (inSka filters + 1) filtersPerFlush }
+    ensures { result ≡ eqb (in_ska filters + 1) filters_per_flush }
 {
     filters % FILTERS_PER_FLUSH + 1 == FILTERS_PER_FLUSH
 }
@@ -38,7 +38,7 @@ pub struct Index {
 // The index over the entries.
 pub fn key_index(g: Geometry) -> Index
     requires { Sound g }
-    ensures { result ≡ indexFor (shape g) }
+    ensures { result ≡ index_for (shape g) }
 {
     Index {
         first: g.index_block(),
@@ -49,7 +49,7 @@ pub fn key_index(g: Geometry) -> Index
 // Filters of the full pages of the first d deletions, two of each.
 pub fn deletion_filters(g: Geometry, d: usize) -> usize
     requires { Sound g }
-    ensures { result ≡ deletionFilters (shape g) d }
+    ensures { result ≡ deletion_filters (shape g) d }
 {
     let pages = d / g.deletions_per_page();
     2 * pages
@@ -58,7 +58,7 @@ pub fn deletion_filters(g: Geometry, d: usize) -> usize
 // The index over the deletions.
 pub fn deletion_index(g: Geometry) -> Index
     requires { Sound g }
-    ensures { result ≡ deletionIndexFor (shape g) }
+    ensures { result ≡ deletion_index_for (shape g) }
 {
     Index {
         first: g.deletion_index_block(),
@@ -85,7 +85,7 @@ pub fn partition_exponent(c: u32) -> u32
 // Pages of the set of c rounds.
 pub fn set_pages(c: usize) -> usize
     requires { c ≤ 128 }
-    ensures { (result ≡ setPages c) × (0 < result) × (result ≤ 2048) }
+    ensures { (result ≡ set_pages c) × (0 < result) × (result ≤ 2048) }
 {
     if c == 0 {
         return Chip::PAGES_PER_BLOCK;
@@ -97,7 +97,7 @@ pub fn set_pages(c: usize) -> usize
 // Blocks of that set; before the first round there is none.
 pub fn set_blocks(c: usize) -> usize
     requires { c ≤ 128 }
-    ensures { result ≡ setBlocks c }
+    ensures { result ≡ set_blocks c }
 {
     if c == 0 {
         return 0;
@@ -108,7 +108,7 @@ pub fn set_blocks(c: usize) -> usize
 // Bits of a filter in each of its pages.
 pub fn set_width(chip: Chip, c: usize) -> usize
     requires { (chip.unit ≤ 32) × (c ≤ 128) }
-    ensures { result ≡ setWidth chip.unit c }
+    ensures { result ≡ set_width chip.unit c }
 {
     chip.filter_bits() / set_pages(c)
 }
@@ -116,7 +116,7 @@ pub fn set_width(chip: Chip, c: usize) -> usize
 // First block of the set of c rounds.
 pub fn side_block(chip: Chip, ix: Index, c: usize) -> usize
     requires { (chip.unit ≤ 32) × (ix.first ≤ 20000) }
-    ensures { (result ≡ sideBlock chip.unit (index_of ix) c) × (result ≤ 20129) }
+    ensures { (result ≡ side_block chip.unit (index_of ix) c) × (result ≤ 20129) }
 {
     if c % 2 == 1 {
         return ix.first + 1;
@@ -127,7 +127,7 @@ pub fn side_block(chip: Chip, ix: Index, c: usize) -> usize
 // First block of full set k.
 pub fn full_block(chip: Chip, ix: Index, k: usize) -> usize
     requires { (chip.unit ≤ 32) × (ix.first ≤ 20000) × (k ≤ 2048) }
-    ensures { (result ≡ fullBlock chip.unit (index_of ix) k) × (result ≤ 300000) }
+    ensures { (result ≡ full_block chip.unit (index_of ix) k) × (result ≤ 300000) }
 {
     let side = chip.side_blocks();
     ix.first + 1 + 2 * side + k * side
@@ -136,8 +136,8 @@ pub fn full_block(chip: Chip, ix: Index, k: usize) -> usize
 // First block of the set that comes next.
 pub fn set_block(chip: Chip, set: Set) -> usize
     requires unit_bound { (chip.unit ≤ 32) × (set.index.first ≤ 20000) }
-    requires full_sets_bound { (set.full_sets ≤ 1024) × (set.rounds < sideBlocks chip.unit) }
-    ensures { (result ≡ setBlock chip.unit (index_of set.index) set.full_sets set.rounds) × (result ≤ 300000) }
+    requires full_sets_bound { (set.full_sets ≤ 1024) × (set.rounds < side_blocks chip.unit) }
+    ensures { (result ≡ set_block chip.unit (index_of set.index) set.full_sets set.rounds) × (result ≤ 300000) }
 {
     let c = set.rounds + 1;
     if c == chip.side_blocks() {

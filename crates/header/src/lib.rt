@@ -1,13 +1,13 @@
 // The header of the RAM: the state and the pending call. Document 02, request 8.
 ghost use Rattle.std.specs.Prelude.{◌≡◌, ◌++◌, ◌-◌, ◌≤◌, ◌<◌, length, take};
 ghost use Rattle.memory.specs.Lent.{before, after};
-ghost use Rattle.memory.specs.Words.{wordsBytes};
-ghost use Rattle.layout.specs.Header.{headerSize, stateSize, pages, header, onPages, headerWord, stateIn, pendingIn};
-ghost use Rattle.layout.specs.Header.{stateWords, headerBytes, intentWords, formatWords, noIntent};
-ghost use Rattle.geometry.specs.Shape.{sizesIs};
-ghost use Rattle.state.specs.Contract.{stateIs, call_of, given};
+ghost use Rattle.memory.specs.Words.{words_bytes};
+ghost use Rattle.layout.specs.Header.{header_size, state_size, pages, header, on_pages, header_word, state_in, pending_in};
+ghost use Rattle.layout.specs.Header.{state_words, header_bytes, intent_words, format_words, no_intent};
+ghost use Rattle.geometry.specs.Shape.{sizes_is};
+ghost use Rattle.state.specs.Contract.{state_is, call_of, given};
 ghost use Rattle.state.specs.Judge.{GoodFits};
-ghost use Rattle.header.specs.Header.{idleJudgement, pendingIs, call_words};
+ghost use Rattle.header.specs.Header.{idle_judgement, pending_is, call_words};
 
 use geometry::{Sizes, areas};
 use keys::Key;
@@ -47,24 +47,24 @@ pub enum Pending {
 
 // Where the header lies: at the end, however long the RAM is.
 fn header_at(ram: &[u8]) -> usize
-    requires { headerSize ≤ length ram.now }
-    ensures { result ≡ length (before ram) - headerSize }
+    requires { header_size ≤ length ram.now }
+    ensures { result ≡ length (before ram) - header_size }
 {
     ram.len() - state::HEADER_SIZE
 }
 
 // Word i of the header.
 fn word(ram: &[u8], i: usize) -> u32
-    requires { (headerSize ≤ length ram.now) × (i < 16) }
-    ensures { result ≡ headerWord (before ram) i }
+    requires { (header_size ≤ length ram.now) × (i < 16) }
+    ensures { result ≡ header_word (before ram) i }
 {
     words::get32(ram, header_at(ram) + i * areas::WORD_SIZE)
 }
 
 // The state.
 pub fn state_in(ram: &[u8]) -> State
-    requires { headerSize ≤ length ram.now }
-    ensures { stateIs result ≡ stateIn (before ram) }
+    requires { header_size ≤ length ram.now }
+    ensures { state_is result ≡ state_in (before ram) }
 {
     let sizes = Sizes {
         sector_size: word(ram, 0),
@@ -81,8 +81,8 @@ pub fn state_in(ram: &[u8]) -> State
 
 // The pending call; words behind its arguments are not looked at.
 pub fn pending_in(ram: &[u8]) -> Pending
-    requires { headerSize ≤ length ram.now }
-    ensures { pendingIs result ≡ pendingIn (before ram) }
+    requires { header_size ≤ length ram.now }
+    ensures { pending_is result ≡ pending_in (before ram) }
 {
     let kind = word(ram, KIND);
     let a = word(ram, ARGUMENTS);
@@ -122,8 +122,8 @@ pub fn pending_in(ram: &[u8]) -> Pending
 
 // Judges a state that is handed in: refusals 1 and 2, then 10 where a call is pending.
 pub fn judge(s: State, main: &[u8], spare: &[u8], ram: &[u8]) -> Judgement
-    ensures equal { result ≡ idleJudgement (given s main spare ram) }
-    ensures fits { GoodFits (onPages (given s main spare ram)) result }
+    ensures equal { result ≡ idle_judgement (given s main spare ram) }
+    ensures fits { GoodFits (on_pages (given s main spare ram)) result }
 {
     match state::judge(s, main, spare, ram) {
         Judgement::Refused(i) => {
@@ -142,7 +142,7 @@ pub fn judge(s: State, main: &[u8], spare: &[u8], ram: &[u8]) -> Judgement
 
 // The bytes of the state's words.
 fn state_bytes(s: State) -> [u8; STATE_SIZE]
-    ensures { result ≡ wordsBytes (stateWords (stateIs s)) }
+    ensures { result ≡ words_bytes (state_words (state_is s)) }
 {
     let mut b = [0u8; STATE_SIZE];
     let ws = [
@@ -159,7 +159,7 @@ fn state_bytes(s: State) -> [u8; STATE_SIZE]
 
 // The bytes of a kind and four arguments, zeros after.
 fn intent_bytes(kind: u32, a: u32, b: u32, c: u32, d: u32) -> [u8; INTENT_SIZE]
-    ensures { result ≡ wordsBytes (call_words kind a b c d) }
+    ensures { result ≡ words_bytes (call_words kind a b c d) }
 {
     let mut r = [0u8; INTENT_SIZE];
     let ws = [kind, a, b, c, d];
@@ -169,7 +169,7 @@ fn intent_bytes(kind: u32, a: u32, b: u32, c: u32, d: u32) -> [u8; INTENT_SIZE]
 
 // Those of a changing call.
 fn request_bytes(q: Request) -> [u8; INTENT_SIZE]
-    ensures { result ≡ wordsBytes (intentWords (call_of q)) }
+    ensures { result ≡ words_bytes (intent_words (call_of q)) }
 {
     match q {
         Request::Insert(r) => intent_bytes(INSERT, r.key.level, r.moves, r.goal, r.free),
@@ -180,8 +180,8 @@ fn request_bytes(q: Request) -> [u8; INTENT_SIZE]
 
 // The words of the state and those of the intent.
 fn put_header(s: State, intent: &[u8], ram: &mut [u8])
-    requires { (headerSize ≤ length ram.old) × (length intent.now ≡ 40) }
-    ensures { after ram ≡ pages (before ram) ++ (wordsBytes (stateWords (stateIs s)) ++ before intent) }
+    requires { (header_size ≤ length ram.old) × (length intent.now ≡ 40) }
+    ensures { after ram ≡ pages (before ram) ++ (words_bytes (state_words (state_is s)) ++ before intent) }
 {
     let at = header_at(ram);
     let b = state_bytes(s);
@@ -191,8 +191,8 @@ fn put_header(s: State, intent: &[u8], ram: &mut [u8])
 
 // The intent of a changing call, and the state handed over.
 pub fn intend(s: State, q: Request, ram: &mut [u8])
-    requires { headerSize ≤ length ram.old }
-    ensures { after ram ≡ pages (before ram) ++ headerBytes (stateIs s) (intentWords (call_of q)) }
+    requires { header_size ≤ length ram.old }
+    ensures { after ram ≡ pages (before ram) ++ header_bytes (state_is s) (intent_words (call_of q)) }
 {
     let intent = request_bytes(q);
     put_header(s, &intent, ram);
@@ -200,9 +200,9 @@ pub fn intend(s: State, q: Request, ram: &mut [u8])
 
 // The intent of a format; the state's words stay.
 pub fn intend_format(sizes: Sizes, ram: &mut [u8])
-    requires { headerSize ≤ length ram.old }
+    requires { header_size ≤ length ram.old }
     ensures { after ram
-        ≡ pages (before ram) ++ (take stateSize (header (before ram)) ++ wordsBytes (formatWords (sizesIs sizes))) }
+        ≡ pages (before ram) ++ (take state_size (header (before ram)) ++ words_bytes (format_words (sizes_is sizes))) }
 {
     let intent = intent_bytes(
         FORMAT,
@@ -217,8 +217,8 @@ pub fn intend_format(sizes: Sizes, ram: &mut [u8])
 
 // The new state, and no intent.
 pub fn clear(s: State, ram: &mut [u8])
-    requires { headerSize ≤ length ram.old }
-    ensures { after ram ≡ pages (before ram) ++ headerBytes (stateIs s) noIntent }
+    requires { header_size ≤ length ram.old }
+    ensures { after ram ≡ pages (before ram) ++ header_bytes (state_is s) no_intent }
 {
     let intent = [0u8; INTENT_SIZE];
     put_header(s, &intent, ram);

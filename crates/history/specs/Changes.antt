@@ -10,55 +10,55 @@ use Rattle.std.proofs.Math.Seq.{get_or-append_seam}
 use Rattle.std.proofs.lemmas.Bool.{eqb-false}
 use Rattle.memory.specs.Cases.{either, lt?}
 use Rattle.memory.specs.Numbers.{carry, euclid}
-use Rattle.memory.specs.Ranges.{any-ext, memb}
+use Rattle.memory.specs.Ranges.{any_ext, memb}
 use Rattle.memory.specs.Words.{byte_of, word}
-use Rattle.layout.specs.Geometry.{Geometry, filterBits, kaBlocks, indexBlock, fullSets, recordCapacity, deletionCapacity, spareSize, kaRam}
-use Rattle.layout.specs.Geometry.{daRam, deletionIndexBlock, deletionSets}
-use Rattle.layout.specs.Flash.{Flash, Op, applyAll, planOps, allFresh}
+use Rattle.layout.specs.Geometry.{Geometry, filter_bits, ka_blocks, index_block, full_sets, record_capacity, deletion_capacity, spare_size, ka_ram}
+use Rattle.layout.specs.Geometry.{da_ram, deletion_index_block, deletion_sets}
+use Rattle.layout.specs.Flash.{Flash, Op, apply_all, plan_ops, all_fresh}
 use Rattle.layout.specs.Hash.{Family}
-use Rattle.layout.specs.Items.{Ra, KA, DA, entryBytes, deletionBytes, put, fills, Record, recordBytes, noRecord}
-use Rattle.layout.specs.Index.{inFull, fullBlock, filterRam}
-use Rattle.layout.specs.Keys.{Key, KeyOk, keyIn, key_at}
-use Rattle.layout.specs.Calls.{keyIndex, keyFilters, keyPositions, pageFilter, deletionPlan, deletionRam, insertionPlan, insertionRam}
-use Rattle.layout.specs.Calls.{deletionIndex, deletionFilters, numberPositions, halfFilter, newHalf}
-use Rattle.history.specs.Operations.{filterOps, recordOps, recordRam, entryOps, entryRam, entered, filteredRam}
-use Rattle.history.specs.Operations.{numberOps, numberRam, oneHalf, both_halves}
-use Rattle.history.specs.ChangeLaws.{deletion-ops, deletion-ram, insertion-ops, insertion-ram}
-use Rattle.history.specs.FlashLaws.{fresh-append, AllAllowed, apply-append, allowed-append}
-use Rattle.history.specs.Image.{History, recordAt, raItem, kaItem, daItem, keyFilter, deletionFilter}
-use Rattle.history.specs.Live.{withRecord, withDeletion}
-use Rattle.history.specs.AreaLaws.{area-ext, put_word}
-use Rattle.history.specs.IndexLaws.{index-ext}
-use Rattle.laws.specs.ItemLaws.{length-record, length-entry, length-deletion, entry_key, entry-number, deletion-number}
+use Rattle.layout.specs.Items.{Ra, KA, DA, entry_bytes, deletion_bytes, put, fills, Record, record_bytes, no_record}
+use Rattle.layout.specs.Index.{in_full, full_block, filter_ram}
+use Rattle.layout.specs.Keys.{Key, KeyOk, key_in, key_at}
+use Rattle.layout.specs.Calls.{key_index, key_filters, key_positions, page_filter, deletion_plan, deletion_ram, insertion_plan, insertion_ram}
+use Rattle.layout.specs.Calls.{deletion_index, deletion_filters, number_positions, half_filter, new_half}
+use Rattle.history.specs.Operations.{filter_ops, record_ops, record_ram, entry_ops, entry_ram, entered, filtered_ram}
+use Rattle.history.specs.Operations.{number_ops, number_ram, one_half, both_halves}
+use Rattle.history.specs.ChangeLaws.{deletion_ops_lem, deletion_ram_lem, insertion_ops_lem, insertion_ram_lem}
+use Rattle.history.specs.FlashLaws.{fresh_append, AllAllowed, apply_append, allowed_append}
+use Rattle.history.specs.Image.{History, record_at, ra_item, ka_item, da_item, key_filter, deletion_filter}
+use Rattle.history.specs.Live.{with_record, with_deletion}
+use Rattle.history.specs.AreaLaws.{area_ext, put_word}
+use Rattle.history.specs.IndexLaws.{index_ext}
+use Rattle.laws.specs.ItemLaws.{length_record, length_entry, length_deletion, entry_key, entry_number, deletion_number}
 use Rattle.history.specs.Parts as parts
-use Rattle.history.specs.Frames.{Did, Beyond, beyond-then, frame-beyond}
+use Rattle.history.specs.Frames.{Did, Beyond, beyond_then, frame_beyond}
 use Rattle.history.specs.Parts.{Parts}
-use Rattle.laws.specs.SetLaws.{places-suffice, deletion-places-suffice, first-of-pair}
+use Rattle.laws.specs.SetLaws.{places_suffice, deletion_places_suffice, first_of_pair}
 use Rattle.laws.specs.Units.{UnitIs}
 
 -- sector x is neither of DA nor of the index over DA: an insertion programs no other, a deletion none of them
 abbrev pub OffDeletions : Geometry → ℕ → Type 0
-OffDeletions g x = (x < deletionIndexBlock g * 64) × ((x < (DA g).first * 64) ⊎ (((DA g).first + g.D) * 64 ≤ x))
+OffDeletions g x = (x < deletion_index_block g * 64) × ((x < (DA g).first * 64) ⊎ (((DA g).first + g.D) * 64 ≤ x))
 
 -- what an insertion leaves behind: n records, d deletions
 pub record Changed (h : Family) (g : Geometry) (H : History) (n d M : ℕ) (C : Flash) (ram : List ℕ) (ops : List Op)
     (ram' : List ℕ) : Type 0 where
-  pub grown : Parts h g H n n d (keyFilters g n) M (applyAll g.u ops C) ram'
+  pub grown : Parts h g H n n d (key_filters g n) M (apply_all g.u ops C) ram'
   pub allowed : AllAllowed g.u ops C
-  pub beyond : Beyond g C (applyAll g.u ops C) ram ram'
+  pub beyond : Beyond g C (apply_all g.u ops C) ram ram'
   -- by marks that agree with the chip's on its own blocks
-  pub fresh : (spare : List ℕ) → ((x : ℕ) → OffDeletions g x → get_or spare x 0 ≡ get_or C.spare x 0) → allFresh spare ops ≡ true
+  pub fresh : (spare : List ℕ) → ((x : ℕ) → OffDeletions g x → get_or spare x 0 ≡ get_or C.spare x 0) → all_fresh spare ops ≡ true
 
 -- and a deletion
 pub record Removed (h : Family) (g : Geometry) (H : History) (nr nk d N : ℕ) (C : Flash) (ram : List ℕ) (ops : List Op)
     (ram' : List ℕ) : Type 0 where
-  pub grown : Parts h g H nr nk d N (deletionFilters g d) (applyAll g.u ops C) ram'
+  pub grown : Parts h g H nr nk d N (deletion_filters g d) (apply_all g.u ops C) ram'
   pub allowed : AllAllowed g.u ops C
-  pub beyond : Beyond g C (applyAll g.u ops C) ram ram'
+  pub beyond : Beyond g C (apply_all g.u ops C) ram ram'
   -- by the marks handed in, though erases stand among its operations
-  pub fresh : (spare : List ℕ) → ((x : ℕ) → x < spareSize g → get_or spare x 0 ≡ get_or C.spare x 0) → allFresh spare ops ≡ true
+  pub fresh : (spare : List ℕ) → ((x : ℕ) → x < spare_size g → get_or spare x 0 ≡ get_or C.spare x 0) → all_fresh spare ops ≡ true
   -- and the marks of an insertion are as handed in after it
-  pub outside : (x : ℕ) → OffDeletions g x → get_or (applyAll g.u ops C).spare x 0 ≡ get_or C.spare x 0
+  pub outside : (x : ℕ) → OffDeletions g x → get_or (apply_all g.u ops C).spare x 0 ≡ get_or C.spare x 0
 
 module _ (h : Family) (g : Geometry) (e : ℕ) (unit : UnitIs g.u e) where
   abbrev u : ℕ
@@ -70,435 +70,435 @@ module _ (h : Family) (g : Geometry) (e : ℕ) (unit : UnitIs g.u e) where
   -- ---- a deletion
 
   -- filters over KA tell of records alone, those over DA of deletions
-  filter-deletion : (H : History) (j : ℕ) → keyFilter h g (withDeletion H j) ≡ keyFilter h g H
-  unfolding keyFilter
-  filter-deletion H j = refl
+  filter_deletion : (H : History) (j : ℕ) → key_filter h g (with_deletion H j) ≡ key_filter h g H
+  unfolding key_filter
+  filter_deletion H j = refl
 
-  filter-record : (H : History) (r : Record) → deletionFilter h g (withRecord H r) ≡ deletionFilter h g H
-  unfolding deletionFilter
-  filter-record H r = refl
+  filter_record : (H : History) (r : Record) → deletion_filter h g (with_record H r) ≡ deletion_filter h g H
+  unfolding deletion_filter
+  filter_record H r = refl
 
   module _ (H : History) (nr nk N j : ℕ) (C : Flash) (ram : List ℕ)
-      (P : Parts h g H nr nk (length H.deleted) N (deletionFilters g (length H.deleted)) C ram)
-      (room : length H.deleted < deletionCapacity g) (number : j < 2 ^ 32)
+      (P : Parts h g H nr nk (length H.deleted) N (deletion_filters g (length H.deleted)) C ram)
+      (room : length H.deleted < deletion_capacity g) (number : j < 2 ^ 32)
       (numbers : (i : ℕ) → i < length H.deleted → get_or H.deleted i 0 < 2 ^ 32) where
     abbrev d : ℕ
     d = length H.deleted
 
     abbrev H⁻ : History
-    H⁻ = withDeletion H j
+    H⁻ = with_deletion H j
 
     abbrev M : ℕ
-    M = deletionFilters g (length H.deleted)
+    M = deletion_filters g (length H.deleted)
 
-    old-number : (i : ℕ) → i < length H.deleted → get_or H.deleted i 0 ≡ get_or (withDeletion H j).deleted i 0
-    old-number i l = sym (get_or-append H.deleted (j ∷ []) 0 i l)
+    old_number_lem : (i : ℕ) → i < length H.deleted → get_or H.deleted i 0 ≡ get_or (with_deletion H j).deleted i 0
+    old_number_lem i l = sym (get_or-append H.deleted (j ∷ []) 0 i l)
 
-    last-number : j ≡ get_or (withDeletion H j).deleted (length H.deleted) 0
-    last-number = sym (get_or-append_seam H.deleted j [] 0)
+    last_number : j ≡ get_or (with_deletion H j).deleted (length H.deleted) 0
+    last_number = sym (get_or-append_seam H.deleted j [] 0)
 
-    half-old : (f x : ℕ) → f < 2 * (length H.deleted / (16 * g.u)) → x < filterBits g.u
-        → deletionFilter h g H f x ≡ deletionFilter h g (withDeletion H j) f x
-    unfolding deletionFilter
-    half-old f x l m =
+    half_old : (f x : ℕ) → f < 2 * (length H.deleted / (16 * g.u)) → x < filter_bits g.u
+        → deletion_filter h g H f x ≡ deletion_filter h g (with_deletion H j) f x
+    unfolding deletion_filter
+    half_old f x l m =
         let E = euclid (length H.deleted) (16 * g.u) (omega (arith, pu)) in
-        any-ext _ _ (8 * g.u) (λ i k. ap (λ (o : ℕ). memb x (numberPositions h g o))
-        (old-number (f * (8 * g.u) + i) (omega (arith, mul-le-mul_right (8 * g.u) l))))
+        any_ext _ _ (8 * g.u) (λ i k. ap (λ (o : ℕ). memb x (number_positions h g o))
+        (old_number_lem (f * (8 * g.u) + i) (omega (arith, mul-le-mul_right (8 * g.u) l))))
 
-    halves-fit : inFull g.u (2 * (length H.deleted / (16 * g.u))) ≤ deletionSets g
-    halves-fit = deletion-places-suffice g.u g.D (length H.deleted) pu (omega arith)
+    halves_fit : in_full g.u (2 * (length H.deleted / (16 * g.u))) ≤ deletion_sets g
+    halves_fit = deletion_places_suffice g.u g.D (length H.deleted) pu (omega arith)
 
     -- the same parts as those of the longer history
-    longer : Parts h g (withDeletion H j) nr nk (length H.deleted) N M C ram
+    longer : Parts h g (with_deletion H j) nr nk (length H.deleted) N M C ram
     longer = record {
       ra = P.ra;
       ka = P.ka;
       da =
-          area-ext g.u pu (DA g) g.D (omega arith) (omega (arith, pu)) (omega arith) (daItem H) (daItem (withDeletion H j))
+          area_ext g.u pu (DA g) g.D (omega arith) (omega (arith, pu)) (omega arith) (da_item H) (da_item (with_deletion H j))
           (length H.deleted) C.main C.spare ram
-          (λ i b l m. ap (λ (x : ℕ). get_or (deletionBytes x) b 0) (old-number i l)) P.da;
-      filters = rw (filter-deletion H j) P.filters;
-      deletions = index-ext g.u e unit (deletionIndex g) (deletionSets g) (deletionFilter h g H)
-          (deletionFilter h g (withDeletion H j)) M C.main C.spare ram half-old halves-fit P.deletions;
+          (λ i b l m. ap (λ (x : ℕ). get_or (deletion_bytes x) b 0) (old_number_lem i l)) P.da;
+      filters = rw (filter_deletion H j) P.filters;
+      deletions = index_ext g.u e unit (deletion_index g) (deletion_sets g) (deletion_filter h g H)
+          (deletion_filter h g (with_deletion H j)) M C.main C.spare ram half_old halves_fit P.deletions;
       long = P.long;
     }
 
-    new : (b : ℕ) → b < 4 → get_or (deletionBytes j) b 0 ≡ daItem (withDeletion H j) (length H.deleted) b
-    new b l = ap (λ (x : ℕ). get_or (deletionBytes x) b 0) last-number
+    new : (b : ℕ) → b < 4 → get_or (deletion_bytes j) b 0 ≡ da_item (with_deletion H j) (length H.deleted) b
+    new b l = ap (λ (x : ℕ). get_or (deletion_bytes x) b 0) last_number
 
     -- ---- the number into DA
 
-    abbrev daOps : List Op
-    daOps = numberOps g (length H.deleted) j ram
+    abbrev da_ops : List Op
+    da_ops = number_ops g (length H.deleted) j ram
 
     abbrev ramᵃ : List ℕ
-    ramᵃ = numberRam g (length H.deleted) j ram
+    ramᵃ = number_ram g (length H.deleted) j ram
 
     abbrev Cᵃ : Flash
-    Cᵃ = applyAll g.u daOps C
+    Cᵃ = apply_all g.u da_ops C
 
-    didᵃ : Did g.u (DA g).first ((DA g).first + g.D) (DA g).ram C ram ramᵃ daOps
-    didᵃ = parts.da-did h g e unit H⁻ nr nk d N M C ram longer (deletionBytes j) (length-deletion j) new room
+    didᵃ : Did g.u (DA g).first ((DA g).first + g.D) (DA g).ram C ram ramᵃ da_ops
+    didᵃ = parts.da_did h g e unit H⁻ nr nk d N M C ram longer (deletion_bytes j) (length_deletion j) new room
 
     partsᵃ : Parts h g H⁻ nr nk (d + 1) N M Cᵃ ramᵃ
-    partsᵃ = parts.da-parts h g e unit H⁻ nr nk d N M C ram longer (deletionBytes j) (length-deletion j) new room
+    partsᵃ = parts.da_parts h g e unit H⁻ nr nk d N M C ram longer (deletion_bytes j) (length_deletion j) new room
 
     beyondᵃ : Beyond g C Cᵃ ram ramᵃ
-    beyondᵃ = frame-beyond g (DA g).first ((DA g).first + g.D) (DA g).ram C Cᵃ ram ramᵃ didᵃ.frame (omega arith) (omega arith)
+    beyondᵃ = frame_beyond g (DA g).first ((DA g).first + g.D) (DA g).ram C Cᵃ ram ramᵃ didᵃ.frame (omega arith) (omega arith)
 
     -- ---- the two filters of a page that is full now
 
-    numbers' : (i : ℕ) → i < length H.deleted + 1 → get_or (withDeletion H j).deleted i 0 < 2 ^ 32
+    numbers' : (i : ℕ) → i < length H.deleted + 1 → get_or (with_deletion H j).deleted i 0 < 2 ^ 32
     numbers' i l =
         either (lt? i (length H.deleted))
-        (λ a. rw (← (old-number i a.1)) (numbers i a.1))
-        (λ a. let q : i ≡ length H.deleted = omega arith in rw (q, ← last-number) number)
+        (λ a. rw (← (old_number_lem i a.1)) (numbers i a.1))
+        (λ a. let q : i ≡ length H.deleted = omega arith in rw (q, ← last_number) number)
 
     module _ (full : length H.deleted % (16 * g.u) + 1 ≡ 16 * g.u) where
       number_at : (i : ℕ) → i < 16 * g.u
-          → word (put (DA g) d (deletionBytes j) ram) (daRam g.u + i * 4)
-          ≡ get_or (withDeletion H j).deleted (length H.deleted / (16 * g.u) * (16 * g.u) + i) 0
+          → word (put (DA g) d (deletion_bytes j) ram) (da_ram g.u + i * 4)
+          ≡ get_or (with_deletion H j).deleted (length H.deleted / (16 * g.u) * (16 * g.u) + i) 0
       number_at i l =
           let E = euclid (length H.deleted) (16 * g.u) (omega (arith, pu)) in
-          let at : daRam g.u + i * 4 + 0 * 4 ≡ daRam g.u + i * 4 = omega arith in
-          let k = get_or (withDeletion H j).deleted (length H.deleted / (16 * g.u) * (16 * g.u) + i) 0 in
+          let at : da_ram g.u + i * 4 + 0 * 4 ≡ da_ram g.u + i * 4 = omega arith in
+          let k = get_or (with_deletion H j).deleted (length H.deleted / (16 * g.u) * (16 * g.u) + i) 0 in
           rw at at
-          (put_word g.u pu (DA g) g.D (omega arith) (omega (arith, pu)) (omega arith) (daItem H⁻) d (deletionBytes j) C ram
-          longer.da (length-deletion j) new
-          (parts.da-room h g e unit H⁻ nr nk d N M C ram longer (deletionBytes j) (length-deletion j) new room)
-          (omega (arith, P.long.read.main-fits)) (omega (arith, P.long.spare-fits)) (omega (arith, P.long.read.ram-fits))
+          (put_word g.u pu (DA g) g.D (omega arith) (omega (arith, pu)) (omega arith) (da_item H⁻) d (deletion_bytes j) C ram
+          longer.da (length_deletion j) new
+          (parts.da_room h g e unit H⁻ nr nk d N M C ram longer (deletion_bytes j) (length_deletion j) new room)
+          (omega (arith, P.long.read.main_fits)) (omega (arith, P.long.spare_fits)) (omega (arith, P.long.read.ram_fits))
           i 0 k (omega arith) (omega arith) (numbers' (length H.deleted / (16 * g.u) * (16 * g.u) + i) (omega arith))
-          (λ b m. deletion-number k b m))
+          (λ b m. deletion_number k b m))
 
-      half-same : (i x : ℕ) → i < 2
-          → newHalf h g d j i ram x ≡ deletionFilter h g (withDeletion H j) (2 * (length H.deleted / (16 * g.u)) + i) x
-      unfolding halfFilter deletionFilter
-      half-same i x l =
-          any-ext _ _ (8 * g.u) (λ y m.
+      half_same : (i x : ℕ) → i < 2
+          → new_half h g d j i ram x ≡ deletion_filter h g (with_deletion H j) (2 * (length H.deleted / (16 * g.u)) + i) x
+      unfolding half_filter deletion_filter
+      half_same i x l =
+          any_ext _ _ (8 * g.u) (λ y m.
           let s : length H.deleted / (16 * g.u) * (16 * g.u) + (i * (8 * g.u) + y)
           ≡ (2 * (length H.deleted / (16 * g.u)) + i) * (8 * g.u) + y = omega arith in
-          ap (λ (o : ℕ). memb x (numberPositions h g o))
+          ap (λ (o : ℕ). memb x (number_positions h g o))
           (number_at (i * (8 * g.u) + y) (omega (arith, m, mul-le-mul_right (8 * g.u) l))
-          ∙ ap (λ (z : ℕ). get_or (withDeletion H j).deleted z 0) s))
+          ∙ ap (λ (z : ℕ). get_or (with_deletion H j).deleted z 0) s))
 
-      next-page : (length H.deleted + 1) / (16 * g.u) ≡ length H.deleted / (16 * g.u) + 1
-      next-page = either (carry (length H.deleted) (16 * g.u) (omega (arith, pu))) (λ c. c.1) (λ c. absurd (c.0 full))
+      next_page : (length H.deleted + 1) / (16 * g.u) ≡ length H.deleted / (16 * g.u) + 1
+      next_page = either (carry (length H.deleted) (16 * g.u) (omega (arith, pu))) (λ c. c.1) (λ c. absurd (c.0 full))
 
-      two-more : 2 * ((length H.deleted + 1) / (16 * g.u)) ≡ 2 * (length H.deleted / (16 * g.u)) + 1 + 1
-      two-more = rw next-page (omega arith)
+      two_more : 2 * ((length H.deleted + 1) / (16 * g.u)) ≡ 2 * (length H.deleted / (16 * g.u)) + 1 + 1
+      two_more = rw next_page (omega arith)
 
-      one-fits : inFull g.u (2 * (length H.deleted / (16 * g.u)) + 1) ≤ deletionSets g
-      one-fits =
+      one_fits : in_full g.u (2 * (length H.deleted / (16 * g.u)) + 1) ≤ deletion_sets g
+      one_fits =
           let s : (2 * (length H.deleted / (16 * g.u)) + 1) / 8 ≡ 2 * (length H.deleted / (16 * g.u)) / 8 = omega arith in
-          rw s halves-fit
+          rw s halves_fit
 
-      both-fit : inFull g.u (2 * (length H.deleted / (16 * g.u)) + 1 + 1) ≤ deletionSets g
-      both-fit = rw (← two-more) (deletion-places-suffice g.u g.D (length H.deleted + 1) pu (omega arith))
+      both_fit : in_full g.u (2 * (length H.deleted / (16 * g.u)) + 1 + 1) ≤ deletion_sets g
+      both_fit = rw (← two_more) (deletion_places_suffice g.u g.D (length H.deleted + 1) pu (omega arith))
 
-      first-same : (x : ℕ) → x < filterBits g.u → newHalf h g d j 0 ram x ≡ deletionFilter h g (withDeletion H j) M x
-      first-same x l = let z : M + 0 ≡ M = omega arith in rw z at (half-same 0 x (omega arith))
+      first_same : (x : ℕ) → x < filter_bits g.u → new_half h g d j 0 ram x ≡ deletion_filter h g (with_deletion H j) M x
+      first_same x l = let z : M + 0 ≡ M = omega arith in rw z at (half_same 0 x (omega arith))
 
       -- the first is not flushed
-      partsᵇ : Parts h g H⁻ nr nk (d + 1) N (M + 1) Cᵃ (oneHalf h g d j ram)
+      partsᵇ : Parts h g H⁻ nr nk (d + 1) N (M + 1) Cᵃ (one_half h g d j ram)
       partsᵇ =
-          rw (first-of-pair (length H.deleted / (16 * g.u)))
-          at (parts.half-parts h g e unit H⁻ nr nk (d + 1) N M Cᵃ ramᵃ partsᵃ (newHalf h g d j 0 ram) first-same one-fits)
+          rw (first_of_pair (length H.deleted / (16 * g.u)))
+          at (parts.half_parts h g e unit H⁻ nr nk (d + 1) N M Cᵃ ramᵃ partsᵃ (new_half h g d j 0 ram) first_same one_fits)
 
-      didᵇ : Did g.u (deletionIndexBlock g) (fullBlock g.u (deletionIndex g) (deletionSets g)) (deletionIndex g).ska Cᵃ ramᵃ
-          (oneHalf h g d j ram) []
+      didᵇ : Did g.u (deletion_index_block g) (full_block g.u (deletion_index g) (deletion_sets g)) (deletion_index g).ska Cᵃ ramᵃ
+          (one_half h g d j ram) []
       didᵇ =
-          rw (first-of-pair (length H.deleted / (16 * g.u)))
-          at (parts.half-did h g e unit H⁻ nr nk (d + 1) N M Cᵃ ramᵃ partsᵃ (newHalf h g d j 0 ram) first-same one-fits)
+          rw (first_of_pair (length H.deleted / (16 * g.u)))
+          at (parts.half_did h g e unit H⁻ nr nk (d + 1) N M Cᵃ ramᵃ partsᵃ (new_half h g d j 0 ram) first_same one_fits)
 
-      abbrev ixOpsᶜ : List Op
-      ixOpsᶜ = filterOps g.u (deletionIndex g) Cᵃ (deletionFilters g d + 1) (both_halves h g d j ram)
+      abbrev ix_opsᶜ : List Op
+      ix_opsᶜ = filter_ops g.u (deletion_index g) Cᵃ (deletion_filters g d + 1) (both_halves h g d j ram)
 
       abbrev ramᶜ : List ℕ
-      ramᶜ = filterRam g.u (deletionIndex g) (deletionFilters g d + 1) (both_halves h g d j ram)
+      ramᶜ = filter_ram g.u (deletion_index g) (deletion_filters g d + 1) (both_halves h g d j ram)
 
       abbrev Cᶜ : Flash
-      Cᶜ = applyAll g.u ixOpsᶜ Cᵃ
+      Cᶜ = apply_all g.u ix_opsᶜ Cᵃ
 
-      didᶜ : Did g.u (deletionIndexBlock g) (fullBlock g.u (deletionIndex g) (deletionSets g)) (deletionIndex g).ska Cᵃ
-          (oneHalf h g d j ram) ramᶜ ixOpsᶜ
+      didᶜ : Did g.u (deletion_index_block g) (full_block g.u (deletion_index g) (deletion_sets g)) (deletion_index g).ska Cᵃ
+          (one_half h g d j ram) ramᶜ ix_opsᶜ
       didᶜ =
-          parts.half-did h g e unit H⁻ nr nk (d + 1) N (M + 1) Cᵃ (oneHalf h g d j ram) partsᵇ (newHalf h g d j 1 ram)
-          (λ x l. half-same 1 x (omega arith)) both-fit
+          parts.half_did h g e unit H⁻ nr nk (d + 1) N (M + 1) Cᵃ (one_half h g d j ram) partsᵇ (new_half h g d j 1 ram)
+          (λ x l. half_same 1 x (omega arith)) both_fit
 
       partsᶜ : Parts h g H⁻ nr nk (d + 1) N (M + 1 + 1) Cᶜ ramᶜ
       partsᶜ =
-          parts.half-parts h g e unit H⁻ nr nk (d + 1) N (M + 1) Cᵃ (oneHalf h g d j ram) partsᵇ (newHalf h g d j 1 ram)
-          (λ x l. half-same 1 x (omega arith)) both-fit
+          parts.half_parts h g e unit H⁻ nr nk (d + 1) N (M + 1) Cᵃ (one_half h g d j ram) partsᵇ (new_half h g d j 1 ram)
+          (λ x l. half_same 1 x (omega arith)) both_fit
 
-      doneᶜ : applyAll g.u (daOps ++ ixOpsᶜ) C ≡ Cᶜ
-      doneᶜ = apply-append g.u daOps ixOpsᶜ C
+      doneᶜ : apply_all g.u (da_ops ++ ix_opsᶜ) C ≡ Cᶜ
+      doneᶜ = apply_append g.u da_ops ix_opsᶜ C
 
-      removed-full : Removed h g H⁻ nr nk (d + 1) N C ram (daOps ++ ixOpsᶜ) ramᶜ
-      removed-full = record {
-        grown = rw (doneᶜ, two-more) partsᶜ;
-        allowed = allowed-append g.u daOps ixOpsᶜ C didᵃ.allowed didᶜ.allowed;
+      removed_full : Removed h g H⁻ nr nk (d + 1) N C ram (da_ops ++ ix_opsᶜ) ramᶜ
+      removed_full = record {
+        grown = rw (doneᶜ, two_more) partsᶜ;
+        allowed = allowed_append g.u da_ops ix_opsᶜ C didᵃ.allowed didᶜ.allowed;
         beyond = rw doneᶜ
-            (beyond-then g C Cᵃ Cᶜ ram ramᵃ ramᶜ beyondᵃ
-            (beyond-then g Cᵃ Cᵃ Cᶜ ramᵃ (oneHalf h g d j ram) ramᶜ
-            (frame-beyond g (deletionIndexBlock g) (fullBlock g.u (deletionIndex g) (deletionSets g)) (deletionIndex g).ska Cᵃ Cᵃ ramᵃ _
+            (beyond_then g C Cᵃ Cᶜ ram ramᵃ ramᶜ beyondᵃ
+            (beyond_then g Cᵃ Cᵃ Cᶜ ramᵃ (one_half h g d j ram) ramᶜ
+            (frame_beyond g (deletion_index_block g) (full_block g.u (deletion_index g) (deletion_sets g)) (deletion_index g).ska Cᵃ Cᵃ ramᵃ _
             didᵇ.frame (omega arith) (omega arith))
-            (frame-beyond g (deletionIndexBlock g) (fullBlock g.u (deletionIndex g) (deletionSets g)) (deletionIndex g).ska Cᵃ Cᶜ _ ramᶜ
+            (frame_beyond g (deletion_index_block g) (full_block g.u (deletion_index g) (deletion_sets g)) (deletion_index g).ska Cᵃ Cᶜ _ ramᶜ
             didᶜ.frame (omega arith) (omega arith))));
         fresh = λ spare agree.
-            fresh-append spare daOps ixOpsᶜ (didᵃ.fresh spare (λ x l m. agree x (omega arith)))
+            fresh_append spare da_ops ix_opsᶜ (didᵃ.fresh spare (λ x l m. agree x (omega arith)))
             (didᶜ.fresh spare (λ x l m. agree x (omega arith) ∙ sym (didᵃ.frame.spare x (inr (omega arith)))));
         outside = λ x o. rw doneᶜ (didᶜ.frame.spare x (inl o.0) ∙ didᵃ.frame.spare x o.1);
       }
 
-    removed-part : length H.deleted % (16 * g.u) + 1 ≢ 16 * g.u → Removed h g H⁻ nr nk (d + 1) N C ram (daOps ++ []) ramᵃ
-    removed-part part =
-        let same-pages : (length H.deleted + 1) / (16 * g.u) ≡ length H.deleted / (16 * g.u)
+    removed_part : length H.deleted % (16 * g.u) + 1 ≢ 16 * g.u → Removed h g H⁻ nr nk (d + 1) N C ram (da_ops ++ []) ramᵃ
+    removed_part part =
+        let same_pages : (length H.deleted + 1) / (16 * g.u) ≡ length H.deleted / (16 * g.u)
         = either (carry (length H.deleted) (16 * g.u) (omega (arith, pu))) (λ c. absurd (part c.0)) (λ c. c.1) in
-        rw (append-nil daOps)
+        rw (append-nil da_ops)
         (record {
-          grown = rw same-pages partsᵃ;
+          grown = rw same_pages partsᵃ;
           allowed = didᵃ.allowed;
           beyond = beyondᵃ;
           fresh = λ spare agree. didᵃ.fresh spare (λ x l m. agree x (omega arith));
           outside = λ x o. didᵃ.frame.spare x o.1;
         })
 
-    by-da-page : (b : Bool) (os : List Op) (r₃ : List ℕ) → (b ≡ true → Removed h g H⁻ nr nk (d + 1) N C ram (daOps ++ os) r₃)
-        → (b ≡ false → Removed h g H⁻ nr nk (d + 1) N C ram (daOps ++ []) ramᵃ)
-        → Removed h g H⁻ nr nk (d + 1) N C ram (daOps ++ cond b os []) (cond b r₃ ramᵃ)
-    by-da-page true os r₃ full part = full refl
-    by-da-page false os r₃ full part = part refl
+    by_da_page : (b : Bool) (os : List Op) (r₃ : List ℕ) → (b ≡ true → Removed h g H⁻ nr nk (d + 1) N C ram (da_ops ++ os) r₃)
+        → (b ≡ false → Removed h g H⁻ nr nk (d + 1) N C ram (da_ops ++ []) ramᵃ)
+        → Removed h g H⁻ nr nk (d + 1) N C ram (da_ops ++ cond b os []) (cond b r₃ ramᵃ)
+    by_da_page true os r₃ full part = full refl
+    by_da_page false os r₃ full part = part refl
 
-    pub deletion-changes : Removed h g H⁻ nr nk (d + 1) N C ram (planOps g.u (deletionPlan h g d j ram) C) (deletionRam h g d j ram)
-    deletion-changes =
-        rw (deletion-ops h g d j ram e unit C, deletion-ram h g d j ram)
-        (by-da-page (fills (DA g) d) _ _ (λ q. removed-full (eqb-true _ _ q)) (λ q. removed-part (eqb-false _ _ q)))
+    pub deletion_changes : Removed h g H⁻ nr nk (d + 1) N C ram (plan_ops g.u (deletion_plan h g d j ram) C) (deletion_ram h g d j ram)
+    deletion_changes =
+        rw (deletion_ops_lem h g d j ram e unit C, deletion_ram_lem h g d j ram)
+        (by_da_page (fills (DA g) d) _ _ (λ q. removed_full (eqb-true _ _ q)) (λ q. removed_part (eqb-false _ _ q)))
 
   -- ---- an insertion
 
   module _ (H : History) (r : Record) (d M : ℕ) (C : Flash) (ram : List ℕ)
-      (P : Parts h g H (length H.records) (length H.records) d (keyFilters g (length H.records)) M C ram)
-      (room : length H.records < recordCapacity g) (few : recordCapacity g < 2 ^ 24) (key-word : KeyOk r.key)
-      (words : (j : ℕ) → j < length H.records → KeyOk (recordAt H j).key) where
+      (P : Parts h g H (length H.records) (length H.records) d (key_filters g (length H.records)) M C ram)
+      (room : length H.records < record_capacity g) (few : record_capacity g < 2 ^ 24) (key_word : KeyOk r.key)
+      (words : (j : ℕ) → j < length H.records → KeyOk (record_at H j).key) where
     abbrev n : ℕ
     n = length H.records
 
     abbrev H' : History
-    H' = withRecord H r
+    H' = with_record H r
 
     abbrev N : ℕ
-    N = keyFilters g (length H.records)
+    N = key_filters g (length H.records)
 
-    old : (j : ℕ) → j < length H.records → recordAt H j ≡ recordAt (withRecord H r) j
-    old j l = sym (get_or-append H.records (r ∷ []) noRecord j l)
+    old : (j : ℕ) → j < length H.records → record_at H j ≡ record_at (with_record H r) j
+    old j l = sym (get_or-append H.records (r ∷ []) no_record j l)
 
-    last : r ≡ recordAt (withRecord H r) (length H.records)
-    last = sym (get_or-append_seam H.records r [] noRecord)
+    last : r ≡ record_at (with_record H r) (length H.records)
+    last = sym (get_or-append_seam H.records r [] no_record)
 
-    filter-old : (f x : ℕ) → f < length H.records / (8 * g.u) → x < filterBits g.u
-        → keyFilter h g H f x ≡ keyFilter h g (withRecord H r) f x
-    unfolding keyFilter
-    filter-old f x l m =
+    filter_old : (f x : ℕ) → f < length H.records / (8 * g.u) → x < filter_bits g.u
+        → key_filter h g H f x ≡ key_filter h g (with_record H r) f x
+    unfolding key_filter
+    filter_old f x l m =
         let E = euclid (length H.records) (8 * g.u) (omega (arith, pu)) in
-        any-ext _ _ (8 * g.u) (λ i k. ap (λ (o : Record). memb x (keyPositions h g o.key))
+        any_ext _ _ (8 * g.u) (λ i k. ap (λ (o : Record). memb x (key_positions h g o.key))
         (old (f * (8 * g.u) + i) (omega (arith, mul-le-mul_right (8 * g.u) l))))
 
-    sets-fit : inFull g.u (length H.records / (8 * g.u)) ≤ fullSets g
-    sets-fit = places-suffice g.u g.R (length H.records) pu (omega arith)
+    sets_fit : in_full g.u (length H.records / (8 * g.u)) ≤ full_sets g
+    sets_fit = places_suffice g.u g.R (length H.records) pu (omega arith)
 
-    longer-record : Parts h g (withRecord H r) n n d N M C ram
-    longer-record = record {
+    longer_record : Parts h g (with_record H r) n n d N M C ram
+    longer_record = record {
       ra =
-          area-ext g.u pu (Ra g) g.R (omega arith) (omega (arith, pu)) (omega arith) (raItem H) (raItem (withRecord H r)) n C.main
+          area_ext g.u pu (Ra g) g.R (omega arith) (omega (arith, pu)) (omega arith) (ra_item H) (ra_item (with_record H r)) n C.main
           C.spare ram
-          (λ j b l m. ap (λ (o : Record). get_or (recordBytes o) b 0) (old j l)) P.ra;
+          (λ j b l m. ap (λ (o : Record). get_or (record_bytes o) b 0) (old j l)) P.ra;
       ka =
-          area-ext g.u pu (KA g) (kaBlocks g) (omega arith) (omega (arith, pu)) (omega arith) (kaItem H) (kaItem (withRecord H r)) n
+          area_ext g.u pu (KA g) (ka_blocks g) (omega arith) (omega (arith, pu)) (omega arith) (ka_item H) (ka_item (with_record H r)) n
           C.main C.spare ram
-          (λ j b l m. ap (λ (o : Record). get_or (entryBytes o.key j) b 0) (old j l)) P.ka;
+          (λ j b l m. ap (λ (o : Record). get_or (entry_bytes o.key j) b 0) (old j l)) P.ka;
       da = P.da;
-      filters = index-ext g.u e unit (keyIndex g) (fullSets g) (keyFilter h g H) (keyFilter h g (withRecord H r)) N C.main
-          C.spare ram filter-old sets-fit P.filters;
-      deletions = rw (filter-record H r) P.deletions;
+      filters = index_ext g.u e unit (key_index g) (full_sets g) (key_filter h g H) (key_filter h g (with_record H r)) N C.main
+          C.spare ram filter_old sets_fit P.filters;
+      deletions = rw (filter_record H r) P.deletions;
       long = P.long;
     }
 
     -- ---- the record into Ra, its entry into KA
 
     abbrev entry : List ℕ
-    entry = entryBytes r.key (length H.records)
+    entry = entry_bytes r.key (length H.records)
 
-    abbrev raOps : List Op
-    raOps = recordOps g (length H.records) (recordBytes r) ram
+    abbrev ra_ops : List Op
+    ra_ops = record_ops g (length H.records) (record_bytes r) ram
 
     abbrev ram₁ : List ℕ
-    ram₁ = recordRam g (length H.records) (recordBytes r) ram
+    ram₁ = record_ram g (length H.records) (record_bytes r) ram
 
     abbrev C₁ : Flash
-    C₁ = applyAll g.u raOps C
+    C₁ = apply_all g.u ra_ops C
 
-    abbrev kaOps : List Op
-    kaOps = entryOps g (length H.records) r.key (recordBytes r) ram
+    abbrev ka_ops : List Op
+    ka_ops = entry_ops g (length H.records) r.key (record_bytes r) ram
 
     abbrev ram₂ : List ℕ
-    ram₂ = entryRam g (length H.records) r.key (recordBytes r) ram
+    ram₂ = entry_ram g (length H.records) r.key (record_bytes r) ram
 
     abbrev C₂ : Flash
-    C₂ = entered g (length H.records) r.key (recordBytes r) ram C
+    C₂ = entered g (length H.records) r.key (record_bytes r) ram C
 
-    bytes-size : length (recordBytes r) ≡ 16
-    bytes-size = length-record r
+    bytes_size : length (record_bytes r) ≡ 16
+    bytes_size = length_record r
 
-    record-new : (b : ℕ) → b < 16 → get_or (recordBytes r) b 0 ≡ raItem (withRecord H r) (length H.records) b
-    record-new b l = ap (λ (o : Record). get_or (recordBytes o) b 0) last
+    record_new : (b : ℕ) → b < 16 → get_or (record_bytes r) b 0 ≡ ra_item (with_record H r) (length H.records) b
+    record_new b l = ap (λ (o : Record). get_or (record_bytes o) b 0) last
 
-    entry_new : (b : ℕ) → b < 8 → get_or (entryBytes r.key (length H.records)) b 0 ≡ kaItem (withRecord H r) (length H.records) b
-    entry_new b l = ap (λ (o : Record). get_or (entryBytes o.key (length H.records)) b 0) last
+    entry_new : (b : ℕ) → b < 8 → get_or (entry_bytes r.key (length H.records)) b 0 ≡ ka_item (with_record H r) (length H.records) b
+    entry_new b l = ap (λ (o : Record). get_or (entry_bytes o.key (length H.records)) b 0) last
 
-    did₁ : Did g.u (Ra g).first ((Ra g).first + g.R) (Ra g).ram C ram ram₁ raOps
-    did₁ = parts.ra-did h g e unit H' n n d N M C ram longer-record (recordBytes r) bytes-size record-new room
+    did₁ : Did g.u (Ra g).first ((Ra g).first + g.R) (Ra g).ram C ram ram₁ ra_ops
+    did₁ = parts.ra_did h g e unit H' n n d N M C ram longer_record (record_bytes r) bytes_size record_new room
 
     parts₁ : Parts h g H' (n + 1) n d N M C₁ ram₁
-    parts₁ = parts.ra-parts h g e unit H' n n d N M C ram longer-record (recordBytes r) bytes-size record-new room
+    parts₁ = parts.ra_parts h g e unit H' n n d N M C ram longer_record (record_bytes r) bytes_size record_new room
 
-    did₂ : Did g.u (KA g).first ((KA g).first + kaBlocks g) (KA g).ram C₁ ram₁ ram₂ kaOps
-    did₂ = parts.ka-did h g e unit H' (n + 1) n d N M C₁ ram₁ parts₁ entry (length-entry r.key n) entry_new room
+    did₂ : Did g.u (KA g).first ((KA g).first + ka_blocks g) (KA g).ram C₁ ram₁ ram₂ ka_ops
+    did₂ = parts.ka_did h g e unit H' (n + 1) n d N M C₁ ram₁ parts₁ entry (length_entry r.key n) entry_new room
 
     parts₂ : Parts h g H' (n + 1) (n + 1) d N M C₂ ram₂
-    parts₂ = parts.ka-parts h g e unit H' (n + 1) n d N M C₁ ram₁ parts₁ entry (length-entry r.key n) entry_new room
+    parts₂ = parts.ka_parts h g e unit H' (n + 1) n d N M C₁ ram₁ parts₁ entry (length_entry r.key n) entry_new room
 
     -- ---- the filter of a page that is full now
 
     abbrev keys : List ℕ
     keys = put (KA g) (length H.records) entry ram₁
 
-    words' : (j : ℕ) → j < length H.records + 1 → KeyOk (recordAt (withRecord H r) j).key
+    words' : (j : ℕ) → j < length H.records + 1 → KeyOk (record_at (with_record H r) j).key
     words' j l =
         either (lt? j (length H.records))
         (λ a. rw (← (old j a.1)) (words j a.1))
-        (λ a. let q : j ≡ length H.records = omega arith in rw (q, ← last) key-word)
+        (λ a. let q : j ≡ length H.records = omega arith in rw (q, ← last) key_word)
 
     module _ (full : length H.records % (8 * g.u) + 1 ≡ 8 * g.u) where
       -- the record number of entry i of the page
       abbrev number : ℕ → ℕ
       number i = length H.records / (8 * g.u) * (8 * g.u) + i
 
-      number-le : (i : ℕ) → i < 8 * g.u → number i < length H.records + 1
-      number-le i l = let E = euclid (length H.records) (8 * g.u) (omega (arith, pu)) in omega arith
+      number_le : (i : ℕ) → i < 8 * g.u → number i < length H.records + 1
+      number_le i l = let E = euclid (length H.records) (8 * g.u) (omega (arith, pu)) in omega arith
 
       -- word x of entry i of the page
       word_at : (i x value : ℕ) → i < 8 * g.u → x < 2 → value < 2 ^ 32
-          → ((b : ℕ) → b < 4 → kaItem H' (number i) (x * 4 + b) ≡ byte_of value b) → word keys (kaRam g.u + i * 8 + x * 4) ≡ value
+          → ((b : ℕ) → b < 4 → ka_item H' (number i) (x * 4 + b) ≡ byte_of value b) → word keys (ka_ram g.u + i * 8 + x * 4) ≡ value
       word_at i x value l two fits bytes =
-          put_word g.u pu (KA g) (kaBlocks g) (omega arith) (omega (arith, pu)) (omega arith) (kaItem H') n entry C₁ ram₁ parts₁.ka
-          (length-entry r.key n) entry_new
-          (parts.ka-room h g e unit H' (n + 1) n d N M C₁ ram₁ parts₁ entry (length-entry r.key n) entry_new room)
-          (omega (arith, parts₁.long.read.main-fits)) (omega (arith, parts₁.long.spare-fits))
-          (omega (arith, parts₁.long.read.ram-fits))
+          put_word g.u pu (KA g) (ka_blocks g) (omega arith) (omega (arith, pu)) (omega arith) (ka_item H') n entry C₁ ram₁ parts₁.ka
+          (length_entry r.key n) entry_new
+          (parts.ka_room h g e unit H' (n + 1) n d N M C₁ ram₁ parts₁ entry (length_entry r.key n) entry_new room)
+          (omega (arith, parts₁.long.read.main_fits)) (omega (arith, parts₁.long.spare_fits))
+          (omega (arith, parts₁.long.read.ram_fits))
           i x value (omega arith) (omega arith) fits bytes
 
-      key-at : (i : ℕ) → i < 8 * g.u → key_at keys (kaRam g.u + i * 8) ≡ (recordAt (withRecord H r) (number i)).key
-      key-at i l =
-          let k : Key = (recordAt (withRecord H r) (number i)).key in
-          let small : number i < 2 ^ 24 = omega (arith, number-le i l, room, few) in
-          let at : kaRam g.u + i * 8 + 0 * 4 ≡ kaRam g.u + i * 8 = omega arith in
-          let first : word keys (kaRam g.u + i * 8) ≡ k
-          = rw at at (word_at i 0 k l (omega arith) (words' (number i) (number-le i l)).level-lt (λ b m. entry_key k (number i) b m)) in
-          let second : word keys (kaRam g.u + i * 8 + 4) ≡ number i
-          = word_at i 1 (number i) l (omega arith) (omega (arith, small)) (λ b m. entry-number k (number i) b m) in
-          ap₂ keyIn first second
+      key_at_lem : (i : ℕ) → i < 8 * g.u → key_at keys (ka_ram g.u + i * 8) ≡ (record_at (with_record H r) (number i)).key
+      key_at_lem i l =
+          let k : Key = (record_at (with_record H r) (number i)).key in
+          let small : number i < 2 ^ 24 = omega (arith, number_le i l, room, few) in
+          let at : ka_ram g.u + i * 8 + 0 * 4 ≡ ka_ram g.u + i * 8 = omega arith in
+          let first : word keys (ka_ram g.u + i * 8) ≡ k
+          = rw at at (word_at i 0 k l (omega arith) (words' (number i) (number_le i l)).level_lt (λ b m. entry_key k (number i) b m)) in
+          let second : word keys (ka_ram g.u + i * 8 + 4) ≡ number i
+          = word_at i 1 (number i) l (omega arith) (omega (arith, small)) (λ b m. entry_number k (number i) b m) in
+          ap₂ key_in first second
 
-      same : (x : ℕ) → x < filterBits g.u → pageFilter h g keys x ≡ keyFilter h g (withRecord H r) (length H.records / (8 * g.u)) x
-      unfolding pageFilter keyFilter
-      same x l = any-ext _ _ (8 * g.u) (λ i m. ap (λ (k : Key). memb x (keyPositions h g k)) (key-at i m))
+      same : (x : ℕ) → x < filter_bits g.u → page_filter h g keys x ≡ key_filter h g (with_record H r) (length H.records / (8 * g.u)) x
+      unfolding page_filter key_filter
+      same x l = any_ext _ _ (8 * g.u) (λ i m. ap (λ (k : Key). memb x (key_positions h g k)) (key_at_lem i m))
 
       next : (length H.records + 1) / (8 * g.u) ≡ length H.records / (8 * g.u) + 1
       next = either (carry (length H.records) (8 * g.u) (omega (arith, pu))) (λ c. c.1) (λ c. absurd (c.0 full))
 
-      sets-fit' : inFull g.u (length H.records / (8 * g.u) + 1) ≤ fullSets g
-      sets-fit' = rw (← next) (places-suffice g.u g.R (length H.records + 1) pu (omega arith))
+      sets_fit' : in_full g.u (length H.records / (8 * g.u) + 1) ≤ full_sets g
+      sets_fit' = rw (← next) (places_suffice g.u g.R (length H.records + 1) pu (omega arith))
 
-      abbrev filterIn : List ℕ
-      filterIn = filteredRam h g (length H.records) r.key (recordBytes r) ram
+      abbrev filter_in : List ℕ
+      filter_in = filtered_ram h g (length H.records) r.key (record_bytes r) ram
 
-      did₃ : Did g.u (indexBlock g) (fullBlock g.u (keyIndex g) (fullSets g)) (keyIndex g).ska C₂ ram₂
-          (filterRam g.u (keyIndex g) N filterIn) (filterOps g.u (keyIndex g) C₂ N filterIn)
-      did₃ = parts.index-did h g e unit H' (n + 1) (n + 1) d N M C₂ ram₂ parts₂ (pageFilter h g keys) same sets-fit'
+      did₃ : Did g.u (index_block g) (full_block g.u (key_index g) (full_sets g)) (key_index g).ska C₂ ram₂
+          (filter_ram g.u (key_index g) N filter_in) (filter_ops g.u (key_index g) C₂ N filter_in)
+      did₃ = parts.index_did h g e unit H' (n + 1) (n + 1) d N M C₂ ram₂ parts₂ (page_filter h g keys) same sets_fit'
 
-      parts₃ : Parts h g H' (n + 1) (n + 1) d (N + 1) M (applyAll g.u (filterOps g.u (keyIndex g) C₂ N filterIn) C₂)
-          (filterRam g.u (keyIndex g) N filterIn)
-      parts₃ = parts.index-parts h g e unit H' (n + 1) (n + 1) d N M C₂ ram₂ parts₂ (pageFilter h g keys) same sets-fit'
+      parts₃ : Parts h g H' (n + 1) (n + 1) d (N + 1) M (apply_all g.u (filter_ops g.u (key_index g) C₂ N filter_in) C₂)
+          (filter_ram g.u (key_index g) N filter_in)
+      parts₃ = parts.index_parts h g e unit H' (n + 1) (n + 1) d N M C₂ ram₂ parts₂ (page_filter h g keys) same sets_fit'
 
     -- ---- all of it
 
     beyond₂ : Beyond g C C₂ ram ram₂
     beyond₂ =
-        beyond-then g C C₁ C₂ ram ram₁ ram₂
-        (frame-beyond g (Ra g).first ((Ra g).first + g.R) (Ra g).ram C C₁ ram ram₁ did₁.frame (omega arith) (omega arith))
-        (frame-beyond g (KA g).first ((KA g).first + kaBlocks g) (KA g).ram C₁ C₂ ram₁ ram₂ did₂.frame (omega arith) (omega arith))
+        beyond_then g C C₁ C₂ ram ram₁ ram₂
+        (frame_beyond g (Ra g).first ((Ra g).first + g.R) (Ra g).ram C C₁ ram ram₁ did₁.frame (omega arith) (omega arith))
+        (frame_beyond g (KA g).first ((KA g).first + ka_blocks g) (KA g).ram C₁ C₂ ram₁ ram₂ did₂.frame (omega arith) (omega arith))
 
     module _ (ops : List Op) where
-      done : applyAll g.u (raOps ++ (kaOps ++ ops)) C ≡ applyAll g.u ops C₂
-      done = apply-append g.u raOps (kaOps ++ ops) C ∙ apply-append g.u kaOps ops C₁
+      done : apply_all g.u (ra_ops ++ (ka_ops ++ ops)) C ≡ apply_all g.u ops C₂
+      done = apply_append g.u ra_ops (ka_ops ++ ops) C ∙ apply_append g.u ka_ops ops C₁
 
-      allowed_all : AllAllowed g.u ops C₂ → AllAllowed g.u (raOps ++ (kaOps ++ ops)) C
-      allowed_all a = allowed-append g.u raOps (kaOps ++ ops) C did₁.allowed (allowed-append g.u kaOps ops C₁ did₂.allowed a)
+      allowed_all : AllAllowed g.u ops C₂ → AllAllowed g.u (ra_ops ++ (ka_ops ++ ops)) C
+      allowed_all a = allowed_append g.u ra_ops (ka_ops ++ ops) C did₁.allowed (allowed_append g.u ka_ops ops C₁ did₂.allowed a)
 
-      fresh-all : (spare : List ℕ) → ((x : ℕ) → OffDeletions g x → get_or spare x 0 ≡ get_or C.spare x 0)
-          → allFresh spare ops ≡ true → allFresh spare (raOps ++ (kaOps ++ ops)) ≡ true
-      fresh-all spare agree a =
-          fresh-append spare raOps (kaOps ++ ops) (did₁.fresh spare (λ x l m. agree x (omega arith, inl (omega arith))))
-          (fresh-append spare kaOps ops (did₂.fresh spare
+      fresh_all : (spare : List ℕ) → ((x : ℕ) → OffDeletions g x → get_or spare x 0 ≡ get_or C.spare x 0)
+          → all_fresh spare ops ≡ true → all_fresh spare (ra_ops ++ (ka_ops ++ ops)) ≡ true
+      fresh_all spare agree a =
+          fresh_append spare ra_ops (ka_ops ++ ops) (did₁.fresh spare (λ x l m. agree x (omega arith, inl (omega arith))))
+          (fresh_append spare ka_ops ops (did₂.fresh spare
           (λ x l m. agree x (omega arith, inl (omega arith)) ∙ sym (did₁.frame.spare x (inr (omega arith))))) a)
 
     -- no page of entries is full
-    changed-part : length H.records % (8 * g.u) + 1 ≢ 8 * g.u → Changed h g H' (n + 1) d M C ram (raOps ++ (kaOps ++ [])) ram₂
-    unfolding allFresh
-    changed-part part =
-        let same-filters : (length H.records + 1) / (8 * g.u) ≡ length H.records / (8 * g.u)
+    changed_part : length H.records % (8 * g.u) + 1 ≢ 8 * g.u → Changed h g H' (n + 1) d M C ram (ra_ops ++ (ka_ops ++ [])) ram₂
+    unfolding all_fresh
+    changed_part part =
+        let same_filters : (length H.records + 1) / (8 * g.u) ≡ length H.records / (8 * g.u)
         = either (carry (length H.records) (8 * g.u) (omega (arith, pu))) (λ c. absurd (part c.0)) (λ c. c.1) in
         record {
-          grown = rw (done [], same-filters) parts₂;
+          grown = rw (done [], same_filters) parts₂;
           allowed = allowed_all [] tt;
           beyond = rw (done []) beyond₂;
-          fresh = λ spare agree. fresh-all [] spare agree refl;
+          fresh = λ spare agree. fresh_all [] spare agree refl;
         }
 
     -- one is, and gives its filter
     module _ (full : length H.records % (8 * g.u) + 1 ≡ 8 * g.u) where
-      abbrev ixOps : List Op
-      ixOps = filterOps g.u (keyIndex g) C₂ N (filterIn full)
+      abbrev ix_ops : List Op
+      ix_ops = filter_ops g.u (key_index g) C₂ N (filter_in full)
 
       abbrev ram₃ : List ℕ
-      ram₃ = filterRam g.u (keyIndex g) N (filterIn full)
+      ram₃ = filter_ram g.u (key_index g) N (filter_in full)
 
       abbrev C₃ : Flash
-      C₃ = applyAll g.u ixOps C₂
+      C₃ = apply_all g.u ix_ops C₂
 
-      changed-full : Changed h g H' (n + 1) d M C ram (raOps ++ (kaOps ++ ixOps)) ram₃
-      changed-full = record {
-        grown = rw (done ixOps, next full) (parts₃ full);
-        allowed = allowed_all ixOps (did₃ full).allowed;
-        beyond = rw (done ixOps)
-            (beyond-then g C C₂ C₃ ram ram₂ ram₃ beyond₂
-            (frame-beyond g (indexBlock g) (fullBlock g.u (keyIndex g) (fullSets g)) (keyIndex g).ska C₂ C₃ ram₂ ram₃ (did₃ full).frame
+      changed_full : Changed h g H' (n + 1) d M C ram (ra_ops ++ (ka_ops ++ ix_ops)) ram₃
+      changed_full = record {
+        grown = rw (done ix_ops, next full) (parts₃ full);
+        allowed = allowed_all ix_ops (did₃ full).allowed;
+        beyond = rw (done ix_ops)
+            (beyond_then g C C₂ C₃ ram ram₂ ram₃ beyond₂
+            (frame_beyond g (index_block g) (full_block g.u (key_index g) (full_sets g)) (key_index g).ska C₂ C₃ ram₂ ram₃ (did₃ full).frame
             (omega arith) (omega arith)));
-        fresh = λ spare agree. fresh-all ixOps spare agree
+        fresh = λ spare agree. fresh_all ix_ops spare agree
             ((did₃ full).fresh spare (λ x l m. agree x (omega arith, inr (omega arith))
             ∙ sym (did₂.frame.spare x (inr (omega arith)) ∙ did₁.frame.spare x (inr (omega arith)))));
       }
 
-    by-page : (b : Bool) (os : List Op) (r₃ : List ℕ) → (b ≡ true → Changed h g H' (n + 1) d M C ram (raOps ++ (kaOps ++ os)) r₃)
-        → (b ≡ false → Changed h g H' (n + 1) d M C ram (raOps ++ (kaOps ++ [])) ram₂)
-        → Changed h g H' (n + 1) d M C ram (raOps ++ (kaOps ++ cond b os [])) (cond b r₃ ram₂)
-    by-page true os r₃ full part = full refl
-    by-page false os r₃ full part = part refl
+    by_page : (b : Bool) (os : List Op) (r₃ : List ℕ) → (b ≡ true → Changed h g H' (n + 1) d M C ram (ra_ops ++ (ka_ops ++ os)) r₃)
+        → (b ≡ false → Changed h g H' (n + 1) d M C ram (ra_ops ++ (ka_ops ++ [])) ram₂)
+        → Changed h g H' (n + 1) d M C ram (ra_ops ++ (ka_ops ++ cond b os [])) (cond b r₃ ram₂)
+    by_page true os r₃ full part = full refl
+    by_page false os r₃ full part = part refl
 
-    pub insertion-changes : Changed h g H' (n + 1) d M C ram (planOps g.u (insertionPlan h g n r.key (recordBytes r) ram) C)
-        (insertionRam h g n r.key (recordBytes r) ram)
-    insertion-changes =
+    pub insertion_changes : Changed h g H' (n + 1) d M C ram (plan_ops g.u (insertion_plan h g n r.key (record_bytes r) ram) C)
+        (insertion_ram h g n r.key (record_bytes r) ram)
+    insertion_changes =
         rw (
-          insertion-ops h g n r.key (recordBytes r) e unit bytes-size ram C,
-          insertion-ram h g n r.key (recordBytes r) pu bytes-size ram,
+          insertion_ops_lem h g n r.key (record_bytes r) e unit bytes_size ram C,
+          insertion_ram_lem h g n r.key (record_bytes r) pu bytes_size ram,
         )
-        (by-page (fills (KA g) n) _ _ (λ q. changed-full (eqb-true _ _ q)) (λ q. changed-part (eqb-false _ _ q)))
+        (by_page (fills (KA g) n) _ _ (λ q. changed_full (eqb-true _ _ q)) (λ q. changed_part (eqb-false _ _ q)))

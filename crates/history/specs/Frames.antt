@@ -1,41 +1,41 @@
 -- What a step of a change keeps, and what a step that adds an item or a filter does.
 use Rattle.std.specs.Prelude.{◌≡◌, refl, ◌⊎◌, Bool, true, List, ℕ, ◌+◌, ◌*◌, ◌≤◌, ◌<◌, length, get_or}
 use Rattle.std.proofs.Common.{◌∙◌, inr, mul-le-mul_right, arith}
-use Rattle.layout.specs.Geometry.{Geometry, page, block, blocks, mainSize, spareSize, ramSize}
-use Rattle.layout.specs.Flash.{Flash, Op, applyAll, allFresh}
-use Rattle.layout.specs.Items.{Area, itemRam}
-use Rattle.layout.specs.Index.{Index, inSka, fullBlock, withFilter, filterRam}
-use Rattle.history.specs.Operations.{itemOps, filterOps}
+use Rattle.layout.specs.Geometry.{Geometry, page, block, blocks, main_size, spare_size, ram_size}
+use Rattle.layout.specs.Flash.{Flash, Op, apply_all, all_fresh}
+use Rattle.layout.specs.Items.{Area, item_ram}
+use Rattle.layout.specs.Index.{Index, in_ska, full_block, with_filter, filter_ram}
+use Rattle.history.specs.Operations.{item_ops, filter_ops}
 use Rattle.history.specs.FlashLaws.{AllAllowed}
 use Rattle.history.specs.Image.{AreaIs, IndexIs}
 
 -- what lies past the volume, and the lengths, are kept
 pub record Beyond (g : Geometry) (C C' : Flash) (r r' : List ℕ) : Type 0 where
-  pub main : (x : ℕ) → mainSize g ≤ x → get_or C'.main x 0 ≡ get_or C.main x 0
-  pub spare : (x : ℕ) → spareSize g ≤ x → get_or C'.spare x 0 ≡ get_or C.spare x 0
-  pub ram : (x : ℕ) → ramSize g ≤ x → get_or r' x 0 ≡ get_or r x 0
-  pub main-length : length C'.main ≡ length C.main
-  pub spare-length : length C'.spare ≡ length C.spare
-  pub ram-length : length r' ≡ length r
+  pub main : (x : ℕ) → main_size g ≤ x → get_or C'.main x 0 ≡ get_or C.main x 0
+  pub spare : (x : ℕ) → spare_size g ≤ x → get_or C'.spare x 0 ≡ get_or C.spare x 0
+  pub ram : (x : ℕ) → ram_size g ≤ x → get_or r' x 0 ≡ get_or r x 0
+  pub main_length : length C'.main ≡ length C.main
+  pub spare_length : length C'.spare ≡ length C.spare
+  pub ram_length : length r' ≡ length r
 
-pub beyond-same : (g : Geometry) (C : Flash) (r : List ℕ) → Beyond g C C r r
-beyond-same g C r = record {
+pub beyond_same : (g : Geometry) (C : Flash) (r : List ℕ) → Beyond g C C r r
+beyond_same g C r = record {
   main = λ x l. refl;
   spare = λ x l. refl;
   ram = λ x l. refl;
-  main-length = refl;
-  spare-length = refl;
-  ram-length = refl;
+  main_length = refl;
+  spare_length = refl;
+  ram_length = refl;
 }
 
-pub beyond-then : (g : Geometry) (A B C : Flash) (r s t : List ℕ) → Beyond g A B r s → Beyond g B C s t → Beyond g A C r t
-beyond-then g A B C r s t p q = record {
+pub beyond_then : (g : Geometry) (A B C : Flash) (r s t : List ℕ) → Beyond g A B r s → Beyond g B C s t → Beyond g A C r t
+beyond_then g A B C r s t p q = record {
   main = λ x l. q.main x l ∙ p.main x l;
   spare = λ x l. q.spare x l ∙ p.spare x l;
   ram = λ x l. q.ram x l ∙ p.ram x l;
-  main-length = q.main-length ∙ p.main-length;
-  spare-length = q.spare-length ∙ p.spare-length;
-  ram-length = q.ram-length ∙ p.ram-length;
+  main_length = q.main_length ∙ p.main_length;
+  spare_length = q.spare_length ∙ p.spare_length;
+  ram_length = q.ram_length ∙ p.ram_length;
 }
 
 -- what lies outside blocks lo to hi and outside the RAM page from byte p on is kept
@@ -43,19 +43,19 @@ pub record Frame (u lo hi p : ℕ) (C C' : Flash) (r r' : List ℕ) : Type 0 whe
   pub main : (x : ℕ) → (x < lo * block u) ⊎ (hi * block u ≤ x) → get_or C'.main x 0 ≡ get_or C.main x 0
   pub spare : (x : ℕ) → (x < lo * 64) ⊎ (hi * 64 ≤ x) → get_or C'.spare x 0 ≡ get_or C.spare x 0
   pub ram : (x : ℕ) → (x < p) ⊎ (p + page u ≤ x) → get_or r' x 0 ≡ get_or r x 0
-  pub main-length : length C'.main ≡ length C.main
-  pub spare-length : length C'.spare ≡ length C.spare
-  pub ram-length : length r' ≡ length r
+  pub main_length : length C'.main ≡ length C.main
+  pub spare_length : length C'.spare ≡ length C.spare
+  pub ram_length : length r' ≡ length r
 
-pub frame-beyond : (g : Geometry) (lo hi p : ℕ) (C C' : Flash) (r r' : List ℕ) → Frame g.u lo hi p C C' r r'
-    → hi ≤ blocks g → p + page g.u ≤ ramSize g → Beyond g C C' r r'
-frame-beyond g lo hi p C C' r r' W b q = record {
+pub frame_beyond : (g : Geometry) (lo hi p : ℕ) (C C' : Flash) (r r' : List ℕ) → Frame g.u lo hi p C C' r r'
+    → hi ≤ blocks g → p + page g.u ≤ ram_size g → Beyond g C C' r r'
+frame_beyond g lo hi p C C' r r' W b q = record {
   main = λ x l. W.main x (inr (omega (arith, mul-le-mul_right (1024 * g.u) b)));
   spare = λ x l. W.spare x (inr (omega arith));
   ram = λ x l. W.ram x (inr (omega arith));
-  main-length = W.main-length;
-  spare-length = W.spare-length;
-  ram-length = W.ram-length;
+  main_length = W.main_length;
+  spare_length = W.spare_length;
+  ram_length = W.ram_length;
 }
 
 -- what a step on blocks lo to hi and a RAM page does: its operations are allowed, fresh by any marks that agree on its blocks, and
@@ -63,23 +63,23 @@ frame-beyond g lo hi p C C' r r' W b q = record {
 pub record Did (u lo hi p : ℕ) (C : Flash) (r r' : List ℕ) (ops : List Op) : Type 0 where
   pub allowed : AllAllowed u ops C
   pub fresh : (spare : List ℕ) → ((x : ℕ) → lo * 64 ≤ x → x < hi * 64 → get_or spare x 0 ≡ get_or C.spare x 0)
-      → allFresh spare ops ≡ true
-  pub frame : Frame u lo hi p C (applyAll u ops C) r r'
+      → all_fresh spare ops ≡ true
+  pub frame : Frame u lo hi p C (apply_all u ops C) r r'
 
 -- what an item put into an area of n items does, and the area with one item more
 pub record AreaGrown (u : ℕ) (a : Area) (blocks : ℕ) (f : ℕ → ℕ → ℕ) (n : ℕ) (item : List ℕ) (C : Flash) (ram : List ℕ) : Type 0 where
-  pub did : Did u a.first (a.first + blocks) a.ram C ram (itemRam u a n item ram) (itemOps u a n item ram)
-  pub more : AreaIs u a blocks f (n + 1) (applyAll u (itemOps u a n item ram) C).main (applyAll u (itemOps u a n item ram) C).spare
-      (itemRam u a n item ram)
+  pub did : Did u a.first (a.first + blocks) a.ram C ram (item_ram u a n item ram) (item_ops u a n item ram)
+  pub more : AreaIs u a blocks f (n + 1) (apply_all u (item_ops u a n item ram) C).main (apply_all u (item_ops u a n item ram) C).spare
+      (item_ram u a n item ram)
 
 -- the same of a filter `new` and an index of N filters
 module _ (u : ℕ) (ix : Index) (Z : ℕ) (F : ℕ → ℕ → Bool) (N : ℕ) (new : ℕ → Bool) (C : Flash) (ram : List ℕ) where
   abbrev ram₁ : List ℕ
-  ram₁ = withFilter u ix (inSka N) new ram
+  ram₁ = with_filter u ix (in_ska N) new ram
 
   abbrev ops : List Op
-  ops = filterOps u ix C N ram₁
+  ops = filter_ops u ix C N ram₁
 
   pub record IndexGrown : Type 0 where
-    pub did : Did u ix.first (fullBlock u ix Z) ix.ska C ram (filterRam u ix N ram₁) ops
-    pub more : IndexIs u ix Z F (N + 1) (applyAll u ops C).main (applyAll u ops C).spare (filterRam u ix N ram₁)
+    pub did : Did u ix.first (full_block u ix Z) ix.ska C ram (filter_ram u ix N ram₁) ops
+    pub more : IndexIs u ix Z F (N + 1) (apply_all u ops C).main (apply_all u ops C).spare (filter_ram u ix N ram₁)

@@ -4,39 +4,39 @@ use Rattle.std.proofs.Common.{sym, ◌∙◌, not-suc-le-zero}
 use Rattle.std.proofs.Math.Option.{Option, none, some, map}
 use Rattle.memory.specs.Cases.{either}
 use Rattle.memory.specs.Ranges.{last, last_some, memb}
-use Rattle.layout.specs.Keys.{Key, sameKey}
+use Rattle.layout.specs.Keys.{Key, same_key}
 use Rattle.layout.specs.Calls.{Call, insert, update, delete, lookup, one}
 use Rattle.layout.specs.Refusals as refusal
-use Rattle.layout.specs.FiniteMap.{Level, levelOf, Map, emptyMap, find, Reply, accepts, hits, misses, refuses}
-use Rattle.layout.specs.Items.{Record, recordBytes}
+use Rattle.layout.specs.FiniteMap.{Level, level_of, Map, empty_map, find, Reply, accepts, hits, misses, refuses}
+use Rattle.layout.specs.Items.{Record, record_bytes}
 use Rattle.history.specs.KeyLaws.{key?}
-use Rattle.history.specs.Image.{History, recordAt}
+use Rattle.history.specs.Image.{History, record_at}
 
 -- ---- which records are live
 
 -- record j is live and has key k: it is no deleted record
-unfoldable pub liveAt : History → Key → ℕ → Bool
-liveAt H k j = sameKey (recordAt H j).key k && not (memb j H.deleted)
+unfoldable pub live_at : History → Key → ℕ → Bool
+live_at H k j = same_key (record_at H j).key k && not (memb j H.deleted)
 
 -- the newest live record of a key
-abbrev pub findLive : History → Key → Option ℕ
-findLive H k = last (liveAt H k) (length H.records)
+abbrev pub find_live : History → Key → Option ℕ
+find_live H k = last (live_at H k) (length H.records)
 
 -- ---- the two changes: one more record, one more deletion
 
-abbrev pub withRecord : History → Record → History
-withRecord H r = record { records = H.records ++ (r ∷ []); deleted = H.deleted }
+abbrev pub with_record : History → Record → History
+with_record H r = record { records = H.records ++ (r ∷ []); deleted = H.deleted }
 
-abbrev pub withDeletion : History → ℕ → History
-withDeletion H j = record { records = H.records; deleted = H.deleted ++ (j ∷ []) }
+abbrev pub with_deletion : History → ℕ → History
+with_deletion H j = record { records = H.records; deleted = H.deleted ++ (j ∷ []) }
 
 -- of a live record, if there is one
-abbrev pub withoutLive : History → Option ℕ → History
-withoutLive H none = H
-withoutLive H (some j) = withDeletion H j
+abbrev pub without_live : History → Option ℕ → History
+without_live H none = H
+without_live H (some j) = with_deletion H j
 
-abbrev pub emptyHistory : History
-emptyHistory = record { records = []; deleted = [] }
+abbrev pub empty_history : History
+empty_history = record { records = []; deleted = [] }
 
 -- ---- the calls, by what the search found
 
@@ -45,40 +45,40 @@ pub record HistoryStep : Type 0 where
   pub says : Reply
   pub next : History
 
-abbrev pub historyStep : Reply → History → HistoryStep
-historyStep r H = record { says = r; next = H }
+abbrev pub history_step : Reply → History → HistoryStep
+history_step r H = record { says = r; next = H }
 
-abbrev pub insertHistory : ℕ → History → Record → Option ℕ → HistoryStep
-insertHistory capacity H r (some j) = historyStep (refuses refusal.present) H
-insertHistory capacity H r none =
-    cond (leb capacity (length H.records)) (historyStep (refuses refusal.full) H) (historyStep accepts (withRecord H r))
+abbrev pub insert_history : ℕ → History → Record → Option ℕ → HistoryStep
+insert_history capacity H r (some j) = history_step (refuses refusal.present) H
+insert_history capacity H r none =
+    cond (leb capacity (length H.records)) (history_step (refuses refusal.full) H) (history_step accepts (with_record H r))
 
-abbrev pub updateHistory : ℕ → ℕ → History → Record → Option ℕ → HistoryStep
-updateHistory capacity deletionCapacity H r o =
-    cond (leb capacity (length H.records)) (historyStep (refuses refusal.full) H)
-    (cond (one o && leb deletionCapacity (length H.deleted)) (historyStep (refuses refusal.deletionsFull) H)
-    (historyStep accepts (withRecord (withoutLive H o) r)))
+abbrev pub update_history : ℕ → ℕ → History → Record → Option ℕ → HistoryStep
+update_history capacity deletion_capacity H r o =
+    cond (leb capacity (length H.records)) (history_step (refuses refusal.full) H)
+    (cond (one o && leb deletion_capacity (length H.deleted)) (history_step (refuses refusal.deletions_full) H)
+    (history_step accepts (with_record (without_live H o) r)))
 
-abbrev pub deleteHistory : ℕ → History → Option ℕ → HistoryStep
-deleteHistory deletionCapacity H none = historyStep (refuses refusal.absent) H
-deleteHistory deletionCapacity H (some j) =
-    cond (leb deletionCapacity (length H.deleted)) (historyStep (refuses refusal.deletionsFull) H)
-    (historyStep accepts (withDeletion H j))
+abbrev pub delete_history : ℕ → History → Option ℕ → HistoryStep
+delete_history deletion_capacity H none = history_step (refuses refusal.absent) H
+delete_history deletion_capacity H (some j) =
+    cond (leb deletion_capacity (length H.deleted)) (history_step (refuses refusal.deletions_full) H)
+    (history_step accepts (with_deletion H j))
 
-abbrev pub lookupHistory : History → Option ℕ → HistoryStep
-lookupHistory H none = historyStep misses H
-lookupHistory H (some j) = historyStep (hits (recordBytes (recordAt H j))) H
+abbrev pub lookup_history : History → Option ℕ → HistoryStep
+lookup_history H none = history_step misses H
+lookup_history H (some j) = history_step (hits (record_bytes (record_at H j))) H
 
-abbrev pub stepHistory : ℕ → ℕ → History → Call → HistoryStep
-stepHistory capacity deletionCapacity H (insert r) = insertHistory capacity H r (findLive H r.key)
-stepHistory capacity deletionCapacity H (update r) = updateHistory capacity deletionCapacity H r (findLive H r.key)
-stepHistory capacity deletionCapacity H (delete key) = deleteHistory deletionCapacity H (findLive H key)
-stepHistory capacity deletionCapacity H (lookup key) = lookupHistory H (findLive H key)
+abbrev pub step_history : ℕ → ℕ → History → Call → HistoryStep
+step_history capacity deletion_capacity H (insert r) = insert_history capacity H r (find_live H r.key)
+step_history capacity deletion_capacity H (update r) = update_history capacity deletion_capacity H r (find_live H r.key)
+step_history capacity deletion_capacity H (delete key) = delete_history deletion_capacity H (find_live H key)
+step_history capacity deletion_capacity H (lookup key) = lookup_history H (find_live H key)
 
 -- ---- the invariant between history and map
 
-abbrev pub levelAt : History → ℕ → Level
-levelAt H j = levelOf (recordAt H j)
+abbrev pub level_at : History → ℕ → Level
+level_at H j = level_of (record_at H j)
 
 -- no key twice
 abbrev pub Nodup : List Level → Type 0
@@ -86,24 +86,24 @@ Nodup [] = Unit {0}
 Nodup (l ∷ ls) = (find ls l.key ≡ none) × Nodup ls
 
 pub record Live (H : History) (M : Map) : Type 0 where
-  pub n-is : M.n ≡ length H.records
-  pub d-is : M.d ≡ length H.deleted
+  pub n_is : M.n ≡ length H.records
+  pub d_is : M.d ≡ length H.deleted
   -- the map holds a key's newest live record
-  pub same : (k : Key) → find M.levels k ≡ map (levelAt H) (findLive H k)
+  pub same : (k : Key) → find M.levels k ≡ map (level_at H) (find_live H k)
   -- n - d keys are in the map
   pub count : length M.levels + length H.deleted ≡ length H.records
   pub once : Nodup M.levels
   -- a key has at most one live record
-  pub one : (k : Key) (i j : ℕ) → i < length H.records → j < length H.records → liveAt H k i ≡ true → liveAt H k j ≡ true → i ≡ j
+  pub one : (k : Key) (i j : ℕ) → i < length H.records → j < length H.records → live_at H k i ≡ true → live_at H k j ≡ true → i ≡ j
   -- no number of a record to come is deleted
   pub below : (j : ℕ) → length H.records ≤ j → memb j H.deleted ≡ false
 
 -- it holds at first
-pub live-start : Live emptyHistory emptyMap
+pub live_start : Live empty_history empty_map
 unfolding last memb find
-live-start = record {
-  n-is = refl;
-  d-is = refl;
+live_start = record {
+  n_is = refl;
+  d_is = refl;
   same = λ k. refl;
   count = refl;
   once = tt;
@@ -113,9 +113,9 @@ live-start = record {
 
 -- ---- what a search finds is a record that is there
 
-pub live-key : (H : History) (k : Key) (j : ℕ) → liveAt H k j ≡ true → (recordAt H j).key ≡ k
-unfolding liveAt
-live-key H k j e = either (key? (recordAt H j).key k) (λ a. a.1) (λ a. let z : false ≡ true = sym (rw a.0) ∙ e in cc)
+pub live_key : (H : History) (k : Key) (j : ℕ) → live_at H k j ≡ true → (record_at H j).key ≡ k
+unfolding live_at
+live_key H k j e = either (key? (record_at H j).key k) (λ a. a.1) (λ a. let z : false ≡ true = sym (rw a.0) ∙ e in cc)
 
-pub found_below : (H : History) (k : Key) (j : ℕ) → findLive H k ≡ some j → (j < length H.records) × ((recordAt H j).key ≡ k)
-found_below H k j e = let s = last_some (liveAt H k) (length H.records) j e in (s.0, live-key H k j s.1)
+pub found_below : (H : History) (k : Key) (j : ℕ) → find_live H k ≡ some j → (j < length H.records) × ((record_at H j).key ≡ k)
+found_below H k j e = let s = last_some (live_at H k) (length H.records) j e in (s.0, live_key H k j s.1)

@@ -2,61 +2,61 @@
 -- any marks in a format. The words are defined in Worn. Document 02, §3.
 use Rattle.std.specs.Prelude.{◌≡◌, refl, true, false, List, [], ◌∷◌, ℕ, ◌<◌, length, get_or}
 use Rattle.std.proofs.Common.{sym, ap, ◌∙◌, inl}
-use Rattle.layout.specs.Geometry.{Geometry, geometry, allowed, spareSize, Sizes, unit_of}
-use Rattle.layout.specs.Flash.{Flash, flashOf, applyAll}
+use Rattle.layout.specs.Geometry.{Geometry, geometry, allowed, spare_size, Sizes, unit_of}
+use Rattle.layout.specs.Flash.{Flash, flash_of, apply_all}
 use Rattle.layout.specs.Hash.{Family}
-use Rattle.layout.specs.Calls.{Volume, Call, Result, tooShort, format, call}
-use Rattle.layout.specs.FiniteMap.{Map, emptyMap, mapOf}
+use Rattle.layout.specs.Calls.{Volume, Call, Result, too_short, format, call}
+use Rattle.layout.specs.FiniteMap.{Map, empty_map, map_of}
 use Rattle.laws.specs.FreshLaws.{Written}
 use Rattle.laws.specs.Sound.{sound}
 use Rattle.laws.specs.Sound as units
-use Rattle.history.specs.FlashLaws.{apply-append, apply-spare-length}
-use Rattle.history.specs.Image.{History, spareImage}
-use Rattle.history.specs.ByAddress.{spare-by-address}
+use Rattle.history.specs.FlashLaws.{apply_append, apply_spare_length}
+use Rattle.history.specs.Image.{History, spare_image}
+use Rattle.history.specs.ByAddress.{spare_by_address}
 use Rattle.history.specs.Live.{Live}
 use Rattle.history.specs.Runs.{KeyWord, KeyWords, after, ops_of}
-use Rattle.history.specs.Volumes.{Holds, volumeOf}
-use Rattle.history.specs.Steps.{call-done}
+use Rattle.history.specs.Volumes.{Holds, volume_of}
+use Rattle.history.specs.Steps.{call_done}
 use Rattle.history.specs.RunLaws.{less}
-use Rattle.history.specs.Reached.{Reached, mapAfter, reach, reach-call, reach-format}
-use Rattle.history.specs.Worn.{Worn, withSpare, SameResult, WornResult, EachSame, SameRun}
-use Rattle.history.specs.WornLaws.{image-written, all-main, all-kept, kept-worn, kept_then, as-fresh}
-use Rattle.history.specs.WornCalls.{redone, format-alike, format-done, call-alike}
+use Rattle.history.specs.Reached.{Reached, map_after, reach, reach_call, reach_format}
+use Rattle.history.specs.Worn.{Worn, with_spare, SameResult, WornResult, EachSame, SameRun}
+use Rattle.history.specs.WornLaws.{image_written, all_main, all_kept, kept_worn, kept_then, as_fresh}
+use Rattle.history.specs.WornCalls.{redone, format_alike, format_done, call_alike}
 
 -- ---- one result
 
 -- a result that is redone on another spare area
 module _ (sizes : Sizes) (v : Volume) (spare : List ℕ) (r : Result) (long : length spare ≡ length v.flash.spare)
-    (done : applyAll (unit_of sizes) r.ops v.flash ≡ r.volume.flash) where
+    (done : apply_all (unit_of sizes) r.ops v.flash ≡ r.volume.flash) where
   abbrev u : ℕ
   u = unit_of sizes
 
   -- the flash that the operations leave
   abbrev worn : Flash
-  worn = applyAll u r.ops (flashOf v.flash.main spare)
+  worn = apply_all u r.ops (flash_of v.flash.main spare)
 
-  pub redone-same : SameResult sizes v (withSpare spare v) r (redone sizes spare v r)
-  redone-same = record {
+  pub redone_same : SameResult sizes v (with_spare spare v) r (redone sizes spare v r)
+  redone_same = record {
     outcome = refl;
     count = refl;
-    daPages = refl;
-    volume-is =
-        ap (λ (m : List ℕ). record { state = r.volume.state; flash = flashOf m worn.spare; ram = r.volume.ram })
-        (all-main u r.ops v.flash (flashOf v.flash.main spare) refl ∙ ap (λ (c : Flash). c.main) done);
+    da_pages = refl;
+    volume_is =
+        ap (λ (m : List ℕ). record { state = r.volume.state; flash = flash_of m worn.spare; ram = r.volume.ram })
+        (all_main u r.ops v.flash (flash_of v.flash.main spare) refl ∙ ap (λ (c : Flash). c.main) done);
     ops = refl;
-    flash-is = refl;
-    spare-kept = λ x. rw done at (all-kept u r.ops v.flash (flashOf v.flash.main spare) x long);
+    flash_is = refl;
+    spare_kept = λ x. rw done at (all_kept u r.ops v.flash (flash_of v.flash.main spare) x long);
   }
 
-  pub redone-worn : Worn (spareSize (geometry sizes)) v.flash.spare spare
-      → WornResult sizes v (withSpare spare v) r (redone sizes spare v r)
-  redone-worn W = record {
-    same = redone-same;
+  pub redone_worn : Worn (spare_size (geometry sizes)) v.flash.spare spare
+      → WornResult sizes v (with_spare spare v) r (redone sizes spare v r)
+  redone_worn W = record {
+    same = redone_same;
     worn = record {
       long =
-          apply-spare-length u r.ops (flashOf v.flash.main spare) ∙ long ∙ sym (apply-spare-length u r.ops v.flash)
+          apply_spare_length u r.ops (flash_of v.flash.main spare) ∙ long ∙ sym (apply_spare_length u r.ops v.flash)
           ∙ ap (λ (c : Flash). length c.spare) done;
-      wrong = λ x l. kept-worn _ _ _ _ _ (redone-same.spare-kept x) (W.wrong x l);
+      wrong = λ x l. kept_worn _ _ _ _ _ (redone_same.spare_kept x) (W.wrong x l);
     };
   }
 
@@ -67,35 +67,35 @@ module _ (h : Family) (sizes : Sizes) where
   g = geometry sizes
 
   -- the marks of a history are 00 and FF
-  holds-written : (can : allowed sizes ≡ true) (H : History) (C : Flash) (ram : List ℕ) → Holds h sizes H C ram → (x : ℕ) → x < spareSize g
+  holds_written : (can : allowed sizes ≡ true) (H : History) (C : Flash) (ram : List ℕ) → Holds h sizes H C ram → (x : ℕ) → x < spare_size g
       → Written (get_or C.spare x 0)
-  holds-written can H C ram I x l =
-      let is : get_or C.spare x 0 ≡ spareImage g H x
-      = spare-by-address h g (sound sizes can).e (units.unit sizes (sound sizes can)) H C ram I.parts I.work x l in
-      rw is (image-written g H x)
+  holds_written can H C ram I x l =
+      let is : get_or C.spare x 0 ≡ spare_image g H x
+      = spare_by_address h g (sound sizes can).e (units.unit sizes (sound sizes can)) H C ram I.parts I.work x l in
+      rw is (image_written g H x)
 
-  pub reached-written : (v : Volume) (m : Map) → Reached h sizes v m → (x : ℕ) → x < spareSize g → Written (get_or v.flash.spare x 0)
-  reached-written v m X x l = holds-written X.can X.H v.flash v.ram X.holds x l
+  pub reached_written : (v : Volume) (m : Map) → Reached h sizes v m → (x : ℕ) → x < spare_size g → Written (get_or v.flash.spare x 0)
+  reached_written v m X x l = holds_written X.can X.H v.flash v.ram X.holds x l
 
   module _ (can : allowed sizes ≡ true) (H : History) (C : Flash) (ram : List ℕ) (m : Map) (c : Call) (I : Holds h sizes H C ram)
-      (L : Live H m) (k : KeyWord c) (spare : List ℕ) (W : Worn (spareSize g) C.spare spare) where
+      (L : Live H m) (k : KeyWord c) (spare : List ℕ) (W : Worn (spare_size g) C.spare spare) where
     abbrev v : Volume
-    v = volumeOf sizes H C ram
+    v = volume_of sizes H C ram
 
-    one_same : WornResult sizes v (withSpare spare v) (call h v c) (call h (withSpare spare v) c)
+    one_same : WornResult sizes v (with_spare spare v) (call h v c) (call h (with_spare spare v) c)
     one_same =
-        let X = call-done h sizes (sound sizes can) can H C ram I c k (less H m L) in
-        rw (call-alike h v spare (as-fresh (spareSize g) C.spare spare (holds-written can H C ram I) W) c W.long)
-        (redone-worn sizes v spare (call h v c) W.long X.flash-is W)
+        let X = call_done h sizes (sound sizes can) can H C ram I c k (less H m L) in
+        rw (call_alike h v spare (as_fresh (spare_size g) C.spare spare (holds_written can H C ram I) W) c W.long)
+        (redone_worn sizes v spare (call h v c) W.long X.flash_is W)
 
   moved : (v v' : Volume) (spare : List ℕ) (c : Call) → v ≡ v'
-      → WornResult sizes v' (withSpare spare v') (call h v' c) (call h (withSpare spare v') c)
-      → WornResult sizes v (withSpare spare v) (call h v c) (call h (withSpare spare v) c)
+      → WornResult sizes v' (with_spare spare v') (call h v' c) (call h (with_spare spare v') c)
+      → WornResult sizes v (with_spare spare v) (call h v c) (call h (with_spare spare v) c)
   moved v v' spare c p X = rw p X
 
   -- a call on a volume that calls reach
   pub call_same : (v : Volume) (m : Map) (c : Call) (spare : List ℕ) → Reached h sizes v m → KeyWord c
-      → Worn (spareSize g) v.flash.spare spare → WornResult sizes v (withSpare spare v) (call h v c) (call h (withSpare spare v) c)
+      → Worn (spare_size g) v.flash.spare spare → WornResult sizes v (with_spare spare v) (call h v c) (call h (with_spare spare v) c)
   call_same v m c spare X k W =
       moved v _ spare c X.is (one_same X.can X.H v.flash v.ram m c X.holds X.live k spare W)
 
@@ -105,7 +105,7 @@ module _ (h : Family) (sizes : Sizes) where
   each_same v m [] X k = tt
   each_same v m (c ∷ cs) X k = (
     λ spare W. call_same v m c spare X k.0 W,
-    each_same (call h v c).volume (mapOf g m c).next cs (reach-call h sizes v m c X k.0) k.1,
+    each_same (call h v c).volume (map_of g m c).next cs (reach_call h sizes v m c X k.0) k.1,
   )
 
   -- one call more before a run
@@ -113,14 +113,14 @@ module _ (h : Family) (sizes : Sizes) where
       (G : SameRun h sizes (call h v c).volume (call h w c).volume cs) where
     run_more : SameRun h sizes v w (c ∷ cs)
     run_more = record {
-      answers = (F.same.outcome, F.same.count, F.same.daPages, ap (λ (x : Volume). x.state) F.same.volume-is, G.answers);
-      volume-is = G.volume-is;
+      answers = (F.same.outcome, F.same.count, F.same.da_pages, ap (λ (x : Volume). x.state) F.same.volume_is, G.answers);
+      volume_is = G.volume_is;
       ops = rw (F.same.ops, G.ops);
-      flash-is =
-          apply-append (unit_of sizes) (call h w c).ops (ops_of h (call h w c).volume cs) w.flash
-          ∙ rw F.same.flash-is G.flash-is;
-      spare-kept = λ x. kept_then (unit_of sizes) x v.flash (call h v c).volume.flash (after h (call h v c).volume cs).flash
-          w.flash (call h w c).volume.flash (after h (call h w c).volume cs).flash (F.same.spare-kept x) (G.spare-kept x);
+      flash_is =
+          apply_append (unit_of sizes) (call h w c).ops (ops_of h (call h w c).volume cs) w.flash
+          ∙ rw F.same.flash_is G.flash_is;
+      spare_kept = λ x. kept_then (unit_of sizes) x v.flash (call h v c).volume.flash (after h (call h v c).volume cs).flash
+          w.flash (call h w c).volume.flash (after h (call h w c).volume cs).flash (F.same.spare_kept x) (G.spare_kept x);
       worn = G.worn;
     }
 
@@ -128,41 +128,41 @@ module _ (h : Family) (sizes : Sizes) where
   run_moved v w w' cs p X = rw p X
 
   -- a list of calls on a volume that calls reach
-  pub run-same : (v : Volume) (m : Map) (spare : List ℕ) (cs : List Call) → Reached h sizes v m → KeyWords cs
-      → Worn (spareSize g) v.flash.spare spare → SameRun h sizes v (withSpare spare v) cs
-  run-same v m spare [] X k W = record {
+  pub run_same : (v : Volume) (m : Map) (spare : List ℕ) (cs : List Call) → Reached h sizes v m → KeyWords cs
+      → Worn (spare_size g) v.flash.spare spare → SameRun h sizes v (with_spare spare v) cs
+  run_same v m spare [] X k W = record {
     answers = tt;
-    volume-is = refl;
+    volume_is = refl;
     ops = refl;
-    flash-is = refl;
-    spare-kept = λ x. inl (refl, refl);
+    flash_is = refl;
+    spare_kept = λ x. inl (refl, refl);
     worn = W;
   }
-  run-same v m spare (c ∷ cs) X k W =
+  run_same v m spare (c ∷ cs) X k W =
       let F = call_same v m c spare X k.0 W in
-      run_more v (withSpare spare v) c cs F
-      (run_moved (call h v c).volume (call h (withSpare spare v) c).volume _ cs F.same.volume-is
-      (run-same (call h v c).volume (mapOf g m c).next (call h (withSpare spare v) c).volume.flash.spare cs
-      (reach-call h sizes v m c X k.0) k.1 F.worn))
+      run_more v (with_spare spare v) c cs F
+      (run_moved (call h v c).volume (call h (with_spare spare v) c).volume _ cs F.same.volume_is
+      (run_same (call h v c).volume (map_of g m c).next (call h (with_spare spare v) c).volume.flash.spare cs
+      (reach_call h sizes v m c X k.0) k.1 F.worn))
 
 -- ---- the theorems
 
 -- a format looks at no spare byte: it is the same on any others, as many of them
-pub worn-format : (v : Volume) (sizes : Sizes) (spare : List ℕ) → length spare ≡ length v.flash.spare
-    → SameResult sizes v (withSpare spare v) (format v sizes) (format (withSpare spare v) sizes)
-worn-format v sizes spare long =
-    rw (format-alike v sizes spare long) (redone-same sizes v spare (format v sizes) long (format-done v sizes))
+pub worn_format : (v : Volume) (sizes : Sizes) (spare : List ℕ) → length spare ≡ length v.flash.spare
+    → SameResult sizes v (with_spare spare v) (format v sizes) (format (with_spare spare v) sizes)
+worn_format v sizes spare long =
+    rw (format_alike v sizes spare long) (redone_same sizes v spare (format v sizes) long (format_done v sizes))
 
 module _ (h : Family) (v : Volume) (sizes : Sizes) (calls : List Call) (can : allowed sizes ≡ true)
-    (long : tooShort (geometry sizes) v.flash v.ram ≡ false) (words : KeyWords calls) where
+    (long : too_short (geometry sizes) v.flash v.ram ≡ false) (words : KeyWords calls) where
   -- every call after the format: before each, the chip may show other wrong bits
-  pub worn-each : EachSame h sizes (format v sizes).volume calls
-  worn-each = each_same h sizes (format v sizes).volume emptyMap calls (reach-format h sizes v can long) words
+  pub worn_each : EachSame h sizes (format v sizes).volume calls
+  worn_each = each_same h sizes (format v sizes).volume empty_map calls (reach_format h sizes v can long) words
 
   -- every further list of calls, on the marks that a history left and that then wore
-  pub worn-run : (spare : List ℕ) (more : List Call) → KeyWords more
-      → Worn (spareSize (geometry sizes)) (after h (format v sizes).volume calls).flash.spare spare
-      → SameRun h sizes (after h (format v sizes).volume calls) (withSpare spare (after h (format v sizes).volume calls)) more
-  worn-run spare more k W =
-      run-same h sizes (after h (format v sizes).volume calls) (mapAfter (geometry sizes) emptyMap calls) spare more
-      (reach h sizes (format v sizes).volume emptyMap calls (reach-format h sizes v can long) words) k W
+  pub worn_run : (spare : List ℕ) (more : List Call) → KeyWords more
+      → Worn (spare_size (geometry sizes)) (after h (format v sizes).volume calls).flash.spare spare
+      → SameRun h sizes (after h (format v sizes).volume calls) (with_spare spare (after h (format v sizes).volume calls)) more
+  worn_run spare more k W =
+      run_same h sizes (after h (format v sizes).volume calls) (map_after (geometry sizes) empty_map calls) spare more
+      (reach h sizes (format v sizes).volume empty_map calls (reach_format h sizes v can long) words) k W

@@ -2,11 +2,11 @@
 use Rattle.std.specs.Prelude.{◌≡◌, List, ℕ, zero, suc, ◌+◌, ◌-◌, ◌*◌, ◌≤◌, ◌<◌, length, get_or, take, drop, replicate}
 use Rattle.std.proofs.Math.Path.{refl}
 use Rattle.std.proofs.Common.{sym, ap, ◌∙◌, mul-le-mul_right, arith}
-use Rattle.memory.specs.Lists.{pieces, tabulate, write, tabulate-part}
-use Rattle.layout.specs.Geometry.{sector, page, fourthSize}
-use Rattle.layout.specs.Items.{zeroPage}
-use Rattle.layout.specs.Index.{inSka}
-use Rattle.filter.specs.Fourths.{withFourths}
+use Rattle.memory.specs.Lists.{pieces, tabulate, write, tabulate_part}
+use Rattle.layout.specs.Geometry.{sector, page, fourth_size}
+use Rattle.layout.specs.Items.{zero_page}
+use Rattle.layout.specs.Index.{in_ska}
+use Rattle.filter.specs.Fourths.{with_fourths}
 
 -- in the first k sectors
 abbrev pub pieces_of : ℕ → ℕ → ℕ → ℕ → List ℕ → List ℕ → List ℕ
@@ -22,53 +22,53 @@ pieces_more L d at (suc k) f l =
     rw e (pieces_more L d (at + d) k (λ j. f (suc j)) (write l at (tabulate L (f zero))))
 
 -- a page zeroed; `at` and `size` are what code computes
-pub zero-at : (u place at size : ℕ) (ram : List ℕ) → at ≡ place → size ≡ page u → write ram at (replicate size 0) ≡ zeroPage u place ram
-zero-at u place at size ram e d = rw (e, d)
+pub zero_at : (u place at size : ℕ) (ram : List ℕ) → at ≡ place → size ≡ page u → write ram at (replicate size 0) ≡ zero_page u place ram
+zero_at u place at size ram e d = rw (e, d)
 
 module _ (u piece at : ℕ) where
   pub none_yet : (fourths ram : List ℕ) → ram ≡ pieces_of u piece at 0 fourths ram
   unfolding pieces
   none_yet fourths ram = refl
 
-  pub in-fourths : (i fourths : ℕ) → i < 4 → 4 * piece ≤ fourths → i * piece + piece ≤ fourths
-  in-fourths i fourths h fits = omega (arith, mul-le-mul_right piece h, fits)
+  pub in_fourths : (i fourths : ℕ) → i < 4 → 4 * piece ≤ fourths → i * piece + piece ≤ fourths
+  in_fourths i fourths h fits = omega (arith, mul-le-mul_right piece h, fits)
 
-  pub in-page : (i ram : ℕ) → i < 4 → at + 3 * sector u + piece ≤ ram → at + i * sector u + piece ≤ ram
-  in-page i ram h fits =
+  pub in_page : (i ram : ℕ) → i < 4 → at + 3 * sector u + piece ≤ ram → at + i * sector u + piece ≤ ram
+  in_page i ram h fits =
       let l : i ≤ 3 = omega arith in
       omega (arith, mul-le-mul_right (sector u) l, fits)
 
   -- one turn; `off` is what code computes
-  pub more-pieces : (i off : ℕ) → off ≡ i * sector u → (fourths ram₀ ram ram' : List ℕ) → i < 4 → 4 * piece ≤ length fourths
+  pub more_pieces : (i off : ℕ) → off ≡ i * sector u → (fourths ram₀ ram ram' : List ℕ) → i < 4 → 4 * piece ≤ length fourths
       → ram ≡ pieces_of u piece at i fourths ram₀
       → ram' ≡ write ram (at + off) (take (i * piece + piece - i * piece) (drop (i * piece) fourths))
       → ram' ≡ pieces_of u piece at (i + 1) fourths ram₀
-  more-pieces i off o fourths ram₀ ram ram' h fits a b =
+  more_pieces i off o fourths ram₀ ram ram' h fits a b =
       let s : i + 1 ≡ suc i = omega arith in
       let n : i * piece + piece - i * piece ≡ piece = omega arith in
       let f : ℕ → ℕ → ℕ = λ i y. get_or fourths (i * piece + y) 0 in
       let t : take piece (drop (i * piece) fourths) ≡ tabulate piece (f i)
-      = sym (tabulate-part fourths (i * piece) piece (in-fourths i (length fourths) h fits)) in
+      = sym (tabulate_part fourths (i * piece) piece (in_fourths i (length fourths) h fits)) in
       let b' : ram' ≡ write ram (at + i * sector u) (tabulate piece (f i)) = rw (n, o, t) at b in
       rw s
       (b' ∙ ap (λ (l : List ℕ). write l (at + i * sector u) (tabulate piece (f i))) a ∙ sym (pieces_more piece (sector u) at i f ram₀))
 
-  pub all-pieces : (k : ℕ) (fourths ram₀ ram : List ℕ) → k ≡ 4 → ram ≡ pieces_of u piece at k fourths ram₀
-      → ram ≡ withFourths u piece at fourths ram₀
-  all-pieces k fourths ram₀ ram h a = rw h at a
+  pub all_pieces : (k : ℕ) (fourths ram₀ ram : List ℕ) → k ≡ 4 → ram ≡ pieces_of u piece at k fourths ram₀
+      → ram ≡ with_fourths u piece at fourths ram₀
+  all_pieces k fourths ram₀ ram h a = rw h at a
 
 -- n filters from number F on in the SKA page; `fourth` is what code computes
-module _ (u fourth : ℕ) (fourth-is : fourth ≡ fourthSize u) (F n : ℕ) where
+module _ (u fourth : ℕ) (fourth_is : fourth ≡ fourth_size u) (F n : ℕ) where
   -- their bytes of each sector
-  pub slots-fit : (ska ram : ℕ) → inSka F + n ≤ 8 → ska + page u ≤ ram → ska + inSka F * fourth + 3 * sector u + n * fourth ≤ ram
-  slots-fit ska ram l h = rw fourth-is (omega (arith, mul-le-mul_right (2 * u) l, h))
+  pub slots_fit : (ska ram : ℕ) → in_ska F + n ≤ 8 → ska + page u ≤ ram → ska + in_ska F * fourth + 3 * sector u + n * fourth ≤ ram
+  slots_fit ska ram l h = rw fourth_is (omega (arith, mul-le-mul_right (2 * u) l, h))
 
-  pub piece-fits : n ≤ 2 → n * fourth ≤ sector u
-  piece-fits l = rw fourth-is (omega (arith, mul-le-mul_right (2 * u) l))
+  pub piece_fits : n ≤ 2 → n * fourth ≤ sector u
+  piece_fits l = rw fourth_is (omega (arith, mul-le-mul_right (2 * u) l))
 
-  pub fourths-fit : (fourths : ℕ) → 4 * (n * fourthSize u) ≤ fourths → 4 * (n * fourth) ≤ fourths
-  fourths-fit fourths h = rw fourth-is h
+  pub fourths_fit : (fourths : ℕ) → 4 * (n * fourth_size u) ≤ fourths → 4 * (n * fourth) ≤ fourths
+  fourths_fit fourths h = rw fourth_is h
 
-  pub filters-put : (ska : ℕ) (fourths ram : List ℕ) → withFourths u (n * fourth) (ska + inSka F * fourth) fourths ram
-      ≡ withFourths u (n * fourthSize u) (ska + inSka F * fourthSize u) fourths ram
-  filters-put ska fourths ram = rw fourth-is
+  pub filters_put : (ska : ℕ) (fourths ram : List ℕ) → with_fourths u (n * fourth) (ska + in_ska F * fourth) fourths ram
+      ≡ with_fourths u (n * fourth_size u) (ska + in_ska F * fourth_size u) fourths ram
+  filters_put ska fourths ram = rw fourth_is

@@ -1,15 +1,15 @@
 // The RAM after a change: written once, after the chip. Nothing here touches the flash.
 ghost use Rattle.std.specs.Prelude.{◌≡◌, ◌+◌, ◌*◌, ◌%◌, ◌≤◌, length};
 ghost use Rattle.memory.specs.Lent.{before, after};
-ghost use Rattle.layout.specs.Geometry.{sector, page, fourthSize, ramSize, workRam};
-ghost use Rattle.layout.specs.Items.{put, itemRam, zeroPage};
-ghost use Rattle.layout.specs.Index.{filtersPerFlush, inSka};
+ghost use Rattle.layout.specs.Geometry.{sector, page, fourth_size, ram_size, work_ram};
+ghost use Rattle.layout.specs.Items.{put, item_ram, zero_page};
+ghost use Rattle.layout.specs.Index.{filters_per_flush, in_ska};
 ghost use Rattle.geometry.specs.Shape.{shape, Sound, area, AreaSound};
 ghost use Rattle.geometry.specs.Indexes.{index_of};
-ghost use Rattle.filter.specs.Fourths.{withFourths};
-ghost use Rattle.plan.specs.Plans.{newLength, filtersLength};
-ghost use Rattle.kept.specs.Kept.{filtersKept, deletionKept, recordKept, kept};
-ghost use Rattle.kept.specs.Appended.{deletionAppended, recordAppended, appended};
+ghost use Rattle.filter.specs.Fourths.{with_fourths};
+ghost use Rattle.plan.specs.Plans.{new_length, filters_length};
+ghost use Rattle.kept.specs.Kept.{filters_kept, deletion_kept, record_kept, kept};
+ghost use Rattle.kept.specs.Appended.{deletion_appended, record_appended, appended};
 
 use geometry::sets::Index;
 use geometry::{Area, Chip, Geometry, areas, sets};
@@ -19,7 +19,7 @@ use planning::Slots;
 fn keep_item(chip: Chip, a: Area, n: usize, item: &[u8], ram: &mut [u8])
     requires area_sound { AreaSound a × (chip.unit ≤ 32) × (a.per_page * a.size ≡ page chip.unit) }
     requires item_len { (length item.now ≡ a.size) × (a.ram + page chip.unit ≤ length ram.old) }
-    ensures { after ram ≡ itemRam chip.unit (area a) n (before item) (before ram) }
+    ensures { after ram ≡ item_ram chip.unit (area a) n (before item) (before ram) }
 {
     let i = areas::slot(a.per_page, n);
     words::copy_at(ram, a.ram + i * a.size, item);
@@ -33,7 +33,7 @@ fn keep_item(chip: Chip, a: Area, n: usize, item: &[u8], ram: &mut [u8])
 fn put_fourths(chip: Chip, at: usize, piece: usize, fourths: &[u8], ram: &mut [u8])
     requires unit_bound { (chip.unit ≤ 32) × (4 * piece ≤ length fourths.now) × (piece ≤ sector chip.unit) }
     requires piece_in_bounds { at + 3 * sector chip.unit + piece ≤ length ram.old }
-    ensures { after ram ≡ withFourths chip.unit piece at (before fourths) (before ram) }
+    ensures { after ram ≡ with_fourths chip.unit piece at (before fourths) (before ram) }
 {
     let mut i = 0;
     while i < Chip::SECTORS_PER_PAGE {
@@ -46,9 +46,9 @@ fn put_fourths(chip: Chip, at: usize, piece: usize, fourths: &[u8], ram: &mut [u
 
 // n new filters, the first of them number `first`: to their places in the SKA page, or, where they fill that page, the page zeroed.
 fn keep_filters(chip: Chip, ix: Index, first: usize, n: usize, fourths: &[u8], ram: &mut [u8])
-    requires unit_bound { (chip.unit ≤ 32) × (1 ≤ n) × (n ≤ 2) × (inSka first + n ≤ filtersPerFlush) }
-    requires unit_in_bounds { (4 * (n * fourthSize chip.unit) ≤ length fourths.now) × (ix.ska + page chip.unit ≤ length ram.old) }
-    ensures { after ram ≡ filtersKept chip.unit (index_of ix) first n (before fourths) (before ram) }
+    requires unit_bound { (chip.unit ≤ 32) × (1 ≤ n) × (n ≤ 2) × (in_ska first + n ≤ filters_per_flush) }
+    requires unit_in_bounds { (4 * (n * fourth_size chip.unit) ≤ length fourths.now) × (ix.ska + page chip.unit ≤ length ram.old) }
+    ensures { after ram ≡ filters_kept chip.unit (index_of ix) first n (before fourths) (before ram) }
 {
     let slot = first % sets::FILTERS_PER_FLUSH;
     let fourth = chip.fourth_size();
@@ -63,9 +63,9 @@ fn keep_filters(chip: Chip, ix: Index, first: usize, n: usize, fourths: &[u8], r
 
 // Deletion d, and both filters of the page that it fills.
 fn keep_deletion(g: Geometry, d: usize, new: &[u8], filters: &[u8], ram: &mut [u8])
-    requires { Sound g × (length new.now ≡ newLength) × (length filters.now ≡ filtersLength)
-        × (ramSize (shape g) ≤ length ram.old) }
-    ensures { after ram ≡ deletionKept (shape g) d (before new) (before filters) (before ram) }
+    requires { Sound g × (length new.now ≡ new_length) × (length filters.now ≡ filters_length)
+        × (ram_size (shape g) ≤ length ram.old) }
+    ensures { after ram ≡ deletion_kept (shape g) d (before new) (before filters) (before ram) }
 {
     let deletions = geometry::deletion_area(g);
     keep_item(g.chip, deletions, d, &new[0..plan::RECORD_AT], ram);
@@ -84,9 +84,9 @@ fn keep_deletion(g: Geometry, d: usize, new: &[u8], filters: &[u8], ram: &mut [u
 
 // Record n and its entry, and the filter of the page that the entry fills.
 fn keep_record(g: Geometry, n: usize, new: &[u8], filters: &[u8], ram: &mut [u8])
-    requires { Sound g × (length new.now ≡ newLength) × (length filters.now ≡ filtersLength)
-        × (ramSize (shape g) ≤ length ram.old) }
-    ensures { after ram ≡ recordKept (shape g) n (before new) (before filters) (before ram) }
+    requires { Sound g × (length new.now ≡ new_length) × (length filters.now ≡ filters_length)
+        × (ram_size (shape g) ≤ length ram.old) }
+    ensures { after ram ≡ record_kept (shape g) n (before new) (before filters) (before ram) }
 {
     let entries = geometry::entry_area(g);
     keep_item(
@@ -150,16 +150,16 @@ fn append_item(a: Area, n: usize, item: &[u8], ram: &mut [u8])
 
 // Deletion d.
 fn append_deletion(g: Geometry, d: usize, new: &[u8], ram: &mut [u8])
-    requires { Sound g × (length new.now ≡ newLength) × (ramSize (shape g) ≤ length ram.old) }
-    ensures { after ram ≡ deletionAppended (shape g) d (before new) (before ram) }
+    requires { Sound g × (length new.now ≡ new_length) × (ram_size (shape g) ≤ length ram.old) }
+    ensures { after ram ≡ deletion_appended (shape g) d (before new) (before ram) }
 {
     append_item(geometry::deletion_area(g), d, &new[0..plan::RECORD_AT], ram);
 }
 
 // Record n, then its entry.
 fn append_record(g: Geometry, n: usize, new: &[u8], ram: &mut [u8])
-    requires { Sound g × (length new.now ≡ newLength) × (ramSize (shape g) ≤ length ram.old) }
-    ensures { after ram ≡ recordAppended (shape g) n (before new) (before ram) }
+    requires { Sound g × (length new.now ≡ new_length) × (ram_size (shape g) ≤ length ram.old) }
+    ensures { after ram ≡ record_appended (shape g) n (before new) (before ram) }
 {
     let records = geometry::record_area(g);
     let entries = geometry::entry_area(g);
@@ -171,18 +171,18 @@ fn append_record(g: Geometry, n: usize, new: &[u8], ram: &mut [u8])
 
 // The work page is zeroed.
 fn clear_work(g: Geometry, ram: &mut [u8])
-    requires { Sound g × (ramSize (shape g) ≤ length ram.old) }
-    ensures { after ram ≡ zeroPage g.chip.unit (workRam g.chip.unit) (before ram) }
+    requires { Sound g × (ram_size (shape g) ≤ length ram.old) }
+    ensures { after ram ≡ zero_page g.chip.unit (work_ram g.chip.unit) (before ram) }
 {
     words::fill_at(ram, g.work_ram(), g.chip.page_size(), 0);
 }
 
 // The RAM after a change, once the chip has all of it.
 pub fn finish(g: Geometry, e: Slots, new: &[u8], filters: &[u8], ram: &mut [u8])
-    requires { Sound g × (length new.now ≡ newLength) × (length filters.now ≡ filtersLength)
-        × (ramSize (shape g) ≤ length ram.old) }
+    requires { Sound g × (length new.now ≡ new_length) × (length filters.now ≡ filters_length)
+        × (ram_size (shape g) ≤ length ram.old) }
     ensures { after ram
-        ≡ zeroPage g.chip.unit (workRam g.chip.unit) (kept (shape g) (before new) (before filters) (before ram) e) }
+        ≡ zero_page g.chip.unit (work_ram g.chip.unit) (kept (shape g) (before new) (before filters) (before ram) e) }
 {
     match e {
         Slots::Delete(d) => {
@@ -203,9 +203,9 @@ pub fn finish(g: Geometry, e: Slots, new: &[u8], filters: &[u8], ram: &mut [u8])
 
 // The RAM after a change that fills no page.
 pub fn append(g: Geometry, e: Slots, new: &[u8], ram: &mut [u8])
-    requires { Sound g × (length new.now ≡ newLength) × (ramSize (shape g) ≤ length ram.old) }
+    requires { Sound g × (length new.now ≡ new_length) × (ram_size (shape g) ≤ length ram.old) }
     ensures { after ram
-        ≡ zeroPage g.chip.unit (workRam g.chip.unit) (appended (shape g) (before new) (before ram) e) }
+        ≡ zero_page g.chip.unit (work_ram g.chip.unit) (appended (shape g) (before new) (before ram) e) }
 {
     match e {
         Slots::Delete(d) => {

@@ -7,9 +7,9 @@ use lib.Bits.{bit_xor, bit_and}
 use lib.Dec.{eqb}
 use lib.Pow.{pow_pos}
 use borrow.Author.Tests.{eq-eqb, ne_eqb}
-use Rattle.memory.specs.Bits.{bit, bit-and, bit-shl, bit-shl-low, bit-xor}
+use Rattle.memory.specs.Bits.{bit, bit_and_lem, bit_shl, bit_shl_low, bit_xor_lem}
 use Rattle.memory.specs.Cases.{either, lt?, eq?}
-use Rattle.kernels.proofs.Bits.{bit-over}
+use Rattle.kernels.proofs.Bits.{bit_over}
 
 -- ---- all bits flipped
 
@@ -27,7 +27,7 @@ ones (suc k) (suc i) h =
     ap (λ (y : ℕ). bit y i) o ∙ ones k i (omega arith)
 
 pub flip : (k m i : ℕ) → i < k → bit (bit_xor (2 ^ k - 1) m) i ≡ not (bit m i)
-flip k m i h = bit-xor (2 ^ k - 1) m i ∙ (ap (λ (t : Bool). xor t (bit m i)) (ones k i h) ∙ other (bit m i))
+flip k m i h = bit_xor_lem (2 ^ k - 1) m i ∙ (ap (λ (t : Bool). xor t (bit m i)) (ones k i h) ∙ other (bit m i))
 
 -- ---- one bit cleared
 
@@ -36,16 +36,16 @@ pub one_bit : (f i : ℕ) → f < 64 → i < 64 → bit ((1 * 2 ^ f) % 2 ^ 64) i
 unfolding bit
 one_bit f i h l =
     either (lt? i f)
-    (λ t. bit-shl-low 1 f 64 i t.1 l ∙ sym (ne_eqb i f (λ e. absurd (omega (arith, t.1, e)))))
+    (λ t. bit_shl_low 1 f 64 i t.1 l ∙ sym (ne_eqb i f (λ e. absurd (omega (arith, t.1, e)))))
     (λ t.
     either (eq? i f)
-    (λ e. let k : f + 0 ≡ i = omega (arith, e.1) in (rw k at (bit-shl 1 f 64 0 (omega arith))) ∙ sym (eq-eqb i f e.1))
+    (λ e. let k : f + 0 ≡ i = omega (arith, e.1) in (rw k at (bit_shl 1 f 64 0 (omega arith))) ∙ sym (eq-eqb i f e.1))
     (λ e.
     let ne = e.1 in
     let k : f + (i - f) ≡ i = omega (arith, t.1) in
-    (rw k at (bit-shl 1 f 64 (i - f) (omega arith))) ∙ (bit-over 1 1 (i - f) (omega arith) (omega (arith, t.1, ne)) ∙ sym (ne_eqb i f ne))))
+    (rw k at (bit_shl 1 f 64 (i - f) (omega arith))) ∙ (bit_over 1 1 (i - f) (omega arith) (omega (arith, t.1, ne)) ∙ sym (ne_eqb i f ne))))
 
 pub cleared : (x f i : ℕ) → f < 64 → i < 64 → bit (bit_and x (bit_xor 18446744073709551615 ((1 * 2 ^ f) % 2 ^ 64))) i ≡ (not (eqb i f) && bit x i)
 cleared x f i h l =
-    bit-and x (bit_xor 18446744073709551615 ((1 * 2 ^ f) % 2 ^ 64)) i
+    bit_and_lem x (bit_xor 18446744073709551615 ((1 * 2 ^ f) % 2 ^ 64)) i
     ∙ (ap (λ (t : Bool). bit x i && t) (flip 64 ((1 * 2 ^ f) % 2 ^ 64) i l ∙ ap not (one_bit f i h l)) ∙ and_comm (bit x i) (not (eqb i f)))

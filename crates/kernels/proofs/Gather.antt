@@ -7,8 +7,8 @@ use native.Mathlib.Omega.{arith}
 use lib.Bits.{bit_and, bit_or, and_high}
 use lib.Dec.{eqb}
 use lib.Pow.{pow_pos, pow-lt, pow-add, pow_mono}
-use Rattle.memory.specs.Bits.{bit, bit_is, bit-or, bit-shl}
-use Rattle.kernels.proofs.Bits.{bit-over}
+use Rattle.memory.specs.Bits.{bit, bit_is, bit_or_lem, bit_shl}
+use Rattle.kernels.proofs.Bits.{bit_over}
 use Rattle.kernels.proofs.Folds.{below}
 
 -- a byte's bit s in its place
@@ -35,9 +35,9 @@ digit : (q d j : ℕ) → d < 2 → bit (q * 2 + d) (suc j) ≡ bit q j
 unfolding bit
 digit q d j h = let e : (q * 2 + d) / 2 ≡ q = omega arith in ap (λ (t : ℕ). bit t j) e
 
-lowest-digit : (q d : ℕ) → d < 2 → bit (q * 2 + d) 0 ≡ eqb d 1
+lowest_digit : (q d : ℕ) → d < 2 → bit (q * 2 + d) 0 ≡ eqb d 1
 unfolding bit
-lowest-digit q d h = let e : (q * 2 + d) % 2 ≡ d = omega arith in ap (λ (t : ℕ). eqb t 1) e
+lowest_digit q d h = let e : (q * 2 + d) % 2 ≡ d = omega arith in ap (λ (t : ℕ). eqb t 1) e
 
 module _ (f : ℕ → Bool) (s k b m t : ℕ) (one : m ≡ 2 ^ s) (is : t ≡ bit_and b m) (has : bit b s ≡ f k) where
   d : ℕ
@@ -46,8 +46,8 @@ module _ (f : ℕ → Bool) (s k b m t : ℕ) (one : m ≡ 2 ^ s) (is : t ≡ bi
   value : t ≡ b / 2 ^ s % 2 * 2 ^ s
   value = is ∙ (ap (bit_and b) one ∙ mask_is s b)
 
-  pub pack-first : Packed f s k 1 2 t
-  pack-first =
+  pub pack_first : Packed f s k 1 2 t
+  pack_first =
       record {
         q = b / 2 ^ s % 2;
         is = value;
@@ -56,11 +56,11 @@ module _ (f : ℕ → Bool) (s k b m t : ℕ) (one : m ≡ 2 ^ s) (is : t ≡ bi
             let z : j ≡ 0 = omega arith in
             let y : 0 * 2 + b / 2 ^ s % 2 ≡ b / 2 ^ s % 2 = omega arith in
             let x : k + 0 ≡ k = omega arith in
-            rw (z, x) (rw y at (lowest-digit 0 (b / 2 ^ s % 2) (mod-lt (b / 2 ^ s) (omega arith))) ∙ (sym (bit_is b s) ∙ has));
+            rw (z, x) (rw y at (lowest_digit 0 (b / 2 ^ s % 2) (mod-lt (b / 2 ^ s) (omega arith))) ∙ (sym (bit_is b s) ∙ has));
       }
 
-  pub pack-more : (n B k1 n1 B1 acc : ℕ) → k1 ≡ k + 1 → n1 ≡ n + 1 → B1 ≡ 2 * B → Packed f s k1 n B acc → Packed f s k n1 B1 (acc * 2 + t)
-  pack-more n B k1 n1 B1 acc ek en eB P =
+  pub pack_more : (n B k1 n1 B1 acc : ℕ) → k1 ≡ k + 1 → n1 ≡ n + 1 → B1 ≡ 2 * B → Packed f s k1 n B acc → Packed f s k n1 B1 (acc * 2 + t)
+  pack_more n B k1 n1 B1 acc ek en eB P =
       let l : b / 2 ^ s % 2 < 2 = mod-lt (b / 2 ^ s) (omega arith) in
       record {
         q = P.q * 2 + b / 2 ^ s % 2;
@@ -72,7 +72,7 @@ module _ (f : ℕ → Bool) (s k b m t : ℕ) (one : m ≡ 2 ^ s) (is : t ≡ bi
       more : (j : ℕ) → j < n1 → bit (P.q * 2 + b / 2 ^ s % 2) j ≡ f (k + j)
       more zero h =
           let x : k + 0 ≡ k = omega arith in
-          rw x (lowest-digit P.q (b / 2 ^ s % 2) (mod-lt (b / 2 ^ s) (omega arith)) ∙ (sym (bit_is b s) ∙ has))
+          rw x (lowest_digit P.q (b / 2 ^ s % 2) (mod-lt (b / 2 ^ s) (omega arith)) ∙ (sym (bit_is b s) ∙ has))
       more (suc j) h =
           let x : k1 + j ≡ k + suc j = omega arith in
           digit P.q (b / 2 ^ s % 2) j (mod-lt (b / 2 ^ s) (omega arith)) ∙ (P.bits j (omega arith) ∙ ap f x)
@@ -84,24 +84,24 @@ unpack f s n B acc r e P =
     rw q (P.small, λ j h. P.bits j h ∙ ap f (omega arith))
 
 -- eight more below those that are there
-pub eight-more : (f : ℕ → Bool) (b n r s : ℕ) → n + 8 ≤ 64 → s < 256 → ((i : ℕ) → i < 8 → bit s i ≡ f (b + i))
+pub eight_more : (f : ℕ → Bool) (b n r s : ℕ) → n + 8 ≤ 64 → s < 256 → ((i : ℕ) → i < 8 → bit s i ≡ f (b + i))
     → ((i : ℕ) → i < n → bit r i ≡ f (b + 8 + i)) → (i : ℕ) → i < n + 8 → bit (bit_or ((r * 2 ^ 8) % 2 ^ 64) s) i ≡ f (b + i)
-eight-more f b n r s fits small S R = below f b 8 n r s fits R S (λ i l m. bit-over 8 s i small l)
+eight_more f b n r s fits small S R = below f b 8 n r s fits R S (λ i l m. bit_over 8 s i small l)
 
 -- and leave those above as they were
-pub above-eight : (r s i : ℕ) → 8 + i < 64 → s < 256 → bit (bit_or ((r * 2 ^ 8) % 2 ^ 64) s) (8 + i) ≡ bit r i
-above-eight r s i h small =
-    bit-or ((r * 2 ^ 8) % 2 ^ 64) s (8 + i) ∙ rw (bit-over 8 s (8 + i) small (omega arith), bit-shl r 8 64 i h) (or-false (bit r i))
+pub above_eight : (r s i : ℕ) → 8 + i < 64 → s < 256 → bit (bit_or ((r * 2 ^ 8) % 2 ^ 64) s) (8 + i) ≡ bit r i
+above_eight r s i h small =
+    bit_or_lem ((r * 2 ^ 8) % 2 ^ 64) s (8 + i) ∙ rw (bit_over 8 s (8 + i) small (omega arith), bit_shl r 8 64 i h) (or-false (bit r i))
 
 -- ---- digits one after another
 
 -- none yet
-pub pack-none : (f : ℕ → Bool) (s k n : ℕ) → n ≡ 0 → Packed f s k n (2 ^ n) 0
-pack-none f s k n e = record { q = 0; is = omega arith; small = pow_pos n; bits = λ j h. absurd (omega arith) }
+pub pack_none : (f : ℕ → Bool) (s k n : ℕ) → n ≡ 0 → Packed f s k n (2 ^ n) 0
+pack_none f s k n e = record { q = 0; is = omega arith; small = pow_pos n; bits = λ j h. absurd (omega arith) }
 
 -- eight at the most
-pub pack-small : (f : ℕ → Bool) (s k n acc : ℕ) → s < 8 → n ≤ 8 → Packed f s k n (2 ^ n) acc → acc < 32768
-pack-small f s k n acc hs hn P =
+pub pack_small : (f : ℕ → Bool) (s k n acc : ℕ) → s < 8 → n ≤ 8 → Packed f s k n (2 ^ n) acc → acc < 32768
+pack_small f s k n acc hs hn P =
     let l : s ≤ 7 = omega arith in
     let a : 2 ^ s ≤ 2 ^ 7 = pow_mono l in
     let b : 2 ^ n ≤ 2 ^ 8 = pow_mono hn in
@@ -110,5 +110,5 @@ pack-small f s k n acc hs hn P =
     omega (arith, P.is, m, a)
 
 -- all of them
-pub pack-all : (f : ℕ → Bool) (s n k acc : ℕ) → k ≡ 0 → Packed f s k (n - k) (2 ^ (n - k)) acc → Packed f s 0 n (2 ^ n) acc
-pack-all f s n k acc z P = let e : n - k ≡ n = omega arith in rw (e, z) at P
+pub pack_all : (f : ℕ → Bool) (s n k acc : ℕ) → k ≡ 0 → Packed f s k (n - k) (2 ^ (n - k)) acc → Packed f s 0 n (2 ^ n) acc
+pack_all f s n k acc z P = let e : n - k ≡ n = omega arith in rw (e, z) at P

@@ -6,7 +6,7 @@ use native.Mathlib.Omega.{arith}
 use lib.Bits.{bit_xor}
 use lib.Dec.{ltb}
 use borrow.Author.Tests.{le-ltb}
-use Rattle.memory.specs.Bits.{bit, bit-shr}
+use Rattle.memory.specs.Bits.{bit, bit_shr}
 use Rattle.memory.specs.Cases.{either, lt?}
 use Rattle.kernels.specs.Blocks.{Open}
 use Rattle.kernels.specs.Masks.{Shut}
@@ -22,15 +22,15 @@ module _ (gate : ℕ → Bool) (n x r v : ℕ) (most : n ≤ 64) (S : Shut gate 
       let e : 16 - q + (16 * i + j) ≡ 16 * i + (16 - q + j) = omega arith in
       let f : 4 * (16 - q + j + q - 16) + i ≡ 4 * j + i = omega arith in
       R i j h (omega arith)
-      ∙ (bit-shr x (16 - q) (16 * i + j)
+      ∙ (bit_shr x (16 - q) (16 * i + j)
       ∙ (ap (bit x) e
       ∙ (S i (16 - q + j) h (omega arith)
       ∙ (ap (λ (t : Bool). not t && not (gate (4 * (16 - q + j + q - 16) + i))) (le-ltb (16 - q + j) (16 - q) (omega arith))
       ∙ ap (λ (k : ℕ). not (gate k)) f))))
 
-  pub not-shut : Open gate 0 n v
+  pub not_shut : Open gate 0 n v
   unfolding Open
-  not-shut i h =
+  not_shut i h =
       C i h ∙ either (lt? i n)
       (λ t.
       let e : 4 * (i / 4) + i % 4 ≡ i = omega arith in

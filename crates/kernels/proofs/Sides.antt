@@ -5,22 +5,22 @@ use Prim.Native.Nat.{ℕ, ◌+◌, ◌*◌, ◌-◌, ◌%◌, ◌^◌, ◌<◌}
 use native.Mathlib.Omega.{arith}
 use lib.Bits.{bit_and, bit_or}
 use borrow.Author.Tests.{lt-ltb, le-ltb}
-use Rattle.memory.specs.Bits.{bit, bit-or, bit-and, bit-shl, bit-shl-low}
+use Rattle.memory.specs.Bits.{bit, bit_or_lem, bit_and_lem, bit_shl, bit_shl_low}
 use Rattle.memory.specs.Cases.{either, lt?}
 use Rattle.kernels.specs.Blocks.{Squeezed}
-use Rattle.kernels.proofs.Joins.{first-4}
+use Rattle.kernels.proofs.Joins.{first_4}
 
 -- ---- halves
 
 module _ (a b x y : ℕ) (X : Squeezed 2 a x) (Y : Squeezed 2 b y) where
-  pub two-halves : (i : ℕ) → i < 32 → (bit (bit_or ((y * 2 ^ 32) % 2 ^ 64) x) i ≡ bit a (i * 2)) × (bit (bit_or ((y * 2 ^ 32) % 2 ^ 64) x) (32 + i) ≡ bit b (i * 2))
+  pub two_halves : (i : ℕ) → i < 32 → (bit (bit_or ((y * 2 ^ 32) % 2 ^ 64) x) i ≡ bit a (i * 2)) × (bit (bit_or ((y * 2 ^ 32) % 2 ^ 64) x) (32 + i) ≡ bit b (i * 2))
   unfolding Squeezed
-  two-halves i h = (
-    bit-or ((y * 2 ^ 32) % 2 ^ 64) x i
-        ∙ (ap (λ (t : Bool). t || bit x i) (bit-shl-low y 32 64 i h (omega arith))
+  two_halves i h = (
+    bit_or_lem ((y * 2 ^ 32) % 2 ^ 64) x i
+        ∙ (ap (λ (t : Bool). t || bit x i) (bit_shl_low y 32 64 i h (omega arith))
         ∙ (X i (omega arith) ∙ ap (λ (t : Bool). t && bit a (i * 2)) (lt-ltb (i * 2) 64 (omega arith)))),
-    bit-or ((y * 2 ^ 32) % 2 ^ 64) x (32 + i)
-        ∙ (ap (λ (t : Bool). t || bit x (32 + i)) (bit-shl y 32 64 i (omega arith))
+    bit_or_lem ((y * 2 ^ 32) % 2 ^ 64) x (32 + i)
+        ∙ (ap (λ (t : Bool). t || bit x (32 + i)) (bit_shl y 32 64 i (omega arith))
         ∙ (ap (λ (t : Bool). bit y i || t) (X (32 + i) (omega arith) ∙ ap (λ (t : Bool). t && bit a ((32 + i) * 2)) (le-ltb ((32 + i) * 2) 64 (omega arith)))
         ∙ (or-false (bit y i)
         ∙ (Y i (omega arith) ∙ ap (λ (t : Bool). t && bit b (i * 2)) (lt-ltb (i * 2) 64 (omega arith)))))),
@@ -33,12 +33,12 @@ fourth a = bit_and a 1229782938247303441
 
 kept : (a k : ℕ) → k < 16 → bit (fourth a) (4 * k) ≡ bit a (4 * k)
 kept a k h =
-    bit-and a 1229782938247303441 (4 * k)
-    ∙ (ap (λ (t : Bool). bit a (4 * k) && t) (first-4 (4 * k) (omega arith) ∙ lt-ltb (4 * k % 4) 1 (omega arith)) ∙ and-true (bit a (4 * k)))
+    bit_and_lem a 1229782938247303441 (4 * k)
+    ∙ (ap (λ (t : Bool). bit a (4 * k) && t) (first_4 (4 * k) (omega arith) ∙ lt-ltb (4 * k % 4) 1 (omega arith)) ∙ and-true (bit a (4 * k)))
 
 cut : (a i : ℕ) → i < 64 → 0 < i % 4 → bit (fourth a) i ≡ false
 cut a i h l =
-    bit-and a 1229782938247303441 i ∙ (ap (λ (t : Bool). bit a i && t) (first-4 i h ∙ le-ltb (i % 4) 1 (omega arith)) ∙ and-false (bit a i))
+    bit_and_lem a 1229782938247303441 i ∙ (ap (λ (t : Bool). bit a i && t) (first_4 i h ∙ le-ltb (i % 4) 1 (omega arith)) ∙ and-false (bit a i))
 
 -- one word more, at the lowest bit of each field of four
 abbrev under : ℕ → ℕ → ℕ
@@ -46,19 +46,19 @@ under y a = bit_or ((y * 2 ^ 1) % 2 ^ 64) (fourth a)
 
 under_next : (y a i j : ℕ) → j ≡ 1 + i → j < 64 → 0 < j % 4 → bit (under y a) j ≡ bit y i
 under_next y a i j e h l =
-    bit-or ((y * 2 ^ 1) % 2 ^ 64) (fourth a) j
+    bit_or_lem ((y * 2 ^ 1) % 2 ^ 64) (fourth a) j
     ∙ (ap (λ (t : Bool). bit ((y * 2 ^ 1) % 2 ^ 64) j || t) (cut a j h l)
-    ∙ (or-false (bit ((y * 2 ^ 1) % 2 ^ 64) j) ∙ (ap (bit ((y * 2 ^ 1) % 2 ^ 64)) e ∙ bit-shl y 1 64 i (omega arith))))
+    ∙ (or-false (bit ((y * 2 ^ 1) % 2 ^ 64) j) ∙ (ap (bit ((y * 2 ^ 1) % 2 ^ 64)) e ∙ bit_shl y 1 64 i (omega arith))))
 
 under_low : (y a k : ℕ) → ((i : ℕ) → i < 64 → i % 4 ≡ 3 → bit y i ≡ false) → k < 16 → bit (under y a) (4 * k) ≡ bit a (4 * k)
 under_low y a k top h =
-    bit-or ((y * 2 ^ 1) % 2 ^ 64) (fourth a) (4 * k)
+    bit_or_lem ((y * 2 ^ 1) % 2 ^ 64) (fourth a) (4 * k)
     ∙ (ap (λ (t : Bool). t || bit (fourth a) (4 * k))
     (either (lt? (4 * k) 1)
-    (λ l. bit-shl-low y 1 64 (4 * k) l.1 (omega arith))
+    (λ l. bit_shl_low y 1 64 (4 * k) l.1 (omega arith))
     (λ l.
     let e : 4 * k ≡ 1 + (4 * k - 1) = omega (arith, l.1) in
-    ap (bit ((y * 2 ^ 1) % 2 ^ 64)) e ∙ (bit-shl y 1 64 (4 * k - 1) (omega arith) ∙ top (4 * k - 1) (omega arith) (omega (arith, l.1)))))
+    ap (bit ((y * 2 ^ 1) % 2 ^ 64)) e ∙ (bit_shl y 1 64 (4 * k - 1) (omega arith) ∙ top (4 * k - 1) (omega arith) (omega (arith, l.1)))))
     ∙ kept a k h)
 
 module _ (a b c d : ℕ) where

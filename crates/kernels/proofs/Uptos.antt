@@ -10,19 +10,19 @@ use lib.ListN.{length, get_or, set}
 use lib.Seq.{get_or-set_same, get_or-set_other}
 use lib.Pow.{pow_pos}
 use borrow.Author.Tests.{lt-ltb, le-ltb}
-use Rattle.memory.specs.Bits.{bit, bit-zero}
+use Rattle.memory.specs.Bits.{bit, bit_zero}
 use Rattle.memory.specs.Cases.{either, lt?, eq?}
-use Rattle.kernels.specs.Rows.{allIn, Words}
+use Rattle.kernels.specs.Rows.{all_in, Words}
 use Rattle.kernels.specs.Blocks.{Upto, GroupIn}
 
 same : (a b c d : ℕ) → (a < b → c < d) → (b ≤ a → d ≤ c) → ltb a b ≡ ltb c d
 same a b c d f g = either (lt? a b) (λ h. lt-ltb a b h.1 ∙ sym (lt-ltb c d (f h.1))) (λ h. le-ltb a b h.1 ∙ sym (le-ltb c d (g h.1)))
 
 module _ (G : ℕ → ℕ → Bool) where
-  pub upto-more : (n j y : ℕ) (r : List ℕ) → j * 64 < n → j < 8 → length r ≡ 8 → Upto G (min (j * 64) n) r
+  pub upto_more : (n j y : ℕ) (r : List ℕ) → j * 64 < n → j < 8 → length r ≡ 8 → Upto G (min (j * 64) n) r
       → ((i : ℕ) → i < 64 → bit y i ≡ (ltb i (min 64 (n - j * 64)) && G j i)) → Upto G (min ((j + 1) * 64) n) (set r j y)
   unfolding Upto
-  upto-more n j y r h l e R Y k a i b =
+  upto_more n j y r h l e R Y k a i b =
       either (eq? k j)
       (λ t.
       let q : k ≡ j = t.1 in
@@ -31,32 +31,32 @@ module _ (G : ℕ → ℕ → Bool) where
       let ne = t.1 in
       rw (get_or-set_other r j k y 0 ne) (R k a i b ∙ ap (λ (z : Bool). z && G k i) (same (k * 64 + i) (min (j * 64) n) (k * 64 + i) (min ((j + 1) * 64) n) (λ u. omega arith) (λ u. omega arith))))
 
-  pub upto-end : (n m : ℕ) (r : List ℕ) → m ≡ n → Upto G m r → Upto G n r
-  upto-end n m r e R = rw e at R
+  pub upto_end : (n m : ℕ) (r : List ℕ) → m ≡ n → Upto G m r → Upto G n r
+  upto_end n m r e R = rw e at R
 
 -- fewer filters
-pub group-fewer : (at low : List ℕ) (count w n m len : ℕ) → m ≤ n → GroupIn at low count w n len → GroupIn at low count w m len
-group-fewer at low count w n m len h G =
+pub group_fewer : (at low : List ℕ) (count w n m len : ℕ) → m ≤ n → GroupIn at low count w n len → GroupIn at low count w m len
+group_fewer at low count w n m len h G =
     let t = mul-le-mul_right w h in
     record {
       some = G.some;
       firsts = G.firsts;
       lows = G.lows;
       power = G.power;
-      low-lt = G.low-lt;
-      blocks-in = λ k l. omega (arith, G.blocks-in k l, t);
+      low_lt = G.low_lt;
+      blocks_in = λ k l. omega (arith, G.blocks_in k l, t);
       small = omega (arith, G.small, t);
     }
 
 -- none yet
-pub upto-none : (G : ℕ → ℕ → Bool) (r : List ℕ) (m : ℕ) → m ≡ 0 → ((k : ℕ) → get_or r k 0 ≡ 0) → Upto G m r
+pub upto_none : (G : ℕ → ℕ → Bool) (r : List ℕ) (m : ℕ) → m ≡ 0 → ((k : ℕ) → get_or r k 0 ≡ 0) → Upto G m r
 unfolding Upto
-upto-none G r m e z k a i b = rw (z k) (bit-zero i ∙ ap (λ (t : Bool). t && G k i) (sym (le-ltb (k * 64 + i) m (omega arith))))
+upto_none G r m e z k a i b = rw (z k) (bit_zero i ∙ ap (λ (t : Bool). t && G k i) (sym (le-ltb (k * 64 + i) m (omega arith))))
 
 -- the same bits by other words
-pub upto-map : (G H : ℕ → ℕ → Bool) (n : ℕ) (r : List ℕ) → ((j : ℕ) → j < 8 → (i : ℕ) → i < 64 → G j i ≡ H j i) → Upto G n r → Upto H n r
+pub upto_map : (G H : ℕ → ℕ → Bool) (n : ℕ) (r : List ℕ) → ((j : ℕ) → j < 8 → (i : ℕ) → i < 64 → G j i ≡ H j i) → Upto G n r → Upto H n r
 unfolding Upto
-upto-map G H n r e R j l i h = R j l i h ∙ ap (λ (t : Bool). ltb (j * 64 + i) n && t) (e j l i h)
+upto_map G H n r e R j l i h = R j l i h ∙ ap (λ (t : Bool). ltb (j * 64 + i) n && t) (e j l i h)
 
 -- all of them
 pub upto_all : (G : ℕ → ℕ → Bool) (n : ℕ) (r : List ℕ) → n ≡ 512 → ((j : ℕ) → j < 8 → (i : ℕ) → i < 64 → bit (get_or r j 0) i ≡ G j i) → Upto G n r
@@ -66,11 +66,11 @@ upto_all G n r e R j l i h = R j l i h ∙ ap (λ (t : Bool). t && G j i) (sym (
 -- one bit for a filter in each row
 pub single : (bytes at low : List ℕ) (count w first : ℕ) (f : List ℕ) → w ≡ 1 → first % 512 ≡ 0 → ((k : ℕ) → k < count → get_or low k 0 < w)
     → ((j : ℕ) → j < 8 → Words bytes at low count (first / 64 + j) (get_or f j 0))
-    → (j : ℕ) → j < 8 → (i : ℕ) → i < 64 → bit (get_or f j 0) i ≡ allIn bytes at low w count (first + (j * 64 + i))
+    → (j : ℕ) → j < 8 → (i : ℕ) → i < 64 → bit (get_or f j 0) i ≡ all_in bytes at low w count (first + (j * 64 + i))
 unfolding Words
 single bytes at low count w first f o m lows W j l i h =
     let e : (first / 64 + j) * 64 + i ≡ first + (j * 64 + i) = omega arith in
-    W j l i (λ k t. omega (arith, lows k t)) ∙ (ap (allIn bytes at low 1 count) e ∙ ap (λ (z : ℕ). allIn bytes at low z count (first + (j * 64 + i))) (sym o))
+    W j l i (λ k t. omega (arith, lows k t)) ∙ (ap (all_in bytes at low 1 count) e ∙ ap (λ (z : ℕ). all_in bytes at low z count (first + (j * 64 + i))) (sym o))
 
 pub one : (e w : ℕ) → w ≡ 2 ^ e → w ≤ 1 → w ≡ 1
 one e w c h = omega (arith, pow_pos e)

@@ -5,15 +5,15 @@ use native.Mathlib.Omega.{arith}
 use lib.Pow.{pow_pos}
 
 -- of 2 to 64 the one that is none of the others
-pub sixty-four : (e w : ℕ) → 0 < e → e < 7 → w ≡ 2 ^ e → (w ≡ 2 → ⊥) → (w ≡ 4 → ⊥) → (w ≡ 8 → ⊥) → (w ≡ 16 → ⊥) → (w ≡ 32 → ⊥) → w ≡ 64
-sixty-four zero w a b c x y z u v = absurd (omega arith)
-sixty-four (suc zero) w a b c x y z u v = absurd (x c)
-sixty-four (suc (suc zero)) w a b c x y z u v = absurd (y c)
-sixty-four (suc (suc (suc zero))) w a b c x y z u v = absurd (z c)
-sixty-four (suc (suc (suc (suc zero)))) w a b c x y z u v = absurd (u c)
-sixty-four (suc (suc (suc (suc (suc zero))))) w a b c x y z u v = absurd (v c)
-sixty-four (suc (suc (suc (suc (suc (suc zero)))))) w a b c x y z u v = c
-sixty-four (suc (suc (suc (suc (suc (suc (suc e))))))) w a b c x y z u v = absurd (omega arith)
+pub sixty_four : (e w : ℕ) → 0 < e → e < 7 → w ≡ 2 ^ e → (w ≡ 2 → ⊥) → (w ≡ 4 → ⊥) → (w ≡ 8 → ⊥) → (w ≡ 16 → ⊥) → (w ≡ 32 → ⊥) → w ≡ 64
+sixty_four zero w a b c x y z u v = absurd (omega arith)
+sixty_four (suc zero) w a b c x y z u v = absurd (x c)
+sixty_four (suc (suc zero)) w a b c x y z u v = absurd (y c)
+sixty_four (suc (suc (suc zero))) w a b c x y z u v = absurd (z c)
+sixty_four (suc (suc (suc (suc zero)))) w a b c x y z u v = absurd (u c)
+sixty_four (suc (suc (suc (suc (suc zero))))) w a b c x y z u v = absurd (v c)
+sixty_four (suc (suc (suc (suc (suc (suc zero)))))) w a b c x y z u v = c
+sixty_four (suc (suc (suc (suc (suc (suc (suc e))))))) w a b c x y z u v = absurd (omega arith)
 
 -- of 2 and 4 the one that is not 4
 pub two : (e w : ℕ) → 1 < w → w < 8 → w ≡ 2 ^ e → (w ≡ 4 → ⊥) → w ≡ 2

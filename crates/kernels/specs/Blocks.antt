@@ -1,7 +1,7 @@
 -- Which of some filters are open, as the bits of one word or of eight.
 use Rattle.std.specs.Prelude.{◌≡◌, Bool, ◌&&◌, List, ℕ, ◌+◌, ◌*◌, ◌/◌, ◌^◌, ◌≤◌, ◌<◌, ltb, length, get_or}
 use Rattle.std.proofs.Common.{sym, ap, ◌∙◌, arith, le-ltb}
-use Rattle.memory.specs.Bits.{bit, bit-zero}
+use Rattle.memory.specs.Bits.{bit, bit_zero}
 use Rattle.memory.specs.Cases.{either, lt?}
 
 -- bit i of r, i below m: is filter `from` + i open
@@ -30,7 +30,7 @@ pub record BlockIn (at low : List ℕ) (count q len : ℕ) : Type 0 where
   pub firsts : count ≤ length at
   pub lows : count ≤ length low
   pub row_in : (k : ℕ) → k < count → get_or at k 0 + q * 8 + 64 ≤ len
-  pub low-lt : (k : ℕ) → k < count → get_or low k 0 < 64
+  pub low_lt : (k : ℕ) → k < count → get_or low k 0 < 64
 
 -- rows of n filters with w bits each, up to 64, lie within `len` bytes in whole blocks of 64
 pub record GroupIn (at low : List ℕ) (count w n len : ℕ) : Type 0 where
@@ -38,8 +38,8 @@ pub record GroupIn (at low : List ℕ) (count w n len : ℕ) : Type 0 where
   pub firsts : count ≤ length at
   pub lows : count ≤ length low
   pub power : (e : ℕ) × (e < 7) × (w ≡ 2 ^ e)
-  pub low-lt : (k : ℕ) → k < count → get_or low k 0 < w
-  pub blocks-in : (k : ℕ) → k < count → get_or at k 0 + (n * w + 511) / 512 * 64 ≤ len
+  pub low_lt : (k : ℕ) → k < count → get_or low k 0 < w
+  pub blocks_in : (k : ℕ) → k < count → get_or at k 0 + (n * w + 511) / 512 * 64 ≤ len
   pub small : n * w < 2 ^ 60
 
 -- ---- words of which filters are open
@@ -47,13 +47,13 @@ pub record GroupIn (at low : List ℕ) (count w n len : ℕ) : Type 0 where
 -- none of none
 pub open_none : (gate : ℕ → Bool) (from m : ℕ) → m ≡ 0 → Open gate from m 0
 unfolding Open
-open_none gate from m e i h = bit-zero i ∙ sym (ap (λ (t : Bool). t && gate (from + i)) (le-ltb i m (omega arith)))
+open_none gate from m e i h = bit_zero i ∙ sym (ap (λ (t : Bool). t && gate (from + i)) (le-ltb i m (omega arith)))
 
 -- the lowest m of the bits that are shown, and no others
-pub open-lowest : (gate : ℕ → Bool) (from k m n r y : ℕ) → k ≡ m → m ≤ n → Shows gate from n r
+pub open_lowest : (gate : ℕ → Bool) (from k m n r y : ℕ) → k ≡ m → m ≤ n → Shows gate from n r
     → ((i : ℕ) → i < 64 → bit y i ≡ (ltb i m && bit r i)) → Open gate from k y
 unfolding Shows Open
-open-lowest gate from k m n r y e le R Y i h =
+open_lowest gate from k m n r y e le R Y i h =
     rw e
     (Y i h
     ∙ either (lt? i m)

@@ -2,12 +2,12 @@
 ghost use Rattle.std.specs.Prelude.{◌≡◌, true, false, ◌&&◌, ◌||◌, not, ◌≢◌, ℕ, ◌+◌, ◌-◌, ◌*◌, ◌/◌, ◌%◌, ◌^◌, ◌≤◌, ◌<◌, ltb, eqb, length, get_or};
 ghost use Rattle.std.specs.Int.Bits.{bit_and, bit_or};
 ghost use Rattle.std.specs.Int.Count.{count_leading_zeros};
-ghost use Rattle.memory.specs.Bits.{bit, bitIn};
+ghost use Rattle.memory.specs.Bits.{bit, bit_in};
 ghost use Rattle.memory.specs.Lent.{before};
 ghost use Rattle.memory.specs.Ranges.{any};
-ghost use Rattle.kernels.specs.Rows.{allIn, Words};
+ghost use Rattle.kernels.specs.Rows.{all_in, Words};
 ghost use Rattle.kernels.specs.Blocks.{Shows, Open, Upto, OpenBlock, Squeezed, BlockIn, GroupIn};
-ghost use Rattle.kernels.specs.Masks.{hasMask, Had, Lacked};
+ghost use Rattle.kernels.specs.Masks.{has_mask, Had, Lacked};
 
 use words::{bits, numbers};
 
@@ -213,7 +213,7 @@ pub fn pairs(bits: u64) -> u64
 // A row's word, moved down by `low`.
 fn field_at(at: usize, low: usize, bytes: &[u8]) -> u64
     requires { (at + 8 ≤ length bytes.now) × (low < 64) }
-    ensures { (i : ℕ) → low + i < 64 → bit result i ≡ bitIn (before bytes) at (low + i) }
+    ensures { (i : ℕ) → low + i < 64 → bit result i ≡ bit_in (before bytes) at (low + i) }
 {
     words::get64(bytes, at) >> low
 }
@@ -222,7 +222,7 @@ fn field_at(at: usize, low: usize, bytes: &[u8]) -> u64
 fn row_block(at: usize, low: usize, bytes: &[u8]) -> [u64; 8]
     requires { (at + 64 ≤ length bytes.now) × (low < 64) }
     ensures { (length result ≡ 8)
-        × ((j : ℕ) → j < 8 → (i : ℕ) → low + i < 64 → bit (get_or result j 0) i ≡ bitIn (before bytes) (at + j * 8) (low + i)) }
+        × ((j : ℕ) → j < 8 → (i : ℕ) → low + i < 64 → bit (get_or result j 0) i ≡ bit_in (before bytes) (at + j * 8) (low + i)) }
 {
     let a = field_at(at, low, bytes);
     let b = field_at(at + 8, low, bytes);
@@ -281,7 +281,7 @@ fn more_words(
         × (n * 8 * (64 / w) ≤ 64) × (n ≤ 8) × (q < 2 ^ 60) }
     requires by_index_2 { ((b : ℕ) → b < n → BlockIn at.now low.now count (q + b * 8) (length bytes.now))
         × ((i : ℕ) → i < count → get_or low.now i 0 < w) }
-    ensures { Shows (allIn (before bytes) (before at) (before low) w count) (q * (64 / w)) (n * 8 * (64 / w)) result }
+    ensures { Shows (all_in (before bytes) (before at) (before low) w count) (q * (64 / w)) (n * 8 * (64 / w)) result }
 {
     let per = 64 / w;
     let mut r: u64 = 0;
@@ -311,7 +311,7 @@ fn passed(
 ) -> u64
     requires { (7 < w) × (0 < m) × (m ≤ 64) × (from % 64 ≡ 0)
         × GroupIn at.now low.now count w (from + m) (length bytes.now) }
-    ensures { Open (allIn (before bytes) (before at) (before low) w count) from m result }
+    ensures { Open (all_in (before bytes) (before at) (before low) w count) from m result }
 {
     let n = (m * w + 511) / 512;
     let a = more_words(w, from / 64 * w, n, count, at, low, bytes);
@@ -329,7 +329,7 @@ fn wide_block(
     bytes: &[u8],
 ) -> [u64; 8]
     requires { (7 < w) × (n ≤ 512) × (first % 64 ≡ 0) × GroupIn at.now low.now count w (first + n) (length bytes.now) }
-    ensures { OpenBlock (allIn (before bytes) (before at) (before low) w count) first n result }
+    ensures { OpenBlock (all_in (before bytes) (before at) (before low) w count) first n result }
 {
     let mut r = [0u64; 8];
     let mut j = 0;
@@ -368,7 +368,7 @@ fn two_block(
     bytes: &[u8],
 ) -> [u64; 8]
     requires { (n ≤ 512) × (first % 512 ≡ 0) × GroupIn at.now low.now count 2 (first + n) (length bytes.now) }
-    ensures { OpenBlock (allIn (before bytes) (before at) (before low) 2 count) first n result }
+    ensures { OpenBlock (all_in (before bytes) (before at) (before low) 2 count) first n result }
 {
     let mut r = [0u64; 8];
     let mut j = 0;
@@ -397,7 +397,7 @@ fn four_block(
     bytes: &[u8],
 ) -> [u64; 8]
     requires { (n ≤ 512) × (first % 512 ≡ 0) × GroupIn at.now low.now count 4 (first + n) (length bytes.now) }
-    ensures { OpenBlock (allIn (before bytes) (before at) (before low) 4 count) first n result }
+    ensures { OpenBlock (all_in (before bytes) (before at) (before low) 4 count) first n result }
 {
     let mut r = [0u64; 8];
     let mut j = 0;
@@ -424,7 +424,7 @@ fn few_block(
 ) -> [u64; 8]
     requires { (1 < w) × (w < 8) × (n ≤ 512) × (first % 512 ≡ 0)
         × GroupIn at.now low.now count w (first + n) (length bytes.now) }
-    ensures { OpenBlock (allIn (before bytes) (before at) (before low) w count) first n result }
+    ensures { OpenBlock (all_in (before bytes) (before at) (before low) w count) first n result }
 {
     if w == 4 {
         return four_block(first, n, count, at, low, bytes);
@@ -445,7 +445,7 @@ pub fn block(
 ) -> [u64; 8]
     requires { (0 < n) × (n ≤ 512) × (first % 512 ≡ 0)
         × GroupIn at.now low.now count w (first + n) (length bytes.now) }
-    ensures { OpenBlock (allIn (before bytes) (before at) (before low) w count) first n result }
+    ensures { OpenBlock (all_in (before bytes) (before at) (before low) w count) first n result }
 {
     if w > 7 {
         return wide_block(w, first, n, count, at, low, bytes);
@@ -515,7 +515,7 @@ fn has_mask(x: u64, m: u64) -> u64
 // Which of the n words from byte `at` on have all bits of a mask.
 pub fn words_with(m: u64, at: usize, n: usize, bytes: &[u8]) -> u64
     requires { (n ≤ 64) × (at + n * 8 ≤ length bytes.now) }
-    ensures { Open (hasMask (before bytes) at 64 m) 0 n result }
+    ensures { Open (has_mask (before bytes) at 64 m) 0 n result }
 {
     let mut r: u64 = 0;
     let mut k = n;

@@ -2,5 +2,5 @@
 use Rattle.layout.specs.Keys as layout
 use Rattle.keys.specs.declared.Key.{Key}
 
-abbrev pub keyIs : Key → layout.Key
-keyIs k = k.level
+abbrev pub key_is : Key → layout.Key
+key_is k = k.level

@@ -1,7 +1,7 @@
 // The key of a level, its comparison, and where an entry's two words have it. Document 01, "Records, entries, deletions".
 ghost use Rattle.std.specs.Prelude.{◌≡◌};
-ghost use Rattle.layout.specs.Keys.{sameKey, keyIn, number_in};
-ghost use Rattle.keys.specs.Key.{keyIs};
+ghost use Rattle.layout.specs.Keys.{same_key, key_in, number_in};
+ghost use Rattle.keys.specs.Key.{key_is};
 
 #[derive(Drop)]
 pub struct Key {
@@ -10,14 +10,14 @@ pub struct Key {
 
 // Do two keys name the same level?
 pub fn same(a: Key, b: Key) -> bool
-    ensures { result ≡ sameKey (keyIs a) (keyIs b) }
+    ensures { result ≡ same_key (key_is a) (key_is b) }
 {
     a.level == b.level
 }
 
 // The key in an entry's two words.
 pub fn key_in(first: u32, second: u32) -> Key
-    ensures { keyIs result ≡ keyIn first second }
+    ensures { key_is result ≡ key_in first second }
 {
     Key { level: first }
 }

@@ -2,8 +2,8 @@
 use Rattle.std.specs.Prelude.{◌≡◌, Bool, true, false, ◌&&◌, not, ℕ, suc, ◌≤◌, ◌<◌, ltb, eqb}
 use Rattle.std.proofs.Common.{sym, ap, ◌∙◌, arith, lt-ltb, ne_eqb, ltb-true}
 use Rattle.std.proofs.Math.Bool.{and-eq-true_iff}
-use Rattle.memory.specs.Bits.{bit, bit-zero}
-use Rattle.memory.specs.Candidate.{candidate, candidate-le, candidate-skip, candidate-top}
+use Rattle.memory.specs.Bits.{bit, bit_zero}
+use Rattle.memory.specs.Candidate.{candidate, candidate_le, candidate_skip, candidate_top}
 use Rattle.memory.specs.Cases.{lt?, eq?, either}
 
 -- bit f is the highest that is set
@@ -22,11 +22,11 @@ module _ (bits f : ℕ) (top : Top bits f) (r : ℕ) (is : Cleared bits f r) whe
       (λ t. let ne = t.1 in is i k ∙ rw t.0 (top.2 i (omega arith) k))
 
   -- so that the highest is a lower one
-  pub cleared-less : candidate (bit r) 64 < candidate (bit bits) 64
-  cleared-less =
-      let a : candidate (bit bits) 64 ≡ suc f = candidate-top (bit bits) 64 f top.0 top.1 top.2 in
-      let b : candidate (bit r) 64 ≡ candidate (bit r) f = candidate-skip (bit r) 64 f (omega (arith, top.0)) cleared in
-      omega (arith, a, b, candidate-le (bit r) f)
+  pub cleared_less : candidate (bit r) 64 < candidate (bit bits) 64
+  cleared_less =
+      let a : candidate (bit bits) 64 ≡ suc f = candidate_top (bit bits) 64 f top.0 top.1 top.2 in
+      let b : candidate (bit r) 64 ≡ candidate (bit r) f = candidate_skip (bit r) 64 f (omega (arith, top.0)) cleared in
+      omega (arith, a, b, candidate_le (bit r) f)
 
 -- of the bits of a word those below m are left
 pub record BitsLeft (word left m : ℕ) : Type 0 where
@@ -41,17 +41,17 @@ module _ {word left m : ℕ} (L : BitsLeft word left m) where
   not_left i h e = (rw (lt-ltb i m h) at (sym (L.shown i (omega (arith, L.most))))) ∙ e
 
   pub none_left : left ≡ 0 → (i : ℕ) → i < m → bit word i ≡ false
-  none_left z i h = not_left i h (rw z (bit-zero i))
+  none_left z i h = not_left i h (rw z (bit_zero i))
 
   -- the highest of them
   module _ (f : ℕ) (top : Top left f) where
-    pub top-both : (f < m) × (bit word f ≡ true)
-    top-both =
+    pub top_both : (f < m) × (bit word f ≡ true)
+    top_both =
         let e = (and-eq-true_iff (ltb f m) (bit word f)).0 (sym (L.shown f top.0) ∙ top.1) in
         (ltb-true f m e.0, e.1)
 
-    pub top-gap : (i : ℕ) → f < i → i < m → bit word i ≡ false
-    top-gap i a b = not_left i b (top.2 i a (omega (arith, L.most)))
+    pub top_gap : (i : ℕ) → f < i → i < m → bit word i ≡ false
+    top_gap i a b = not_left i b (top.2 i a (omega (arith, L.most)))
 
     pub top_left : (r : ℕ) → Cleared left f r → BitsLeft word r f
     top_left r is =
@@ -61,7 +61,7 @@ module _ {word left m : ℕ} (L : BitsLeft word left m) where
               either (lt? i f)
               (λ t.
               let l = t.1 in
-              is i k ∙ rw (ne_eqb i f (λ e. absurd (omega arith)), t.0) (L.shown i k ∙ rw (lt-ltb i m (omega (arith, top-both.0)))))
+              is i k ∙ rw (ne_eqb i f (λ e. absurd (omega arith)), t.0) (L.shown i k ∙ rw (lt-ltb i m (omega (arith, top_both.0)))))
               (λ t.
               let l = t.1 in
               cleared left f top r is i l k ∙ sym (ap (λ (x : Bool). x && bit word i) t.0));

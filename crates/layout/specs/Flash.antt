@@ -2,15 +2,15 @@
 use Rattle.std.specs.Prelude.{Bool, true, ◌&&◌, List, [], ◌∷◌, ℕ, zero, suc, ◌*◌, get_or, set, replicate, leb}
 use Rattle.std.specs.Int.Count.{ones_in}
 use Rattle.memory.specs.Lists.{write}
-use Rattle.layout.specs.Geometry.{sectorsPerBlock, sector, block}
+use Rattle.layout.specs.Geometry.{sectors_per_block, sector, block}
 
 -- the main area ("cells") and the spare area ("marks", one byte a sector)
 pub record Flash : Type 0 where
   pub main : List ℕ
   pub spare : List ℕ
 
-abbrev pub flashOf : List ℕ → List ℕ → Flash
-flashOf main spare = record { main = main; spare = spare }
+abbrev pub flash_of : List ℕ → List ℕ → Flash
+flash_of main spare = record { main = main; spare = spare }
 
 -- program a sector with its bytes; erase a block
 pub data Op : Type 0 where
@@ -28,13 +28,13 @@ module _ (u : ℕ) where
   apply (erase b) c =
       record {
         main = write c.main (b * block u) (replicate (block u) 255);
-        spare = write c.spare (b * sectorsPerBlock) (replicate sectorsPerBlock 255);
+        spare = write c.spare (b * sectors_per_block) (replicate sectors_per_block 255);
       }
 
   -- a list of operations, in order
-  abbrev pub applyAll : List Op → Flash → Flash
-  applyAll [] c = c
-  applyAll (o ∷ os) c = applyAll os (apply o c)
+  abbrev pub apply_all : List Op → Flash → Flash
+  apply_all [] c = c
+  apply_all (o ∷ os) c = apply_all os (apply o c)
 
 -- k blocks in a row from b on
 abbrev pub erases : ℕ → ℕ → List Op
@@ -50,9 +50,9 @@ pub data Planned : Type 0 where
   wipe : ℕ → Planned
 
 -- k of them, from the i-th on
-abbrev pub plannedFrom : (ℕ → Planned) → ℕ → ℕ → List Planned
-plannedFrom f i zero = []
-plannedFrom f i (suc k) = f i ∷ plannedFrom f (suc i) k
+abbrev pub planned_from : (ℕ → Planned) → ℕ → ℕ → List Planned
+planned_from f i zero = []
+planned_from f i (suc k) = f i ∷ planned_from f (suc i) k
 
 -- the operation that it is on a chip
 abbrev pub op_on : Planned → Flash → Op
@@ -62,14 +62,14 @@ op_on (wipe b) c = erase b
 
 module _ (u : ℕ) where
   -- the operations of a plan, each on the chip that the one before it leaves
-  abbrev pub planOps : List Planned → Flash → List Op
-  planOps [] c = []
-  planOps (p ∷ ps) c = op_on p c ∷ planOps ps (apply u (op_on p c) c)
+  abbrev pub plan_ops : List Planned → Flash → List Op
+  plan_ops [] c = []
+  plan_ops (p ∷ ps) c = op_on p c ∷ plan_ops ps (apply u (op_on p c) c)
 
 -- ---- refusal 7
 
 -- are all sectors that a list programs fresh, by the marks before the list's first operation
-unfoldable pub allFresh : List ℕ → List Op → Bool
-allFresh spare [] = true
-allFresh spare (program s bytes ∷ os) = fresh (get_or spare s 0) && allFresh spare os
-allFresh spare (erase b ∷ os) = allFresh spare os
+unfoldable pub all_fresh : List ℕ → List Op → Bool
+all_fresh spare [] = true
+all_fresh spare (program s bytes ∷ os) = fresh (get_or spare s 0) && all_fresh spare os
+all_fresh spare (erase b ∷ os) = all_fresh spare os

@@ -5,21 +5,21 @@ use Rattle.memory.specs.Lists.{tabulate}
 use Rattle.layout.specs.Geometry.{sector}
 
 -- "exclusive-or, then multiply by 16777619, keeping 32 bits", from h over the bytes
-unfoldable pub fnvFrom : ℕ → List ℕ → ℕ
-fnvFrom h [] = h
-fnvFrom h (x ∷ xs) = fnvFrom (bit_xor h x * 16777619 % 2 ^ 32) xs
+unfoldable pub fnv_from : ℕ → List ℕ → ℕ
+fnv_from h [] = h
+fnv_from h (x ∷ xs) = fnv_from (bit_xor h x * 16777619 % 2 ^ 32) xs
 
 -- "start 2166136261"
 abbrev pub fnv1a : List ℕ → ℕ
-fnv1a xs = fnvFrom 2166136261 xs
+fnv1a xs = fnv_from 2166136261 xs
 
 -- a hash family: function j of some bytes. Definitions and theorems take any.
 abbrev pub Family : Type 0
 Family = ℕ → List ℕ → ℕ
 
 -- "Hash j (0 to 3) is FNV-1a over five bytes: j, then the key"; §2: "h0 to hk"
-abbrev pub fnvFamily : Family
-fnvFamily j bytes = fnv1a (j ∷ bytes)
+abbrev pub fnv_family : Family
+fnv_family j bytes = fnv1a (j ∷ bytes)
 
 -- the k positions of some bytes: "(h0 mod 4) × S + (hj mod S) for j = 1, 2, 3"; §2: with k "wherever 01 says three"
 unfoldable pub positions : Family → ℕ → ℕ → List ℕ → List ℕ

@@ -13,23 +13,23 @@ Key = ℕ
 
 -- "All 2^32 keys are allowed"
 pub record KeyOk (k : Key) : Type 0 where
-  pub level-lt : k < 2 ^ 32
+  pub level_lt : k < 2 ^ 32
 
 -- do two keys name the same level
-unfoldable pub sameKey : Key → Key → Bool
-sameKey a b = eqb a b
+unfoldable pub same_key : Key → Key → Bool
+same_key a b = eqb a b
 
 -- what is hashed of a key: "j, then the key", its bytes and not its number
-abbrev pub keyBytes : Key → List ℕ
-keyBytes k = bytes4 k
+abbrev pub key_bytes : Key → List ℕ
+key_bytes k = bytes4 k
 
 -- an entry's two words are "key, then j"
-abbrev pub keyIn : ℕ → ℕ → Key
-keyIn first second = first
+abbrev pub key_in : ℕ → ℕ → Key
+key_in first second = first
 
 abbrev pub number_in : ℕ → ℕ
 number_in second = second
 
 -- the key of the entry from byte `at` on
 abbrev pub key_at : List ℕ → ℕ → Key
-key_at bytes at = keyIn (word bytes at) (word bytes (at + word_size))
+key_at bytes at = key_in (word bytes at) (word bytes (at + word_size))

@@ -2,12 +2,12 @@
 use Rattle.std.specs.Prelude.{ℕ}
 
 -- "S, R or D not allowed; n or d above capacity; d above n"; §2: k too
-abbrev pub badState : ℕ
-badState = 1
+abbrev pub bad_state : ℕ
+bad_state = 1
 
 -- "cells under 64SB, marks under 64B or desk under 20S bytes"; §5: "the larger sums", 24S bytes of RAM; §8: 64 more
-abbrev pub tooShort : ℕ
-tooShort = 2
+abbrev pub too_short : ℕ
+too_short = 2
 
 -- "insert of a live key"
 abbrev pub present : ℕ
@@ -22,16 +22,16 @@ abbrev pub full : ℕ
 full = 5
 
 -- "update or delete, d at capacity"; not of an update of a key that is not live
-abbrev pub deletionsFull : ℕ
-deletionsFull = 6
+abbrev pub deletions_full : ℕ
+deletions_full = 6
 
 -- "a sector to be programmed is not fresh"
-abbrev pub notFresh : ℕ
-notFresh = 7
+abbrev pub not_fresh : ℕ
+not_fresh = 7
 
 -- "the search meets its key with a record number of n or more"
-abbrev pub corruptEntry : ℕ
-corruptEntry = 8
+abbrev pub corrupt_entry : ℕ
+corrupt_entry = 8
 
 -- document 02, request 1: "9, header missing or row malformed"
 abbrev pub malformed : ℕ

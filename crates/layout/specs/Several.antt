@@ -17,22 +17,22 @@ abbrev pub ended : Outcome → Volume → Several
 ended o v = record { outcome = o; done = 0; volume = v }
 
 -- one call more was done before
-abbrev pub oneMore : Several → Several
-oneMore s = record { outcome = s.outcome; done = suc s.done; volume = s.volume }
+abbrev pub one_more : Several → Several
+one_more s = record { outcome = s.outcome; done = suc s.done; volume = s.volume }
 
-abbrev pub goOn : Outcome → Volume → Several → Several
-goOn accepted v rest = oneMore rest
-goOn (hit place bytes) v rest = oneMore rest
-goOn miss v rest = oneMore rest
-goOn (refused i) v rest = ended (refused i) v
+abbrev pub go_on : Outcome → Volume → Several → Several
+go_on accepted v rest = one_more rest
+go_on (hit place bytes) v rest = one_more rest
+go_on miss v rest = one_more rest
+go_on (refused i) v rest = ended (refused i) v
 
 -- does a search end at a live level
-abbrev pub isLive : Option Stop → Bool
-isLive none = false
-isLive (some corrupt) = false
-isLive (some (found j)) = true
+abbrev pub is_live : Option Stop → Bool
+is_live none = false
+is_live (some corrupt) = false
+is_live (some (found j)) = true
 
 -- "an insert, or an update if the level is live"; where the search meets 8, either is refused by it. Since request 4 an update does the
 -- same for any level, but which of the two a row is stays told
-unfoldable pub putCall : Family → Volume → Record → Call
-putCall h v r = cond (isLive (search h (geometry v.state.sizes) v r.key).stop) (update r) (insert r)
+unfoldable pub put_call : Family → Volume → Record → Call
+put_call h v r = cond (is_live (search h (geometry v.state.sizes) v r.key).stop) (update r) (insert r)

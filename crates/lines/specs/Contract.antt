@@ -17,12 +17,12 @@ use Rattle.lines.specs.declared.LineReply.{LineReply}
 -- ---- a command
 
 -- the code's reply with the bytes that it leaves
-abbrev pub performedOf : Performed → List ℕ → List ℕ → List ℕ → script.Performed
-performedOf r main spare ram = record { answer = answer_of r.answer; volume = volume r.state main spare ram }
+abbrev pub performed_of : Performed → List ℕ → List ℕ → List ℕ → script.Performed
+performed_of r main spare ram = record { answer = answer_of r.answer; volume = volume r.state main spare ram }
 
 -- a change's answer: n and d, or the refusal's number
-abbrev pub changeAnswer : Change → Answer
-changeAnswer c = cond (eqb c.refusal 0) (Ok c.state.records c.state.deletions) (No c.refusal)
+abbrev pub change_answer : Change → Answer
+change_answer c = cond (eqb c.refusal 0) (Ok c.state.records c.state.deletions) (No c.refusal)
 
 -- ---- a line
 
@@ -32,11 +32,11 @@ pub record AfterLine : Type 0 where
   pub volume : Volume
   pub out : List ℕ
 
-abbrev pub afterLine : LineReply → List ℕ → List ℕ → List ℕ → List ℕ → AfterLine
-afterLine r main spare ram out = record { length = r.length; volume = volume r.state main spare ram; out = out }
+abbrev pub after_line : LineReply → List ℕ → List ℕ → List ℕ → List ℕ → AfterLine
+after_line r main spare ram out = record { length = r.length; volume = volume r.state main spare ram; out = out }
 
 -- the line's command performed, and its answer's text at the start of `out`
-unfoldable pub answerLine : Volume → List ℕ → List ℕ → AfterLine
-answerLine v line out =
+unfoldable pub answer_line : Volume → List ℕ → List ℕ → AfterLine
+answer_line v line out =
     let r : script.Performed = perform v (command line) in
     record { length = length (text r.answer); volume = r.volume; out = write out 0 (text r.answer) }

@@ -2,14 +2,14 @@
 // Document 01, "Replay program".
 ghost use Rattle.std.specs.Prelude.{◌≡◌, ◌≤◌, length};
 ghost use Rattle.memory.specs.Lent.{before, after};
-ghost use Rattle.layout.specs.Items.{recordOf};
+ghost use Rattle.layout.specs.Items.{record_of};
 ghost use Rattle.layout.specs.Calls.{lookup};
-ghost use Rattle.keys.specs.Key.{keyIs};
-ghost use Rattle.state.specs.Contract.{recordIs, volume, given};
+ghost use Rattle.keys.specs.Key.{key_is};
+ghost use Rattle.state.specs.Contract.{record_is, volume, given};
 ghost use Rattle.script.specs.Lines.{line_key, call};
-ghost use Rattle.script.specs.Values.{commandOf, answer_of};
+ghost use Rattle.script.specs.Values.{command_of, answer_of};
 ghost use Rattle.script.specs.Script.{perform};
-ghost use Rattle.lines.specs.Contract.{performedOf, changeAnswer, afterLine, answerLine};
+ghost use Rattle.lines.specs.Contract.{performed_of, change_answer, after_line, answer_line};
 
 use geometry::{Sizes, areas};
 use keys::Key;
@@ -28,7 +28,7 @@ pub struct Performed {
 
 // A change is answered by n and d, or by the number of its refusal.
 fn after_change(c: Change) -> Performed
-    ensures { result ≡ record { state = c.state; answer = changeAnswer c } }
+    ensures { result ≡ record { state = c.state; answer = change_answer c } }
 {
     let s = c.state;
     if c.refusal == state::ACCEPTED {
@@ -45,7 +45,7 @@ fn after_change(c: Change) -> Performed
 
 // The answer to a lookup; a hit's moves are its record's second word.
 fn lookup<'a>(s: State, key: Key, main: &'a [u8], spare: &[u8], ram: &'a [u8]) -> Answer
-    ensures { answer_of result ≡ (perform (given s main spare ram) (call (lookup (keyIs key)))).answer }
+    ensures { answer_of result ≡ (perform (given s main spare ram) (call (lookup (key_is key)))).answer }
 {
     let mut numbers = [0u64; 4];
     let bytes = lookup::lookup(s, key, main, spare, ram, &mut numbers);
@@ -63,7 +63,7 @@ fn lookup<'a>(s: State, key: Key, main: &'a [u8], spare: &[u8], ram: &'a [u8]) -
 
 // The record of a line: its goal and free word are 0.
 fn level(number: u32, moves: u32) -> Record
-    ensures { recordIs result ≡ recordOf (line_key number) moves 0 0 }
+    ensures { record_is result ≡ record_of (line_key number) moves 0 0 }
 {
     let key = Key { level: number };
     Record {
@@ -76,7 +76,7 @@ fn level(number: u32, moves: u32) -> Record
 
 // A command on a volume.
 pub fn perform(s: State, q: Command, main: &mut [u8], spare: &mut [u8], ram: &mut [u8]) -> Performed
-    ensures { performedOf result (after main) (after spare) (after ram) ≡ perform (given s main spare ram) (commandOf q) }
+    ensures { performed_of result (after main) (after spare) (after ram) ≡ perform (given s main spare ram) (command_of q) }
 {
     match q {
         Command::Format(sector_size, ra_blocks, da_blocks) => {
@@ -135,8 +135,8 @@ pub fn answer_line(
     out: &mut [u8],
 ) -> LineReply
     requires { 32 ≤ length out.old }
-    ensures { afterLine result (after main) (after spare) (after ram) (after out)
-        ≡ answerLine (given s main spare ram) (before line) (before out) }
+    ensures { after_line result (after main) (after spare) (after ram) (after out)
+        ≡ answer_line (given s main spare ram) (before line) (before out) }
 {
     let q = script::parse_line(line);
     let p = perform(s, q, main, spare, ram);
@@ -168,7 +168,7 @@ pub fn answer_on(
 ) -> usize
     requires { 32 ≤ length out.old }
     ensures { record { length = result; volume = volume v.new.state (after main) (after spare) (after ram); out = after out }
-        ≡ answerLine (given v.old.state main spare ram) (before line) (before out) }
+        ≡ answer_line (given v.old.state main spare ram) (before line) (before out) }
 {
     let c = answer_line(v.state, line, main, spare, ram, out);
     v.state = c.state;
@@ -185,8 +185,8 @@ pub fn answer_next(
     out: &mut [u8],
 ) -> LineReply
     requires { 32 ≤ length out.old }
-    ensures { afterLine result (after main) (after spare) (after ram) (after out)
-        ≡ answerLine (given s main spare ram) (before line) (before out) }
+    ensures { after_line result (after main) (after spare) (after ram) (after out)
+        ≡ answer_line (given s main spare ram) (before line) (before out) }
 {
     let mut v = Held { state: s };
     let n = answer_on(&mut v, line, main, spare, ram, out);

@@ -8,100 +8,100 @@ use native.Mathlib.Omega.{arith}
 use lib.ListN.{length}
 use lib.Dec.{eqb, ltb}
 use borrow.Author.Tests.{le-ltb}
-use Rattle.memory.specs.Booleans.{or-eq-false-iff}
-use Rattle.memory.specs.Words.{word, wordsBytes, byte_of, length-words}
+use Rattle.memory.specs.Booleans.{or_eq_false_iff}
+use Rattle.memory.specs.Words.{word, words_bytes, byte_of, length_words}
 use Rattle.layout.specs.Geometry as layout
-use Rattle.layout.specs.Calls.{Volume, badState, tooShort}
-use Rattle.layout.specs.Header.{pages, onPages, kindIn, finished, stateWords, headerBytes, headerWord, noIntent}
-use Rattle.laws.specs.HeaderLaws.{header_of, length-pages}
+use Rattle.layout.specs.Calls.{Volume, bad_state, too_short}
+use Rattle.layout.specs.Header.{pages, on_pages, kind_in, finished, state_words, header_bytes, header_word, no_intent}
+use Rattle.laws.specs.HeaderLaws.{header_of, length_pages}
 use Rattle.laws.specs.Lengths.{Long}
-use Rattle.geometry.specs.Shape.{geometryFor, shape}
+use Rattle.geometry.specs.Shape.{geometry_for, shape}
 use Rattle.geometry.specs.declared.Geometry.{Geometry}
 use Rattle.state.specs.Judge.{VolumeFits}
 use Rattle.state.specs.declared.Judgement.TheVariants.{Good}
-use Rattle.header.specs.Header.{idleJudgement}
+use Rattle.header.specs.Header.{idle_judgement}
 use Rattle.load.specs.Contract.{Judged}
 use Rattle.load.proofs.Counts.{Added}
 
 -- the kind of a header without an intent
-idle-kind : (w : Volume) → headerWord (finished w) 6 ≡ 0
-unfolding headerWord headerBytes wordsBytes byte_of
-idle-kind w = ap (λ (b : List ℕ). word b 24) (header_of w.ram (headerBytes w.state noIntent) (length-words (stateWords w.state ++ noIntent)))
+idle_kind : (w : Volume) → header_word (finished w) 6 ≡ 0
+unfolding header_word header_bytes words_bytes byte_of
+idle_kind w = ap (λ (b : List ℕ). word b 24) (header_of w.ram (header_bytes w.state no_intent) (length_words (state_words w.state ++ no_intent)))
 
 -- "S, R or D not allowed" does not apply
 flip : (t : Bool) → not t ≡ false → t ≡ true
 flip true e = refl
 flip false e = sym e
 
-is-allowed : (s : layout.State) → badState s ≡ false → layout.allowed s.sizes ≡ true
-unfolding badState
-is-allowed s e = flip _ ((or-eq-false-iff (not (layout.allowed s.sizes)) _).0 e).0
+is_allowed : (s : layout.State) → bad_state s ≡ false → layout.allowed s.sizes ≡ true
+unfolding bad_state
+is_allowed s e = flip _ ((or_eq_false_iff (not (layout.allowed s.sizes)) _).0 e).0
 
 module _ (g : Geometry) (v w : Volume) (J : Judged g v) (A : Added (layout.geometry v.state.sizes) v.state w.state)
-    (main-same : length w.flash.main ≡ length v.flash.main) (spare-same : length w.flash.spare ≡ length v.flash.spare)
-    (ram-same : length w.ram ≡ length v.ram) where
+    (main_same : length w.flash.main ≡ length v.flash.main) (spare_same : length w.flash.spare ≡ length v.flash.spare)
+    (ram_same : length w.ram ≡ length v.ram) where
   shape_is : shape g ≡ layout.geometry v.state.sizes
   shape_is = ap shape J.1.is
 
   named : shape g ≡ layout.geometry w.state.sizes
-  named = shape_is ∙ ap layout.geometry (sym A.sizes-are)
+  named = shape_is ∙ ap layout.geometry (sym A.sizes_are)
 
-  n-cap : w.state.records ≤ layout.recordCapacity (shape g)
-  n-cap =
-      subst (λ (x : layout.Geometry). w.state.records ≤ layout.recordCapacity x) (sym shape_is) (omega (arith, A.by_one, A.n_room))
+  n_cap : w.state.records ≤ layout.record_capacity (shape g)
+  n_cap =
+      subst (λ (x : layout.Geometry). w.state.records ≤ layout.record_capacity x) (sym shape_is) (omega (arith, A.by_one, A.n_room))
 
-  d-cap : w.state.deletions ≤ layout.deletionCapacity (shape g)
-  d-cap =
-      subst (λ (x : layout.Geometry). w.state.deletions ≤ layout.deletionCapacity x) (sym shape_is)
-      (A.d-room (subst (λ (x : layout.Geometry). v.state.deletions ≤ layout.deletionCapacity x) shape_is J.1.d-cap))
+  d_cap : w.state.deletions ≤ layout.deletion_capacity (shape g)
+  d_cap =
+      subst (λ (x : layout.Geometry). w.state.deletions ≤ layout.deletion_capacity x) (sym shape_is)
+      (A.d_room (subst (λ (x : layout.Geometry). v.state.deletions ≤ layout.deletion_capacity x) shape_is J.1.d_cap))
 
-  d-le : w.state.deletions ≤ w.state.records
-  d-le = omega (arith, A.by_one, A.d-most, J.1.d-le)
+  d_le : w.state.deletions ≤ w.state.records
+  d_le = omega (arith, A.by_one, A.d_most, J.1.d_le)
 
-  good : badState w.state ≡ false
-  unfolding badState
+  good : bad_state w.state ≡ false
+  unfolding bad_state
   good =
       let can : not (layout.allowed w.state.sizes) ≡ false
-      = ap not (ap layout.allowed A.sizes-are ∙ is-allowed v.state J.1.good) in
-      let n : w.state.records ≤ layout.recordCapacity (layout.geometry w.state.sizes)
-      = subst (λ (x : layout.Geometry). w.state.records ≤ layout.recordCapacity x) named n-cap in
-      let d : w.state.deletions ≤ layout.deletionCapacity (layout.geometry w.state.sizes)
-      = subst (λ (x : layout.Geometry). w.state.deletions ≤ layout.deletionCapacity x) named d-cap in
-      (or-eq-false-iff _ _).1
-      (can, (or-eq-false-iff _ _).1 (le-ltb _ _ n, (or-eq-false-iff _ _).1 (le-ltb _ _ d, le-ltb _ _ d-le)))
+      = ap not (ap layout.allowed A.sizes_are ∙ is_allowed v.state J.1.good) in
+      let n : w.state.records ≤ layout.record_capacity (layout.geometry w.state.sizes)
+      = subst (λ (x : layout.Geometry). w.state.records ≤ layout.record_capacity x) named n_cap in
+      let d : w.state.deletions ≤ layout.deletion_capacity (layout.geometry w.state.sizes)
+      = subst (λ (x : layout.Geometry). w.state.deletions ≤ layout.deletion_capacity x) named d_cap in
+      (or_eq_false_iff _ _).1
+      (can, (or_eq_false_iff _ _).1 (le-ltb _ _ n, (or_eq_false_iff _ _).1 (le-ltb _ _ d, le-ltb _ _ d_le)))
 
   long : Long (shape g) w.flash.main w.flash.spare (pages w.ram)
   long =
       let L = J.1.long in
       record {
         read = record {
-          main-fits = omega (arith, L.read.main-fits, main-same);
-          ram-fits = omega (arith, L.read.ram-fits, ram-same, length-pages w.ram, length-pages v.ram);
+          main_fits = omega (arith, L.read.main_fits, main_same);
+          ram_fits = omega (arith, L.read.ram_fits, ram_same, length_pages w.ram, length_pages v.ram);
         };
-        spare-fits = omega (arith, L.spare-fits, spare-same);
+        spare_fits = omega (arith, L.spare_fits, spare_same);
       }
 
-  enough : tooShort (shape g) w.flash (pages w.ram) ≡ false
-  unfolding tooShort
+  enough : too_short (shape g) w.flash (pages w.ram) ≡ false
+  unfolding too_short
   enough =
-      let ends = (or-eq-false-iff _ _).1 (le-ltb _ _ long.spare-fits, le-ltb _ _ long.read.ram-fits) in
-      (or-eq-false-iff _ _).1 (le-ltb _ _ long.read.main-fits, ends)
+      let ends = (or_eq_false_iff _ _).1 (le-ltb _ _ long.spare_fits, le-ltb _ _ long.read.ram_fits) in
+      (or_eq_false_iff _ _).1 (le-ltb _ _ long.read.main_fits, ends)
 
-  short : tooShort (layout.geometry w.state.sizes) w.flash (pages w.ram) ≡ false
-  short = subst (λ (x : layout.Geometry). tooShort x w.flash (pages w.ram) ≡ false) named enough
+  short : too_short (layout.geometry w.state.sizes) w.flash (pages w.ram) ≡ false
+  short = subst (λ (x : layout.Geometry). too_short x w.flash (pages w.ram) ≡ false) named enough
 
-  pub judged-again : (x : Volume) → w.ram ≡ finished x → Judged g w
-  judged-again x e =
-      let kind : eqb (kindIn w.ram) 0 ≡ true = rw (e, idle-kind x) in
-      let is : g ≡ geometryFor w.state.sizes = J.1.is ∙ ap geometryFor (sym A.sizes-are) in (
+  pub judged_again : (x : Volume) → w.ram ≡ finished x → Judged g w
+  judged_again x e =
+      let kind : eqb (kind_in w.ram) 0 ≡ true = rw (e, idle_kind x) in
+      let is : g ≡ geometry_for w.state.sizes = J.1.is ∙ ap geometry_for (sym A.sizes_are) in (
         rw (good, short, kind) (ap Good (sym is)),
         record {
           sound = J.1.sound;
           is = is;
           good = good;
           long = long;
-          n-cap = n-cap;
-          d-cap = d-cap;
-          d-le = d-le;
+          n_cap = n_cap;
+          d_cap = d_cap;
+          d_le = d_le;
         },
       )

@@ -2,31 +2,31 @@
 use Rattle.std.specs.Prelude.{◌≡◌}
 use Rattle.memory.specs.Lent.{Lent, after}
 use Rattle.layout.specs.Calls.{Volume}
-use Rattle.layout.specs.Header.{onPages}
+use Rattle.layout.specs.Header.{on_pages}
 use Rattle.layout.specs.Several.{Several}
 use Rattle.geometry.specs.declared.Geometry.{Geometry}
-use Rattle.state.specs.Contract.{volume, outcomeOf}
+use Rattle.state.specs.Contract.{volume, outcome_of}
 use Rattle.state.specs.declared.Record.{Record}
 use Rattle.state.specs.declared.Request.{Request}
 use Rattle.state.specs.declared.Request.TheVariants.{Insert, Update}
 use Rattle.state.specs.Judge.{VolumeFits}
 use Rattle.state.specs.declared.Judgement.TheVariants.{Good}
-use Rattle.header.specs.Header.{idleJudgement}
+use Rattle.header.specs.Header.{idle_judgement}
 use Rattle.calls.specs.declared.Resolved.{Resolved}
 use Rattle.calls.specs.declared.Resolved.TheVariants.{Refused, Absent, Live}
 use Rattle.load.specs.declared.Loaded.{Loaded}
 
 -- "an insert, or an update if the level is live"
-abbrev pub rowRequest : Record → Resolved → Request
-rowRequest r (Refused i) = Insert r
-rowRequest r (Absent g) = Insert r
-rowRequest r (Live g j) = Update r
+abbrev pub row_request : Record → Resolved → Request
+row_request r (Refused i) = Insert r
+row_request r (Absent g) = Insert r
+row_request r (Live g j) = Update r
 
 -- none of 1, 2 and 10 applies
 abbrev pub Judged : Geometry → Volume → Type 0
-Judged g v = (idleJudgement v ≡ Good g) × VolumeFits (onPages v) g
+Judged g v = (idle_judgement v ≡ Good g) × VolumeFits (on_pages v) g
 
 -- what a load answers and leaves
-abbrev pub loadedBy : Loaded → Lent → Lent → Lent → Several
-loadedBy r main spare ram =
-    record { outcome = outcomeOf r.refusal; done = r.rows; volume = volume r.state (after main) (after spare) (after ram) }
+abbrev pub loaded_by : Loaded → Lent → Lent → Lent → Several
+loaded_by r main spare ram =
+    record { outcome = outcome_of r.refusal; done = r.rows; volume = volume r.state (after main) (after spare) (after ram) }

@@ -1,14 +1,14 @@
 // Loading a tab: its rows in turn, up to the first that is malformed or refused. Document 02, requests 1, 6 and 8.
 ghost use Rattle.std.specs.Prelude.{◌≡◌, drop};
 ghost use Rattle.memory.specs.Lent.{before};
-ghost use Rattle.layout.specs.Hash.{fnvFamily};
-ghost use Rattle.layout.specs.Header.{onPages};
-ghost use Rattle.layout.specs.Several.{putCall};
-ghost use Rattle.layout.specs.Budgets.{callCut};
-ghost use Rattle.state.specs.Contract.{recordIs, volume, given, cut_of, cutBy};
+ghost use Rattle.layout.specs.Hash.{fnv_family};
+ghost use Rattle.layout.specs.Header.{on_pages};
+ghost use Rattle.layout.specs.Several.{put_call};
+ghost use Rattle.layout.specs.Budgets.{call_cut};
+ghost use Rattle.state.specs.Contract.{record_is, volume, given, cut_of, cut_by};
 ghost use Rattle.tab.specs.Reader.{rows_of};
-ghost use Rattle.load.specs.Load.{loadReadBy, rowWhole, loadWhole};
-ghost use Rattle.load.specs.Contract.{rowRequest, loadedBy, Judged};
+ghost use Rattle.load.specs.Load.{load_read_by, row_whole, load_whole};
+ghost use Rattle.load.specs.Contract.{row_request, loaded_by, Judged};
 
 use calls::Resolved;
 use geometry::Geometry;
@@ -28,7 +28,7 @@ pub struct Loaded {
 
 // What a row asks for, by what its level resolved to: an update if it is live, else an insert.
 fn row_request(record: Record, r: Resolved) -> Request
-    ensures { result ≡ rowRequest «record» r }
+    ensures { result ≡ row_request «record» r }
 {
     match r {
         Resolved::Refused(_) => Request::Insert(record),
@@ -48,8 +48,8 @@ fn load_row(
     ram: &mut [u8],
 ) -> Cut
     requires { Judged g (volume s main.old spare.old ram.old) }
-    ensures { cutBy result main spare ram ≡ cut_of (callCut fnvFamily budget (given s main spare ram)
-        (putCall fnvFamily (onPages (given s main spare ram)) (recordIs «record»))) }
+    ensures { cut_by result main spare ram ≡ cut_of (call_cut fnv_family budget (given s main spare ram)
+        (put_call fnv_family (on_pages (given s main spare ram)) (record_is «record»))) }
 {
     let j = Judgement::Good(g);
     let r = calls::resolve_judged(j, s, record.key, main, spare, ram);
@@ -69,8 +69,8 @@ fn load_rows(
     ram: &mut [u8],
 ) -> Loaded
     requires { Judged g (volume s main.old spare.old ram.old) }
-    ensures { loadedBy result main spare ram
-        ≡ loadReadBy (rowWhole fnvFamily) (given s main spare ram) (rows_of (drop at (before tab))) }
+    ensures { loaded_by result main spare ram
+        ≡ load_read_by (row_whole fnv_family) (given s main spare ram) (rows_of (drop at (before tab))) }
 {
     let mut state = s;
     let mut place = at;
@@ -115,7 +115,7 @@ fn load_rows(
 
 // Loads a tab: refusals 1, 2 and 10, then its header, then its rows; a tab of no bytes has neither.
 pub fn load(s: State, tab: &[u8], main: &mut [u8], spare: &mut [u8], ram: &mut [u8]) -> Loaded
-    ensures { loadedBy result main spare ram ≡ loadWhole fnvFamily (given s main spare ram) (before tab) }
+    ensures { loaded_by result main spare ram ≡ load_whole fnv_family (given s main spare ram) (before tab) }
 {
     match header::judge(s, main, spare, ram) {
         Judgement::Refused(i) => {

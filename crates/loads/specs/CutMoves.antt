@@ -4,88 +4,88 @@ use Rattle.std.specs.Prelude.{◌≡◌, refl, Bool, true, false, ◌&&◌, cond
 use Rattle.std.proofs.Common.{sym, ap, subst, ◌∙◌, arith}
 use Rattle.std.proofs.Math.Option.{Option, none, some}
 use Rattle.memory.specs.Cases.{either, le?}
-use Rattle.layout.specs.Geometry.{Sizes, Geometry, geometry, allowed, recordCapacity, deletionCapacity}
+use Rattle.layout.specs.Geometry.{Sizes, Geometry, geometry, allowed, record_capacity, deletion_capacity}
 use Rattle.layout.specs.Hash.{Family}
-use Rattle.layout.specs.Calls.{Volume, Call, insert, update, delete, lookup, one, Outcome, accepted, hit, miss, refused, Result, tooShort}
+use Rattle.layout.specs.Calls.{Volume, Call, insert, update, delete, lookup, one, Outcome, accepted, hit, miss, refused, Result, too_short}
 use Rattle.layout.specs.Calls.{format, call}
-use Rattle.layout.specs.FiniteMap.{Level, Map, emptyMap, find, accepts, Step, insertMap, deleteMap, lookupMap, levelOf, mapOf}
-use Rattle.layout.specs.Header.{pages, onPages}
-use Rattle.layout.specs.Budgets.{steps_of, stepCount, result_of, callFor, callWhole}
-use Rattle.history.specs.Runs.{after, KeyWord, ResultAgrees, replyOf}
-use Rattle.history.specs.Reached.{mapAfter, map-append, Reached, reach-says, reach-format}
-use Rattle.cuts.specs.Events.{lift, Finished, whole, cut, idle, finish, Format, formatEnd}
-use Rattle.cuts.specs.EventLaws.{key-word}
-use Rattle.cuts.specs.Uncut.{pages-lifted, finished-lifted, wholeAfter}
-use Rattle.cuts.specs.Formats.{format-end}
-use Rattle.cuts.specs.CutMap.{stepFor, CutAgrees, events-agree}
-use Rattle.cuts.specs.Several.{severalFor, begun, several-accepts, OneNumbers, TurnNumbers, turnVolume, turnBegun, turnsAfter, turnsBegun}
-use Rattle.cuts.specs.Several.{turn_end, turn-reaches}
-use Rattle.load.specs.Load.{load, loadWhole}
-use Rattle.loads.specs.LoadCalls.{tabCalls}
-use Rattle.loads.specs.LoadMap.{mapTab, load-agrees, tab-map}
-use Rattle.loads.specs.WholeLoads.{WholeAgrees, load-lifted, loaded-lifted, tab-numbers, load-rows, CutMove, wholeCall}
-use Rattle.loads.specs.WholeLoads.{wholeLoad, cutCall, cutLoad, idleMove, CutNumbers, turn_of, turnsOf, turn-numbers}
+use Rattle.layout.specs.FiniteMap.{Level, Map, empty_map, find, accepts, Step, insert_map, delete_map, lookup_map, level_of, map_of}
+use Rattle.layout.specs.Header.{pages, on_pages}
+use Rattle.layout.specs.Budgets.{steps_of, step_count, result_of, call_for, call_whole}
+use Rattle.history.specs.Runs.{after, KeyWord, ResultAgrees, reply_of}
+use Rattle.history.specs.Reached.{map_after, map_append, Reached, reach_says, reach_format}
+use Rattle.cuts.specs.Events.{lift, Finished, whole, cut, idle, finish, Format, format_end}
+use Rattle.cuts.specs.EventLaws.{key_word}
+use Rattle.cuts.specs.Uncut.{pages_lifted, finished_lifted, whole_after}
+use Rattle.cuts.specs.Formats.{format_end_lem}
+use Rattle.cuts.specs.CutMap.{step_for, CutAgrees, events_agree}
+use Rattle.cuts.specs.Several.{several_for, begun, several_accepts, OneNumbers, TurnNumbers, turn_volume, turn_begun, turns_after, turns_begun}
+use Rattle.cuts.specs.Several.{turn_end, turn_reaches}
+use Rattle.load.specs.Load.{load, load_whole}
+use Rattle.loads.specs.LoadCalls.{tab_calls}
+use Rattle.loads.specs.LoadMap.{map_tab, load_agrees, tab_map}
+use Rattle.loads.specs.WholeLoads.{WholeAgrees, load_lifted, loaded_lifted, tab_numbers, load_rows_lem, CutMove, whole_call}
+use Rattle.loads.specs.WholeLoads.{whole_load, cut_call, cut_load, idle_move, CutNumbers, turn_of, turns_of, turn_numbers}
 
 module _ (h : Family) where
   -- a load with the budget b and its restarts: what the last of them answers and leaves
-  abbrev pub loadRestarted : Volume → List ℕ → ℕ → List ℕ → Result
-  loadRestarted v text b bs = finish h bs (severalFor h b v (tabCalls h (onPages v) text))
+  abbrev pub load_restarted : Volume → List ℕ → ℕ → List ℕ → Result
+  load_restarted v text b bs = finish h bs (several_for h b v (tab_calls h (on_pages v) text))
 
   -- the calls of its rows up to the one that is cut: "each is cut and finished by itself"
-  abbrev pub rowsBegun : Volume → List ℕ → ℕ → List Call
-  rowsBegun v text b = begun h b (onPages v) (tabCalls h (onPages v) text)
+  abbrev pub rows_begun : Volume → List ℕ → ℕ → List Call
+  rows_begun v text b = begun h b (on_pages v) (tab_calls h (on_pages v) text)
 
   -- what a move leaves
-  abbrev pub moveVolume : Volume → CutMove → Volume
-  moveVolume v (wholeCall c) = (callWhole h v c).volume
-  moveVolume v (wholeLoad text) = (loadWhole h v text).volume
-  moveVolume v (cutCall c b bs) = (finish h bs (callFor h b v c).volume).volume
-  moveVolume v (cutLoad text b bs) = (loadRestarted v text b bs).volume
-  moveVolume v (idleMove bs) = (finish h bs v).volume
+  abbrev pub move_volume : Volume → CutMove → Volume
+  move_volume v (whole_call c) = (call_whole h v c).volume
+  move_volume v (whole_load text) = (load_whole h v text).volume
+  move_volume v (cut_call c b bs) = (finish h bs (call_for h b v c).volume).volume
+  move_volume v (cut_load text b bs) = (load_restarted v text b bs).volume
+  move_volume v (idle_move bs) = (finish h bs v).volume
 
   -- and a list of them
-  abbrev pub movesAfter : Volume → List CutMove → Volume
-  movesAfter v [] = v
-  movesAfter v (x ∷ xs) = movesAfter (moveVolume v x) xs
+  abbrev pub moves_after : Volume → List CutMove → Volume
+  moves_after v [] = v
+  moves_after v (x ∷ xs) = moves_after (move_volume v x) xs
 
   module _ (sizes : Sizes) where
     abbrev g : Geometry
     g = geometry sizes
 
     -- the map after a move. "A cut before the intent leaves what was there", and of a load the rows behind the one that is cut are not made
-    abbrev pub moveMap : Volume → Map → CutMove → Map
-    moveMap v m (wholeCall c) = (mapOf g m c).next
-    moveMap v m (wholeLoad text) = (mapTab g m text).map
-    moveMap v m (cutCall c b bs) = (stepFor g b m c).next
-    moveMap v m (cutLoad text b bs) = mapAfter g m (rowsBegun v text b)
-    moveMap v m (idleMove bs) = m
+    abbrev pub move_map : Volume → Map → CutMove → Map
+    move_map v m (whole_call c) = (map_of g m c).next
+    move_map v m (whole_load text) = (map_tab g m text).map
+    move_map v m (cut_call c b bs) = (step_for g b m c).next
+    move_map v m (cut_load text b bs) = map_after g m (rows_begun v text b)
+    move_map v m (idle_move bs) = m
 
     -- after a list of them, each on the volume that those before it leave
-    abbrev pub movesMap : Volume → Map → List CutMove → Map
-    movesMap v m [] = m
-    movesMap v m (x ∷ xs) = movesMap (moveVolume v x) (moveMap v m x) xs
+    abbrev pub moves_map : Volume → Map → List CutMove → Map
+    moves_map v m [] = m
+    moves_map v m (x ∷ xs) = moves_map (move_volume v x) (move_map v m x) xs
 
     -- the last restart of a load that was cut: it is not refused, the pages have the levels of the map m, and the header has the state and
     -- no intent
     pub record RestartAgrees (r : Result) (m : Map) : Type 0 where
       pub accepts : r.outcome ≡ accepted
-      pub reached : Reached h sizes (onPages r.volume) m
+      pub reached : Reached h sizes (on_pages r.volume) m
       pub finished : Finished r.volume
 
     -- a call answers as the map does, however few steps it had, and a whole load too; after the restarts of a cut one the volume has the
     -- map's state; restarts that find no call change nothing
     abbrev pub MoveAgrees : Volume → Map → CutMove → Type 0
-    MoveAgrees v m (wholeCall c) = ResultAgrees sizes v (callWhole h v c) (mapOf g m c)
-    MoveAgrees v m (wholeLoad text) = WholeAgrees h sizes (loadWhole h v text) (mapTab g m text)
-    MoveAgrees v m (cutCall c b bs) =
-        CutAgrees sizes v m b c (callFor h b v c).outcome (finish h bs (callFor h b v c).volume).volume
-    MoveAgrees v m (cutLoad text b bs) = RestartAgrees (loadRestarted v text b bs) (moveMap v m (cutLoad text b bs))
-    MoveAgrees v m (idleMove bs) = ((finish h bs v).outcome ≡ accepted) × ((finish h bs v).volume ≡ v)
+    MoveAgrees v m (whole_call c) = ResultAgrees sizes v (call_whole h v c) (map_of g m c)
+    MoveAgrees v m (whole_load text) = WholeAgrees h sizes (load_whole h v text) (map_tab g m text)
+    MoveAgrees v m (cut_call c b bs) =
+        CutAgrees sizes v m b c (call_for h b v c).outcome (finish h bs (call_for h b v c).volume).volume
+    MoveAgrees v m (cut_load text b bs) = RestartAgrees (load_restarted v text b bs) (move_map v m (cut_load text b bs))
+    MoveAgrees v m (idle_move bs) = ((finish h bs v).outcome ≡ accepted) × ((finish h bs v).volume ≡ v)
 
     -- each of a list
     abbrev pub CutMovesAgree : Volume → Map → List CutMove → Type 0
     CutMovesAgree v m [] = Unit {0}
-    CutMovesAgree v m (x ∷ xs) = MoveAgrees v m x × CutMovesAgree (moveVolume v x) (moveMap v m x) xs
+    CutMovesAgree v m (x ∷ xs) = MoveAgrees v m x × CutMovesAgree (move_volume v x) (move_map v m x) xs
 
 -- ---- the map's steps are those of the calls made
 
@@ -93,40 +93,40 @@ module _ (h : Family) where
 abbrev Unmoved : Map → Step → Type 0
 Unmoved m s = (s.says ≡ accepts → ⊥) → s.next ≡ m
 
-either-unmoved : (m : Map) (t : Bool) (s u : Step) → Unmoved m s → Unmoved m u → Unmoved m (cond t s u)
-either-unmoved m true s u p q = p
-either-unmoved m false s u p q = q
+either_unmoved : (m : Map) (t : Bool) (s u : Step) → Unmoved m s → Unmoved m u → Unmoved m (cond t s u)
+either_unmoved m true s u p q = p
+either_unmoved m false s u p q = q
 
-map-unmoved : (g : Geometry) (m : Map) (c : Call) → Unmoved m (mapOf g m c)
-map-unmoved g m (insert r) = by (find m.levels r.key)
+map_unmoved : (g : Geometry) (m : Map) (c : Call) → Unmoved m (map_of g m c)
+map_unmoved g m (insert r) = by (find m.levels r.key)
   where
-    by : (o : Option Level) → Unmoved m (insertMap (recordCapacity g) m (levelOf r) o)
-    by none = either-unmoved m (leb (recordCapacity g) m.n) _ _ (λ e. refl) (λ e. absurd (e refl))
+    by : (o : Option Level) → Unmoved m (insert_map (record_capacity g) m (level_of r) o)
+    by none = either_unmoved m (leb (record_capacity g) m.n) _ _ (λ e. refl) (λ e. absurd (e refl))
     by (some l) = λ e. refl
-map-unmoved g m (update r) =
-    either-unmoved m (leb (recordCapacity g) m.n) _ _ (λ e. refl)
-    (either-unmoved m (one (find m.levels r.key) && leb (deletionCapacity g) m.d) _ _ (λ e. refl) (λ e. absurd (e refl)))
-map-unmoved g m (delete key) = by (find m.levels key)
+map_unmoved g m (update r) =
+    either_unmoved m (leb (record_capacity g) m.n) _ _ (λ e. refl)
+    (either_unmoved m (one (find m.levels r.key) && leb (deletion_capacity g) m.d) _ _ (λ e. refl) (λ e. absurd (e refl)))
+map_unmoved g m (delete key) = by (find m.levels key)
   where
-    by : (o : Option Level) → Unmoved m (deleteMap (deletionCapacity g) m key o)
+    by : (o : Option Level) → Unmoved m (delete_map (deletion_capacity g) m key o)
     by none = λ e. refl
-    by (some l) = either-unmoved m (leb (deletionCapacity g) m.d) _ _ (λ e. refl) (λ e. absurd (e refl))
-map-unmoved g m (lookup key) = by (find m.levels key)
+    by (some l) = either_unmoved m (leb (deletion_capacity g) m.d) _ _ (λ e. refl) (λ e. absurd (e refl))
+map_unmoved g m (lookup key) = by (find m.levels key)
   where
-    by : (o : Option Level) → Unmoved m (lookupMap m o)
+    by : (o : Option Level) → Unmoved m (lookup_map m o)
     by none = λ e. refl
     by (some l) = λ e. refl
 
 -- a call without steps is not accepted
-no_steps : (o : Outcome) (r : Result) → steps_of o r ≤ 0 → replyOf o ≡ accepts → ⊥
+no_steps : (o : Outcome) (r : Result) → steps_of o r ≤ 0 → reply_of o ≡ accepts → ⊥
 no_steps accepted r l e = omega (arith, l)
 no_steps (hit place bytes) r l e = let z : ◌≡◌ {A = ℕ} 0 1 = cc in omega arith
 no_steps miss r l e = let z : ◌≡◌ {A = ℕ} 0 1 = cc in omega arith
 no_steps (refused i) r l e = let z : ◌≡◌ {A = ℕ} 0 1 = cc in omega arith
 
-same-either : {A : Type 0} (t : Bool) (x : A) → cond t x x ≡ x
-same-either true x = refl
-same-either false x = refl
+same_either : {A : Type 0} (t : Bool) (x : A) → cond t x x ≡ x
+same_either true x = refl
+same_either false x = refl
 
 module _ (h : Family) (sizes : Sizes) where
   abbrev gg : Geometry
@@ -134,111 +134,111 @@ module _ (h : Family) (sizes : Sizes) where
 
   module _ (w : Volume) (m : Map) (X : Reached h sizes w m) where
     -- with no budget a call is not begun, or it has no steps and leaves the map
-    none-begun : (c : Call) → KeyWord c → mapAfter gg m (begun h 0 w (c ∷ [])) ≡ m
-    none-begun c k =
-        either (le? (stepCount (call h w c)) 0)
-        (λ l. rw l.0 (map-unmoved gg m c
-        (λ e. no_steps (call h w c).outcome (call h w c) l.1 (reach-says h sizes w m c X k ∙ e))))
+    none_begun : (c : Call) → KeyWord c → map_after gg m (begun h 0 w (c ∷ [])) ≡ m
+    none_begun c k =
+        either (le? (step_count (call h w c)) 0)
+        (λ l. rw l.0 (map_unmoved gg m c
+        (λ e. no_steps (call h w c).outcome (call h w c) l.1 (reach_says h sizes w m c X k ∙ e))))
         (λ l. rw l.0)
 
-    move-map : (x : CutMove) → OneNumbers (turn_of h x) → moveMap h sizes (lift w) m x ≡ mapAfter gg m (turnBegun h w (turn_of h x))
-    move-map (wholeCall c) n = refl
-    move-map (wholeLoad text) n = tab-map h sizes w m text X
-    move-map (cutCall c zero bs) n = sym (none-begun c (key-word c (n w).0))
-    move-map (cutCall c (suc b) bs) n = ap (mapAfter gg m) (sym (same-either (leb (stepCount (call h w c)) (suc b)) (c ∷ [])))
-    move-map (cutLoad text b bs) n = ap (λ (y : Volume). mapAfter gg m (begun h b y (tabCalls h y text))) (pages-lifted w)
-    move-map (idleMove bs) n = refl
+    move_map_lem : (x : CutMove) → OneNumbers (turn_of h x) → move_map h sizes (lift w) m x ≡ map_after gg m (turn_begun h w (turn_of h x))
+    move_map_lem (whole_call c) n = refl
+    move_map_lem (whole_load text) n = tab_map h sizes w m text X
+    move_map_lem (cut_call c zero bs) n = sym (none_begun c (key_word c (n w).0))
+    move_map_lem (cut_call c (suc b) bs) n = ap (map_after gg m) (sym (same_either (leb (step_count (call h w c)) (suc b)) (c ∷ [])))
+    move_map_lem (cut_load text b bs) n = ap (λ (y : Volume). map_after gg m (begun h b y (tab_calls h y text))) (pages_lifted w)
+    move_map_lem (idle_move bs) n = refl
 
     -- ---- a move leaves what its turn leaves, and agrees
 
-    move-turn : (x : CutMove) → moveVolume h (lift w) x ≡ turnVolume h (lift w) (turn_of h x)
-    move-turn (wholeCall c) = refl
-    move-turn (wholeLoad text) =
-        load-rows h sizes w m text X ∙ ap (λ (y : Volume). wholeAfter h (lift w) (tabCalls h y text)) (sym (pages-lifted w))
-    move-turn (cutCall c b bs) =
+    move_turn : (x : CutMove) → move_volume h (lift w) x ≡ turn_volume h (lift w) (turn_of h x)
+    move_turn (whole_call c) = refl
+    move_turn (whole_load text) =
+        load_rows_lem h sizes w m text X ∙ ap (λ (y : Volume). whole_after h (lift w) (tab_calls h y text)) (sym (pages_lifted w))
+    move_turn (cut_call c b bs) =
         ap (λ (y : Volume). (finish h bs y).volume)
-        (sym (same-either (leb (stepCount (result_of h (lift w) c)) b) (callFor h b (lift w) c).volume))
-    move-turn (cutLoad text b bs) = refl
-    move-turn (idleMove bs) = refl
+        (sym (same_either (leb (step_count (result_of h (lift w) c)) b) (call_for h b (lift w) c).volume))
+    move_turn (cut_load text b bs) = refl
+    move_turn (idle_move bs) = refl
 
-    move-end : (x : CutMove) → OneNumbers (turn_of h x) → moveVolume h (lift w) x ≡ lift (after h w (turnBegun h w (turn_of h x)))
-    move-end x n = move-turn x ∙ turn_end h sizes w m (turn_of h x) n X
+    move_end : (x : CutMove) → OneNumbers (turn_of h x) → move_volume h (lift w) x ≡ lift (after h w (turn_begun h w (turn_of h x)))
+    move_end x n = move_turn x ∙ turn_end h sizes w m (turn_of h x) n X
 
-    move-reaches : (x : CutMove) → OneNumbers (turn_of h x)
-        → Reached h sizes (after h w (turnBegun h w (turn_of h x))) (moveMap h sizes (lift w) m x)
-    move-reaches x n =
-        subst (Reached h sizes (after h w (turnBegun h w (turn_of h x)))) (sym (move-map x n)) (turn-reaches h sizes w m (turn_of h x) n X)
+    move_reaches : (x : CutMove) → OneNumbers (turn_of h x)
+        → Reached h sizes (after h w (turn_begun h w (turn_of h x))) (move_map h sizes (lift w) m x)
+    move_reaches x n =
+        subst (Reached h sizes (after h w (turn_begun h w (turn_of h x)))) (sym (move_map_lem x n)) (turn_reaches h sizes w m (turn_of h x) n X)
 
     -- where a restart ends in a volume that calls reach
-    ends-agree : (r : Result) (next : Volume) (n : Map) → r.outcome ≡ accepted → r.volume ≡ lift next → Reached h sizes next n
+    ends_agree : (r : Result) (next : Volume) (n : Map) → r.outcome ≡ accepted → r.volume ≡ lift next → Reached h sizes next n
         → RestartAgrees h sizes r n
-    ends-agree r next n a e Y = record {
+    ends_agree r next n a e Y = record {
       accepts = a;
-      reached = rw (e, pages-lifted next) Y;
-      finished = rw e (finished-lifted next);
+      reached = rw (e, pages_lifted next) Y;
+      finished = rw e (finished_lifted next);
     }
 
-    move-agrees : (x : CutMove) → OneNumbers (turn_of h x) → MoveAgrees h sizes (lift w) m x
-    move-agrees (wholeCall c) n = (events-agree h sizes w m (whole c ∷ []) X ((n w).0, tt)).0
-    move-agrees (wholeLoad text) n =
-        rw (load-lifted h w text) (loaded-lifted h sizes (load h w text) (mapTab gg m text) (load-agrees h sizes w m text X))
-    move-agrees (cutCall c b bs) n = (events-agree h sizes w m (cut c b bs ∷ []) X ((n w).0, tt)).0
-    move-agrees (cutLoad text b bs) n =
-        ends-agree (loadRestarted h (lift w) text b bs) _ _
-        (several-accepts h sizes w m b bs (tabCalls h (onPages (lift w)) text) (tab-numbers h (onPages (lift w)) text) X)
-        (move-end (cutLoad text b bs) n) (move-reaches (cutLoad text b bs) n)
-    move-agrees (idleMove bs) n = (events-agree h sizes w m (idle bs ∷ []) X (tt, tt)).0
+    move_agrees : (x : CutMove) → OneNumbers (turn_of h x) → MoveAgrees h sizes (lift w) m x
+    move_agrees (whole_call c) n = (events_agree h sizes w m (whole c ∷ []) X ((n w).0, tt)).0
+    move_agrees (whole_load text) n =
+        rw (load_lifted h w text) (loaded_lifted h sizes (load h w text) (map_tab gg m text) (load_agrees h sizes w m text X))
+    move_agrees (cut_call c b bs) n = (events_agree h sizes w m (cut c b bs ∷ []) X ((n w).0, tt)).0
+    move_agrees (cut_load text b bs) n =
+        ends_agree (load_restarted h (lift w) text b bs) _ _
+        (several_accepts h sizes w m b bs (tab_calls h (on_pages (lift w)) text) (tab_numbers h (on_pages (lift w)) text) X)
+        (move_end (cut_load text b bs) n) (move_reaches (cut_load text b bs) n)
+    move_agrees (idle_move bs) n = (events_agree h sizes w m (idle bs ∷ []) X (tt, tt)).0
 
-  moves-agree : (w : Volume) (m : Map) (xs : List CutMove) → TurnNumbers (turnsOf h xs) → Reached h sizes w m
+  moves_agree : (w : Volume) (m : Map) (xs : List CutMove) → TurnNumbers (turns_of h xs) → Reached h sizes w m
       → CutMovesAgree h sizes (lift w) m xs
-  moves-agree w m [] n X = tt
-  moves-agree w m (x ∷ xs) n X = (
-    move-agrees w m X x n.0,
-    rw (move-end w m X x n.0)
-        (moves-agree (after h w (turnBegun h w (turn_of h x))) (moveMap h sizes (lift w) m x) xs n.1 (move-reaches w m X x n.0)),
+  moves_agree w m [] n X = tt
+  moves_agree w m (x ∷ xs) n X = (
+    move_agrees w m X x n.0,
+    rw (move_end w m X x n.0)
+        (moves_agree (after h w (turn_begun h w (turn_of h x))) (move_map h sizes (lift w) m x) xs n.1 (move_reaches w m X x n.0)),
   )
 
-  moves-turns : (w : Volume) (m : Map) (xs : List CutMove) → TurnNumbers (turnsOf h xs) → Reached h sizes w m
-      → movesAfter h (lift w) xs ≡ turnsAfter h (lift w) (turnsOf h xs)
-  moves-turns w m [] n X = refl
-  moves-turns w m (x ∷ xs) n X =
-      let next : Volume = after h w (turnBegun h w (turn_of h x)) in
-      ap (λ (v : Volume). movesAfter h v xs) (move-end w m X x n.0)
-      ∙ moves-turns next (moveMap h sizes (lift w) m x) xs n.1 (move-reaches w m X x n.0)
-      ∙ ap (λ (v : Volume). turnsAfter h v (turnsOf h xs)) (sym (turn_end h sizes w m (turn_of h x) n.0 X))
+  moves_turns : (w : Volume) (m : Map) (xs : List CutMove) → TurnNumbers (turns_of h xs) → Reached h sizes w m
+      → moves_after h (lift w) xs ≡ turns_after h (lift w) (turns_of h xs)
+  moves_turns w m [] n X = refl
+  moves_turns w m (x ∷ xs) n X =
+      let next : Volume = after h w (turn_begun h w (turn_of h x)) in
+      ap (λ (v : Volume). moves_after h v xs) (move_end w m X x n.0)
+      ∙ moves_turns next (move_map h sizes (lift w) m x) xs n.1 (move_reaches w m X x n.0)
+      ∙ ap (λ (v : Volume). turns_after h v (turns_of h xs)) (sym (turn_end h sizes w m (turn_of h x) n.0 X))
 
-  moves-map : (w : Volume) (m : Map) (xs : List CutMove) → TurnNumbers (turnsOf h xs) → Reached h sizes w m
-      → movesMap h sizes (lift w) m xs ≡ mapAfter gg m (turnsBegun h w (turnsOf h xs))
-  moves-map w m [] n X = refl
-  moves-map w m (x ∷ xs) n X =
-      let cs : List Call = turnBegun h w (turn_of h x) in
-      ap (λ (v : Volume). movesMap h sizes v (moveMap h sizes (lift w) m x) xs) (move-end w m X x n.0)
-      ∙ moves-map (after h w cs) (moveMap h sizes (lift w) m x) xs n.1 (move-reaches w m X x n.0)
-      ∙ ap (λ (y : Map). mapAfter gg y (turnsBegun h (after h w cs) (turnsOf h xs))) (move-map w m X x n.0)
-      ∙ sym (map-append gg m cs (turnsBegun h (after h w cs) (turnsOf h xs)))
+  moves_map_lem : (w : Volume) (m : Map) (xs : List CutMove) → TurnNumbers (turns_of h xs) → Reached h sizes w m
+      → moves_map h sizes (lift w) m xs ≡ map_after gg m (turns_begun h w (turns_of h xs))
+  moves_map_lem w m [] n X = refl
+  moves_map_lem w m (x ∷ xs) n X =
+      let cs : List Call = turn_begun h w (turn_of h x) in
+      ap (λ (v : Volume). moves_map h sizes v (move_map h sizes (lift w) m x) xs) (move_end w m X x n.0)
+      ∙ moves_map_lem (after h w cs) (move_map h sizes (lift w) m x) xs n.1 (move_reaches w m X x n.0)
+      ∙ ap (λ (y : Map). map_after gg y (turns_begun h (after h w cs) (turns_of h xs))) (move_map_lem w m X x n.0)
+      ∙ sym (map_append gg m cs (turns_begun h (after h w cs) (turns_of h xs)))
 
 -- ---- from a format on, whole or cut too
 
 module _ (h : Family) (v : Volume) (sizes : Sizes) (can : allowed sizes ≡ true)
-    (long : tooShort (geometry sizes) v.flash (pages v.ram) ≡ false) (f : Format) (ms : List CutMove) (n : CutNumbers ms) where
-  start : Reached h sizes (format (onPages v) sizes).volume emptyMap
-  start = reach-format h sizes (onPages v) can long
+    (long : too_short (geometry sizes) v.flash (pages v.ram) ≡ false) (f : Format) (ms : List CutMove) (n : CutNumbers ms) where
+  start : Reached h sizes (format (on_pages v) sizes).volume empty_map
+  start = reach_format h sizes (on_pages v) can long
 
   -- each move agrees with the map, which makes its steps
-  pub cut-moves-agree : CutMovesAgree h sizes (formatEnd h v sizes f) emptyMap ms
-  cut-moves-agree =
-      rw (format-end h v sizes can long f)
-      (moves-agree h sizes (format (onPages v) sizes).volume emptyMap ms (turn-numbers h ms n) start)
+  pub cut_moves_agree : CutMovesAgree h sizes (format_end h v sizes f) empty_map ms
+  cut_moves_agree =
+      rw (format_end_lem h v sizes can long f)
+      (moves_agree h sizes (format (on_pages v) sizes).volume empty_map ms (turn_numbers h ms n) start)
 
-  -- their volumes are those of `loads-cut`
-  pub cut-moves-after : movesAfter h (formatEnd h v sizes f) ms ≡ turnsAfter h (formatEnd h v sizes f) (turnsOf h ms)
-  cut-moves-after =
-      rw (format-end h v sizes can long f)
-      (moves-turns h sizes (format (onPages v) sizes).volume emptyMap ms (turn-numbers h ms n) start)
+  -- their volumes are those of `loads_cut`
+  pub cut_moves_after : moves_after h (format_end h v sizes f) ms ≡ turns_after h (format_end h v sizes f) (turns_of h ms)
+  cut_moves_after =
+      rw (format_end_lem h v sizes can long f)
+      (moves_turns h sizes (format (on_pages v) sizes).volume empty_map ms (turn_numbers h ms n) start)
 
   -- and the map's steps together are those of the calls made
-  pub cut-moves-map : movesMap h sizes (formatEnd h v sizes f) emptyMap ms
-      ≡ mapAfter (geometry sizes) emptyMap (turnsBegun h (format (onPages v) sizes).volume (turnsOf h ms))
-  cut-moves-map =
-      ap (λ (x : Volume). movesMap h sizes x emptyMap ms) (format-end h v sizes can long f)
-      ∙ moves-map h sizes (format (onPages v) sizes).volume emptyMap ms (turn-numbers h ms n) start
+  pub cut_moves_map : moves_map h sizes (format_end h v sizes f) empty_map ms
+      ≡ map_after (geometry sizes) empty_map (turns_begun h (format (on_pages v) sizes).volume (turns_of h ms))
+  cut_moves_map =
+      ap (λ (x : Volume). moves_map h sizes x empty_map ms) (format_end_lem h v sizes can long f)
+      ∙ moves_map_lem h sizes (format (on_pages v) sizes).volume empty_map ms (turn_numbers h ms n) start

@@ -5,19 +5,19 @@ use Prim.Native.Nat.{ℕ, ◌*◌, ◌/◌, ◌%◌, ◌≤◌, ◌<◌}
 use Rattle.std.proofs.Math.Nat.{mul-le-mul, mul-le-mul_left, div-mul-le_self}
 use native.Mathlib.Omega.{arith}
 use borrow.Author.Tests.{ltb-false, not-false}
-use Rattle.memory.specs.Booleans.{or-eq-false-iff}
+use Rattle.memory.specs.Booleans.{or_eq_false_iff}
 use Rattle.layout.specs.Keys.{Key}
 use Rattle.layout.specs.Geometry as layout
 use Rattle.layout.specs.Hash.{Family}
-use Rattle.layout.specs.Search.{Stop, scan, searchPages}
-use Rattle.layout.specs.Calls.{Volume, lookup, badState, keyPositions, tryAt, maybeIn, searchAt, search}
-use Rattle.layout.specs.Header.{onPages}
-use Rattle.layout.specs.Budgets.{callWhole}
-use Rattle.laws.specs.SearchLaws.{opened-le, ram-first-most}
-use Rattle.laws.specs.Sound.{sound, pu, u-le}
+use Rattle.layout.specs.Search.{Stop, scan, search_pages}
+use Rattle.layout.specs.Calls.{Volume, lookup, bad_state, key_positions, try_at, maybe_in, search_at, search}
+use Rattle.layout.specs.Header.{on_pages}
+use Rattle.layout.specs.Budgets.{call_whole}
+use Rattle.laws.specs.SearchLaws.{opened_le, ram_first_most}
+use Rattle.laws.specs.Sound.{sound, pu, u_le}
 use Rattle.lookup.specs.declared.LookupResult.{LookupResult}
-use Rattle.lookup.specs.Results.{lookupOf}
-use Rattle.lookup.specs.Whole.{whole-cases}
+use Rattle.lookup.specs.Results.{lookup_of}
+use Rattle.lookup.specs.Whole.{whole_cases}
 
 -- its first three numbers
 pub record Small (r : LookupResult) : Type 0 where
@@ -31,34 +31,34 @@ module _ (h : Family) (v : Volume) (key : Key) where
   g = layout.geometry v.state.sizes
 
   abbrev q : ℕ
-  q = layout.entriesPerPage g.u
+  q = layout.entries_per_page g.u
 
-  opened-most : badState v.state ≡ false → (search h g v key).opened ≤ 8388608
-  unfolding searchAt badState
-  opened-most bad =
-      let state = (or-eq-false-iff (not (layout.allowed v.state.sizes)) _).0 bad in
-      let counts = (or-eq-false-iff (ltb (layout.recordCapacity g) v.state.records) _).0 state.1 in
-      let cap : v.state.records ≤ layout.recordCapacity g = ltb-false _ _ counts.0 in
+  opened_most : bad_state v.state ≡ false → (search h g v key).opened ≤ 8388608
+  unfolding search_at bad_state
+  opened_most bad =
+      let state = (or_eq_false_iff (not (layout.allowed v.state.sizes)) _).0 bad in
+      let counts = (or_eq_false_iff (ltb (layout.record_capacity g) v.state.records) _).0 state.1 in
+      let cap : v.state.records ≤ layout.record_capacity g = ltb-false _ _ counts.0 in
       let ok = sound v.state.sizes (not-false _ state.0) in
-      let gate : (ℕ → Bool) = maybeIn g v (keyPositions h g key) in
-      let try : (ℕ → Option Stop) = tryAt h g v v.state.records v.state.deletions key in
+      let gate : (ℕ → Bool) = maybe_in g v (key_positions h g key) in
+      let try : (ℕ → Option Stop) = try_at h g v v.state.records v.state.deletions key in
       let n : ℕ = v.state.records / q in
       let one : 1 ≤ q = omega (arith, pu v.state.sizes ok) in
       omega (
         arith,
-        ram-first-most (scan try (n * q) (v.state.records % q)) (searchPages gate try q n),
-        opened-le gate try q n,
+        ram_first_most (scan try (n * q) (v.state.records % q)) (search_pages gate try q n),
+        opened_le gate try q n,
         mul-le-mul_left n one,
         div-mul-le_self v.state.records q,
         cap,
-        mul-le-mul ok.R-le (u-le v.state.sizes ok),
+        mul-le-mul ok.R-le (u_le v.state.sizes ok),
       )
 
 -- in the pages of a volume
 module _ (h : Family) (v : Volume) (key : Key) where
-  pub lookup-small : Small (lookupOf (callWhole h v (lookup key)))
-  lookup-small =
-      whole-cases h v key (λ r. Small (lookupOf r))
+  pub lookup_small : Small (lookup_of (call_whole h v (lookup key)))
+  lookup_small =
+      whole_cases h v key (λ r. Small (lookup_of r))
       (λ i some small. record { refusal = omega (arith, small); found = omega arith; count = omega arith })
-      (λ good. record { refusal = omega arith; found = omega arith; count = omega (arith, opened-most h (onPages v) key good.state) })
-      (λ j good. record { refusal = omega arith; found = omega arith; count = omega (arith, opened-most h (onPages v) key good.state) })
+      (λ good. record { refusal = omega arith; found = omega arith; count = omega (arith, opened_most h (on_pages v) key good.state) })
+      (λ j good. record { refusal = omega arith; found = omega arith; count = omega (arith, opened_most h (on_pages v) key good.state) })

@@ -13,14 +13,14 @@ pub euclid : (x w : ℕ) → 0 < w → Euclid x w
 euclid x w h = record { whole = div-add-mod' x w; small = mod-lt x h }
 
 -- and back: a number that is written q * w + r has that quotient and remainder
-pub div-of : (x w q r : ℕ) → x ≡ q * w + r → r < w → x / w ≡ q
-div-of x w q r e h = rw e (digits_div q h)
+pub div_of : (x w q r : ℕ) → x ≡ q * w + r → r < w → x / w ≡ q
+div_of x w q r e h = rw e (digits_div q h)
 
-pub mod-of : (x w q r : ℕ) → x ≡ q * w + r → r < w → x % w ≡ r
-mod-of x w q r e h = rw e (digits_mod q h)
+pub mod_of : (x w q r : ℕ) → x ≡ q * w + r → r < w → x % w ≡ r
+mod_of x w q r e h = rw e (digits_mod q h)
 
-pub div-lt : (x w n : ℕ) → 0 < w → x < n * w → x / w < n
-div-lt x w n h k = (div-lt_iff_lt-mul h).1 k
+pub div_lt : (x w n : ℕ) → 0 < w → x < n * w → x / w < n
+div_lt x w n h k = (div-lt_iff_lt-mul h).1 k
 
 -- ---- one more: a digit goes up, or carries
 
@@ -32,8 +32,8 @@ carry n q pq =
     either (eq? (n % q + 1) q)
     (λ c.
     let s : n + 1 ≡ (n / q + 1) * q + 0 = omega arith in
-    inl (c.1, div-of (n + 1) q (n / q + 1) 0 s pq, mod-of (n + 1) q (n / q + 1) 0 s pq))
+    inl (c.1, div_of (n + 1) q (n / q + 1) 0 s pq, mod_of (n + 1) q (n / q + 1) 0 s pq))
     (λ c.
     let s : n + 1 ≡ n / q * q + (n % q + 1) = omega arith in
     let k : n % q + 1 < q = omega arith in
-    inr (c.1, div-of (n + 1) q (n / q) (n % q + 1) s k, mod-of (n + 1) q (n / q) (n % q + 1) s k))
+    inr (c.1, div_of (n + 1) q (n / q) (n % q + 1) s k, mod_of (n + 1) q (n / q) (n % q + 1) s k))

@@ -5,7 +5,7 @@ use Rattle.std.proofs.lemmas.Bool.{false≢true}
 use Rattle.std.proofs.Math.Bool.{and-eq-true_iff}
 use Rattle.std.proofs.Math.Option.{Option, none, some}
 use Rattle.memory.specs.Cases.{bool?, lt?, eq?, either}
-use Rattle.memory.specs.Lists.{tabulate, length-tabulate, get_d_tabulate}
+use Rattle.memory.specs.Lists.{tabulate, length_tabulate, get_d_tabulate}
 
 unfoldable pub last : (ℕ → Bool) → ℕ → Option ℕ
 last f zero = none
@@ -29,15 +29,15 @@ last_none f (suc n) i e h =
     (λ t. ⊎_elim (λ l. last_none f n i (cc) l.1) (λ l. let q : i ≡ n = omega arith in rw q t) (lt? i n))
     (bool? (f n))
 
-pub last-ext : (f g : ℕ → Bool) (n : ℕ) → ((i : ℕ) → i < n → f i ≡ g i) → last f n ≡ last g n
+pub last_ext : (f g : ℕ → Bool) (n : ℕ) → ((i : ℕ) → i < n → f i ≡ g i) → last f n ≡ last g n
 unfolding last
-last-ext f g zero h = refl
-last-ext f g (suc n) h = rw (h n (omega arith), last-ext f g n (λ i k. h i (omega arith)))
+last_ext f g zero h = refl
+last_ext f g (suc n) h = rw (h n (omega arith), last_ext f g n (λ i k. h i (omega arith)))
 
-pub last-no : (f : ℕ → Bool) (n : ℕ) → ((i : ℕ) → i < n → f i ≡ false) → last f n ≡ none
+pub last_no : (f : ℕ → Bool) (n : ℕ) → ((i : ℕ) → i < n → f i ≡ false) → last f n ≡ none
 unfolding last
-last-no f zero h = refl
-last-no f (suc n) h = rw (h n (omega arith)) (last-no f n (λ i k. h i (omega arith)))
+last_no f zero h = refl
+last_no f (suc n) h = rw (h n (omega arith)) (last_no f n (λ i k. h i (omega arith)))
 
 -- does some i below n pass
 unfoldable pub any : (ℕ → Bool) → ℕ → Bool
@@ -51,18 +51,18 @@ any_at f (suc n) i h e =
     ⊎_elim (λ t. cc) (λ t. ⊎_elim (λ l. let a = any_at f n i l.1 e in cc) (λ l. let q : i ≡ n = omega arith in cc) (lt? i n))
     (bool? (f n))
 
-pub any-ext : (f g : ℕ → Bool) (n : ℕ) → ((i : ℕ) → i < n → f i ≡ g i) → any f n ≡ any g n
+pub any_ext : (f g : ℕ → Bool) (n : ℕ) → ((i : ℕ) → i < n → f i ≡ g i) → any f n ≡ any g n
 unfolding any
-any-ext f g zero h = refl
-any-ext f g (suc n) h = rw (h n (omega arith), any-ext f g n (λ i k. h i (omega arith)))
+any_ext f g zero h = refl
+any_ext f g (suc n) h = rw (h n (omega arith), any_ext f g n (λ i k. h i (omega arith)))
 
-pub any-no : (f : ℕ → Bool) (n : ℕ) → ((i : ℕ) → i < n → f i ≡ false) → any f n ≡ false
+pub any_no : (f : ℕ → Bool) (n : ℕ) → ((i : ℕ) → i < n → f i ≡ false) → any f n ≡ false
 unfolding any
-any-no f zero h = refl
-any-no f (suc n) h = rw (h n (omega arith)) (any-no f n (λ i k. h i (omega arith)))
+any_no f zero h = refl
+any_no f (suc n) h = rw (h n (omega arith)) (any_no f n (λ i k. h i (omega arith)))
 
-pub no-any : (f : ℕ → Bool) (n i : ℕ) → any f n ≡ false → i < n → f i ≡ false
-no-any f n i e h =
+pub no_any : (f : ℕ → Bool) (n i : ℕ) → any f n ≡ false → i < n → f i ≡ false
+no_any f n i e h =
     either (bool? (f i))
     (λ t. let z : true ≡ false = sym (any_at f n i h t) ∙ e in cc)
     (λ t. t)
@@ -72,12 +72,12 @@ unfoldable pub all : (ℕ → Bool) → ℕ → Bool
 all f zero = true
 all f (suc n) = f n && all f n
 
-pub all-at : (f : ℕ → Bool) (n i : ℕ) → all f n ≡ true → i < n → f i ≡ true
+pub all_at : (f : ℕ → Bool) (n i : ℕ) → all f n ≡ true → i < n → f i ≡ true
 unfolding all
-all-at f zero i e h = absurd (not-suc-le-zero h)
-all-at f (suc n) i e h =
+all_at f zero i e h = absurd (not-suc-le-zero h)
+all_at f (suc n) i e h =
     let p = (and-eq-true_iff (f n) (all f n)).0 e in
-    either (lt? i n) (λ l. all-at f n i p.1 l.1) (λ l. let q : i ≡ n = omega arith in rw q p.0)
+    either (lt? i n) (λ l. all_at f n i p.1 l.1) (λ l. let q : i ≡ n = omega arith in rw q p.0)
 
 -- is x in the list
 unfoldable pub memb : ℕ → List ℕ → Bool
@@ -91,38 +91,38 @@ all_of f (x ∷ xs) = f x && all_of f xs
 
 -- ---- membership in a list by index
 
-any-front : (f : ℕ → Bool) (n : ℕ) → any f (suc n) ≡ (f zero || any (λ i. f (suc i)) n)
+any_front : (f : ℕ → Bool) (n : ℕ) → any f (suc n) ≡ (f zero || any (λ i. f (suc i)) n)
 unfolding any
-any-front f zero = refl
-any-front f (suc n) =
-    let ih = any-front f n in
+any_front f zero = refl
+any_front f (suc n) =
+    let ih = any_front f n in
     either (bool? (f (suc n)))
     (λ a. either (bool? (f zero)) (λ b. cc) (λ b. cc))
     (λ a. either (bool? (f zero)) (λ b. cc) (λ b. cc))
 
-pub any-memb : (x : ℕ) (l : List ℕ) → any (λ i. eqb (get_or l i 0) x) (length l) ≡ memb x l
+pub any_memb : (x : ℕ) (l : List ℕ) → any (λ i. eqb (get_or l i 0) x) (length l) ≡ memb x l
 unfolding any memb
-any-memb x [] = refl
-any-memb x (y ∷ ys) = any-front (λ i. eqb (get_or (y ∷ ys) i 0) x) (length ys) ∙ rw (any-memb x ys)
+any_memb x [] = refl
+any_memb x (y ∷ ys) = any_front (λ i. eqb (get_or (y ∷ ys) i 0) x) (length ys) ∙ rw (any_memb x ys)
 
 -- ---- membership in a list of positions
 
-pub allOf-true : (f : ℕ → Bool) (l : List ℕ) → ((x : ℕ) → memb x l ≡ true → f x ≡ true) → all_of f l ≡ true
+pub all_of_true : (f : ℕ → Bool) (l : List ℕ) → ((x : ℕ) → memb x l ≡ true → f x ≡ true) → all_of f l ≡ true
 unfolding all_of memb
-allOf-true f [] h = refl
-allOf-true f (y ∷ ys) h =
+all_of_true f [] h = refl
+all_of_true f (y ∷ ys) h =
     let first : f y ≡ true = h y (rw (eq-eqb y y refl)) in
-    rw first (allOf-true f ys (λ x m. h x (either (bool? (eqb y x)) (λ c. rw c) (λ c. rw c m))))
+    rw first (all_of_true f ys (λ x m. h x (either (bool? (eqb y x)) (λ c. rw c) (λ c. rw c m))))
 
 -- what holds of the number at each index holds of each member
-memb-all : (P : ℕ → Type 0) (l : List ℕ) → ((i : ℕ) → i < length l → P (get_or l i 0)) → (x : ℕ) → memb x l ≡ true → P x
+memb_all : (P : ℕ → Type 0) (l : List ℕ) → ((i : ℕ) → i < length l → P (get_or l i 0)) → (x : ℕ) → memb x l ≡ true → P x
 unfolding memb
-memb-all P [] h x m = absurd (false≢true m)
-memb-all P (y ∷ ys) h x m =
+memb_all P [] h x m = absurd (false≢true m)
+memb_all P (y ∷ ys) h x m =
     either (eq? y x)
     (λ e. rw (← e.1) (h 0 (omega arith)))
-    (λ e. memb-all P ys (λ i l. h (suc i) (omega arith)) x (rw e.0 at m))
+    (λ e. memb_all P ys (λ i l. h (suc i) (omega arith)) x (rw e.0 at m))
 
 -- every number of a table comes from an index: what holds of each f j holds of each member
-pub memb-tabulate-all : (P : ℕ → Type 0) (k : ℕ) (f : ℕ → ℕ) → ((j : ℕ) → j < k → P (f j)) → (x : ℕ) → memb x (tabulate k f) ≡ true → P x
-memb-tabulate-all P k f h = memb-all P (tabulate k f) (λ i l. let s : i < k = rw (length-tabulate k f) at l in rw (get_d_tabulate k f i 0 s) (h i s))
+pub memb_tabulate_all : (P : ℕ → Type 0) (k : ℕ) (f : ℕ → ℕ) → ((j : ℕ) → j < k → P (f j)) → (x : ℕ) → memb x (tabulate k f) ≡ true → P x
+memb_tabulate_all P k f h = memb_all P (tabulate k f) (λ i l. let s : i < k = rw (length_tabulate k f) at l in rw (get_d_tabulate k f i 0 s) (h i s))

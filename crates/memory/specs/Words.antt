@@ -1,7 +1,7 @@
 -- Little-endian numbers of four and of eight bytes, and items made of words of four.
 use Rattle.std.specs.Prelude.{◌≡◌, refl, List, [], ◌∷◌, ◌++◌, ℕ, zero, suc, ◌+◌, ◌*◌, ◌/◌, ◌%◌, ◌^◌, ◌<◌, length, get_or}
 use Rattle.std.proofs.Common.{◌∙◌, arith, get_or-append-add}
-use Rattle.memory.specs.Bits.{bit, bitIn, bit-mod, bit-shr}
+use Rattle.memory.specs.Bits.{bit, bit_in, bit_mod, bit_shr}
 
 -- byte i of a number, lowest first
 unfoldable pub byte_of : ℕ → ℕ → ℕ
@@ -25,12 +25,12 @@ word l at = get_or l at 0 + get_or l (at + 1) 0 * 256 + get_or l (at + 2) 0 * 65
 
 -- r has the 64 bits of the eight bytes from `at` on
 unfoldable pub Word64 : List ℕ → ℕ → ℕ → Type 0
-Word64 bytes at r = (i : ℕ) → i < 64 → bit r i ≡ bitIn bytes at i
+Word64 bytes at r = (i : ℕ) → i < 64 → bit r i ≡ bit_in bytes at i
 
 -- the bytes of words, one after another
-unfoldable pub wordsBytes : List ℕ → List ℕ
-wordsBytes [] = []
-wordsBytes (k ∷ ks) = bytes4 k ++ wordsBytes ks
+unfoldable pub words_bytes : List ℕ → List ℕ
+words_bytes [] = []
+words_bytes (k ∷ ks) = bytes4 k ++ words_bytes ks
 
 -- ---- laws
 
@@ -40,44 +40,44 @@ pub bytes_word : (k a b c d : ℕ) → k < 2 ^ 32 → a ≡ byte_of k 0 → b �
 unfolding byte_of
 bytes_word k a b c d h ea eb ec ed = omega arith
 
-pub length-words : (ks : List ℕ) → length (wordsBytes ks) ≡ length ks * 4
-unfolding wordsBytes
-length-words [] = refl
-length-words (k ∷ ks) = omega (arith, length-words ks)
+pub length_words : (ks : List ℕ) → length (words_bytes ks) ≡ length ks * 4
+unfolding words_bytes
+length_words [] = refl
+length_words (k ∷ ks) = omega (arith, length_words ks)
 
-pub words-byte : (ks : List ℕ) (i b : ℕ) → i < length ks → b < 4 → get_or (wordsBytes ks) (i * 4 + b) 0 ≡ byte_of (get_or ks i 0) b
-unfolding wordsBytes byte_of
-words-byte [] i b h k = absurd (omega arith)
-words-byte (x ∷ ks) zero zero h k = refl
-words-byte (x ∷ ks) zero (suc zero) h k = refl
-words-byte (x ∷ ks) zero (suc (suc zero)) h k = refl
-words-byte (x ∷ ks) zero (suc (suc (suc zero))) h k = refl
-words-byte (x ∷ ks) zero (suc (suc (suc (suc b)))) h k = absurd (omega arith)
-words-byte (x ∷ ks) (suc i) b h k =
+pub words_byte : (ks : List ℕ) (i b : ℕ) → i < length ks → b < 4 → get_or (words_bytes ks) (i * 4 + b) 0 ≡ byte_of (get_or ks i 0) b
+unfolding words_bytes byte_of
+words_byte [] i b h k = absurd (omega arith)
+words_byte (x ∷ ks) zero zero h k = refl
+words_byte (x ∷ ks) zero (suc zero) h k = refl
+words_byte (x ∷ ks) zero (suc (suc zero)) h k = refl
+words_byte (x ∷ ks) zero (suc (suc (suc zero))) h k = refl
+words_byte (x ∷ ks) zero (suc (suc (suc (suc b)))) h k = absurd (omega arith)
+words_byte (x ∷ ks) (suc i) b h k =
     let e : suc i * 4 + b ≡ 4 + (i * 4 + b) = omega arith in
-    rw e (get_or-append-add (bytes4 x) (wordsBytes ks) (i * 4 + b) 0 ∙ words-byte ks i b (omega arith) k)
+    rw e (get_or-append-add (bytes4 x) (words_bytes ks) (i * 4 + b) 0 ∙ words_byte ks i b (omega arith) k)
 
 -- ---- bits of a byte, and the bytes of a number below 2 ^ 64
 
-byte-bits : (x q : ℕ) → (byte_of x q < 256) × ((b : ℕ) → b < 8 → bit (byte_of x q) b ≡ bit x (q * 8 + b))
+byte_bits : (x q : ℕ) → (byte_of x q < 256) × ((b : ℕ) → b < 8 → bit (byte_of x q) b ≡ bit x (q * 8 + b))
 unfolding byte_of
-byte-bits x zero = (omega arith, λ b h. let e : 0 * 8 + b ≡ b = omega arith in rw e (bit-mod x 8 b h))
-byte-bits x (suc q) =
-    let r = byte-bits (x / 256) q in
-    (r.0, λ b h. let e : suc q * 8 + b ≡ 8 + (q * 8 + b) = omega arith in rw e (r.1 b h ∙ bit-shr x 8 (q * 8 + b)))
+byte_bits x zero = (omega arith, λ b h. let e : 0 * 8 + b ≡ b = omega arith in rw e (bit_mod x 8 b h))
+byte_bits x (suc q) =
+    let r = byte_bits (x / 256) q in
+    (r.0, λ b h. let e : suc q * 8 + b ≡ 8 + (q * 8 + b) = omega arith in rw e (r.1 b h ∙ bit_shr x 8 (q * 8 + b)))
 
-byte-of-eight : (x q : ℕ) → q < 8 → get_or (bytes8 x) q 0 ≡ byte_of x q
+byte_of_eight : (x q : ℕ) → q < 8 → get_or (bytes8 x) q 0 ≡ byte_of x q
 unfolding byte_of
-byte-of-eight x zero h = refl
-byte-of-eight x (suc zero) h = refl
-byte-of-eight x (suc (suc zero)) h = refl
-byte-of-eight x (suc (suc (suc zero))) h = refl
-byte-of-eight x (suc (suc (suc (suc zero)))) h = refl
-byte-of-eight x (suc (suc (suc (suc (suc zero))))) h = refl
-byte-of-eight x (suc (suc (suc (suc (suc (suc zero)))))) h = refl
-byte-of-eight x (suc (suc (suc (suc (suc (suc (suc zero))))))) h = refl
-byte-of-eight x (suc (suc (suc (suc (suc (suc (suc (suc q)))))))) h = absurd (omega arith)
+byte_of_eight x zero h = refl
+byte_of_eight x (suc zero) h = refl
+byte_of_eight x (suc (suc zero)) h = refl
+byte_of_eight x (suc (suc (suc zero))) h = refl
+byte_of_eight x (suc (suc (suc (suc zero)))) h = refl
+byte_of_eight x (suc (suc (suc (suc (suc zero))))) h = refl
+byte_of_eight x (suc (suc (suc (suc (suc (suc zero)))))) h = refl
+byte_of_eight x (suc (suc (suc (suc (suc (suc (suc zero))))))) h = refl
+byte_of_eight x (suc (suc (suc (suc (suc (suc (suc (suc q)))))))) h = absurd (omega arith)
 
-pub eight-bits : (x q : ℕ) → q < 8
+pub eight_bits : (x q : ℕ) → q < 8
     → (get_or (bytes8 x) q 0 < 256) × ((b : ℕ) → b < 8 → bit (get_or (bytes8 x) q 0) b ≡ bit x (q * 8 + b))
-eight-bits x q h = rw (byte-of-eight x q h) (byte-bits x q)
+eight_bits x q h = rw (byte_of_eight x q h) (byte_bits x q)

@@ -7,24 +7,24 @@ use lib.Pow.{pow_mono}
 use Rattle.memory.specs.Power.{log2up}
 use Rattle.memory.specs.Numbers.{euclid}
 use Rattle.layout.specs.Geometry.{sector, page, block}
-use Rattle.layout.specs.Index.{Index, pagesPerFourth, setPages, setWidth, sideBlock}
-use Rattle.laws.specs.SetLaws.{unit-pos, width_is, width-pos, blocks-fit}
+use Rattle.layout.specs.Index.{Index, pages_per_fourth, set_pages, set_width, side_block}
+use Rattle.laws.specs.SetLaws.{unit_pos, width_is, width_pos, blocks_fit}
 use Rattle.laws.specs.Units.{UnitSound}
-use Rattle.partition.specs.Sources.{roundBytes, source_of, pageSource}
+use Rattle.partition.specs.Sources.{round_bytes, source_of, page_source}
 use Rattle.fields.specs.declared.Source.{Source}
 use Rattle.partition.specs.declared.PageSource.{PageSource}
-use Rattle.partition.specs.Widths.{old-whole, sector-whole}
+use Rattle.partition.specs.Widths.{old_whole, sector_whole}
 
 -- a set's width and its bounds
-pub width_of : (u c r : ℕ) → UnitSound u → c ≤ 4 * u → r ≡ setWidth u c → (r ≡ setWidth u c) × (0 < r) × (r ≤ 128)
+pub width_of : (u c r : ℕ) → UnitSound u → c ≤ 4 * u → r ≡ set_width u c → (r ≡ set_width u c) × (0 < r) × (r ≤ 128)
 width_of u c r U h e =
     let w = width_is u U.0 U.1.power c h in
     let l : U.0 + 2 - log2up c ≤ 7 = omega (arith, U.1.small) in
-    rw e (refl, width-pos u U.0 U.1.power c h, rw w (omega (arith, pow_mono l)))
+    rw e (refl, width_pos u U.0 U.1.power c h, rw w (omega (arith, pow_mono l)))
 
 -- so many fields in a byte
-pub few-pages : (w : ℕ) → 0 < w → w < 8 → (0 < 8 / w) × (8 / w ≤ 8)
-few-pages w p h =
+pub few_pages : (w : ℕ) → 0 < w → w < 8 → (0 < 8 / w) × (8 / w ≤ 8)
+few_pages w p h =
     let E = euclid 8 w p in
     ((le-div_iff_mul-le p).1 (omega arith), omega (arith, E.whole, mul-le-mul_left (8 / w) p))
 
@@ -46,25 +46,25 @@ shares v w p gap pw h l g =
     }
 
 -- a width that divides another is not above it
-part-le : (m w v : ℕ) → m * w ≡ v → 0 < v → w ≤ v
-part-le zero w v e h = absurd (omega arith)
-part-le (suc m) w v e h = omega arith
+part_le : (m w v : ℕ) → m * w ≡ v → 0 < v → w ≤ v
+part_le zero w v e h = absurd (omega arith)
+part_le (suc m) w v e h = omega arith
 
 -- the next set's width is not above the width of the set before it, nor above a sector
-pub next_le : (u c : ℕ) → UnitSound u → c < 4 * u → setWidth u (c + 1) ≤ setWidth u c
+pub next_le : (u c : ℕ) → UnitSound u → c < 4 * u → set_width u (c + 1) ≤ set_width u c
 next_le u c U h =
-    part-le (setWidth u c / setWidth u (c + 1)) (setWidth u (c + 1)) (setWidth u c) (old-whole u U.0 U.1.power c h) (width-pos u U.0 U.1.power c (omega arith))
+    part_le (set_width u c / set_width u (c + 1)) (set_width u (c + 1)) (set_width u c) (old_whole u U.0 U.1.power c h) (width_pos u U.0 U.1.power c (omega arith))
 
-pub sector-le : (u c : ℕ) → UnitSound u → c ≤ 4 * u → setWidth u c ≤ 16 * u
-sector-le u c U h =
-    part-le (16 * u / setWidth u c) (setWidth u c) (16 * u) (sector-whole u U.0 U.1.power c h) (omega (arith, unit-pos u U.0 U.1.power))
+pub sector_le : (u c : ℕ) → UnitSound u → c ≤ 4 * u → set_width u c ≤ 16 * u
+sector_le u c U h =
+    part_le (16 * u / set_width u c) (set_width u c) (16 * u) (sector_whole u U.0 U.1.power c h) (omega (arith, unit_pos u U.0 U.1.power))
 
-pub pages-le : (u c : ℕ) → UnitSound u → c ≤ 4 * u → setPages c ≤ 2048
-pages-le u c U h = omega (arith, U.1.most, blocks-fit u U.0 U.1.power c h)
+pub pages_le : (u c : ℕ) → UnitSound u → c ≤ 4 * u → set_pages c ≤ 2048
+pages_le u c U h = omega (arith, U.1.most, blocks_fit u U.0 U.1.power c h)
 
 -- the row that the code makes
 module _ (u : ℕ) (ix : Index) (c p w v side first gap four size : ℕ) (o l : Source) where
-  pub row_made : w ≡ setWidth u (c + 1) → v ≡ setWidth u c → side ≡ sideBlock u ix c * block u → first ≡ ix.first * block u
-      → gap ≡ page u → four ≡ pagesPerFourth * page u → size ≡ sector u → o ≡ source_of side gap v w p → l ≡ source_of first four size w p
-      → ◌≡◌ {A = PageSource} (record { w = w; split = roundBytes * c * w; end = roundBytes * (c + 1) * w; old = o; l1 = l }) (pageSource u ix c p)
+  pub row_made : w ≡ set_width u (c + 1) → v ≡ set_width u c → side ≡ side_block u ix c * block u → first ≡ ix.first * block u
+      → gap ≡ page u → four ≡ pages_per_fourth * page u → size ≡ sector u → o ≡ source_of side gap v w p → l ≡ source_of first four size w p
+      → ◌≡◌ {A = PageSource} (record { w = w; split = round_bytes * c * w; end = round_bytes * (c + 1) * w; old = o; l1 = l }) (page_source u ix c p)
   row_made ew ev es ef eg e4 ez eo el = rw (eo, el, ew, ev, es, ef, eg, e4, ez)

@@ -2,13 +2,13 @@
 ghost use Rattle.std.specs.Prelude.{◌≡◌, ℕ, ◌+◌, ◌-◌, ◌*◌, ◌/◌, ◌<◌, ◌≤◌, min, length};
 ghost use Rattle.memory.specs.Lent.{before, after};
 ghost use Rattle.memory.specs.Lists.{tabulate};
-ghost use Rattle.layout.specs.Geometry.{sectorsPerPage, sector, block, sideBlocks};
-ghost use Rattle.layout.specs.Index.{setPages, setWidth, fullBlock};
+ghost use Rattle.layout.specs.Geometry.{sectors_per_page, sector, block, side_blocks};
+ghost use Rattle.layout.specs.Index.{set_pages, set_width, full_block};
 ghost use Rattle.laws.specs.Units.{UnitSound};
 ghost use Rattle.geometry.specs.Indexes.{index_of};
-ghost use Rattle.fields.specs.Sources.{fieldByte, Whole};
-ghost use Rattle.partition.specs.Sources.{pageByte, roundBytes, source_of, pageSource};
-ghost use Rattle.partition.specs.Shared.{together, sharedBytes, Shares, setBytes, InPage};
+ghost use Rattle.fields.specs.Sources.{field_byte, Whole};
+ghost use Rattle.partition.specs.Sources.{page_byte, round_bytes, source_of, page_source};
+ghost use Rattle.partition.specs.Shared.{together, shared_bytes, Shares, set_bytes, InPage};
 ghost use Rattle.partition.specs.Reach.{SourceFits};
 
 use fields::Source;
@@ -42,8 +42,8 @@ fn source_of(base: usize, gap: usize, v: usize, w: usize, p: usize) -> Source
 
 // Where page p of the next set takes its bits from.
 fn page_source(chip: Chip, set: Set, p: usize) -> PageSource
-    requires { UnitSound chip.unit × (set.rounds < sideBlocks chip.unit) × (set.index.first ≤ 20000) × (p < 2048) }
-    ensures { result ≡ pageSource chip.unit (index_of set.index) set.rounds p }
+    requires { UnitSound chip.unit × (set.rounds < side_blocks chip.unit) × (set.index.first ≤ 20000) × (p < 2048) }
+    ensures { result ≡ page_source chip.unit (index_of set.index) set.rounds p }
 {
     let c = set.rounds;
     let w = sets::set_width(chip, c + 1);
@@ -81,8 +81,8 @@ fn below(e: usize, y: usize, n: usize) -> usize
 
 // How many pages share a byte of each filter.
 pub fn pages_together(chip: Chip, set: Set) -> usize
-    requires { UnitSound chip.unit × (set.rounds < sideBlocks chip.unit) }
-    ensures { (result ≡ together (setWidth chip.unit (set.rounds + 1))) × (0 < result) × (result ≤ 8) }
+    requires { UnitSound chip.unit × (set.rounds < side_blocks chip.unit) }
+    ensures { (result ≡ together (set_width chip.unit (set.rounds + 1))) × (0 < result) × (result ≤ 8) }
 {
     let w = sets::set_width(chip, set.rounds + 1);
     if w < 8 {
@@ -93,12 +93,12 @@ pub fn pages_together(chip: Chip, set: Set) -> usize
 
 // The bytes that page p and those beside it share; where it shares none, `out` stays.
 pub fn shared_bytes(chip: Chip, set: Set, p: usize, main: &[u8], out: &mut [u8])
-    requires unit_sound { UnitSound chip.unit × (set.rounds < sideBlocks chip.unit) × (set.index.first ≤ 20000) }
-    requires p_bound { p < setPages (set.rounds + 1) }
-    requires unit_in_bounds { fullBlock chip.unit (index_of set.index) 0 * block chip.unit ≤ length main.now }
+    requires unit_sound { UnitSound chip.unit × (set.rounds < side_blocks chip.unit) × (set.index.first ≤ 20000) }
+    requires p_bound { p < set_pages (set.rounds + 1) }
+    requires unit_in_bounds { full_block chip.unit (index_of set.index) 0 * block chip.unit ≤ length main.now }
     requires out_len { length out.old ≡ 128 }
     ensures { after out
-        ≡ sharedBytes (before main) (pageSource chip.unit (index_of set.index) set.rounds p) (before out) }
+        ≡ shared_bytes (before main) (page_source chip.unit (index_of set.index) set.rounds p) (before out) }
 {
     let r = page_source(chip, set, p);
     let w = r.w;
@@ -112,8 +112,8 @@ pub fn shared_bytes(chip: Chip, set: Set, p: usize, main: &[u8], out: &mut [u8])
 fn l1_bytes(r: PageSource, y: usize, main: &[u8], shared: &[u8], out: &mut [u8])
     requires source_fits { SourceFits (length main.now) r × Shares main.now r shared.now }
     requires whole { Whole r.w y × Whole r.w (length out.old) }
-    requires by_index { (i : ℕ) → i < length out.old → y + i < roundBytes * r.w }
-    ensures { after out ≡ tabulate (length (before out)) (λ (i : ℕ). fieldByte (before main) r.l1 r.w (y + i)) }
+    requires by_index { (i : ℕ) → i < length out.old → y + i < round_bytes * r.w }
+    ensures { after out ≡ tabulate (length (before out)) (λ (i : ℕ). field_byte (before main) r.l1 r.w (y + i)) }
 {
     let w = r.w;
     let s = r.l1;
@@ -135,7 +135,7 @@ fn l1_bytes(r: PageSource, y: usize, main: &[u8], shared: &[u8], out: &mut [u8])
 fn page_bytes(r: PageSource, y: usize, main: &[u8], shared: &[u8], out: &mut [u8])
     requires source_fits { SourceFits (length main.now) r × Shares main.now r shared.now }
     requires whole { Whole r.w y × Whole r.w (length out.old) }
-    ensures { after out ≡ tabulate (length (before out)) (λ (i : ℕ). pageByte (before main) r (y + i)) }
+    ensures { after out ≡ tabulate (length (before out)) (λ (i : ℕ). page_byte (before main) r (y + i)) }
 {
     let w = r.w;
     let old = r.old;
@@ -150,13 +150,13 @@ fn page_bytes(r: PageSource, y: usize, main: &[u8], shared: &[u8], out: &mut [u8
 
 // Sectors of a page of the next set from sector j on, so many as `out` holds.
 pub fn set_sectors(chip: Chip, set: Set, j: usize, main: &[u8], shared: &[u8], out: &mut [u8])
-    requires unit_sound { UnitSound chip.unit × (set.rounds < sideBlocks chip.unit) × (set.index.first ≤ 20000) }
-    requires j_bound { j < setPages (set.rounds + 1) * sectorsPerPage }
-    requires unit_in_bounds { fullBlock chip.unit (index_of set.index) 0 * block chip.unit ≤ length main.now }
-    requires shares { Shares main.now (pageSource chip.unit (index_of set.index) set.rounds (j / sectorsPerPage)) shared.now }
+    requires unit_sound { UnitSound chip.unit × (set.rounds < side_blocks chip.unit) × (set.index.first ≤ 20000) }
+    requires j_bound { j < set_pages (set.rounds + 1) * sectors_per_page }
+    requires unit_in_bounds { full_block chip.unit (index_of set.index) 0 * block chip.unit ≤ length main.now }
+    requires shares { Shares main.now (page_source chip.unit (index_of set.index) set.rounds (j / sectors_per_page)) shared.now }
     requires in_page { InPage (sector chip.unit) j (length out.old) }
     ensures { after out ≡ tabulate (length (before out))
-        (setBytes chip.unit (index_of set.index) (before main) set.full_sets set.rounds j) }
+        (set_bytes chip.unit (index_of set.index) (before main) set.full_sets set.rounds j) }
 {
     let r = page_source(chip, set, j / Chip::SECTORS_PER_PAGE);
     let y = chip.sector_address(j % Chip::SECTORS_PER_PAGE);

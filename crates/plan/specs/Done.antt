@@ -7,18 +7,18 @@ use mathlib.Core.List.{List, [], ◌∷◌, ◌++◌}
 use Prim.Native.Nat.{ℕ, zero, suc, ◌+◌, ◌*◌, ◌≤◌, ◌<◌}
 use native.Mathlib.Omega.{arith}
 use Rattle.memory.specs.Cases.{either, bool?}
-use Rattle.layout.specs.Flash.{fresh, Planned, known, made, plannedFrom}
-use Rattle.layout.specs.Index.{flushesPerRound}
-use Rattle.layout.specs.Later.{freshPlan}
-use Rattle.laws.specs.Done.{doneCount, done_none, done-both, done-down, wipes-fresh}
-use Rattle.flash.specs.Fresh.{lastProgrammed}
+use Rattle.layout.specs.Flash.{fresh, Planned, known, made, planned_from}
+use Rattle.layout.specs.Index.{flushes_per_round}
+use Rattle.layout.specs.Later.{fresh_plan}
+use Rattle.laws.specs.Done.{done_count, done_none, done_both, done_down, wipes_fresh}
+use Rattle.flash.specs.Fresh.{last_programmed}
 use Rattle.plan.specs.declared.Summary.{Summary}
 use Rattle.plan.specs.declared.Plan.{Plan}
-use Rattle.plan.specs.Spans.{length-planned}
-use Rattle.plan.specs.Segments.{filledPage, flushed, nextSet, wiped}
-use Rattle.plan.specs.Plans.{deletionIn, recordIn, entryIn, deletionFourths, entryFourths}
-use Rattle.plan.specs.Plans.{daPage, raPage, kaPage, flushOf, buildOf, summaryOf, summaryCount}
-use Rattle.plan.specs.Plans.{deletionOf, recordOf, planned, deletionCount, deletion-count}
+use Rattle.plan.specs.Spans.{length_planned}
+use Rattle.plan.specs.Segments.{filled_page, flushed, next_set, wiped}
+use Rattle.plan.specs.Plans.{deletion_in, record_in, entry_in, deletion_fourths, entry_fourths}
+use Rattle.plan.specs.Plans.{da_page, ra_page, ka_page, flush_of, build_of, summary_of, summary_count}
+use Rattle.plan.specs.Plans.{deletion_of, record_of, planned, deletion_count, deletion_count_lem}
 
 -- of two parts, n operations in the first, of which a count as done, and b of the second: the second decides, unless none of it counts
 abbrev pub done_of : ℕ → ℕ → ℕ → ℕ
@@ -26,23 +26,23 @@ done_of n a zero = a
 done_of n a (suc b) = n + suc b
 
 -- of an index: its erases never count
-abbrev pub indexDone : Summary → List ℕ → ℕ
-indexDone s spare =
-    done_of s.flush.count (lastProgrammed spare flushesPerRound s.flush.first s.flush.count)
-    (lastProgrammed spare 1 s.set.first s.set.count)
+abbrev pub index_done : Summary → List ℕ → ℕ
+index_done s spare =
+    done_of s.flush.count (last_programmed spare flushes_per_round s.flush.first s.flush.count)
+    (last_programmed spare 1 s.set.first s.set.count)
 
 -- of the deletion, of the record and its entry, of both
 module _ (spare : List ℕ) (p : Plan) where
-  abbrev pub deletionDone : ℕ
-  deletionDone = done_of p.da.count (lastProgrammed spare 1 p.da.first p.da.count) (indexDone p.da_index spare)
+  abbrev pub deletion_done : ℕ
+  deletion_done = done_of p.da.count (last_programmed spare 1 p.da.first p.da.count) (index_done p.da_index spare)
 
-  abbrev pub recordDone : ℕ
-  recordDone =
-      done_of p.ra.count (lastProgrammed spare 1 p.ra.first p.ra.count)
-      (done_of p.ka.count (lastProgrammed spare 1 p.ka.first p.ka.count) (indexDone p.ka_index spare))
+  abbrev pub record_done : ℕ
+  record_done =
+      done_of p.ra.count (last_programmed spare 1 p.ra.first p.ra.count)
+      (done_of p.ka.count (last_programmed spare 1 p.ka.first p.ka.count) (index_done p.ka_index spare))
 
-  unfoldable pub planDone : ℕ
-  planDone = done_of (deletionCount p) deletionDone recordDone
+  unfoldable pub plan_done : ℕ
+  plan_done = done_of (deletion_count p) deletion_done record_done
 
 -- ---- as code finds it; `x` and `y` are what code computes
 
@@ -54,129 +54,129 @@ pub earlier : (x y n a b : ℕ) → x ≡ b → x ≤ 0 → y ≡ a → y ≡ do
 earlier x y n a zero e h d = d
 earlier x y n a (suc b) e h d = absurd (omega arith)
 
-pub done-of-le : (n a b m : ℕ) → a ≤ n → b ≤ m → done_of n a b ≤ n + m
-done-of-le n a zero m h k = omega arith
-done-of-le n a (suc b) m h k = omega arith
+pub done_of_le : (n a b m : ℕ) → a ≤ n → b ≤ m → done_of n a b ≤ n + m
+done_of_le n a zero m h k = omega arith
+done_of_le n a (suc b) m h k = omega arith
 
-pub last-le : (spare : List ℕ) (d s k : ℕ) → lastProgrammed spare d s k ≤ k
-unfolding lastProgrammed
-last-le spare d s zero = omega arith
-last-le spare d s (suc k) =
-    either (bool? (fresh (get_or spare (s + k * d) 0))) (λ q. rw q (omega (arith, last-le spare d s k))) (λ q. rw q (omega arith))
+pub last_le : (spare : List ℕ) (d s k : ℕ) → last_programmed spare d s k ≤ k
+unfolding last_programmed
+last_le spare d s zero = omega arith
+last_le spare d s (suc k) =
+    either (bool? (fresh (get_or spare (s + k * d) 0))) (λ q. rw q (omega (arith, last_le spare d s k))) (λ q. rw q (omega arith))
 
-pub index-done-le : (s : Summary) (spare : List ℕ) → indexDone s spare ≤ s.flush.count + s.set.count
-index-done-le s spare =
-    done-of-le s.flush.count _ _ s.set.count (last-le spare 16 s.flush.first s.flush.count)
-    (last-le spare 1 s.set.first s.set.count)
+pub index_done_le : (s : Summary) (spare : List ℕ) → index_done s spare ≤ s.flush.count + s.set.count
+index_done_le s spare =
+    done_of_le s.flush.count _ _ s.set.count (last_le spare 16 s.flush.first s.flush.count)
+    (last_le spare 1 s.set.first s.set.count)
 
-pub record-done-le : (spare : List ℕ) (p : Plan) → recordDone spare p ≤ p.ra.count + (p.ka.count + summaryCount p.ka_index)
-record-done-le spare p =
-    let i : indexDone p.ka_index spare ≤ summaryCount p.ka_index = omega (arith, index-done-le p.ka_index spare) in
-    done-of-le p.ra.count _ _ (p.ka.count + summaryCount p.ka_index) (last-le spare 1 p.ra.first p.ra.count)
-    (done-of-le p.ka.count _ _ (summaryCount p.ka_index) (last-le spare 1 p.ka.first p.ka.count) i)
+pub record_done_le : (spare : List ℕ) (p : Plan) → record_done spare p ≤ p.ra.count + (p.ka.count + summary_count p.ka_index)
+record_done_le spare p =
+    let i : index_done p.ka_index spare ≤ summary_count p.ka_index = omega (arith, index_done_le p.ka_index spare) in
+    done_of_le p.ra.count _ _ (p.ka.count + summary_count p.ka_index) (last_le spare 1 p.ra.first p.ra.count)
+    (done_of_le p.ka.count _ _ (summary_count p.ka_index) (last_le spare 1 p.ka.first p.ka.count) i)
 
 -- ---- the plan's count is that of its operations, whatever the bytes
 
 module _ (spare : List ℕ) where
   -- some of a list counts unless all of it is fresh
-  done-some : (ps : List Planned) → freshPlan spare ps ≡ false → 0 < doneCount spare ps
-  unfolding freshPlan doneCount
-  done-some [] q = absurd (let z : ◌≡◌ {A = ℕ} 0 1 = cc in omega arith)
-  done-some (p ∷ ps) q = rw q (omega arith)
+  done_some : (ps : List Planned) → fresh_plan spare ps ≡ false → 0 < done_count spare ps
+  unfolding fresh_plan done_count
+  done_some [] q = absurd (let z : ◌≡◌ {A = ℕ} 0 1 = cc in omega arith)
+  done_some (p ∷ ps) q = rw q (omega arith)
 
-  two-done : (xs ys : List Planned) (n a b : ℕ) → length xs ≡ n → doneCount spare xs ≡ a → doneCount spare ys ≡ b
-      → doneCount spare (xs ++ ys) ≡ done_of n a b
-  two-done xs ys n a b e d f =
-      done-both spare xs ys
-      ∙ either (bool? (freshPlan spare ys))
-      (λ q. rw q (earlier (doneCount spare ys) (doneCount spare xs) n a b f (omega (arith, done_none spare ys q)) d))
-      (λ q. rw (q, e) (later (doneCount spare ys) n a b f (done-some ys q)))
+  two_done : (xs ys : List Planned) (n a b : ℕ) → length xs ≡ n → done_count spare xs ≡ a → done_count spare ys ≡ b
+      → done_count spare (xs ++ ys) ≡ done_of n a b
+  two_done xs ys n a b e d f =
+      done_both spare xs ys
+      ∙ either (bool? (fresh_plan spare ys))
+      (λ q. rw q (earlier (done_count spare ys) (done_count spare xs) n a b f (omega (arith, done_none spare ys q)) d))
+      (λ q. rw (q, e) (later (done_count spare ys) n a b f (done_some ys q)))
 
   -- a segment that programs, one that erases
-  segment-done : (f : ℕ → Planned) (d s : ℕ) → ((j : ℕ) → freshPlan spare (f j ∷ []) ≡ fresh (get_or spare (s + j * d) 0))
-      → (k : ℕ) → doneCount spare (plannedFrom f 0 k) ≡ lastProgrammed spare d s k
-  unfolding lastProgrammed doneCount
-  segment-done f d s h zero = refl
-  segment-done f d s h (suc k) =
+  segment_done : (f : ℕ → Planned) (d s : ℕ) → ((j : ℕ) → fresh_plan spare (f j ∷ []) ≡ fresh (get_or spare (s + j * d) 0))
+      → (k : ℕ) → done_count spare (planned_from f 0 k) ≡ last_programmed spare d s k
+  unfolding last_programmed done_count
+  segment_done f d s h zero = refl
+  segment_done f d s h (suc k) =
       let e : 0 + k ≡ k = omega arith in
-      (rw e at (done-down spare f 0 k)) ∙ rw (h k, segment-done f d s h k)
+      (rw e at (done_down spare f 0 k)) ∙ rw (h k, segment_done f d s h k)
 
-  wipes-done : (b k : ℕ) → doneCount spare (plannedFrom (wiped b) 0 k) ≡ 0
-  wipes-done b k = done_none spare (plannedFrom (wiped b) 0 k) (wipes-fresh spare (λ j. b + j) 0 k)
+  wipes_done : (b k : ℕ) → done_count spare (planned_from (wiped b) 0 k) ≡ 0
+  wipes_done b k = done_none spare (planned_from (wiped b) 0 k) (wipes_fresh spare (λ j. b + j) 0 k)
 
-  known-one : (s : ℕ) (bytes : List ℕ) → freshPlan spare (known s bytes ∷ []) ≡ fresh (get_or spare s 0)
-  unfolding freshPlan
-  known-one s bytes = and-true (fresh (get_or spare s 0))
+  known_one : (s : ℕ) (bytes : List ℕ) → fresh_plan spare (known s bytes ∷ []) ≡ fresh (get_or spare s 0)
+  unfolding fresh_plan
+  known_one s bytes = and-true (fresh (get_or spare s 0))
 
-  made_one : (s : ℕ) (bytes : List ℕ → List ℕ) → freshPlan spare (made s bytes ∷ []) ≡ fresh (get_or spare s 0)
-  unfolding freshPlan
+  made_one : (s : ℕ) (bytes : List ℕ → List ℕ) → fresh_plan spare (made s bytes ∷ []) ≡ fresh (get_or spare s 0)
+  unfolding fresh_plan
   made_one s bytes = and-true (fresh (get_or spare s 0))
 
   -- a page that an item fills; an index
-  page-done : (u s at : ℕ) (item ram : List ℕ) (n : ℕ)
-      → doneCount spare (plannedFrom (filledPage u (record { sector = s; at = at }) item ram) 0 n) ≡ lastProgrammed spare 1 s n
-  page-done u s at item ram n =
-      segment-done (filledPage u (record { sector = s; at = at }) item ram) 1 s
-      (λ j. let e : s + j * 1 ≡ s + j = omega arith in rw e (known-one (s + j) _)) n
+  page_done : (u s at : ℕ) (item ram : List ℕ) (n : ℕ)
+      → done_count spare (planned_from (filled_page u (record { sector = s; at = at }) item ram) 0 n) ≡ last_programmed spare 1 s n
+  page_done u s at item ram n =
+      segment_done (filled_page u (record { sector = s; at = at }) item ram) 1 s
+      (λ j. let e : s + j * 1 ≡ s + j = omega arith in rw e (known_one (s + j) _)) n
 
   module _ (u : ℕ) (x : Summary) where
-    flush-done : (fourths ram : List ℕ)
-        → doneCount spare (plannedFrom (flushed u (flushOf x) fourths ram) 0 x.flush.count)
-        ≡ lastProgrammed spare flushesPerRound x.flush.first x.flush.count
-    flush-done fourths ram =
-        segment-done (flushed u (flushOf x) fourths ram) 16 x.flush.first (λ j. known-one (x.flush.first + j * 16) _)
+    flush_done : (fourths ram : List ℕ)
+        → done_count spare (planned_from (flushed u (flush_of x) fourths ram) 0 x.flush.count)
+        ≡ last_programmed spare flushes_per_round x.flush.first x.flush.count
+    flush_done fourths ram =
+        segment_done (flushed u (flush_of x) fourths ram) 16 x.flush.first (λ j. known_one (x.flush.first + j * 16) _)
         x.flush.count
 
-    set-done : doneCount spare (plannedFrom (nextSet u x.next x.set.first) 0 x.set.count)
-        ≡ lastProgrammed spare 1 x.set.first x.set.count
-    set-done =
-        segment-done (nextSet u x.next x.set.first) 1 x.set.first
+    set_done : done_count spare (planned_from (next_set u x.next x.set.first) 0 x.set.count)
+        ≡ last_programmed spare 1 x.set.first x.set.count
+    set_done =
+        segment_done (next_set u x.next x.set.first) 1 x.set.first
         (λ j. let e : x.set.first + j * 1 ≡ x.set.first + j = omega arith in rw e (made_one (x.set.first + j) _)) x.set.count
 
-    build-done : doneCount spare (buildOf u x) ≡ lastProgrammed spare 1 x.set.first x.set.count
-    build-done =
-        two-done (plannedFrom (nextSet u x.next x.set.first) 0 x.set.count)
-        (plannedFrom (wiped x.l1.first) 0 x.l1.count ++ plannedFrom (wiped x.old.first) 0 x.old.count)
-        x.set.count _ 0 (length-planned _ 0 x.set.count) set-done
-        (two-done (plannedFrom (wiped x.l1.first) 0 x.l1.count) (plannedFrom (wiped x.old.first) 0 x.old.count)
-        x.l1.count 0 0 (length-planned _ 0 x.l1.count) (wipes-done x.l1.first x.l1.count)
-        (wipes-done x.old.first x.old.count))
+    build_done : done_count spare (build_of u x) ≡ last_programmed spare 1 x.set.first x.set.count
+    build_done =
+        two_done (planned_from (next_set u x.next x.set.first) 0 x.set.count)
+        (planned_from (wiped x.l1.first) 0 x.l1.count ++ planned_from (wiped x.old.first) 0 x.old.count)
+        x.set.count _ 0 (length_planned _ 0 x.set.count) set_done
+        (two_done (planned_from (wiped x.l1.first) 0 x.l1.count) (planned_from (wiped x.old.first) 0 x.old.count)
+        x.l1.count 0 0 (length_planned _ 0 x.l1.count) (wipes_done x.l1.first x.l1.count)
+        (wipes_done x.old.first x.old.count))
 
-    index-done : (fourths ram : List ℕ) → doneCount spare (summaryOf u x fourths ram) ≡ indexDone x spare
-    index-done fourths ram =
-        two-done (plannedFrom (flushed u (flushOf x) fourths ram) 0 x.flush.count) (buildOf u x) x.flush.count _ _
-        (length-planned _ 0 x.flush.count) (flush-done fourths ram) build-done
+    index_done_lem : (fourths ram : List ℕ) → done_count spare (summary_of u x fourths ram) ≡ index_done x spare
+    index_done_lem fourths ram =
+        two_done (planned_from (flushed u (flush_of x) fourths ram) 0 x.flush.count) (build_of u x) x.flush.count _ _
+        (length_planned _ 0 x.flush.count) (flush_done fourths ram) build_done
 
 module _ (spare : List ℕ) (p : Plan) (new filters ram : List ℕ) where
   abbrev u : ℕ
   u = p.chip.unit
 
-  deletion-done : doneCount spare (deletionOf p new filters ram) ≡ deletionDone spare p
-  deletion-done =
-      two-done spare (plannedFrom (filledPage u (daPage p) (deletionIn new) ram) 0 p.da.count)
-      (summaryOf u p.da_index (deletionFourths filters) ram) p.da.count _ _ (length-planned _ 0 p.da.count)
-      (page-done spare u p.da.first (daPage p).at (deletionIn new) ram p.da.count)
-      (index-done spare u p.da_index (deletionFourths filters) ram)
+  deletion_done_lem : done_count spare (deletion_of p new filters ram) ≡ deletion_done spare p
+  deletion_done_lem =
+      two_done spare (planned_from (filled_page u (da_page p) (deletion_in new) ram) 0 p.da.count)
+      (summary_of u p.da_index (deletion_fourths filters) ram) p.da.count _ _ (length_planned _ 0 p.da.count)
+      (page_done spare u p.da.first (da_page p).at (deletion_in new) ram p.da.count)
+      (index_done_lem spare u p.da_index (deletion_fourths filters) ram)
 
-  record-done : doneCount spare (recordOf p new filters ram) ≡ recordDone spare p
-  record-done =
-      two-done spare (plannedFrom (filledPage u (raPage p) (recordIn new) ram) 0 p.ra.count)
-      (plannedFrom (filledPage u (kaPage p) (entryIn new) ram) 0 p.ka.count
-      ++ summaryOf u p.ka_index (entryFourths filters) ram) p.ra.count _ _ (length-planned _ 0 p.ra.count)
-      (page-done spare u p.ra.first (raPage p).at (recordIn new) ram p.ra.count)
-      (two-done spare (plannedFrom (filledPage u (kaPage p) (entryIn new) ram) 0 p.ka.count)
-      (summaryOf u p.ka_index (entryFourths filters) ram) p.ka.count _ _ (length-planned _ 0 p.ka.count)
-      (page-done spare u p.ka.first (kaPage p).at (entryIn new) ram p.ka.count)
-      (index-done spare u p.ka_index (entryFourths filters) ram))
+  record_done_lem : done_count spare (record_of p new filters ram) ≡ record_done spare p
+  record_done_lem =
+      two_done spare (planned_from (filled_page u (ra_page p) (record_in new) ram) 0 p.ra.count)
+      (planned_from (filled_page u (ka_page p) (entry_in new) ram) 0 p.ka.count
+      ++ summary_of u p.ka_index (entry_fourths filters) ram) p.ra.count _ _ (length_planned _ 0 p.ra.count)
+      (page_done spare u p.ra.first (ra_page p).at (record_in new) ram p.ra.count)
+      (two_done spare (planned_from (filled_page u (ka_page p) (entry_in new) ram) 0 p.ka.count)
+      (summary_of u p.ka_index (entry_fourths filters) ram) p.ka.count _ _ (length_planned _ 0 p.ka.count)
+      (page_done spare u p.ka.first (ka_page p).at (entry_in new) ram p.ka.count)
+      (index_done_lem spare u p.ka_index (entry_fourths filters) ram))
 
-  pub plan-done : planDone spare p ≡ doneCount spare (planned p new filters ram)
-  unfolding planDone
-  plan-done =
-      sym (two-done spare (deletionOf p new filters ram) (recordOf p new filters ram) (deletionCount p) _ _
-      (deletion-count p new filters ram) deletion-done record-done)
+  pub plan_done_lem : plan_done spare p ≡ done_count spare (planned p new filters ram)
+  unfolding plan_done
+  plan_done_lem =
+      sym (two_done spare (deletion_of p new filters ram) (record_of p new filters ram) (deletion_count p) _ _
+      (deletion_count_lem p new filters ram) deletion_done_lem record_done_lem)
 
 -- what code computes
-pub plan-done-is : (spare : List ℕ) (p : Plan) (x : ℕ) → x ≡ done_of (deletionCount p) (deletionDone spare p) (recordDone spare p)
-    → (new filters ram : List ℕ) → x ≡ doneCount spare (planned p new filters ram)
-unfolding planDone
-plan-done-is spare p x e new filters ram = e ∙ plan-done spare p new filters ram
+pub plan_done_is : (spare : List ℕ) (p : Plan) (x : ℕ) → x ≡ done_of (deletion_count p) (deletion_done spare p) (record_done spare p)
+    → (new filters ram : List ℕ) → x ≡ done_count spare (planned p new filters ram)
+unfolding plan_done
+plan_done_is spare p x e new filters ram = e ∙ plan_done_lem spare p new filters ram

@@ -1,8 +1,8 @@
 -- Where segments fit, by the lengths of the main area, the spare area and the RAM.
 use Rattle.std.specs.Prelude.{◌≡◌, ℕ, ◌+◌, ◌-◌, ◌*◌, ◌≤◌, ◌<◌}
 use Rattle.std.proofs.Common.{mul-le-mul_right, arith}
-use Rattle.layout.specs.Geometry.{sectorsPerPage, sectorsPerBlock, sector, page, block, sideBlocks}
-use Rattle.layout.specs.Index.{flushesPerRound, fullBlock, setPages, setBlock}
+use Rattle.layout.specs.Geometry.{sectors_per_page, sectors_per_block, sector, page, block, side_blocks}
+use Rattle.layout.specs.Index.{flushes_per_round, full_block, set_pages, set_block}
 use Rattle.geometry.specs.Indexes.{index_of}
 use Rattle.laws.specs.Units.{UnitSound}
 use Rattle.plan.specs.declared.Page.{Page}
@@ -12,68 +12,68 @@ use Rattle.geometry.specs.declared.sets.Set.{Set}
 
 pub record PageFits (u : ℕ) (p : Page) (main spare ram : ℕ) : Type 0 where
   pub small : u ≤ 32
-  pub in-main : (p.sector + sectorsPerPage) * sector u ≤ main
-  pub in-spare : p.sector + sectorsPerPage ≤ spare
-  pub in-ram : p.at + page u ≤ ram
+  pub in_main : (p.sector + sectors_per_page) * sector u ≤ main
+  pub in_spare : p.sector + sectors_per_page ≤ spare
+  pub in_ram_lem : p.at + page u ≤ ram
 
 -- sectors from the first of a flush to its last
-abbrev pub flushReach : ℕ
-flushReach = (sectorsPerPage - 1) * flushesPerRound + 1
+abbrev pub flush_reach : ℕ
+flush_reach = (sectors_per_page - 1) * flushes_per_round + 1
 
 pub record FlushFits (u : ℕ) (f : Flush) (fourths main spare ram : ℕ) : Type 0 where
   pub some : 0 < u
   pub small : u ≤ 32
-  pub in-sector : f.piece ≤ sector u
-  pub in-fourths : sectorsPerPage * f.piece ≤ fourths
-  pub in-main : (f.sector + flushReach) * sector u ≤ main
-  pub in-spare : f.sector + flushReach ≤ spare
-  pub in-ram : f.at + page u ≤ ram
+  pub in_sector : f.piece ≤ sector u
+  pub in_fourths : sectors_per_page * f.piece ≤ fourths
+  pub in_main : (f.sector + flush_reach) * sector u ≤ main
+  pub in_spare : f.sector + flush_reach ≤ spare
+  pub in_ram_lem : f.at + page u ≤ ram
 
 -- the first n sectors of the next set from sector s on, and what they are made of
 pub record NextFits (u : ℕ) (set : Set) (s n main spare : ℕ) : Type 0 where
   pub unit : UnitSound u
-  pub rounds : set.rounds < sideBlocks u
+  pub rounds : set.rounds < side_blocks u
   pub near : set.index.first ≤ 20000
-  pub sides : fullBlock u (index_of set.index) 0 * block u ≤ main
-  pub sectors : n ≤ setPages (set.rounds + 1) * sectorsPerPage
-  pub place : 0 < n → s ≡ setBlock u (index_of set.index) set.full_sets set.rounds * sectorsPerBlock
-  pub in-main : (s + n) * sector u ≤ main
-  pub in-spare : s + n ≤ spare
+  pub sides : full_block u (index_of set.index) 0 * block u ≤ main
+  pub sectors : n ≤ set_pages (set.rounds + 1) * sectors_per_page
+  pub place : 0 < n → s ≡ set_block u (index_of set.index) set.full_sets set.rounds * sectors_per_block
+  pub in_main : (s + n) * sector u ≤ main
+  pub in_spare : s + n ≤ spare
 
 pub record WipeFits (u : ℕ) (b : Segment) (main spare : ℕ) : Type 0 where
   pub small : u ≤ 32
-  pub in-main : (b.first + b.count) * block u ≤ main
-  pub in-spare : (b.first + b.count) * sectorsPerBlock ≤ spare
+  pub in_main : (b.first + b.count) * block u ≤ main
+  pub in_spare : (b.first + b.count) * sectors_per_block ≤ spare
 
 -- the areas keep their lengths
-pub at-lengths : (F : ℕ → ℕ → Type 0) (m s m' s' : ℕ) → m' ≡ m → s' ≡ s → F m s → F m' s'
-at-lengths F m s m' s' e d p = rw (e, d) p
+pub at_lengths : (F : ℕ → ℕ → Type 0) (m s m' s' : ℕ) → m' ≡ m → s' ≡ s → F m s → F m' s'
+at_lengths F m s m' s' e d p = rw (e, d) p
 
-pub at-numbers : (F : ℕ → ℕ → ℕ → Type 0) (a m s a' m' s' : ℕ) → a' ≡ a → m' ≡ m → s' ≡ s → F a m s → F a' m' s'
-at-numbers F a m s a' m' s' h e d p = rw (h, e, d) p
+pub at_numbers : (F : ℕ → ℕ → ℕ → Type 0) (a m s a' m' s' : ℕ) → a' ≡ a → m' ≡ m → s' ≡ s → F a m s → F a' m' s'
+at_numbers F a m s a' m' s' h e d p = rw (h, e, d) p
 
 -- sector j of a page; `size` and `off` are what code computes
 module _ (u : ℕ) (p : Page) (main spare ram : ℕ) (F : PageFits u p main spare ram) (j : ℕ) (h : j < 4) where
-  pub page-on-flash : (p.sector + j) * sector u + sector u ≤ main
-  page-on-flash =
+  pub page_on_flash : (p.sector + j) * sector u + sector u ≤ main
+  page_on_flash =
       let s : p.sector + j + 1 ≤ p.sector + 4 = omega arith in
-      omega (arith, mul-le-mul_right (sector u) s, F.in-main)
+      omega (arith, mul-le-mul_right (sector u) s, F.in_main)
 
-  pub page-in-ram : (size off : ℕ) → size ≡ sector u → off ≡ j * sector u → p.at + off + size ≤ ram
-  page-in-ram size off e o = rw (e, o) (omega (arith, mul-le-mul_right (sector u) h, F.in-ram))
+  pub page_in_ram : (size off : ℕ) → size ≡ sector u → off ≡ j * sector u → p.at + off + size ≤ ram
+  page_in_ram size off e o = rw (e, o) (omega (arith, mul-le-mul_right (sector u) h, F.in_ram_lem))
 
 -- sector j of a flush; `size` and `off` are what code computes
 module _ (u : ℕ) (p : Flush) (fourths main spare ram : ℕ) (F : FlushFits u p fourths main spare ram) (j : ℕ) (h : j < 4) where
-  pub flush-on-flash : (p.sector + j * 16) * sector u + sector u ≤ main
-  flush-on-flash =
+  pub flush_on_flash : (p.sector + j * 16) * sector u + sector u ≤ main
+  flush_on_flash =
       let s : p.sector + j * 16 + 1 ≤ p.sector + 49 = omega arith in
-      omega (arith, mul-le-mul_right (sector u) s, F.in-main)
+      omega (arith, mul-le-mul_right (sector u) s, F.in_main)
 
-  pub flush-in-ram : (size off : ℕ) → size ≡ sector u → off ≡ j * sector u → p.at + off + size ≤ ram
-  flush-in-ram size off e o = rw (e, o) (omega (arith, mul-le-mul_right (sector u) h, F.in-ram))
+  pub flush_in_ram : (size off : ℕ) → size ≡ sector u → off ≡ j * sector u → p.at + off + size ≤ ram
+  flush_in_ram size off e o = rw (e, o) (omega (arith, mul-le-mul_right (sector u) h, F.in_ram_lem))
 
-  pub flush-in-fourths : j * p.piece + p.piece ≤ fourths
-  flush-in-fourths = omega (arith, mul-le-mul_right p.piece h, F.in-fourths)
+  pub flush_in_fourths : j * p.piece + p.piece ≤ fourths
+  flush_in_fourths = omega (arith, mul-le-mul_right p.piece h, F.in_fourths)
 
 -- fewer sectors of the next set
 pub fewer : (u : ℕ) (set : Set) (s n main spare : ℕ) → NextFits u set s n main spare → (k : ℕ) → k ≤ n → NextFits u set s k main spare
@@ -86,13 +86,13 @@ fewer u set s n main spare F k h =
       sides = F.sides;
       sectors = omega (arith, h, F.sectors);
       place = λ l. F.place (omega (arith, h));
-      in-main = omega (arith, mul-le-mul_right (sector u) l, F.in-main);
-      in-spare = omega (arith, h, F.in-spare);
+      in_main = omega (arith, mul-le-mul_right (sector u) l, F.in_main);
+      in_spare = omega (arith, h, F.in_spare);
     }
 
 -- k blocks of a segment from its f-th on
-pub blocks-inside : (u : ℕ) (b : Segment) (main spare : ℕ) → WipeFits u b main spare → (f k : ℕ) → f + k ≤ b.count
-    → ((u ≤ 32) × ((b.first + f + k) * block u ≤ main)) × ((b.first + f + k) * sectorsPerBlock ≤ spare)
-blocks-inside u b main spare F f k h =
+pub blocks_inside : (u : ℕ) (b : Segment) (main spare : ℕ) → WipeFits u b main spare → (f k : ℕ) → f + k ≤ b.count
+    → ((u ≤ 32) × ((b.first + f + k) * block u ≤ main)) × ((b.first + f + k) * sectors_per_block ≤ spare)
+blocks_inside u b main spare F f k h =
     let l : b.first + f + k ≤ b.first + b.count = omega arith in
-    ((F.small, omega (arith, mul-le-mul_right (block u) l, F.in-main)), omega (arith, l, F.in-spare))
+    ((F.small, omega (arith, mul-le-mul_right (block u) l, F.in_main)), omega (arith, l, F.in_spare))

@@ -2,24 +2,24 @@
 // read.
 ghost use Rattle.std.specs.Prelude.{◌≡◌, List, ℕ, ◌+◌, ◌*◌, ◌/◌, ◌^◌, ◌<◌, ◌≤◌, length};
 ghost use Rattle.memory.specs.Lent.{before};
-ghost use Rattle.layout.specs.Geometry.{sectorsPerPage, sector};
-ghost use Rattle.layout.specs.Index.{setWidth};
-ghost use Rattle.layout.specs.Flash.{Flash, planOps, allFresh};
+ghost use Rattle.layout.specs.Geometry.{sectors_per_page, sector};
+ghost use Rattle.layout.specs.Index.{set_width};
+ghost use Rattle.layout.specs.Flash.{Flash, plan_ops, all_fresh};
 ghost use Rattle.laws.specs.Units.{UnitSound};
 ghost use Rattle.geometry.specs.Indexes.{index_of};
-ghost use Rattle.partition.specs.Sources.{pageSource};
+ghost use Rattle.partition.specs.Sources.{page_source};
 ghost use Rattle.partition.specs.Shared.{together, Shares};
-ghost use Rattle.laws.specs.LentFlash.{flashBefore, flashAfter};
-ghost use Rattle.plan.specs.Runs.{doneOne, done};
+ghost use Rattle.laws.specs.LentFlash.{flash_before, flash_after};
+ghost use Rattle.plan.specs.Runs.{done_one, done};
 ghost use Rattle.plan.specs.Spans.{span, among, behind, run_of};
-ghost use Rattle.plan.specs.Segments.{filledPage, flushed, nextSet, wiped};
-ghost use Rattle.plan.specs.Groups.{bufferSize, at_once, Steps, up_to, OfPage, Beside};
+ghost use Rattle.plan.specs.Segments.{filled_page, flushed, next_set, wiped};
+ghost use Rattle.plan.specs.Groups.{buffer_size, at_once, Steps, up_to, OfPage, Beside};
 ghost use Rattle.plan.specs.Fits.{PageFits, FlushFits, NextFits, WipeFits};
-ghost use Rattle.plan.specs.Plans.{newLength, filtersLength, buildOf, summaryOf, summaryCount, deletionOf, deletionCount, recordOf};
-ghost use Rattle.plan.specs.Plans.{planned, plannedCount, whole_of, BuildFits, SummaryFits, PlanFits, IndexSpareFits, SpareFits};
-ghost use Rattle.laws.specs.Done.{doneCount};
-ghost use Rattle.plan.specs.Fresh.{indexFresh};
-ghost use Rattle.plan.specs.Done.{indexDone, deletionDone, recordDone};
+ghost use Rattle.plan.specs.Plans.{new_length, filters_length, build_of, summary_of, summary_count, deletion_of, deletion_count, record_of};
+ghost use Rattle.plan.specs.Plans.{planned, planned_count, whole_of, BuildFits, SummaryFits, PlanFits, IndexSpareFits, SpareFits};
+ghost use Rattle.laws.specs.Done.{done_count};
+ghost use Rattle.plan.specs.Fresh.{index_fresh};
+ghost use Rattle.plan.specs.Done.{index_done, deletion_done, record_done};
 
 use geometry::sets::Set;
 use geometry::{Chip, Geometry, areas, sets};
@@ -133,9 +133,9 @@ fn page_step(
     ram: &[u8],
 )
     requires page_fits { PageFits chip.unit page (length main.old) (length spare.old) (length ram.now) }
-    requires j_lt_sectors_per_page { (j < sectorsPerPage) × (length item.now ≤ sector chip.unit) }
-    ensures { flashAfter main spare
-        ≡ doneOne chip.unit (filledPage chip.unit page (before item) (before ram) j) (flashBefore main spare) }
+    requires j_lt_sectors_per_page { (j < sectors_per_page) × (length item.now ≤ sector chip.unit) }
+    ensures { flash_after main spare
+        ≡ done_one chip.unit (filled_page chip.unit page (before item) (before ram) j) (flash_before main spare) }
 {
     let size = chip.sector_size();
     let s = page.sector + j;
@@ -160,9 +160,9 @@ fn page_run(
     ram: &[u8],
 )
     requires page_fits { PageFits chip.unit page (length main.old) (length spare.old) (length ram.now) }
-    requires to_le_sectors_per_page { (part.to ≤ sectorsPerPage) × (length item.now ≤ sector chip.unit) }
-    ensures { flashAfter main spare
-        ≡ run_of chip.unit (filledPage chip.unit page (before item) (before ram)) part (flashBefore main spare) }
+    requires to_le_sectors_per_page { (part.to ≤ sectors_per_page) × (length item.now ≤ sector chip.unit) }
+    ensures { flash_after main spare
+        ≡ run_of chip.unit (filled_page chip.unit page (before item) (before ram)) part (flash_before main spare) }
 {
     let mut j = part.from;
     while j < part.to {
@@ -182,9 +182,9 @@ fn flush_step(
     ram: &[u8],
 )
     requires flush_fits { FlushFits chip.unit f (length fourths.now) (length main.old) (length spare.old) (length ram.now) }
-    requires j_lt_sectors_per_page { j < sectorsPerPage }
-    ensures { flashAfter main spare
-        ≡ doneOne chip.unit (flushed chip.unit f (before fourths) (before ram) j) (flashBefore main spare) }
+    requires j_lt_sectors_per_page { j < sectors_per_page }
+    ensures { flash_after main spare
+        ≡ done_one chip.unit (flushed chip.unit f (before fourths) (before ram) j) (flash_before main spare) }
 {
     let size = chip.sector_size();
     let piece = f.piece;
@@ -213,9 +213,9 @@ fn flush_run(
     ram: &[u8],
 )
     requires flush_fits { FlushFits chip.unit f (length fourths.now) (length main.old) (length spare.old) (length ram.now) }
-    requires to_le_sectors_per_page { part.to ≤ sectorsPerPage }
-    ensures { flashAfter main spare
-        ≡ run_of chip.unit (flushed chip.unit f (before fourths) (before ram)) part (flashBefore main spare) }
+    requires to_le_sectors_per_page { part.to ≤ sectors_per_page }
+    ensures { flash_after main spare
+        ≡ run_of chip.unit (flushed chip.unit f (before fourths) (before ram)) part (flash_before main spare) }
 {
     let mut j = part.from;
     while j < part.to {
@@ -227,7 +227,7 @@ fn flush_run(
 // How many sectors of a page are made at once: those that the buffer holds.
 fn at_once(chip: Chip) -> usize
     requires { UnitSound chip.unit }
-    ensures { (result ≡ at_once chip.unit) × Steps result × (result * sector chip.unit ≤ bufferSize) }
+    ensures { (result ≡ at_once chip.unit) × Steps result × (result * sector chip.unit ≤ buffer_size) }
 {
     let n = BUFFER_SIZE / chip.sector_size();
     if n < Chip::SECTORS_PER_PAGE {
@@ -260,9 +260,9 @@ fn page_part(
 )
     requires next_fits { NextFits chip.unit set s part.to (length main.old) (length spare.old) × (part.from < part.to) }
     requires of_page { OfPage chip.unit part }
-    requires shares { Shares main.old (pageSource chip.unit (index_of set.index) set.rounds (part.from / sectorsPerPage))
+    requires shares { Shares main.old (page_source chip.unit (index_of set.index) set.rounds (part.from / sectors_per_page))
         shared.now }
-    ensures { flashAfter main spare ≡ run_of chip.unit (nextSet chip.unit set s) part (flashBefore main spare) }
+    ensures { flash_after main spare ≡ run_of chip.unit (next_set chip.unit set s) part (flash_before main spare) }
 {
     let mut buf = [0u8; BUFFER_SIZE];
     let k = part.to - part.from;
@@ -274,8 +274,8 @@ fn page_part(
 // Sectors of a set whose pages share their bytes of L1.
 fn group_run(chip: Chip, set: Set, s: usize, part: Span, main: &mut [u8], spare: &mut [u8])
     requires next_fits { NextFits chip.unit set s part.to (length main.old) (length spare.old) × (part.from < part.to) }
-    requires beside { Beside (together (setWidth chip.unit (set.rounds + 1))) part }
-    ensures { flashAfter main spare ≡ run_of chip.unit (nextSet chip.unit set s) part (flashBefore main spare) }
+    requires beside { Beside (together (set_width chip.unit (set.rounds + 1))) part }
+    ensures { flash_after main spare ≡ run_of chip.unit (next_set chip.unit set s) part (flash_before main spare) }
 {
     let mut shared = [0u8; sets::FILTERS_PER_ROUND];
     let n = at_once(chip);
@@ -297,7 +297,7 @@ fn group_run(chip: Chip, set: Set, s: usize, part: Span, main: &mut [u8], spare:
 // Sectors of a set from sector s on.
 fn set_run(chip: Chip, set: Set, s: usize, part: Span, main: &mut [u8], spare: &mut [u8])
     requires { NextFits chip.unit set s part.to (length main.old) (length spare.old) }
-    ensures { flashAfter main spare ≡ run_of chip.unit (nextSet chip.unit set s) part (flashBefore main spare) }
+    ensures { flash_after main spare ≡ run_of chip.unit (next_set chip.unit set s) part (flash_before main spare) }
 {
     let n = partition::pages_together(chip, set) * Chip::SECTORS_PER_PAGE;
     let mut j = part.from;
@@ -311,7 +311,7 @@ fn set_run(chip: Chip, set: Set, s: usize, part: Span, main: &mut [u8], spare: &
 // A span of the blocks of a segment is erased.
 fn wipe_run(chip: Chip, blocks: Segment, part: Span, main: &mut [u8], spare: &mut [u8])
     requires { WipeFits chip.unit blocks (length main.old) (length spare.old) × (part.to ≤ blocks.count) }
-    ensures { flashAfter main spare ≡ run_of chip.unit (wiped blocks.first) part (flashBefore main spare) }
+    ensures { flash_after main spare ≡ run_of chip.unit (wiped blocks.first) part (flash_before main spare) }
 {
     if part.to <= part.from {
         return;
@@ -330,7 +330,7 @@ fn wipe_run(chip: Chip, blocks: Segment, part: Span, main: &mut [u8], spare: &mu
 // Operations of the next set and of the erases.
 fn build(chip: Chip, s: Summary, part: Span, main: &mut [u8], spare: &mut [u8])
     requires { BuildFits chip.unit s (length main.old) (length spare.old) }
-    ensures { flashAfter main spare ≡ done chip.unit (span (buildOf chip.unit s) part) (flashBefore main spare) }
+    ensures { flash_after main spare ≡ done chip.unit (span (build_of chip.unit s) part) (flash_before main spare) }
 {
     let second = part.behind(s.set.count);
     let third = second.behind(s.l1.count);
@@ -348,8 +348,8 @@ fn build(chip: Chip, s: Summary, part: Span, main: &mut [u8], spare: &mut [u8])
 
 // How many operations there are.
 fn summary_count(s: Summary) -> usize
-    requires { summaryCount s < 2 ^ 64 }
-    ensures { result ≡ summaryCount s }
+    requires { summary_count s < 2 ^ 64 }
+    ensures { result ≡ summary_count s }
 {
     s.flush.count + (s.set.count + s.l1.count + s.old.count)
 }
@@ -365,8 +365,8 @@ fn index_run(
     ram: &[u8],
 )
     requires { SummaryFits chip.unit s (length fourths.now) (length main.old) (length spare.old) (length ram.now) }
-    ensures { flashAfter main spare
-        ≡ done chip.unit (span (summaryOf chip.unit s (before fourths) (before ram)) part) (flashBefore main spare) }
+    ensures { flash_after main spare
+        ≡ done chip.unit (span (summary_of chip.unit s (before fourths) (before ram)) part) (flash_before main spare) }
 {
     if part.to == 0 {
         return;
@@ -405,9 +405,9 @@ fn deletion_run(
     ram: &[u8],
 )
     requires plan_fits { PlanFits p (length main.old) (length spare.old) (length ram.now) }
-    requires len { (length new.now ≡ newLength) × (length filters.now ≡ filtersLength) }
-    ensures { flashAfter main spare
-        ≡ done p.chip.unit (span (deletionOf p (before new) (before filters) (before ram)) part) (flashBefore main spare) }
+    requires len { (length new.now ≡ new_length) × (length filters.now ≡ filters_length) }
+    ensures { flash_after main spare
+        ≡ done p.chip.unit (span (deletion_of p (before new) (before filters) (before ram)) part) (flash_before main spare) }
 {
     if part.to == 0 {
         return;
@@ -449,9 +449,9 @@ fn record_run(
     ram: &[u8],
 )
     requires plan_fits { PlanFits p (length main.old) (length spare.old) (length ram.now) }
-    requires len { (length new.now ≡ newLength) × (length filters.now ≡ filtersLength) }
-    ensures { flashAfter main spare
-        ≡ done p.chip.unit (span (recordOf p (before new) (before filters) (before ram)) part) (flashBefore main spare) }
+    requires len { (length new.now ≡ new_length) × (length filters.now ≡ filters_length) }
+    ensures { flash_after main spare
+        ≡ done p.chip.unit (span (record_of p (before new) (before filters) (before ram)) part) (flash_before main spare) }
 {
     let chip = p.chip;
     let ra = Page {
@@ -495,15 +495,15 @@ fn record_run(
 
 // Operations of the deletion: how many there are.
 fn deletion_count(p: Plan) -> usize
-    requires { deletionCount p < 2 ^ 64 }
-    ensures { result ≡ deletionCount p }
+    requires { deletion_count p < 2 ^ 64 }
+    ensures { result ≡ deletion_count p }
 {
     p.da.count + summary_count(p.da_index)
 }
 
 // All operations of a plan.
 pub fn whole(p: Plan) -> Span
-    requires { plannedCount p < 2 ^ 64 }
+    requires { planned_count p < 2 ^ 64 }
     ensures { result ≡ whole_of p }
 {
     let records = p.ra.count + p.ka.count + summary_count(p.ka_index);
@@ -525,10 +525,10 @@ pub fn run(
     ram: &[u8],
 )
     requires plan_fits { PlanFits p (length main.old) (length spare.old) (length ram.now) }
-    requires len { (length new.now ≡ newLength) × (length filters.now ≡ filtersLength) }
-    ensures { flashAfter main spare
+    requires len { (length new.now ≡ new_length) × (length filters.now ≡ filters_length) }
+    ensures { flash_after main spare
         ≡ done p.chip.unit (span (planned p (before new) (before filters) (before ram)) part)
-        (flashBefore main spare) }
+        (flash_before main spare) }
 {
     let n = deletion_count(p);
     let second = part.behind(n);
@@ -539,7 +539,7 @@ pub fn run(
 // Are the sectors fresh that an index programs.
 fn index_fresh(s: Summary, spare: &[u8]) -> bool
     requires { IndexSpareFits s (length spare.now) }
-    ensures { result ≡ indexFresh s (before spare) }
+    ensures { result ≡ index_fresh s (before spare) }
 {
     if !flash::all_fresh(s.flush.first, sets::FLUSHES_PER_ROUND, s.flush.count, spare) {
         return false;
@@ -551,7 +551,7 @@ fn index_fresh(s: Summary, spare: &[u8]) -> bool
 pub fn fresh(p: Plan, spare: &[u8]) -> bool
     requires { SpareFits p (length spare.now) }
     ensures { (new filters ram : List ℕ) (flash : Flash)
-        → result ≡ allFresh (before spare) (planOps p.chip.unit (planned p new filters ram) flash) }
+        → result ≡ all_fresh (before spare) (plan_ops p.chip.unit (planned p new filters ram) flash) }
 {
     if !flash::all_fresh(p.da.first, 1, p.da.count, spare) {
         return false;
@@ -570,8 +570,8 @@ pub fn fresh(p: Plan, spare: &[u8]) -> bool
 
 // How many operations of an index count as done: the erases behind the last programmed sector do not.
 fn index_done(s: Summary, spare: &[u8]) -> usize
-    requires { IndexSpareFits s (length spare.now) × (summaryCount s < 2 ^ 64) }
-    ensures { result ≡ indexDone s (before spare) }
+    requires { IndexSpareFits s (length spare.now) × (summary_count s < 2 ^ 64) }
+    ensures { result ≡ index_done s (before spare) }
 {
     let in_set = flash::last_programmed(s.set.first, 1, s.set.count, spare);
     if 0 < in_set {
@@ -582,8 +582,8 @@ fn index_done(s: Summary, spare: &[u8]) -> usize
 
 // Those of the deletion.
 fn deletion_done(p: Plan, spare: &[u8]) -> usize
-    requires { SpareFits p (length spare.now) × (plannedCount p < 2 ^ 64) }
-    ensures { result ≡ deletionDone (before spare) p }
+    requires { SpareFits p (length spare.now) × (planned_count p < 2 ^ 64) }
+    ensures { result ≡ deletion_done (before spare) p }
 {
     let in_index = index_done(p.da_index, spare);
     if 0 < in_index {
@@ -594,8 +594,8 @@ fn deletion_done(p: Plan, spare: &[u8]) -> usize
 
 // Those of the record and its entry.
 fn record_done(p: Plan, spare: &[u8]) -> usize
-    requires { SpareFits p (length spare.now) × (plannedCount p < 2 ^ 64) }
-    ensures { result ≡ recordDone (before spare) p }
+    requires { SpareFits p (length spare.now) × (planned_count p < 2 ^ 64) }
+    ensures { result ≡ record_done (before spare) p }
 {
     let in_index = index_done(p.ka_index, spare);
     if 0 < in_index {
@@ -610,8 +610,8 @@ fn record_done(p: Plan, spare: &[u8]) -> usize
 
 // How many operations of a plan count as done: all up to the last programmed sector.
 pub fn done(p: Plan, spare: &[u8]) -> usize
-    requires { SpareFits p (length spare.now) × (plannedCount p < 2 ^ 64) }
-    ensures { (new filters ram : List ℕ) → result ≡ doneCount (before spare) (planned p new filters ram) }
+    requires { SpareFits p (length spare.now) × (planned_count p < 2 ^ 64) }
+    ensures { (new filters ram : List ℕ) → result ≡ done_count (before spare) (planned p new filters ram) }
 {
     let of_record = record_done(p, spare);
     if 0 < of_record {

@@ -1,11 +1,11 @@
 -- The plans of changes as numbers, from the counts alone.
 use Rattle.std.specs.Prelude.{◌≡◌, refl, Bool, true, false, cond, ℕ, ◌+◌, ◌*◌, ◌/◌, eqb}
-use Rattle.layout.specs.Geometry.{Geometry, sectorsPerPage, sectorsPerBlock, fourthSize}
+use Rattle.layout.specs.Geometry.{Geometry, sectors_per_page, sectors_per_block, fourth_size}
 use Rattle.layout.specs.Items.{Area, Ra, KA, DA, fills}
-use Rattle.layout.specs.Index.{inSka, inL1, in_set, inFull, filtersPerFlush, flushesPerRound, setBlock, setPages, sideBlock, setBlocks}
-use Rattle.layout.specs.Calls.{keyFilters, deletionFilters}
-use Rattle.geometry.specs.Shape.{chipOf}
-use Rattle.geometry.specs.Indexes.{index_of, indexFor, deletionIndexFor}
+use Rattle.layout.specs.Index.{in_ska, in_l1, in_set, in_full, filters_per_flush, flushes_per_round, set_block, set_pages, side_block, set_blocks}
+use Rattle.layout.specs.Calls.{key_filters, deletion_filters}
+use Rattle.geometry.specs.Shape.{chip_of}
+use Rattle.geometry.specs.Indexes.{index_of, index_for, deletion_index_for}
 use Rattle.geometry.specs.declared.sets.Index.{Index}
 use Rattle.plan.specs.declared.Plan.{Plan}
 use Rattle.plan.specs.declared.Segment.{Segment}
@@ -16,18 +16,18 @@ none = record { first = 0; count = 0 }
 
 -- the page of item n: its sectors count where the item fills it
 abbrev pub page_of : Area → ℕ → Segment
-page_of a n = record { first = a.first * sectorsPerBlock + n / a.perPage * sectorsPerPage; count = cond (fills a n) sectorsPerPage 0 }
+page_of a n = record { first = a.first * sectors_per_block + n / a.per_page * sectors_per_page; count = cond (fills a n) sectors_per_page 0 }
 
-by-test : {A : Type 0} (Q : A → Type 0) (b : Bool) (x y : A) → (b ≡ true → Q x) → (b ≡ false → Q y) → Q (cond b x y)
-by-test Q true x y t f = t refl
-by-test Q false x y t f = f refl
+by_test : {A : Type 0} (Q : A → Type 0) (b : Bool) (x y : A) → (b ≡ true → Q x) → (b ≡ false → Q y) → Q (cond b x y)
+by_test Q true x y t f = t refl
+by_test Q false x y t f = f refl
 
 -- ---- what new filters add to an index of which `piece` bytes of each flushed sector are new
 
 module _ (u piece : ℕ) (ix : Index) where
   -- nothing
-  abbrev pub noSummary : Summary
-  noSummary = record {
+  abbrev pub no_summary : Summary
+  no_summary = record {
     piece = piece;
     flush = none;
     set = none;
@@ -38,13 +38,13 @@ module _ (u piece : ℕ) (ix : Index) where
 
   module _ (F : ℕ) where
     -- the flush that filter F makes
-    abbrev pub flushSegment : Segment
-    flushSegment = record { first = ix.first * sectorsPerBlock + inL1 F; count = sectorsPerPage }
+    abbrev pub flush_segment : Segment
+    flush_segment = record { first = ix.first * sectors_per_block + in_l1 F; count = sectors_per_page }
 
-    abbrev pub flushSummary : Summary
-    flushSummary = record {
+    abbrev pub flush_summary : Summary
+    flush_summary = record {
       piece = piece;
-      flush = flushSegment;
+      flush = flush_segment;
       set = none;
       l1 = none;
       old = none;
@@ -52,77 +52,77 @@ module _ (u piece : ℕ) (ix : Index) where
     }
 
     -- with the set that it completes, and the erases
-    abbrev pub setSummary : Summary
-    setSummary = record {
+    abbrev pub set_summary : Summary
+    set_summary = record {
       piece = piece;
-      flush = flushSegment;
+      flush = flush_segment;
       set = record {
-        first = setBlock u (index_of ix) (inFull u F) (in_set u F) * sectorsPerBlock;
-        count = setPages (in_set u F + 1) * sectorsPerPage;
+        first = set_block u (index_of ix) (in_full u F) (in_set u F) * sectors_per_block;
+        count = set_pages (in_set u F + 1) * sectors_per_page;
       };
       l1 = record { first = ix.first; count = 1 };
-      old = record { first = sideBlock u (index_of ix) (in_set u F); count = setBlocks (in_set u F) };
-      next = record { index = ix; full_sets = inFull u F; rounds = in_set u F };
+      old = record { first = side_block u (index_of ix) (in_set u F); count = set_blocks (in_set u F) };
+      next = record { index = ix; full_sets = in_full u F; rounds = in_set u F };
     }
 
     -- what filter F, the last of the new ones, adds: the flush where it is an eighth, and the set where that ends a round
-    unfoldable pub summaryAt : Summary
-    summaryAt = cond (eqb (inSka F + 1) filtersPerFlush) (cond (eqb (inL1 F + 1) flushesPerRound) setSummary flushSummary) noSummary
+    unfoldable pub summary_at : Summary
+    summary_at = cond (eqb (in_ska F + 1) filters_per_flush) (cond (eqb (in_l1 F + 1) flushes_per_round) set_summary flush_summary) no_summary
 
     -- what holds of it: without a flush, with the flush, and with the set
     module _ (Q : Summary → Type 0) where
-      pub by-summary : (eqb (inSka F + 1) filtersPerFlush ≡ false → Q noSummary)
-          → (eqb (inSka F + 1) filtersPerFlush ≡ true → eqb (inL1 F + 1) flushesPerRound ≡ false → Q flushSummary)
-          → (eqb (inSka F + 1) filtersPerFlush ≡ true → eqb (inL1 F + 1) flushesPerRound ≡ true → Q setSummary) → Q summaryAt
-      unfolding summaryAt
-      by-summary no-flush no-set all =
-          by-test Q (eqb (inSka F + 1) filtersPerFlush) _ _
-          (λ eight. by-test Q (eqb (inL1 F + 1) flushesPerRound) _ _ (all eight) (no-set eight)) no-flush
+      pub by_summary : (eqb (in_ska F + 1) filters_per_flush ≡ false → Q no_summary)
+          → (eqb (in_ska F + 1) filters_per_flush ≡ true → eqb (in_l1 F + 1) flushes_per_round ≡ false → Q flush_summary)
+          → (eqb (in_ska F + 1) filters_per_flush ≡ true → eqb (in_l1 F + 1) flushes_per_round ≡ true → Q set_summary) → Q summary_at
+      unfolding summary_at
+      by_summary no_flush no_set all =
+          by_test Q (eqb (in_ska F + 1) filters_per_flush) _ _
+          (λ eight. by_test Q (eqb (in_l1 F + 1) flushes_per_round) _ _ (all eight) (no_set eight)) no_flush
 
 module _ (g : Geometry) where
   -- an index to which nothing is added; a page of deletions adds two filters, one of entries adds one
-  abbrev pub noDeletions : Summary
-  noDeletions = noSummary g.u (2 * fourthSize g.u) (deletionIndexFor g)
+  abbrev pub no_deletions : Summary
+  no_deletions = no_summary g.u (2 * fourth_size g.u) (deletion_index_for g)
 
-  abbrev pub noEntries : Summary
-  noEntries = noSummary g.u (fourthSize g.u) (indexFor g)
+  abbrev pub no_entries : Summary
+  no_entries = no_summary g.u (fourth_size g.u) (index_for g)
 
   -- what deletion d adds, and what entry n does, where it fills its page
-  abbrev pub deletionSummary : ℕ → Summary
-  deletionSummary d =
-      cond (fills (DA g) d) (summaryAt g.u (2 * fourthSize g.u) (deletionIndexFor g) (deletionFilters g d + 1)) noDeletions
+  abbrev pub deletion_summary : ℕ → Summary
+  deletion_summary d =
+      cond (fills (DA g) d) (summary_at g.u (2 * fourth_size g.u) (deletion_index_for g) (deletion_filters g d + 1)) no_deletions
 
-  abbrev pub entrySummary : ℕ → Summary
-  entrySummary n = cond (fills (KA g) n) (summaryAt g.u (fourthSize g.u) (indexFor g) (keyFilters g n)) noEntries
+  abbrev pub entry_summary : ℕ → Summary
+  entry_summary n = cond (fills (KA g) n) (summary_at g.u (fourth_size g.u) (index_for g) (key_filters g n)) no_entries
 
   -- ---- the plans
 
-  abbrev pub deletionNumbers : ℕ → Plan
-  deletionNumbers d = record {
-    chip = chipOf g;
+  abbrev pub deletion_numbers : ℕ → Plan
+  deletion_numbers d = record {
+    chip = chip_of g;
     da = page_of (DA g) d;
-    da_index = deletionSummary d;
+    da_index = deletion_summary d;
     ra = none;
     ka = none;
-    ka_index = noEntries;
+    ka_index = no_entries;
   }
 
-  abbrev pub insertionNumbers : ℕ → Plan
-  insertionNumbers n = record {
-    chip = chipOf g;
+  abbrev pub insertion_numbers : ℕ → Plan
+  insertion_numbers n = record {
+    chip = chip_of g;
     da = none;
-    da_index = noDeletions;
+    da_index = no_deletions;
     ra = page_of (Ra g) n;
     ka = page_of (KA g) n;
-    ka_index = entrySummary n;
+    ka_index = entry_summary n;
   }
 
-  abbrev pub updateNumbers : ℕ → ℕ → Plan
-  updateNumbers d n = record {
-    chip = chipOf g;
+  abbrev pub update_numbers : ℕ → ℕ → Plan
+  update_numbers d n = record {
+    chip = chip_of g;
     da = page_of (DA g) d;
-    da_index = deletionSummary d;
+    da_index = deletion_summary d;
     ra = page_of (Ra g) n;
     ka = page_of (KA g) n;
-    ka_index = entrySummary n;
+    ka_index = entry_summary n;
   }

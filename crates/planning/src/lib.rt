@@ -1,15 +1,15 @@
 // The plan of a change, from the counts alone.
 ghost use Rattle.std.specs.Prelude.{◌≡◌, ◌<◌, ◌≤◌};
-ghost use Rattle.layout.specs.Geometry.{recordCapacity, deletionCapacity};
+ghost use Rattle.layout.specs.Geometry.{record_capacity, deletion_capacity};
 ghost use Rattle.layout.specs.Items as layout;
 ghost use Rattle.layout.specs.Items.{Ra, KA, DA};
-ghost use Rattle.layout.specs.Index.{inL1, inFull};
+ghost use Rattle.layout.specs.Index.{in_l1, in_full};
 ghost use Rattle.laws.specs.Units.{UnitSound};
 ghost use Rattle.geometry.specs.Shape.{shape, Sound, area, AreaSound};
-ghost use Rattle.planning.specs.Numbers.{none, page_of, noSummary, flushSegment, flushSummary, setSummary, summaryAt};
-ghost use Rattle.planning.specs.Numbers.{noDeletions, noEntries, deletionSummary, entrySummary};
-ghost use Rattle.planning.specs.Numbers.{deletionNumbers, insertionNumbers, updateNumbers};
-ghost use Rattle.planning.specs.Edits.{Room, numbersOf, programsIn};
+ghost use Rattle.planning.specs.Numbers.{none, page_of, no_summary, flush_segment, flush_summary, set_summary, summary_at};
+ghost use Rattle.planning.specs.Numbers.{no_deletions, no_entries, deletion_summary, entry_summary};
+ghost use Rattle.planning.specs.Numbers.{deletion_numbers, insertion_numbers, update_numbers};
+ghost use Rattle.planning.specs.Edits.{Room, numbers_of, programs_in};
 
 use geometry::sets::{Index, Set};
 use geometry::{Area, Chip, Geometry, areas, sets};
@@ -42,7 +42,7 @@ fn page(a: Area, n: usize) -> Segment
 
 // Nothing.
 fn no_summary(index: Index, piece: usize) -> Summary
-    ensures { result ≡ noSummary 0 piece index }
+    ensures { result ≡ no_summary 0 piece index }
 {
     let none = nothing();
     Summary {
@@ -61,7 +61,7 @@ fn no_summary(index: Index, piece: usize) -> Summary
 
 // The flush of a round that filter number `filters` makes.
 fn flush_number(filters: usize) -> usize
-    ensures { result ≡ inL1 filters }
+    ensures { result ≡ in_l1 filters }
 {
     filters / sets::FILTERS_PER_FLUSH % sets::FLUSHES_PER_ROUND
 }
@@ -69,7 +69,7 @@ fn flush_number(filters: usize) -> usize
 // Its sectors.
 fn flush_segment(index: Index, filters: usize) -> Segment
     requires { index.first ≤ 20000 }
-    ensures { result ≡ flushSegment 0 0 index filters }
+    ensures { result ≡ flush_segment 0 0 index filters }
 {
     let number = flush_number(filters);
     Segment {
@@ -81,7 +81,7 @@ fn flush_segment(index: Index, filters: usize) -> Segment
 // That flush alone.
 fn flush_summary(index: Index, piece: usize, filters: usize) -> Summary
     requires { index.first ≤ 20000 }
-    ensures { result ≡ flushSummary 0 piece index filters }
+    ensures { result ≡ flush_summary 0 piece index filters }
 {
     let mut s = no_summary(index, piece);
     s.flush = flush_segment(index, filters);
@@ -90,8 +90,8 @@ fn flush_summary(index: Index, piece: usize, filters: usize) -> Summary
 
 // With the set that it completes, and the erases.
 fn set_summary(chip: Chip, index: Index, piece: usize, filters: usize) -> Summary
-    requires { UnitSound chip.unit × (index.first ≤ 20000) × (inFull chip.unit filters ≤ 1024) }
-    ensures { result ≡ setSummary chip.unit piece index filters }
+    requires { UnitSound chip.unit × (index.first ≤ 20000) × (in_full chip.unit filters ≤ 1024) }
+    ensures { result ≡ set_summary chip.unit piece index filters }
 {
     let rounds = filters / sets::FILTERS_PER_FLUSH / sets::FLUSHES_PER_ROUND;
     let side = chip.side_blocks();
@@ -122,8 +122,8 @@ fn set_summary(chip: Chip, index: Index, piece: usize, filters: usize) -> Summar
 
 // What filter number `filters`, the last new one, adds: the flush where it is an eighth, and the set where that ends a round.
 fn summary(chip: Chip, index: Index, piece: usize, filters: usize) -> Summary
-    requires { UnitSound chip.unit × (index.first ≤ 20000) × (inFull chip.unit filters ≤ 1024) }
-    ensures { result ≡ summaryAt chip.unit piece index filters }
+    requires { UnitSound chip.unit × (index.first ≤ 20000) × (in_full chip.unit filters ≤ 1024) }
+    ensures { result ≡ summary_at chip.unit piece index filters }
 {
     if !sets::fills_ska(filters) {
         return no_summary(index, piece);
@@ -138,22 +138,22 @@ fn summary(chip: Chip, index: Index, piece: usize, filters: usize) -> Summary
 
 fn no_deletions(g: Geometry) -> Summary
     requires { Sound g }
-    ensures { result ≡ noDeletions (shape g) }
+    ensures { result ≡ no_deletions (shape g) }
 {
     no_summary(sets::deletion_index(g), 2 * g.chip.fourth_size())
 }
 
 fn no_entries(g: Geometry) -> Summary
     requires { Sound g }
-    ensures { result ≡ noEntries (shape g) }
+    ensures { result ≡ no_entries (shape g) }
 {
     no_summary(sets::key_index(g), g.chip.fourth_size())
 }
 
 // What deletion d adds; the second of its page's filters is the last.
 fn deletion_summary(g: Geometry, d: usize) -> Summary
-    requires { Sound g × (d < deletionCapacity (shape g)) }
-    ensures { result ≡ deletionSummary (shape g) d }
+    requires { Sound g × (d < deletion_capacity (shape g)) }
+    ensures { result ≡ deletion_summary (shape g) d }
 {
     if !deletion_fills(g, d) {
         return no_deletions(g);
@@ -169,8 +169,8 @@ fn deletion_summary(g: Geometry, d: usize) -> Summary
 
 // What entry n adds.
 fn entry_summary(g: Geometry, n: usize) -> Summary
-    requires { Sound g × (n < recordCapacity (shape g)) }
-    ensures { result ≡ entrySummary (shape g) n }
+    requires { Sound g × (n < record_capacity (shape g)) }
+    ensures { result ≡ entry_summary (shape g) n }
 {
     if !entry_fills(g, n) {
         return no_entries(g);
@@ -183,8 +183,8 @@ fn entry_summary(g: Geometry, n: usize) -> Summary
 
 // Deletion d.
 fn deletion(g: Geometry, d: usize) -> Plan
-    requires { Sound g × (d < deletionCapacity (shape g)) }
-    ensures { result ≡ deletionNumbers (shape g) d }
+    requires { Sound g × (d < deletion_capacity (shape g)) }
+    ensures { result ≡ deletion_numbers (shape g) d }
 {
     let chip = g.chip;
     let none = nothing();
@@ -200,8 +200,8 @@ fn deletion(g: Geometry, d: usize) -> Plan
 
 // Record n and its entry.
 fn insertion(g: Geometry, n: usize) -> Plan
-    requires { Sound g × (n < recordCapacity (shape g)) }
-    ensures { result ≡ insertionNumbers (shape g) n }
+    requires { Sound g × (n < record_capacity (shape g)) }
+    ensures { result ≡ insertion_numbers (shape g) n }
 {
     let chip = g.chip;
     Plan {
@@ -216,8 +216,8 @@ fn insertion(g: Geometry, n: usize) -> Plan
 
 // Deletion d, then record n and its entry.
 fn update(g: Geometry, d: usize, n: usize) -> Plan
-    requires { Sound g × (d < deletionCapacity (shape g)) × (n < recordCapacity (shape g)) }
-    ensures { result ≡ updateNumbers (shape g) d n }
+    requires { Sound g × (d < deletion_capacity (shape g)) × (n < record_capacity (shape g)) }
+    ensures { result ≡ update_numbers (shape g) d n }
 {
     let mut p = insertion(g, n);
     p.da = page(geometry::deletion_area(g), d);
@@ -238,7 +238,7 @@ pub enum Slots {
 // The plan of a change by the places that it takes.
 pub fn of(g: Geometry, e: Slots) -> Plan
     requires { Sound g × Room (shape g) e }
-    ensures { result ≡ numbersOf (shape g) e }
+    ensures { result ≡ numbers_of (shape g) e }
 {
     match e {
         Slots::Delete(d) => deletion(g, d),
@@ -274,7 +274,7 @@ fn entry_fills(g: Geometry, n: usize) -> bool
 // Does a change program anything: an entry fills no page where its record fills none.
 pub fn programs(g: Geometry, e: Slots) -> bool
     requires { Sound g }
-    ensures { result ≡ programsIn (shape g) e }
+    ensures { result ≡ programs_in (shape g) e }
 {
     match e {
         Slots::Delete(d) => deletion_fills(g, d),

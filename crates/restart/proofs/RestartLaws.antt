@@ -9,52 +9,52 @@ use borrow.Author.Tests.{lt-ltb, le-ltb, le-leb}
 use Rattle.memory.specs.Cases.{either, lt?}
 use Rattle.layout.specs.Geometry as layout
 use Rattle.layout.specs.Refusals as refusal
-use Rattle.layout.specs.Hash.{Family, fnvFamily}
-use Rattle.layout.specs.Calls.{Volume, accepted, Result, refuse, badState, tooShort, format}
-use Rattle.layout.specs.Later.{callAgain}
-use Rattle.layout.specs.Header.{headerSize, pages, stateIn, Pending, nothing, changing, formatting, unknown, pendingIn}
-use Rattle.layout.specs.Budgets.{Step, lastSteps, pendingOn, resumed, restartFor, restartSteps, restartCut, restartWhole, pendingOps}
-use Rattle.laws.specs.StepLaws.{last-length, taken-enough}
-use Rattle.geometry.specs.Shape.{geometryFor}
+use Rattle.layout.specs.Hash.{Family, fnv_family}
+use Rattle.layout.specs.Calls.{Volume, accepted, Result, refuse, bad_state, too_short, format}
+use Rattle.layout.specs.Later.{call_again}
+use Rattle.layout.specs.Header.{header_size, pages, state_in, Pending, nothing, changing, formatting, unknown, pending_in}
+use Rattle.layout.specs.Budgets.{Step, last_steps, pending_on, resumed, restart_for, restart_steps, restart_cut, restart_whole, pending_ops}
+use Rattle.laws.specs.StepLaws.{last_length, taken_enough}
+use Rattle.geometry.specs.Shape.{geometry_for}
 use Rattle.geometry.specs.declared.Geometry.{Geometry}
-use Rattle.state.specs.Contract.{CutEffect, cut_of, outcomeOf, Effect, effect_of}
-use Rattle.state.specs.Judge.{judgementOf, VolumeFits}
+use Rattle.state.specs.Contract.{CutEffect, cut_of, outcome_of, Effect, effect_of}
+use Rattle.state.specs.Judge.{judgement_of, VolumeFits}
 use Rattle.state.specs.declared.Judgement.TheVariants.{Refused}
-use Rattle.state.proofs.Refusals.{of-volume, fits-enough}
-use Rattle.state.proofs.RunLaws.{taken-count, outcome-of, uncut-effect}
-use Rattle.restart.proofs.Few.{few-pending}
+use Rattle.state.proofs.Refusals.{of_volume, fits_enough}
+use Rattle.state.proofs.RunLaws.{taken_count, outcome_of_lem, uncut_effect_lem}
+use Rattle.restart.proofs.Few.{few_pending}
 
 -- a refusal, as its caller sees it
-abbrev pub refusedCut : Volume → ℕ → CutEffect
-refusedCut v i = record { outcome = outcomeOf i; complete = 0; steps = 0; left = v }
+abbrev pub refused_cut : Volume → ℕ → CutEffect
+refused_cut v i = record { outcome = outcome_of i; complete = 0; steps = 0; left = v }
 
 module _ (h : Family) (b : ℕ) (v : Volume) where
-  pub short_cut : length v.ram < headerSize → refusedCut v refusal.tooShort ≡ cut_of (restartCut h b v)
-  unfolding restartFor
-  short_cut l = rw (lt-ltb (length v.ram) headerSize l)
+  pub short_cut : length v.ram < header_size → refused_cut v refusal.too_short ≡ cut_of (restart_cut h b v)
+  unfolding restart_for
+  short_cut l = rw (lt-ltb (length v.ram) header_size l)
 
-  module _ (l : headerSize ≤ length v.ram) where
-    pub unknown-cut : pendingIn v.ram ≡ unknown → refusedCut v refusal.badState ≡ cut_of (restartCut h b v)
-    unfolding restartFor
-    unknown-cut q = rw (le-ltb (length v.ram) headerSize l, q)
+  module _ (l : header_size ≤ length v.ram) where
+    pub unknown_cut : pending_in v.ram ≡ unknown → refused_cut v refusal.bad_state ≡ cut_of (restart_cut h b v)
+    unfolding restart_for
+    unknown_cut q = rw (le-ltb (length v.ram) header_size l, q)
 
     -- no call is pending: the header's state is judged
-    module _ (q : pendingIn v.ram ≡ nothing) (s : layout.State) (e : s ≡ stateIn v.ram) where
+    module _ (q : pending_in v.ram ≡ nothing) (s : layout.State) (e : s ≡ state_in v.ram) where
       abbrev pub judged : Volume
       judged = record { state = s; flash = v.flash; ram = pages v.ram }
 
-      pub none-refused : (i : ℕ) → judgementOf judged ≡ Refused i → refusedCut v i ≡ cut_of (restartCut h b v)
-      unfolding restartFor
-      none-refused i j =
-          let found = of-volume v (record {
+      pub none_refused : (i : ℕ) → judgement_of judged ≡ Refused i → refused_cut v i ≡ cut_of (restart_cut h b v)
+      unfolding restart_for
+      none_refused i j =
+          let found = of_volume v (record {
             outcome = accepted;
             count = 0;
-            daPages = 0;
-            volume = record { state = stateIn v.ram; flash = v.flash; ram = v.ram };
+            da_pages = 0;
+            volume = record { state = state_in v.ram; flash = v.flash; ram = v.ram };
             ops = [];
-          }) i (badState (stateIn v.ram)) (tooShort (layout.geometry (stateIn v.ram).sizes) v.flash (pages v.ram))
-          (geometryFor (stateIn v.ram).sizes) (rw e at j) in
-          rw (le-ltb (length v.ram) headerSize l, q, found.is, found.some)
+          }) i (bad_state (state_in v.ram)) (too_short (layout.geometry (state_in v.ram).sizes) v.flash (pages v.ram))
+          (geometry_for (state_in v.ram).sizes) (rw e at j) in
+          rw (le-ltb (length v.ram) header_size l, q, found.is, found.some)
 
       pub none_found : (g : Geometry) → VolumeFits judged g
           → ◌≡◌ {A = CutEffect} (record {
@@ -62,71 +62,71 @@ module _ (h : Family) (b : ℕ) (v : Volume) where
             complete = 1;
             steps = 0;
             left = record { state = s; flash = v.flash; ram = v.ram };
-          }) (cut_of (restartCut h b v))
-      unfolding restartFor
+          }) (cut_of (restart_cut h b v))
+      unfolding restart_for
       none_found g f =
-          let fits : VolumeFits (pendingOn v) g = rw e at f in
+          let fits : VolumeFits (pending_on v) g = rw e at f in
           let none : length (take {A = Step} b []) ≡ 0 = omega (arith, length-take {A = Step} b []) in
-          rw (e, le-ltb (length v.ram) headerSize l, q, fits.good, fits-enough (pendingOn v) g fits, le-leb 0 b (omega arith), none)
+          rw (e, le-ltb (length v.ram) header_size l, q, fits.good, fits_enough (pending_on v) g fits, le-leb 0 b (omega arith), none)
 
 -- ---- with enough steps
 
 module _ (h : Family) (v : Volume) where
   -- it tells no count
-  found-count : (b : ℕ) (p : Pending) (i : ℕ) → outcomeOf i ≡ (resumed h b v p).outcome → (resumed h b v p).count ≡ 0
-  found-count b nothing i e =
-      by (badState (stateIn v.ram)) (tooShort (layout.geometry (stateIn v.ram).sizes) v.flash (pages v.ram))
+  found_count : (b : ℕ) (p : Pending) (i : ℕ) → outcome_of i ≡ (resumed h b v p).outcome → (resumed h b v p).count ≡ 0
+  found_count b nothing i e =
+      by (bad_state (state_in v.ram)) (too_short (layout.geometry (state_in v.ram).sizes) v.flash (pages v.ram))
     where
       by : (x y : Bool)
-          → (cond x (refuse v refusal.badState)
-          (cond y (refuse v refusal.tooShort) (record {
+          → (cond x (refuse v refusal.bad_state)
+          (cond y (refuse v refusal.too_short) (record {
             outcome = accepted;
             count = 0;
-            daPages = 0;
-            volume = record { state = stateIn v.ram; flash = v.flash; ram = v.ram };
+            da_pages = 0;
+            volume = record { state = state_in v.ram; flash = v.flash; ram = v.ram };
             ops = [];
           }))).count
           ≡ 0
       by true y = refl
       by false true = refl
       by false false = refl
-  found-count b (changing c) i e =
-      taken-count b (layout.unit_of (stateIn v.ram).sizes) v (lastSteps (callAgain h (pendingOn v) c)) (callAgain h (pendingOn v) c) i e
-  found-count b (formatting sizes) i e =
-      taken-count b (layout.unit_of sizes) v (lastSteps (format (pendingOn v) sizes)) (format (pendingOn v) sizes) i e
-  found-count b unknown i e = refl
+  found_count b (changing c) i e =
+      taken_count b (layout.unit_of (state_in v.ram).sizes) v (last_steps (call_again h (pending_on v) c)) (call_again h (pending_on v) c) i e
+  found_count b (formatting sizes) i e =
+      taken_count b (layout.unit_of sizes) v (last_steps (format (pending_on v) sizes)) (format (pending_on v) sizes) i e
+  found_count b unknown i e = refl
 
-  resumed-enough : (a b : ℕ) (p : Pending) → length (pendingOps h v p) + 1 ≤ a → length (pendingOps h v p) + 1 ≤ b
+  resumed_enough : (a b : ℕ) (p : Pending) → length (pending_ops h v p) + 1 ≤ a → length (pending_ops h v p) + 1 ≤ b
       → resumed h a v p ≡ resumed h b v p
-  resumed-enough a b nothing x y = refl
-  resumed-enough a b (changing c) x y =
-      let r : Result = callAgain h (pendingOn v) c in
-      taken-enough a b (layout.unit_of (stateIn v.ram).sizes) v (lastSteps r) r (omega (arith, last-length r, x))
-      (omega (arith, last-length r, y))
-  resumed-enough a b (formatting sizes) x y =
-      let r : Result = format (pendingOn v) sizes in
-      taken-enough a b (layout.unit_of sizes) v (lastSteps r) r (omega (arith, last-length r, x)) (omega (arith, last-length r, y))
-  resumed-enough a b unknown x y = refl
+  resumed_enough a b nothing x y = refl
+  resumed_enough a b (changing c) x y =
+      let r : Result = call_again h (pending_on v) c in
+      taken_enough a b (layout.unit_of (state_in v.ram).sizes) v (last_steps r) r (omega (arith, last_length r, x))
+      (omega (arith, last_length r, y))
+  resumed_enough a b (formatting sizes) x y =
+      let r : Result = format (pending_on v) sizes in
+      taken_enough a b (layout.unit_of sizes) v (last_steps r) r (omega (arith, last_length r, x)) (omega (arith, last_length r, y))
+  resumed_enough a b unknown x y = refl
 
-  restart-count : (b i : ℕ) → outcomeOf i ≡ (restartFor h b v).outcome → (restartFor h b v).count ≡ 0
-  unfolding restartFor
-  restart-count b i e =
-      either (lt? (length v.ram) headerSize) (λ a. rw a.0)
-      (λ a. rw a.0 (found-count b (pendingIn v.ram) i (rw a.0 at e)))
+  restart_count : (b i : ℕ) → outcome_of i ≡ (restart_for h b v).outcome → (restart_for h b v).count ≡ 0
+  unfolding restart_for
+  restart_count b i e =
+      either (lt? (length v.ram) header_size) (λ a. rw a.0)
+      (λ a. rw a.0 (found_count b (pending_in v.ram) i (rw a.0 at e)))
 
-  restart-enough : (a b : ℕ) → length (pendingOps h v (pendingIn v.ram)) + 1 ≤ a → length (pendingOps h v (pendingIn v.ram)) + 1 ≤ b
-      → restartFor h a v ≡ restartFor h b v
-  unfolding restartFor
-  restart-enough a b x y =
-      either (lt? (length v.ram) headerSize) (λ t. rw t.0) (λ t. rw t.0 (resumed-enough a b (pendingIn v.ram) x y))
+  restart_enough : (a b : ℕ) → length (pending_ops h v (pending_in v.ram)) + 1 ≤ a → length (pending_ops h v (pending_in v.ram)) + 1 ≤ b
+      → restart_for h a v ≡ restart_for h b v
+  unfolding restart_for
+  restart_enough a b x y =
+      either (lt? (length v.ram) header_size) (λ t. rw t.0) (λ t. rw t.0 (resumed_enough a b (pending_in v.ram) x y))
 
-pub whole-effect : (v : Volume) (c : CutEffect) (i : ℕ) → c ≡ cut_of (restartCut fnvFamily 18446744073709551615 v)
-    → c.outcome ≡ outcomeOf i
-    → ◌≡◌ {A = Effect} (record { outcome = c.outcome; count = 0; left = c.left }) (effect_of (restartWhole fnvFamily v))
-whole-effect v c i e o =
-    let ss : List Step = restartSteps fnvFamily v (pendingIn v.ram) in
-    let r : Result = restartFor fnvFamily 18446744073709551615 v in
-    uncut-effect c 18446744073709551615 ss r e
-    (restart-count fnvFamily v 18446744073709551615 i (sym o ∙ outcome-of c 18446744073709551615 ss r e))
+pub whole_effect : (v : Volume) (c : CutEffect) (i : ℕ) → c ≡ cut_of (restart_cut fnv_family 18446744073709551615 v)
+    → c.outcome ≡ outcome_of i
+    → ◌≡◌ {A = Effect} (record { outcome = c.outcome; count = 0; left = c.left }) (effect_of (restart_whole fnv_family v))
+whole_effect v c i e o =
+    let ss : List Step = restart_steps fnv_family v (pending_in v.ram) in
+    let r : Result = restart_for fnv_family 18446744073709551615 v in
+    uncut_effect_lem c 18446744073709551615 ss r e
+    (restart_count fnv_family v 18446744073709551615 i (sym o ∙ outcome_of_lem c 18446744073709551615 ss r e))
     ∙ ap effect_of
-    (restart-enough fnvFamily v 18446744073709551615 (length (pendingOps fnvFamily v (pendingIn v.ram)) + 1) (few-pending v) (omega arith))
+    (restart_enough fnv_family v 18446744073709551615 (length (pending_ops fnv_family v (pending_in v.ram)) + 1) (few_pending v) (omega arith))

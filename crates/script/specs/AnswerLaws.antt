@@ -2,7 +2,7 @@
 use Rattle.std.specs.Prelude.{◌≡◌, refl, List, [], ◌∷◌, ◌++◌, ℕ, zero, suc, ◌+◌, ◌/◌, ◌%◌, ◌^◌, ◌≤◌, ◌<◌, length, set}
 use Rattle.std.proofs.Common.{sym, ap, ◌∙◌, append_assoc, arith, length-append, lt-ltb, le-ltb}
 use Rattle.memory.specs.Cases.{either, lt?}
-use Rattle.memory.specs.Lists.{write, write-append}
+use Rattle.memory.specs.Lists.{write, write_append}
 use Rattle.script.specs.Answers.{Answer, ok, hit, miss, no, bad, digits, decimal, text}
 
 -- a store is a write of one byte
@@ -16,14 +16,14 @@ write_byte (x ∷ xs) (suc n) c = ap (λ (t : List ℕ). x ∷ t) (write_byte xs
 -- two writes next to each other, by what each leaves
 pub write_then : (l x y : List ℕ) (at next : ℕ) (a b : List ℕ) → x ≡ write l at a → next ≡ at + length a → y ≡ write x next b
     → y ≡ write l at (a ++ b)
-write_then l x y at next a b p q r = r ∙ rw (p, q) (write-append l at a b)
+write_then l x y at next a b p q r = r ∙ rw (p, q) (write_append l at a b)
 
 -- a word, a piece with a space after it, and the rest
-pub write-three : (l x y z w a b : List ℕ) (at end : ℕ) → x ≡ write l 0 w
+pub write_three : (l x y z w a b : List ℕ) (at end : ℕ) → x ≡ write l 0 w
     → at ≡ length w + length (a ++ (32 ∷ [])) → y ≡ write x (length w) (a ++ (32 ∷ []))
     → end ≡ at + length b → z ≡ write y at b
     → (end ≡ length (w ++ (a ++ (32 ∷ b)))) × (z ≡ write l 0 (w ++ (a ++ (32 ∷ b))))
-write-three l x y z w a b at end p q r s t =
+write_three l x y z w a b at end p q r s t =
     let two : w ++ (a ++ (32 ∷ [])) ++ b ≡ w ++ (a ++ (32 ∷ b)) = simp append_assoc in
     let at' : at ≡ length (w ++ (a ++ (32 ∷ []))) = q ∙ sym (length-append w (a ++ (32 ∷ []))) in
     let first : y ≡ write l 0 (w ++ (a ++ (32 ∷ []))) = write_then l x y 0 (length w) w (a ++ (32 ∷ [])) p (omega arith) r in (
@@ -32,17 +32,17 @@ write-three l x y z w a b at end p q r s t =
     )
 
 -- the last byte first, then those before it
-pub write-last : (l : List ℕ) (at : ℕ) (a : List ℕ) (c : ℕ) → write (set l (at + length a) c) at a ≡ write l at (a ++ (c ∷ []))
+pub write_last : (l : List ℕ) (at : ℕ) (a : List ℕ) (c : ℕ) → write (set l (at + length a) c) at a ≡ write l at (a ++ (c ∷ []))
 unfolding write
-write-last [] at a c = refl
-write-last (x ∷ []) zero [] c = refl
-write-last (x ∷ y ∷ xs) zero [] c = refl
-write-last (x ∷ xs) zero (y ∷ ys) c =
+write_last [] at a c = refl
+write_last (x ∷ []) zero [] c = refl
+write_last (x ∷ y ∷ xs) zero [] c = refl
+write_last (x ∷ xs) zero (y ∷ ys) c =
     let e : 0 + suc (length ys) ≡ suc (0 + length ys) = omega arith in
-    rw e (ap (λ (t : List ℕ). y ∷ t) (write-last xs zero ys c))
-write-last (x ∷ xs) (suc n) a c =
+    rw e (ap (λ (t : List ℕ). y ∷ t) (write_last xs zero ys c))
+write_last (x ∷ xs) (suc n) a c =
     let e : suc n + length a ≡ suc (n + length a) = omega arith in
-    rw e (ap (λ (t : List ℕ). x ∷ t) (write-last xs n a c))
+    rw e (ap (λ (t : List ℕ). x ∷ t) (write_last xs n a c))
 
 -- ---- decimal numbers
 
@@ -55,35 +55,35 @@ digits_more (suc k) n h =
     (λ a. rw a.0)
     (λ a. rw a.0 (ap (λ (t : List ℕ). t ++ ((n % 10 + 48) ∷ [])) (digits_more k (n / 10) (omega arith))))
 
-pub decimal-one : (n : ℕ) → n < 10 → decimal n ≡ (n + 48) ∷ []
+pub decimal_one : (n : ℕ) → n < 10 → decimal n ≡ (n + 48) ∷ []
 unfolding digits
-decimal-one n h = rw (lt-ltb n 10 h)
+decimal_one n h = rw (lt-ltb n 10 h)
 
-pub decimal-more : (n : ℕ) → 10 ≤ n → n < 2 ^ 32 → decimal n ≡ decimal (n / 10) ++ ((n % 10 + 48) ∷ [])
+pub decimal_more : (n : ℕ) → 10 ≤ n → n < 2 ^ 32 → decimal n ≡ decimal (n / 10) ++ ((n % 10 + 48) ∷ [])
 unfolding digits
-decimal-more n h l =
+decimal_more n h l =
     rw (le-ltb n 10 h) (ap (λ (t : List ℕ). t ++ ((n % 10 + 48) ∷ [])) (sym (digits_more 8 (n / 10) (omega arith))))
 
-digits-length : (k n : ℕ) → length (digits k n) ≤ k
+digits_length : (k n : ℕ) → length (digits k n) ≤ k
 unfolding digits
-digits-length zero n = omega arith
-digits-length (suc k) n =
+digits_length zero n = omega arith
+digits_length (suc k) n =
     either (lt? n 10)
     (λ a. rw a.0 (omega arith))
-    (λ a. rw a.0 (simp length-append (omega (arith, digits-length k (n / 10)))))
+    (λ a. rw a.0 (simp length-append (omega (arith, digits_length k (n / 10)))))
 
-pub decimal-length : (n : ℕ) → length (decimal n) ≤ 10
-decimal-length n = digits-length 10 n
+pub decimal_length : (n : ℕ) → length (decimal n) ≤ 10
+decimal_length n = digits_length 10 n
 
-pub decimal-there : (n : ℕ) → 1 ≤ length (decimal n)
+pub decimal_there : (n : ℕ) → 1 ≤ length (decimal n)
 unfolding digits
-decimal-there n = either (lt? n 10) (λ a. rw a.0 (omega arith)) (λ a. rw a.0 (simp length-append (omega arith)))
+decimal_there n = either (lt? n 10) (λ a. rw a.0 (omega arith)) (λ a. rw a.0 (simp length-append (omega arith)))
 
 -- every answer's line fits a buffer of 32 bytes
-pub text-length : (a : Answer) → length (text a) ≤ 32
+pub text_length : (a : Answer) → length (text a) ≤ 32
 unfolding text
-text-length (ok n d) = simp length-append (omega (arith, decimal-length n, decimal-length d))
-text-length (hit moves count) = simp length-append (omega (arith, decimal-length moves, decimal-length count))
-text-length (miss count) = simp length-append (omega (arith, decimal-length count))
-text-length (no number) = simp length-append (omega (arith, decimal-length number))
-text-length bad = omega arith
+text_length (ok n d) = simp length-append (omega (arith, decimal_length n, decimal_length d))
+text_length (hit moves count) = simp length-append (omega (arith, decimal_length moves, decimal_length count))
+text_length (miss count) = simp length-append (omega (arith, decimal_length count))
+text_length (no number) = simp length-append (omega (arith, decimal_length number))
+text_length bad = omega arith

@@ -3,8 +3,8 @@ use Rattle.std.specs.Prelude.{◌≡◌, refl, List, [], ◌∷◌, ℕ, suc, �
 use Rattle.std.proofs.Common.{ap, sym, ◌∙◌, arith, length-take, take_all}
 use Rattle.std.proofs.Math.Option.{Option, none, some}
 use Rattle.memory.specs.Cases.{either, le?, eq?}
-use Rattle.script.specs.Lines.{bad, number, lengthen, fields, twoNumbers, threeNumbers, wordsCommand, command}
-use Rattle.script.specs.ReadNumber.{number-long}
+use Rattle.script.specs.Lines.{bad, number, lengthen, fields, two_numbers, three_numbers, words_command, command}
+use Rattle.script.specs.ReadNumber.{number_long}
 
 -- ---- the words are as long as the line
 
@@ -13,68 +13,68 @@ unfoldable total : List (List ℕ) → ℕ
 total [] = 0
 total (w ∷ ws) = suc (length w + total ws)
 
-total-lengthen : (c : ℕ) (ws : List (List ℕ)) → 0 < total ws → total (lengthen c ws) ≡ suc (total ws)
+total_lengthen : (c : ℕ) (ws : List (List ℕ)) → 0 < total ws → total (lengthen c ws) ≡ suc (total ws)
 unfolding total
-total-lengthen c [] h = absurd (omega arith)
-total-lengthen c (w ∷ ws) h = omega arith
+total_lengthen c [] h = absurd (omega arith)
+total_lengthen c (w ∷ ws) h = omega arith
 
-total-fields : (l : List ℕ) → total (fields l) ≡ suc (length l)
+total_fields : (l : List ℕ) → total (fields l) ≡ suc (length l)
 unfolding fields total
-total-fields [] = refl
-total-fields (c ∷ cs) =
-    let e : total (fields cs) ≡ suc (length cs) = total-fields cs in
+total_fields [] = refl
+total_fields (c ∷ cs) =
+    let e : total (fields cs) ≡ suc (length cs) = total_fields cs in
     either (eq? c 32)
     (λ h. rw h.0 (omega arith))
-    (λ h. rw h.0 (total-lengthen c (fields cs) (omega arith) ∙ ap suc e))
+    (λ h. rw h.0 (total_lengthen c (fields cs) (omega arith) ∙ ap suc e))
 
 -- ---- one of them is too long
 
-two_none : (c : ℕ) (x : Option ℕ) → twoNumbers c x none ≡ bad
+two_none : (c : ℕ) (x : Option ℕ) → two_numbers c x none ≡ bad
 two_none c none = refl
 two_none c (some x) = refl
 
-three-none-2 : (c : ℕ) (x z : Option ℕ) → threeNumbers c x none z ≡ bad
-three-none-2 c none z = refl
-three-none-2 c (some x) z = refl
+three_none_2 : (c : ℕ) (x z : Option ℕ) → three_numbers c x none z ≡ bad
+three_none_2 c none z = refl
+three_none_2 c (some x) z = refl
 
-three-none-3 : (c : ℕ) (x y : Option ℕ) → threeNumbers c x y none ≡ bad
-three-none-3 c none y = refl
-three-none-3 c (some x) none = refl
-three-none-3 c (some x) (some y) = refl
+three_none_3 : (c : ℕ) (x y : Option ℕ) → three_numbers c x y none ≡ bad
+three_none_3 c none y = refl
+three_none_3 c (some x) none = refl
+three_none_3 c (some x) (some y) = refl
 
-two-long : (c : ℕ) (x y : List ℕ) → 20 < length x + length y → twoNumbers c (number x) (number y) ≡ bad
-two-long c x y h =
+two_long : (c : ℕ) (x y : List ℕ) → 20 < length x + length y → two_numbers c (number x) (number y) ≡ bad
+two_long c x y h =
     either (le? (length x) 10)
-    (λ a. rw (number-long y (omega arith)) (two_none c (number x)))
-    (λ a. rw (number-long x a.1))
+    (λ a. rw (number_long y (omega arith)) (two_none c (number x)))
+    (λ a. rw (number_long x a.1))
 
-three-long-after : (c : ℕ) (x y z : List ℕ) → 20 < length y + length z → threeNumbers c (number x) (number y) (number z) ≡ bad
-three-long-after c x y z h =
+three_long_after : (c : ℕ) (x y z : List ℕ) → 20 < length y + length z → three_numbers c (number x) (number y) (number z) ≡ bad
+three_long_after c x y z h =
     either (le? (length y) 10)
-    (λ a. rw (number-long z (omega arith)) (three-none-3 c (number x) (number y)))
-    (λ a. rw (number-long y a.1) (three-none-2 c (number x) (number z)))
+    (λ a. rw (number_long z (omega arith)) (three_none_3 c (number x) (number y)))
+    (λ a. rw (number_long y a.1) (three_none_2 c (number x) (number z)))
 
-three-long : (c : ℕ) (x y z : List ℕ) → 30 < length x + length y + length z → threeNumbers c (number x) (number y) (number z) ≡ bad
-three-long c x y z h =
+three_long : (c : ℕ) (x y z : List ℕ) → 30 < length x + length y + length z → three_numbers c (number x) (number y) (number z) ≡ bad
+three_long c x y z h =
     either (le? (length x) 10)
-    (λ a. three-long-after c x y z (omega arith))
-    (λ a. rw (number-long x a.1))
+    (λ a. three_long_after c x y z (omega arith))
+    (λ a. rw (number_long x a.1))
 
-long-words : (ws : List (List ℕ)) → 35 < total ws → wordsCommand ws ≡ bad
+long_words : (ws : List (List ℕ)) → 35 < total ws → words_command ws ≡ bad
 unfolding total
-long-words [] h = refl
-long-words ([] ∷ ws) h = refl
-long-words ((c ∷ d ∷ cs) ∷ ws) h = refl
-long-words ((c ∷ []) ∷ []) h = refl
-long-words ((c ∷ []) ∷ x ∷ []) h = rw (number-long x (omega arith))
-long-words ((c ∷ []) ∷ x ∷ y ∷ []) h = two-long c x y (omega arith)
-long-words ((c ∷ []) ∷ x ∷ y ∷ z ∷ []) h = three-long c x y z (omega arith)
-long-words ((c ∷ []) ∷ x ∷ y ∷ z ∷ w ∷ ws) h = refl
+long_words [] h = refl
+long_words ([] ∷ ws) h = refl
+long_words ((c ∷ d ∷ cs) ∷ ws) h = refl
+long_words ((c ∷ []) ∷ []) h = refl
+long_words ((c ∷ []) ∷ x ∷ []) h = rw (number_long x (omega arith))
+long_words ((c ∷ []) ∷ x ∷ y ∷ []) h = two_long c x y (omega arith)
+long_words ((c ∷ []) ∷ x ∷ y ∷ z ∷ []) h = three_long c x y z (omega arith)
+long_words ((c ∷ []) ∷ x ∷ y ∷ z ∷ w ∷ ws) h = refl
 
 -- `f 4294967295 4294967295 4294967295` has 34 bytes
 pub long : (l : List ℕ) → 34 < length l → command l ≡ bad
 unfolding command
-long l h = long-words (fields l) (omega (arith, total-fields l))
+long l h = long_words (fields l) (omega (arith, total_fields l))
 
 -- a reader needs to keep no more than 64 bytes of a line
 pub cut : (l : List ℕ) → command (take 64 l) ≡ command l

@@ -5,89 +5,89 @@ use Rattle.std.proofs.Math.Option.{none, some}
 use borrow.Author.Tests.{le-leb, lt-leb, lt-ltb, le-ltb, eq-eqb, ne_eqb}
 use Rattle.std.proofs.Math.ListN.{drop_of_length-le}
 use Rattle.memory.specs.Cases.{either, le?, eq?}
-use Rattle.text.specs.Text.{isDigit, digitsFrom}
+use Rattle.text.specs.Text.{is_digit, digits_from}
 use Rattle.script.specs.Lines.{small, number}
 
 -- ---- digits
 
-digit? : (c : ℕ) → ((isDigit c ≡ true) × (48 ≤ c) × (c ≤ 57)) ⊎ (isDigit c ≡ false)
+digit? : (c : ℕ) → ((is_digit c ≡ true) × (48 ≤ c) × (c ≤ 57)) ⊎ (is_digit c ≡ false)
 digit? c = either (le? 48 c) (λ a. either (le? c 57) (λ b. inl (cc, a.1, b.1)) (λ b. inr cc)) (λ a. inr cc)
 
 module _ (v i : ℕ) (l : List ℕ) where
   pub digits_more : i < length l → 48 ≤ get_or l i 0 → get_or l i 0 ≤ 57
-      → digitsFrom v (drop i l) ≡ digitsFrom (v * 10 + (get_or l i 0 - 48)) (drop (i + 1) l)
-  unfolding digitsFrom
+      → digits_from v (drop i l) ≡ digits_from (v * 10 + (get_or l i 0 - 48)) (drop (i + 1) l)
+  unfolding digits_from
   digits_more h a b = rw (drop-cons l i 0, le-leb 48 (get_or l i 0) a, le-leb (get_or l i 0) 57 b, add-one)
 
-  pub digits_low : i < length l → get_or l i 0 < 48 → digitsFrom v (drop i l) ≡ none
-  unfolding digitsFrom
+  pub digits_low : i < length l → get_or l i 0 < 48 → digits_from v (drop i l) ≡ none
+  unfolding digits_from
   digits_low h a = rw (drop-cons l i 0, lt-leb 48 (get_or l i 0) a)
 
-  pub digits-high : i < length l → 57 < get_or l i 0 → digitsFrom v (drop i l) ≡ none
-  unfolding digitsFrom
-  digits-high h b = rw (drop-cons l i 0, le-leb 48 (get_or l i 0) (omega arith), lt-leb (get_or l i 0) 57 b)
+  pub digits_high : i < length l → 57 < get_or l i 0 → digits_from v (drop i l) ≡ none
+  unfolding digits_from
+  digits_high h b = rw (drop-cons l i 0, le-leb 48 (get_or l i 0) (omega arith), lt-leb (get_or l i 0) 57 b)
 
-  pub digits-end : length l ≤ i → digitsFrom v (drop i l) ≡ some v
-  unfolding digitsFrom
-  digits-end h = rw drop_of_length-le
+  pub digits_end : length l ≤ i → digits_from v (drop i l) ≡ some v
+  unfolding digits_from
+  digits_end h = rw drop_of_length-le
 
 -- a value of 2^32 or more stays so
-pub stays-large : (v : ℕ) (l : List ℕ) → 4294967296 ≤ v → small (digitsFrom v l) ≡ none
-unfolding digitsFrom
-stays-large v [] h = rw (le-ltb v 4294967296 h)
-stays-large v (c ∷ cs) h =
+pub stays_large : (v : ℕ) (l : List ℕ) → 4294967296 ≤ v → small (digits_from v l) ≡ none
+unfolding digits_from
+stays_large v [] h = rw (le-ltb v 4294967296 h)
+stays_large v (c ∷ cs) h =
     either (digit? c)
-    (λ d. rw d.0 (stays-large (v * 10 + (c - 48)) cs (omega arith)))
+    (λ d. rw d.0 (stays_large (v * 10 + (c - 48)) cs (omega arith)))
     (λ d. rw d)
 
 -- k digits more make a value 10^k times as large, or larger
-pub grows-large : (k v : ℕ) (l : List ℕ) → 4294967296 ≤ v * 10 ^ k → k ≤ length l → small (digitsFrom v l) ≡ none
-unfolding digitsFrom
-grows-large zero v l h n = stays-large v l (omega arith)
-grows-large (suc k) v [] h n = absurd (not-suc-le-zero n)
-grows-large (suc k) v (c ∷ cs) h n =
+pub grows_large : (k v : ℕ) (l : List ℕ) → 4294967296 ≤ v * 10 ^ k → k ≤ length l → small (digits_from v l) ≡ none
+unfolding digits_from
+grows_large zero v l h n = stays_large v l (omega arith)
+grows_large (suc k) v [] h n = absurd (not-suc-le-zero n)
+grows_large (suc k) v (c ∷ cs) h n =
     either (digit? c)
-    (λ d. rw d.0 (grows-large k (v * 10 + (c - 48)) cs (omega (arith, ap (λ (x : ℕ). v * x) (pow-suc 10 k))) (omega arith)))
+    (λ d. rw d.0 (grows_large k (v * 10 + (c - 48)) cs (omega (arith, ap (λ (x : ℕ). v * x) (pow-suc 10 k))) (omega arith)))
     (λ d. rw d)
 
 -- ---- numbers
 
-pub number-empty : (l : List ℕ) → length l ≡ 0 → number l ≡ none
+pub number_empty : (l : List ℕ) → length l ≡ 0 → number l ≡ none
 unfolding number
-number-empty [] h = refl
-number-empty (c ∷ cs) h = absurd (omega arith)
+number_empty [] h = refl
+number_empty (c ∷ cs) h = absurd (omega arith)
 
 -- one digit needs no test of its size
-pub number-one : (l : List ℕ) → length l ≡ 1 → number l ≡ small (digitsFrom 0 l)
-unfolding digitsFrom number
-number-one [] h = absurd (omega arith)
-number-one (c ∷ []) h =
+pub number_one : (l : List ℕ) → length l ≡ 1 → number l ≡ small (digits_from 0 l)
+unfolding digits_from number
+number_one [] h = absurd (omega arith)
+number_one (c ∷ []) h =
     either (digit? c)
     (λ d. let s : 0 * 10 + (c - 48) < 4294967296 = omega arith in rw (d.0, lt-ltb (0 * 10 + (c - 48)) 4294967296 s))
     (λ d. rw d)
-number-one (c ∷ d ∷ cs) h = absurd (omega arith)
+number_one (c ∷ d ∷ cs) h = absurd (omega arith)
 
-pub number-zero : (l : List ℕ) → 1 < length l → get_or l 0 0 ≡ 48 → number l ≡ none
+pub number_zero : (l : List ℕ) → 1 < length l → get_or l 0 0 ≡ 48 → number l ≡ none
 unfolding number
-number-zero [] h e = absurd (omega arith)
-number-zero (c ∷ []) h e = absurd (omega arith)
-number-zero (c ∷ d ∷ cs) h e = rw (eq-eqb c 48 e)
+number_zero [] h e = absurd (omega arith)
+number_zero (c ∷ []) h e = absurd (omega arith)
+number_zero (c ∷ d ∷ cs) h e = rw (eq-eqb c 48 e)
 
-pub number_more : (l : List ℕ) → 1 < length l → (get_or l 0 0 ≡ 48 → ⊥) → number l ≡ small (digitsFrom 0 l)
+pub number_more : (l : List ℕ) → 1 < length l → (get_or l 0 0 ≡ 48 → ⊥) → number l ≡ small (digits_from 0 l)
 unfolding number
 number_more [] h e = absurd (omega arith)
 number_more (c ∷ []) h e = absurd (omega arith)
 number_more (c ∷ d ∷ cs) h e = rw (ne_eqb c 48 e)
 
 -- eleven digits of which the first is not 0 make 10^10 or more
-pub number-long : (l : List ℕ) → 10 < length l → number l ≡ none
-unfolding digitsFrom
-number-long [] h = absurd (omega arith)
-number-long (c ∷ cs) h =
+pub number_long : (l : List ℕ) → 10 < length l → number l ≡ none
+unfolding digits_from
+number_long [] h = absurd (omega arith)
+number_long (c ∷ cs) h =
     either (eq? c 48)
-    (λ z. number-zero (c ∷ cs) (omega arith) z.1)
+    (λ z. number_zero (c ∷ cs) (omega arith) z.1)
     (λ z.
     number_more (c ∷ cs) (omega arith) z.1
     ∙ either (digit? c)
-    (λ d. rw d.0 (grows-large 10 (0 * 10 + (c - 48)) cs (omega arith) (omega arith)))
+    (λ d. rw d.0 (grows_large 10 (0 * 10 + (c - 48)) cs (omega arith) (omega arith)))
     (λ d. rw d))

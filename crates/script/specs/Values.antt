@@ -1,7 +1,7 @@
 -- The code's numbers, commands and answers as the definitions have them.
 use Rattle.std.proofs.Math.Option.{Option, none, some}
 use Rattle.std.specs.Prelude.{ℕ}
-use Rattle.layout.specs.Items.{recordOf}
+use Rattle.layout.specs.Items.{record_of}
 use Rattle.layout.specs.Calls.{insert, update, delete, lookup}
 use Rattle.script.specs.Lines as lines
 use Rattle.script.specs.Answers as answers
@@ -17,13 +17,13 @@ number_of No = none
 number_of (Value v) = some v
 
 -- "goal and free word are 0"
-abbrev pub commandOf : Command → lines.Command
-commandOf Bad = lines.bad
-commandOf (Format S R D) = lines.format S R D
-commandOf (Insert key moves) = lines.call (insert (recordOf (lines.line_key key) moves 0 0))
-commandOf (Update key moves) = lines.call (update (recordOf (lines.line_key key) moves 0 0))
-commandOf (Delete key) = lines.call (delete (lines.line_key key))
-commandOf (Lookup key) = lines.call (lookup (lines.line_key key))
+abbrev pub command_of : Command → lines.Command
+command_of Bad = lines.bad
+command_of (Format S R D) = lines.format S R D
+command_of (Insert key moves) = lines.call (insert (record_of (lines.line_key key) moves 0 0))
+command_of (Update key moves) = lines.call (update (record_of (lines.line_key key) moves 0 0))
+command_of (Delete key) = lines.call (delete (lines.line_key key))
+command_of (Lookup key) = lines.call (lookup (lines.line_key key))
 
 abbrev pub answer_of : Answer → answers.Answer
 answer_of (answer.Ok n d) = answers.ok n d

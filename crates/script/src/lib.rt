@@ -4,10 +4,10 @@ pub mod answers;
 
 ghost use Rattle.std.specs.Prelude.{◌≡◌, ◌+◌, ◌≤◌, ◌<◌, length, take, drop};
 ghost use Rattle.memory.specs.Lent.{before};
-ghost use Rattle.text.specs.Text.{digitsFrom};
-ghost use Rattle.script.specs.Lines.{small, number, fields, oneNumber, twoNumbers, threeNumbers, letterCommand, command};
-ghost use Rattle.script.specs.FirstWord.{wordLength};
-ghost use Rattle.script.specs.Values.{number_of, commandOf};
+ghost use Rattle.text.specs.Text.{digits_from};
+ghost use Rattle.script.specs.Lines.{small, number, fields, one_number, two_numbers, three_numbers, letter_command, command};
+ghost use Rattle.script.specs.FirstWord.{word_length};
+ghost use Rattle.script.specs.Values.{number_of, command_of};
 
 // What a line asks for.
 #[derive(Drop)]
@@ -31,7 +31,7 @@ enum Number {
 
 // The value of a word of digits, if it is below 2^32. It stops at 2^32, so that no word is too long.
 fn read_digits(word: &[u8]) -> Number
-    ensures { number_of result ≡ small (digitsFrom 0 (before word)) }
+    ensures { number_of result ≡ small (digits_from 0 (before word)) }
 {
     let mut v: u64 = 0;
     let mut i = 0;
@@ -72,7 +72,7 @@ fn read_number(word: &[u8]) -> Number
 
 // `d key` and `l key`.
 fn one_number(letter: u8, x: Number) -> Command
-    ensures { commandOf result ≡ oneNumber letter (number_of x) }
+    ensures { command_of result ≡ one_number letter (number_of x) }
 {
     let Number::Value(key) = x else {
         return Command::Bad;
@@ -88,7 +88,7 @@ fn one_number(letter: u8, x: Number) -> Command
 
 // `i key moves` and `u key moves`.
 fn two_numbers(letter: u8, x: Number, y: Number) -> Command
-    ensures { commandOf result ≡ twoNumbers letter (number_of x) (number_of y) }
+    ensures { command_of result ≡ two_numbers letter (number_of x) (number_of y) }
 {
     let Number::Value(key) = x else {
         return Command::Bad;
@@ -107,7 +107,7 @@ fn two_numbers(letter: u8, x: Number, y: Number) -> Command
 
 // `f S R D`.
 fn three_numbers(letter: u8, x: Number, y: Number, z: Number) -> Command
-    ensures { commandOf result ≡ threeNumbers letter (number_of x) (number_of y) (number_of z) }
+    ensures { command_of result ≡ three_numbers letter (number_of x) (number_of y) (number_of z) }
 {
     let Number::Value(s) = x else {
         return Command::Bad;
@@ -128,7 +128,7 @@ fn three_numbers(letter: u8, x: Number, y: Number, z: Number) -> Command
 
 // How many bytes stand before the first space.
 fn word_length(line: &[u8]) -> usize
-    ensures { (result ≡ wordLength (before line)) × (result ≤ length (before line)) }
+    ensures { (result ≡ word_length (before line)) × (result ≤ length (before line)) }
 {
     let mut i = 0;
     while i < line.len() {
@@ -159,7 +159,7 @@ fn after_space(line: &[u8], n: usize) -> &[u8]
 
 // What a letter asks for with the words after it.
 fn parse_words(letter: u8, words: &[u8]) -> Command
-    ensures { commandOf result ≡ letterCommand letter (fields (before words)) }
+    ensures { command_of result ≡ letter_command letter (fields (before words)) }
 {
     let a = word_length(words);
     let x = number_in(words, a);
@@ -183,7 +183,7 @@ fn parse_words(letter: u8, words: &[u8]) -> Command
 
 // A letter and up to three numbers, between single spaces; any other line is bad.
 pub fn parse_line(line: &[u8]) -> Command
-    ensures { commandOf result ≡ command (before line) }
+    ensures { command_of result ≡ command (before line) }
 {
     let n = word_length(line);
     if n != 1 {

@@ -9,103 +9,103 @@ use borrow.Author.Tests.{le-leb, lt-leb}
 use lib.Dec.{leb}
 use Rattle.memory.specs.Cases.{bool?, either}
 use Rattle.memory.specs.Words.{word}
-use Rattle.layout.specs.Keys.{Key, sameKey, key_at, number_in}
-use Rattle.layout.specs.Search.{Stop, found, corrupt, tryEntry, entryCost, or_else, unlessEnded, scan, scanCost}
-use Rattle.memory.specs.Candidate.{candidate, candidate-le, candidate-opens}
-use Rattle.items.specs.Scans.{has_key, lastEntry}
+use Rattle.layout.specs.Keys.{Key, same_key, key_at, number_in}
+use Rattle.layout.specs.Search.{Stop, found, corrupt, try_entry, entry_cost, or_else, unless_ended, scan, scan_cost}
+use Rattle.memory.specs.Candidate.{candidate, candidate_le, candidate_opens}
+use Rattle.items.specs.Scans.{has_key, last_entry}
 
 -- ---- the newest that passes
 
 -- a scan may begin at the newest entry that passes
-scan-from : (try : ℕ → Option Stop) (f : ℕ → Bool) (lo m : ℕ) → ((i : ℕ) → i < m → f i ≡ false → try (lo + i) ≡ none)
+scan_from : (try : ℕ → Option Stop) (f : ℕ → Bool) (lo m : ℕ) → ((i : ℕ) → i < m → f i ≡ false → try (lo + i) ≡ none)
     → scan try lo m ≡ scan try lo (candidate f m)
 unfolding scan candidate
-scan-from try f lo zero pass = refl
-scan-from try f lo (suc m) pass =
+scan_from try f lo zero pass = refl
+scan_from try f lo (suc m) pass =
     either (bool? (f m))
     (λ t. rw t)
-    (λ t. rw (t, pass m (omega arith) t) (scan-from try f lo m (λ i h. pass i (omega arith))))
+    (λ t. rw (t, pass m (omega arith) t) (scan_from try f lo m (λ i h. pass i (omega arith))))
 
-scan-last : (try : ℕ → Option Stop) (lo e : ℕ) → 0 < e → scan try lo e ≡ or_else (try (lo + (e - 1))) (scan try lo (e - 1))
+scan_last : (try : ℕ → Option Stop) (lo e : ℕ) → 0 < e → scan try lo e ≡ or_else (try (lo + (e - 1))) (scan try lo (e - 1))
 unfolding scan
-scan-last try lo zero h = absurd (omega arith)
-scan-last try lo (suc e) h =
+scan_last try lo zero h = absurd (omega arith)
+scan_last try lo (suc e) h =
     let s : suc e - 1 ≡ e = omega arith in
     rw s
 
-scan-end : (try : ℕ → Option Stop) (lo e : ℕ) → e ≤ 0 → scan try lo e ≡ none
+scan_end : (try : ℕ → Option Stop) (lo e : ℕ) → e ≤ 0 → scan try lo e ≡ none
 unfolding scan
-scan-end try lo zero h = refl
-scan-end try lo (suc e) h = absurd (omega arith)
+scan_end try lo zero h = refl
+scan_end try lo (suc e) h = absurd (omega arith)
 
 -- ---- what it costs
 
 module _ (try : ℕ → Option Stop) (cost : ℕ → ℕ) where
-  cost-from : (f : ℕ → Bool) (lo m : ℕ) → ((i : ℕ) → i < m → f i ≡ false → (try (lo + i) ≡ none) × (cost (lo + i) ≡ 0))
-      → scanCost try cost lo m ≡ scanCost try cost lo (candidate f m)
-  unfolding scanCost candidate
-  cost-from f lo zero pass = refl
-  cost-from f lo (suc m) pass =
+  cost_from_lem : (f : ℕ → Bool) (lo m : ℕ) → ((i : ℕ) → i < m → f i ≡ false → (try (lo + i) ≡ none) × (cost (lo + i) ≡ 0))
+      → scan_cost try cost lo m ≡ scan_cost try cost lo (candidate f m)
+  unfolding scan_cost candidate
+  cost_from_lem f lo zero pass = refl
+  cost_from_lem f lo (suc m) pass =
       either (bool? (f m))
       (λ t. rw t)
       (λ t.
       let p = pass m (omega arith) t in
-      rw (t, p.0, p.1) (omega (arith, cost-from f lo m (λ i h. pass i (omega arith)))))
+      rw (t, p.0, p.1) (omega (arith, cost_from_lem f lo m (λ i h. pass i (omega arith)))))
 
-  cost-last : (lo e : ℕ) → 0 < e → scanCost try cost lo e ≡ cost (lo + (e - 1)) + unlessEnded (try (lo + (e - 1))) (scanCost try cost lo (e - 1))
-  unfolding scanCost
-  cost-last lo zero h = absurd (omega arith)
-  cost-last lo (suc e) h =
+  cost_last : (lo e : ℕ) → 0 < e → scan_cost try cost lo e ≡ cost (lo + (e - 1)) + unless_ended (try (lo + (e - 1))) (scan_cost try cost lo (e - 1))
+  unfolding scan_cost
+  cost_last lo zero h = absurd (omega arith)
+  cost_last lo (suc e) h =
       let s : suc e - 1 ≡ e = omega arith in
       rw s
 
-  cost-end : (lo e : ℕ) → e ≤ 0 → scanCost try cost lo e ≡ 0
-  unfolding scanCost
-  cost-end lo zero h = refl
-  cost-end lo (suc e) h = absurd (omega arith)
+  cost_end : (lo e : ℕ) → e ≤ 0 → scan_cost try cost lo e ≡ 0
+  unfolding scan_cost
+  cost_end lo zero h = refl
+  cost_end lo (suc e) h = absurd (omega arith)
 
 -- ---- entries in a row of bytes
 
 -- entries lo to lo + count - 1 lie in a row from byte `from` on
 pub record Same (bytes : List ℕ) (from count n : ℕ) (key : Key) (deleted : ℕ → Bool) (test : ℕ → ℕ) (try : ℕ → Option Stop) (cost : ℕ → ℕ) (lo : ℕ) : Type 0 where
-  pub entry : (k : ℕ) → k < count → try (lo + k) ≡ tryEntry n deleted key (key_at bytes (from + k * 8)) (number_in (word bytes (from + k * 8 + 4)))
-  pub price : (k : ℕ) → k < count → cost (lo + k) ≡ entryCost n test key (key_at bytes (from + k * 8)) (number_in (word bytes (from + k * 8 + 4)))
+  pub entry : (k : ℕ) → k < count → try (lo + k) ≡ try_entry n deleted key (key_at bytes (from + k * 8)) (number_in (word bytes (from + k * 8 + 4)))
+  pub price : (k : ℕ) → k < count → cost (lo + k) ≡ entry_cost n test key (key_at bytes (from + k * 8)) (number_in (word bytes (from + k * 8 + 4)))
 
 -- entry e - 1 is the next to be tried: it has the key, and those above it do not end the scan; `base` was paid before it, `sum` by now
 pub record Left (bytes : List ℕ) (from : ℕ) (key : Key) (try : ℕ → Option Stop) (cost : ℕ → ℕ) (lo count base e sum : ℕ) : Type 0 where
   pub le : e ≤ count
   pub has : 0 < e → has_key bytes from key (e - 1) ≡ true
   pub rest : scan try lo count ≡ scan try lo e
-  pub paid : base + scanCost try cost lo count ≡ sum + scanCost try cost lo e
+  pub paid : base + scan_cost try cost lo count ≡ sum + scan_cost try cost lo e
 
-pub left-none : {bytes : List ℕ} {from : ℕ} {key : Key} {try : ℕ → Option Stop} {cost : ℕ → ℕ} {lo count base e sum : ℕ}
-    → Left bytes from key try cost lo count base e sum → e ≤ 0 → (scan try lo count ≡ none) × (sum ≡ base + scanCost try cost lo count)
-left-none {try = try} {cost = cost} {lo = lo} {e = e} L h = (L.rest ∙ scan-end try lo e h, omega (arith, L.paid, cost-end try cost lo e h))
+pub left_none : {bytes : List ℕ} {from : ℕ} {key : Key} {try : ℕ → Option Stop} {cost : ℕ → ℕ} {lo count base e sum : ℕ}
+    → Left bytes from key try cost lo count base e sum → e ≤ 0 → (scan try lo count ≡ none) × (sum ≡ base + scan_cost try cost lo count)
+left_none {try = try} {cost = cost} {lo = lo} {e = e} L h = (L.rest ∙ scan_end try lo e h, omega (arith, L.paid, cost_end try cost lo e h))
 
 module _ {bytes : List ℕ} {from count n : ℕ} {key : Key} {deleted : ℕ → Bool} {test : ℕ → ℕ} {try : ℕ → Option Stop} {cost : ℕ → ℕ} {lo : ℕ}
     (S : Same bytes from count n key deleted test try cost lo) where
   other_key : (k : ℕ) → k < count → has_key bytes from key k ≡ false → (try (lo + k) ≡ none) × (cost (lo + k) ≡ 0)
-  unfolding has_key sameKey
+  unfolding has_key same_key
   other_key k h t = (S.entry k h ∙ rw t, S.price k h ∙ rw t)
 
   this_key : (k : ℕ) → k < count → has_key bytes from key k ≡ true → let j : ℕ = number_in (word bytes (from + k * 8 + 4)) in
       (try (lo + k) ≡ cond (leb n j) (some corrupt) (cond (deleted j) none (some (found j)))) × (cost (lo + k) ≡ cond (leb n j) 0 (test j))
-  unfolding has_key sameKey
+  unfolding has_key same_key
   this_key k h t = (S.entry k h ∙ rw t, S.price k h ∙ rw t)
 
-  skipped : (m : ℕ) → m ≤ count → scan try lo m ≡ scan try lo (lastEntry bytes from m key)
-  skipped m h = scan-from try (has_key bytes from key) lo m (λ i l t. (other_key i (omega arith) t).0)
+  skipped : (m : ℕ) → m ≤ count → scan try lo m ≡ scan try lo (last_entry bytes from m key)
+  skipped m h = scan_from try (has_key bytes from key) lo m (λ i l t. (other_key i (omega arith) t).0)
 
-  skipped-cost : (m : ℕ) → m ≤ count → scanCost try cost lo m ≡ scanCost try cost lo (lastEntry bytes from m key)
-  skipped-cost m h = cost-from try cost (has_key bytes from key) lo m (λ i l t. other_key i (omega arith) t)
+  skipped_cost : (m : ℕ) → m ≤ count → scan_cost try cost lo m ≡ scan_cost try cost lo (last_entry bytes from m key)
+  skipped_cost m h = cost_from_lem try cost (has_key bytes from key) lo m (λ i l t. other_key i (omega arith) t)
 
-  pub left-first : (base e : ℕ) → e ≡ lastEntry bytes from count key → Left bytes from key try cost lo count base e base
-  left-first base e is =
+  pub left_first : (base e : ℕ) → e ≡ last_entry bytes from count key → Left bytes from key try cost lo count base e base
+  left_first base e is =
       record {
-        le = omega (arith, candidate-le (has_key bytes from key) count);
-        has = rw is (candidate-opens (has_key bytes from key) count);
+        le = omega (arith, candidate_le (has_key bytes from key) count);
+        has = rw is (candidate_opens (has_key bytes from key) count);
         rest = rw is (skipped count (omega arith));
-        paid = rw is (ap (λ (x : ℕ). base + x) (skipped-cost count (omega arith)));
+        paid = rw is (ap (λ (x : ℕ). base + x) (skipped_cost count (omega arith)));
       }
 
   module _ {base e sum j : ℕ} (L : Left bytes from key try cost lo count base e sum) (some_left : 0 < e)
@@ -117,39 +117,39 @@ module _ {bytes : List ℕ} {from count n : ℕ} {key : Key} {deleted : ℕ → 
     tried = rw number (this_key (e - 1) (omega (arith, L.le)) (L.has some_left))
 
     here : scan try lo count ≡ or_else outcome (scan try lo (e - 1))
-    here = L.rest ∙ scan-last try lo e some_left ∙ ap (λ (o : Option Stop). or_else o (scan try lo (e - 1))) tried.0
+    here = L.rest ∙ scan_last try lo e some_left ∙ ap (λ (o : Option Stop). or_else o (scan try lo (e - 1))) tried.0
 
-    paid-here : base + scanCost try cost lo count ≡ sum + (cond (leb n j) 0 (test j) + unlessEnded outcome (scanCost try cost lo (e - 1)))
-    paid-here =
+    paid_here : base + scan_cost try cost lo count ≡ sum + (cond (leb n j) 0 (test j) + unless_ended outcome (scan_cost try cost lo (e - 1)))
+    paid_here =
         L.paid
         ∙ ap (λ (x : ℕ). sum + x)
-        (cost-last try cost lo e some_left ∙ (λ t. tried.1 t + unlessEnded (tried.0 t) (scanCost try cost lo (e - 1))))
+        (cost_last try cost lo e some_left ∙ (λ t. tried.1 t + unless_ended (tried.0 t) (scan_cost try cost lo (e - 1))))
 
-    pub left-corrupt : n ≤ j → (scan try lo count ≡ some corrupt) × (sum ≡ base + scanCost try cost lo count)
-    left-corrupt h = (here ∙ rw (le-leb n j h), omega (arith, rw (le-leb n j h) at paid-here))
+    pub left_corrupt : n ≤ j → (scan try lo count ≡ some corrupt) × (sum ≡ base + scan_cost try cost lo count)
+    left_corrupt h = (here ∙ rw (le-leb n j h), omega (arith, rw (le-leb n j h) at paid_here))
 
     module _ (below : j < n) where
-      paid-test : base + scanCost try cost lo count ≡ sum + (test j + unlessEnded (cond (deleted j) none (some (found j))) (scanCost try cost lo (e - 1)))
-      paid-test = rw (lt-leb n j below) at paid-here
+      paid_test : base + scan_cost try cost lo count ≡ sum + (test j + unless_ended (cond (deleted j) none (some (found j))) (scan_cost try cost lo (e - 1)))
+      paid_test = rw (lt-leb n j below) at paid_here
 
-      pub left-most : sum + test j ≤ base + scanCost try cost lo count
-      left-most = omega (arith, paid-test)
+      pub left_most : sum + test j ≤ base + scan_cost try cost lo count
+      left_most = omega (arith, paid_test)
 
       module _ (t : Bool) (k : ℕ) (is : t ≡ deleted j) (opened : k ≡ test j) where
-        pub left-found : t ≡ false → (scan try lo count ≡ some (found j)) × (sum + k ≡ base + scanCost try cost lo count)
-        left-found f = (here ∙ rw (lt-leb n j below, ← is, f), omega (arith, opened, rw (← is, f) at paid-test))
+        pub left_found : t ≡ false → (scan try lo count ≡ some (found j)) × (sum + k ≡ base + scan_cost try cost lo count)
+        left_found f = (here ∙ rw (lt-leb n j below, ← is, f), omega (arith, opened, rw (← is, f) at paid_test))
 
         gone : deleted j ≡ true → scan try lo count ≡ scan try lo (e - 1)
         gone t = here ∙ rw (lt-leb n j below, t)
 
-        pub left-next : (r : ℕ) → t ≡ true → r ≡ lastEntry bytes from (e - 1) key → Left bytes from key try cost lo count base r (sum + k)
-        left-next r f at =
+        pub left_next : (r : ℕ) → t ≡ true → r ≡ last_entry bytes from (e - 1) key → Left bytes from key try cost lo count base r (sum + k)
+        left_next r f at =
             record {
-              le = omega (arith, candidate-le (has_key bytes from key) (e - 1), L.le);
-              has = rw at (candidate-opens (has_key bytes from key) (e - 1));
+              le = omega (arith, candidate_le (has_key bytes from key) (e - 1), L.le);
+              has = rw at (candidate_opens (has_key bytes from key) (e - 1));
               rest = rw at (gone (sym is ∙ f) ∙ skipped (e - 1) (omega (arith, L.le)));
-              paid = rw at (omega (arith, opened, rw (← is, f) at paid-test, skipped-cost (e - 1) (omega (arith, L.le))));
+              paid = rw at (omega (arith, opened, rw (← is, f) at paid_test, skipped_cost (e - 1) (omega (arith, L.le))));
             }
 
-      pub left_less : (r : ℕ) → r ≡ lastEntry bytes from (e - 1) key → r < e
-      left_less r is = omega (arith, candidate-le (has_key bytes from key) (e - 1))
+      pub left_less : (r : ℕ) → r ≡ last_entry bytes from (e - 1) key → r < e
+      left_less r is = omega (arith, candidate_le (has_key bytes from key) (e - 1))

@@ -6,16 +6,16 @@ use Rattle.std.proofs.Common.{arith}
 use Rattle.memory.specs.Words.{word}
 use Rattle.layout.specs.Keys.{word_size, Key, key_at, number_in}
 use Rattle.layout.specs.Geometry as layout
-use Rattle.layout.specs.Flash.{flashOf}
-use Rattle.layout.specs.Items.{entrySize}
-use Rattle.layout.specs.Hash.{Family, fnvFamily}
+use Rattle.layout.specs.Flash.{flash_of}
+use Rattle.layout.specs.Items.{entry_size}
+use Rattle.layout.specs.Hash.{Family, fnv_family}
 use Rattle.layout.specs.Search as find
-use Rattle.layout.specs.Calls.{Volume, tryDeletion, maybeDeleted, testDeletion, testedDeleted, tryAt, tryCost, maybeIn}
-use Rattle.layout.specs.Calls.{searchAt, daPagesAt, search, searchDaPages}
+use Rattle.layout.specs.Calls.{Volume, try_deletion, maybe_deleted, test_deletion, tested_deleted, try_at, try_cost, maybe_in}
+use Rattle.layout.specs.Calls.{search_at, da_pages_at, search, search_da_pages}
 use Rattle.laws.specs.Lengths.{Readable}
 use Rattle.geometry.specs.declared.Geometry.{Geometry}
 use Rattle.geometry.specs.Shape.{shape, Sound}
-use Rattle.geometry.specs.Indexes.{indexFor}
+use Rattle.geometry.specs.Indexes.{index_for}
 use Rattle.deletions.specs.declared.Deletions.{Deletions}
 use Rattle.filter.specs.declared.groups.Filters.{Filters}
 use Rattle.search.specs.declared.View.{View}
@@ -26,13 +26,13 @@ use Rattle.search.specs.declared.Found.{Found}
 -- ---- answers
 
 -- where a search ended
-abbrev pub stopOf : End → Option find.Stop
-stopOf Nothing = none
-stopOf (Live j) = some (find.found j)
-stopOf Corrupt = some find.corrupt
+abbrev pub stop_of : End → Option find.Stop
+stop_of Nothing = none
+stop_of (Live j) = some (find.found j)
+stop_of Corrupt = some find.corrupt
 
-abbrev pub foundOf : Found → find.Found
-foundOf r = find.reply (stopOf r.end) r.opened
+abbrev pub found_of : Found → find.Found
+found_of r = find.reply (stop_of r.end) r.opened
 
 -- ---- what is searched
 
@@ -42,90 +42,90 @@ whole g n d = record { g = g; n = n; d = d; n0 = n; d0 = d }
 
 -- a volume with these bytes; a search reads nothing else of it
 abbrev pub viewed : View → List ℕ → List ℕ → Volume
-viewed v main ram = record { state = layout.state_of (layout.sizesOf 0 0 0 0) v.n v.d; flash = flashOf main []; ram = ram }
+viewed v main ram = record { state = layout.state_of (layout.sizes_of 0 0 0 0) v.n v.d; flash = flash_of main []; ram = ram }
 
 -- the lent bytes hold a volume of a sound geometry, of which no more is searched than there is
 pub record ViewFits (v : View) (main ram : List ℕ) : Type 0 where
   pub sound : Sound v.g
   pub read : Readable (shape v.g) main ram
-  pub n-cap : v.n ≤ layout.recordCapacity (shape v.g)
-  pub d-cap : v.d ≤ layout.deletionCapacity (shape v.g)
-  pub n0-le : v.n0 ≤ v.n
-  pub d0-le : v.d0 ≤ v.d
+  pub n_cap : v.n ≤ layout.record_capacity (shape v.g)
+  pub d_cap : v.d ≤ layout.deletion_capacity (shape v.g)
+  pub n0_le : v.n0 ≤ v.n
+  pub d0_le : v.d0 ≤ v.d
 
 -- ---- all of a volume
 
 module _ (w : Volume) (g : Geometry) (v : View) (is : v ≡ whole g w.state.records w.state.deletions) where
-  pub view-fits : Sound g → Readable (shape g) w.flash.main w.ram
-      → w.state.records ≤ layout.recordCapacity (shape g) → w.state.deletions ≤ layout.deletionCapacity (shape g)
+  pub view_fits : Sound g → Readable (shape g) w.flash.main w.ram
+      → w.state.records ≤ layout.record_capacity (shape g) → w.state.deletions ≤ layout.deletion_capacity (shape g)
       → ViewFits v w.flash.main w.ram
-  view-fits sound read n-cap d-cap =
+  view_fits sound read n_cap d_cap =
       rw is record {
         sound = sound;
         read = read;
-        n-cap = n-cap;
-        d-cap = d-cap;
-        n0-le = omega arith;
-        d0-le = omega arith;
+        n_cap = n_cap;
+        d_cap = d_cap;
+        n0_le = omega arith;
+        d0_le = omega arith;
       }
 
   -- what a search of all found is the volume's
   pub search_is : (h : Family) (key : Key) (r : Found)
-      → foundOf r ≡ searchAt h (shape v.g) (viewed v w.flash.main w.ram) v.n0 v.d0 key
-      → search h (shape g) w key ≡ foundOf r
-  unfolding searchAt maybeIn tryAt testDeletion tryDeletion maybeDeleted
+      → found_of r ≡ search_at h (shape v.g) (viewed v w.flash.main w.ram) v.n0 v.d0 key
+      → search h (shape g) w key ≡ found_of r
+  unfolding search_at maybe_in try_at test_deletion try_deletion maybe_deleted
   search_is h key r e = sym (rw is at e)
 
   -- and so are the pages of deletions that it opened
-  pub search-pages : (h : Family) (key : Key) (r : Found)
-      → r.da_pages ≡ daPagesAt h (shape v.g) (viewed v w.flash.main w.ram) v.n0 v.d0 key
-      → searchDaPages h (shape g) w key ≡ r.da_pages
-  unfolding daPagesAt maybeIn tryAt tryCost testDeletion tryDeletion maybeDeleted
-  search-pages h key r e = sym (rw is at e)
+  pub search_pages_lem : (h : Family) (key : Key) (r : Found)
+      → r.da_pages ≡ da_pages_at h (shape v.g) (viewed v w.flash.main w.ram) v.n0 v.d0 key
+      → search_da_pages h (shape g) w key ≡ r.da_pages
+  unfolding da_pages_at maybe_in try_at try_cost test_deletion try_deletion maybe_deleted
+  search_pages_lem h key r e = sym (rw is at e)
 
 -- ---- its parts
 
 -- entry j of the view, and the pages of deletions opened to try it
-abbrev pub tryOf : View → List ℕ → List ℕ → Key → ℕ → Option find.Stop
-tryOf v main ram key = tryAt fnvFamily (shape v.g) (viewed v main ram) v.n0 v.d0 key
+abbrev pub try_of : View → List ℕ → List ℕ → Key → ℕ → Option find.Stop
+try_of v main ram key = try_at fnv_family (shape v.g) (viewed v main ram) v.n0 v.d0 key
 
-abbrev pub costOf : View → List ℕ → List ℕ → Key → ℕ → ℕ
-costOf v main ram key = tryCost fnvFamily (shape v.g) (viewed v main ram) v.n0 v.d0 key
+abbrev pub cost_of : View → List ℕ → List ℕ → Key → ℕ → ℕ
+cost_of v main ram key = try_cost fnv_family (shape v.g) (viewed v main ram) v.n0 v.d0 key
 
 -- is number j among its deletions, and the pages opened to test it
-abbrev pub deletedOf : View → List ℕ → List ℕ → ℕ → Bool
-deletedOf v main ram = testedDeleted fnvFamily (shape v.g) (viewed v main ram) v.d0
+abbrev pub deleted_of : View → List ℕ → List ℕ → ℕ → Bool
+deleted_of v main ram = tested_deleted fnv_family (shape v.g) (viewed v main ram) v.d0
 
-abbrev pub testCost : View → List ℕ → List ℕ → ℕ → ℕ
-testCost v main ram j = (testDeletion fnvFamily (shape v.g) (viewed v main ram) v.d0 j).opened
+abbrev pub test_cost : View → List ℕ → List ℕ → ℕ → ℕ
+test_cost v main ram j = (test_deletion fnv_family (shape v.g) (viewed v main ram) v.d0 j).opened
 
 -- entry k of those that lie from byte `start` of a page's bytes on, and what trying it costs
-abbrev pub tryIn : View → List ℕ → List ℕ → Key → List ℕ → ℕ → ℕ → Option find.Stop
-tryIn v main ram key bytes start k =
-    find.tryEntry v.n0 (deletedOf v main ram) key (key_at bytes (start + k * entrySize))
-    (number_in (word bytes (start + k * entrySize + word_size)))
+abbrev pub try_in : View → List ℕ → List ℕ → Key → List ℕ → ℕ → ℕ → Option find.Stop
+try_in v main ram key bytes start k =
+    find.try_entry v.n0 (deleted_of v main ram) key (key_at bytes (start + k * entry_size))
+    (number_in (word bytes (start + k * entry_size + word_size)))
 
-abbrev pub costIn : View → List ℕ → List ℕ → Key → List ℕ → ℕ → ℕ → ℕ
-costIn v main ram key bytes start k =
-    find.entryCost v.n0 (testCost v main ram) key (key_at bytes (start + k * entrySize))
-    (number_in (word bytes (start + k * entrySize + word_size)))
+abbrev pub cost_in : View → List ℕ → List ℕ → Key → List ℕ → ℕ → ℕ → ℕ
+cost_in v main ram key bytes start k =
+    find.entry_cost v.n0 (test_cost v main ram) key (key_at bytes (start + k * entry_size))
+    (number_in (word bytes (start + k * entry_size + word_size)))
 
 -- the full pages below a number, opened by the bits of some positions
-abbrev pub pagesBelow : View → List ℕ → List ℕ → Key → List ℕ → ℕ → find.Found
-pagesBelow v main ram key ps below =
-    find.searchPages (maybeIn (shape v.g) (viewed v main ram) ps) (tryOf v main ram key) (layout.entriesPerPage v.g.chip.unit) below
+abbrev pub pages_below : View → List ℕ → List ℕ → Key → List ℕ → ℕ → find.Found
+pages_below v main ram key ps below =
+    find.search_pages (maybe_in (shape v.g) (viewed v main ram) ps) (try_of v main ram key) (layout.entries_per_page v.g.chip.unit) below
 
 -- what the search of them costs
-abbrev pub costBelow : View → List ℕ → List ℕ → Key → List ℕ → ℕ → ℕ
-costBelow v main ram key ps below =
-    find.pagesCost (maybeIn (shape v.g) (viewed v main ram) ps) (tryOf v main ram key) (costOf v main ram key)
-    (layout.entriesPerPage v.g.chip.unit) below
+abbrev pub cost_below : View → List ℕ → List ℕ → Key → List ℕ → ℕ → ℕ
+cost_below v main ram key ps below =
+    find.pages_cost (maybe_in (shape v.g) (viewed v main ram) ps) (try_of v main ram key) (cost_of v main ram key)
+    (layout.entries_per_page v.g.chip.unit) below
 
 -- its deletions, as a test takes them
-abbrev pub deletionsOf : View → Deletions
-deletionsOf v = record { g = v.g; d = v.d; d0 = v.d0 }
+abbrev pub deletions_of : View → Deletions
+deletions_of v = record { g = v.g; d = v.d; d0 = v.d0 }
 
 -- the filters of its entries, all of them
-abbrev pub filtersOf : View → Filters
-filtersOf v =
-    record { chip = v.g.chip; index = indexFor (shape v.g); count = v.n / layout.entriesPerPage v.g.chip.unit }
+abbrev pub filters_of : View → Filters
+filters_of v =
+    record { chip = v.g.chip; index = index_for (shape v.g); count = v.n / layout.entries_per_page v.g.chip.unit }

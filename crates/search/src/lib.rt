@@ -4,17 +4,17 @@ ghost use Rattle.std.specs.Prelude.{◌≡◌, ◌+◌, ◌*◌, ◌/◌, ◌%�
 ghost use Rattle.memory.specs.Words.{word};
 ghost use Rattle.memory.specs.Lent.{before};
 ghost use Rattle.layout.specs.Keys.{word_size, number_in};
-ghost use Rattle.layout.specs.Geometry.{entriesPerPage};
-ghost use Rattle.layout.specs.Items.{entrySize};
-ghost use Rattle.layout.specs.Hash.{fnvFamily};
-ghost use Rattle.layout.specs.Calls.{searchAt, daPagesAt};
-ghost use Rattle.layout.specs.Search.{scan, scanCost, unlessEnded};
+ghost use Rattle.layout.specs.Geometry.{entries_per_page};
+ghost use Rattle.layout.specs.Items.{entry_size};
+ghost use Rattle.layout.specs.Hash.{fnv_family};
+ghost use Rattle.layout.specs.Calls.{search_at, da_pages_at};
+ghost use Rattle.layout.specs.Search.{scan, scan_cost, unless_ended};
 ghost use Rattle.laws.specs.Walks.{onward, Low};
 ghost use Rattle.geometry.specs.Shape.{shape, Sound};
-ghost use Rattle.keys.specs.Key.{keyIs};
-ghost use Rattle.search.specs.Find.{stopOf, foundOf, whole, viewed, ViewFits, tryOf, costOf, tryIn, costIn};
-ghost use Rattle.search.specs.Find.{pagesBelow, costBelow, filtersOf, deletionsOf};
-ghost use Rattle.search.specs.Tries.{pageStart, PagesIn, OpenedAt, TriedAt};
+ghost use Rattle.keys.specs.Key.{key_is};
+ghost use Rattle.search.specs.Find.{stop_of, found_of, whole, viewed, ViewFits, try_of, cost_of, try_in, cost_in};
+ghost use Rattle.search.specs.Find.{pages_below, cost_below, filters_of, deletions_of};
+ghost use Rattle.search.specs.Tries.{page_start, PagesIn, OpenedAt, TriedAt};
 
 use deletions::Deletions;
 use filter::Filters;
@@ -66,15 +66,15 @@ pub struct Found {
 
 // The record number of entry k of those from byte `at` on.
 fn number_at(at: usize, k: usize, s: &[u8]) -> u32
-    requires { at + k * entrySize + entrySize ≤ length s.now }
-    ensures { result ≡ number_in (word (before s) (at + k * entrySize + word_size)) }
+    requires { at + k * entry_size + entry_size ≤ length s.now }
+    ensures { result ≡ number_in (word (before s) (at + k * entry_size + word_size)) }
 {
     keys::number_in(words::get32(s, at + k * areas::ENTRY_SIZE + areas::NUMBER_AT))
 }
 
 // The deletions that a record number is tested against. They are made for each test: a view handed on would be copied for each block.
 fn deletions_of(v: View) -> Deletions
-    ensures { result ≡ deletionsOf v }
+    ensures { result ≡ deletions_of v }
 {
     let g = v.g;
     Deletions {
@@ -103,10 +103,10 @@ fn in_page(
     main: &[u8],
     ram: &[u8],
 ) -> Ended
-    requires { ViewFits v main.now ram.now × (start + count * entrySize ≤ length page.now) × (count ≤ v.n0) }
-    ensures end_value { stopOf result.end ≡ scan (tryIn v (before main) (before ram) (keyIs key) (before page) start) 0 count }
-    ensures pages { result.da_pages ≡ scanCost (tryIn v (before main) (before ram) (keyIs key) (before page) start)
-        (costIn v (before main) (before ram) (keyIs key) (before page) start) 0 count }
+    requires { ViewFits v main.now ram.now × (start + count * entry_size ≤ length page.now) × (count ≤ v.n0) }
+    ensures end_value { stop_of result.end ≡ scan (try_in v (before main) (before ram) (key_is key) (before page) start) 0 count }
+    ensures pages { result.da_pages ≡ scan_cost (try_in v (before main) (before ram) (key_is key) (before page) start)
+        (cost_in v (before main) (before ram) (key_is key) (before page) start) 0 count }
 {
     let mut da_pages: u64 = 0;
     let mut e = items::find_entry(start, count, key, page);
@@ -138,7 +138,7 @@ fn in_page(
 // The first byte of page p of the entries on flash.
 fn page_start(g: Geometry, p: usize) -> usize
     requires { Sound g × (p ≤ 262144) }
-    ensures { result ≡ pageStart g p }
+    ensures { result ≡ page_start g p }
 {
     g.chip.block_address(g.ka_block()) + g.chip.page_address(p)
 }
@@ -146,11 +146,11 @@ fn page_start(g: Geometry, p: usize) -> usize
 // Those of the page that n0 records do not fill: in RAM, unless it has been filled since.
 fn in_open(v: View, key: Key, main: &[u8], ram: &[u8]) -> Ended
     requires { ViewFits v main.now ram.now }
-    ensures end_value { stopOf result.end ≡ scan (tryOf v (before main) (before ram) (keyIs key))
-        (v.n0 / entriesPerPage v.g.chip.unit * entriesPerPage v.g.chip.unit) (v.n0 % entriesPerPage v.g.chip.unit) }
+    ensures end_value { stop_of result.end ≡ scan (try_of v (before main) (before ram) (key_is key))
+        (v.n0 / entries_per_page v.g.chip.unit * entries_per_page v.g.chip.unit) (v.n0 % entries_per_page v.g.chip.unit) }
     ensures pages { result.da_pages
-        ≡ scanCost (tryOf v (before main) (before ram) (keyIs key)) (costOf v (before main) (before ram) (keyIs key))
-        (v.n0 / entriesPerPage v.g.chip.unit * entriesPerPage v.g.chip.unit) (v.n0 % entriesPerPage v.g.chip.unit) }
+        ≡ scan_cost (try_of v (before main) (before ram) (key_is key)) (cost_of v (before main) (before ram) (key_is key))
+        (v.n0 / entries_per_page v.g.chip.unit * entries_per_page v.g.chip.unit) (v.n0 % entries_per_page v.g.chip.unit) }
 {
     let per_page = v.g.entries_per_page();
     let count = v.n0 % per_page;
@@ -168,7 +168,7 @@ fn in_open(v: View, key: Key, main: &[u8], ram: &[u8]) -> Ended
 // The filters of the volume's entries.
 fn key_filters(v: View) -> Filters
     requires { Sound v.g }
-    ensures { result ≡ filtersOf v }
+    ensures { result ≡ filters_of v }
 {
     let chip = v.g.chip;
     let index = sets::key_index(v.g);
@@ -203,7 +203,7 @@ struct Opened {
 // opened in vain. It is a function because its loop calls nothing that stays a call, and so keeps its values in registers.
 fn next_page(g: Geometry, key: Key, from: usize, bits: u64, main: &[u8]) -> Opened
     requires { Sound g × (from ≤ 32768) × PagesIn g from bits main.now }
-    ensures { OpenedAt g (keyIs key) from bits (before main) result }
+    ensures { OpenedAt g (key_is key) from bits (before main) result }
 {
     let mut left = bits;
     let mut opened: u32 = 0;
@@ -242,7 +242,7 @@ struct Tried {
 // The newest page with an entry of the key, by its first byte: that is made again here, since the loop would have to keep it for each page.
 fn next_with_key(g: Geometry, key: Key, from: usize, bits: u64, main: &[u8]) -> Tried
     requires { Sound g × (from ≤ 32768) × PagesIn g from bits main.now }
-    ensures { TriedAt g (keyIs key) from bits (before main) result }
+    ensures { TriedAt g (key_is key) from bits (before main) result }
 {
     let p = next_page(g, key, from, bits, main);
     let opened = p.opened;
@@ -277,12 +277,12 @@ fn in_block(
     ram: &[u8],
 ) -> BlockFound
     requires view_fits { ViewFits v main.now ram.now × Low v.g.chip.unit count ps }
-    requires below_nonzero { (0 < below) × (below ≤ v.n0 / entriesPerPage v.g.chip.unit) }
+    requires below_nonzero { (0 < below) × (below ≤ v.n0 / entries_per_page v.g.chip.unit) }
     ensures start { result.start < below }
-    ensures found { pagesBelow v (before main) (before ram) (keyIs key) (take count ps) below
-        ≡ onward (stopOf result.end) result.opened (pagesBelow v (before main) (before ram) (keyIs key) (take count ps) result.start) }
-    ensures pages { costBelow v (before main) (before ram) (keyIs key) (take count ps) below
-        ≡ result.da_pages + unlessEnded (stopOf result.end) (costBelow v (before main) (before ram) (keyIs key) (take count ps) result.start) }
+    ensures found { pages_below v (before main) (before ram) (key_is key) (take count ps) below
+        ≡ onward (stop_of result.end) result.opened (pages_below v (before main) (before ram) (key_is key) (take count ps) result.start) }
+    ensures pages { cost_below v (before main) (before ram) (key_is key) (take count ps) below
+        ≡ result.da_pages + unless_ended (stop_of result.end) (cost_below v (before main) (before ram) (key_is key) (take count ps) result.start) }
 {
     let b = filter::block_below(key_filters(v), below, ps, count, main, ram);
     let first = b.start;
@@ -328,10 +328,10 @@ fn in_block(
 // Full pages, a block of filters after another, the newest first, for any `count` positions, 1 to 8.
 fn in_pages(v: View, key: Key, ps: [u32; 8], count: usize, main: &[u8], ram: &[u8]) -> Found
     requires { ViewFits v main.now ram.now × Low v.g.chip.unit count ps }
-    ensures result_value { foundOf result
-        ≡ pagesBelow v (before main) (before ram) (keyIs key) (take count ps) (v.n0 / entriesPerPage v.g.chip.unit) }
+    ensures result_value { found_of result
+        ≡ pages_below v (before main) (before ram) (key_is key) (take count ps) (v.n0 / entries_per_page v.g.chip.unit) }
     ensures pages { result.da_pages
-        ≡ costBelow v (before main) (before ram) (keyIs key) (take count ps) (v.n0 / entriesPerPage v.g.chip.unit) }
+        ≡ cost_below v (before main) (before ram) (key_is key) (take count ps) (v.n0 / entries_per_page v.g.chip.unit) }
 {
     let mut opened: u32 = 0;
     let mut da_pages: u64 = 0;
@@ -371,10 +371,10 @@ fn in_pages(v: View, key: Key, ps: [u32; 8], count: usize, main: &[u8], ram: &[u
 
 pub fn search(v: View, key: Key, main: &[u8], ram: &[u8]) -> Found
     requires { ViewFits v main.now ram.now }
-    ensures found { foundOf result
-        ≡ searchAt fnvFamily (shape v.g) (viewed v (before main) (before ram)) v.n0 v.d0 (keyIs key) }
+    ensures found { found_of result
+        ≡ search_at fnv_family (shape v.g) (viewed v (before main) (before ram)) v.n0 v.d0 (key_is key) }
     ensures pages { result.da_pages
-        ≡ daPagesAt fnvFamily (shape v.g) (viewed v (before main) (before ram)) v.n0 v.d0 (keyIs key) }
+        ≡ da_pages_at fnv_family (shape v.g) (viewed v (before main) (before ram)) v.n0 v.d0 (key_is key) }
 {
     let o = in_open(v, key, main, ram);
     let da_pages = o.da_pages;

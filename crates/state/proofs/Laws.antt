@@ -5,108 +5,108 @@ use mathlib.Core.List.{List}
 use Prim.Native.Nat.{ℕ}
 use lib.Dec.{ltb}
 use borrow.Author.Tests.{ltb-false}
-use Rattle.memory.specs.Booleans.{or-eq-false-iff}
+use Rattle.memory.specs.Booleans.{or_eq_false_iff}
 use Rattle.layout.specs.Geometry as layout
 use Rattle.layout.specs.Flash.{Flash}
 use Rattle.layout.specs.Refusals as refusal
-use Rattle.layout.specs.Calls.{Volume, badState, tooShort}
+use Rattle.layout.specs.Calls.{Volume, bad_state, too_short}
 use Rattle.laws.specs.Lengths.{long_of}
-use Rattle.geometry.specs.Shape.{geometryFor, shape, Sound, shapedBy}
+use Rattle.geometry.specs.Shape.{geometry_for, shape, Sound, shaped_by}
 use Rattle.geometry.specs.declared.Geometry.{Geometry}
 use Rattle.geometry.specs.declared.Shaped.{Shaped}
 use Rattle.geometry.specs.declared.Shaped.TheVariants as shaped
 use Rattle.state.specs.declared.Judgement.TheVariants.{Good, Refused}
-use Rattle.state.specs.Judge.{judgementOf, judgementOfNew, VolumeFits, FormatFits}
+use Rattle.state.specs.Judge.{judgement_of, judgement_of_new, VolumeFits, FormatFits}
 
-abbrev gOf : Geometry → Shaped → Geometry
-gOf d (shaped.Good g) = g
-gOf d shaped.Bad = d
+abbrev g_of : Geometry → Shaped → Geometry
+g_of d (shaped.Good g) = g
+g_of d shaped.Bad = d
 
-abbrev isGood : Shaped → Bool
-isGood (shaped.Good g) = true
-isGood shaped.Bad = false
+abbrev is_good : Shaped → Bool
+is_good (shaped.Good g) = true
+is_good shaped.Bad = false
 
-good-is : (t : Bool) (sizes : layout.Sizes) → isGood (shapedBy t sizes) ≡ t
-good-is true sizes = refl
-good-is false sizes = refl
+good_is : (t : Bool) (sizes : layout.Sizes) → is_good (shaped_by t sizes) ≡ t
+good_is true sizes = refl
+good_is false sizes = refl
 
-pub shaped-bad : (t : Bool) (sizes : layout.Sizes) (r : Shaped) → r ≡ shapedBy t sizes → r ≡ shaped.Bad → t ≡ false
-shaped-bad t sizes r p q = sym (good-is t sizes) ∙ ap isGood (sym p ∙ q)
+pub shaped_bad : (t : Bool) (sizes : layout.Sizes) (r : Shaped) → r ≡ shaped_by t sizes → r ≡ shaped.Bad → t ≡ false
+shaped_bad t sizes r p q = sym (good_is t sizes) ∙ ap is_good (sym p ∙ q)
 
-pub shaped-good : (t : Bool) (sizes : layout.Sizes) (r : Shaped) (g : Geometry) → r ≡ shapedBy t sizes → r ≡ shaped.Good g → (t ≡ true) × (g ≡ geometryFor sizes)
-shaped-good true sizes r g p q = (refl, ap (gOf g) (sym q ∙ p))
-shaped-good false sizes r g p q =
-    let z : false ≡ true = ap isGood (sym p ∙ q) in
+pub shaped_good : (t : Bool) (sizes : layout.Sizes) (r : Shaped) (g : Geometry) → r ≡ shaped_by t sizes → r ≡ shaped.Good g → (t ≡ true) × (g ≡ geometry_for sizes)
+shaped_good true sizes r g p q = (refl, ap (g_of g) (sym q ∙ p))
+shaped_good false sizes r g p q =
+    let z : false ≡ true = ap is_good (sym p ∙ q) in
     (z, cc)
 
 -- n or d above its capacity, or d above n
 abbrev pub counts : Geometry → layout.State → Bool
 counts g s =
-    ltb (layout.recordCapacity (shape g)) s.records
-    || (ltb (layout.deletionCapacity (shape g)) s.deletions || ltb s.records s.deletions)
+    ltb (layout.record_capacity (shape g)) s.records
+    || (ltb (layout.deletion_capacity (shape g)) s.deletions || ltb s.records s.deletions)
 
 module _ (v : Volume) where
   abbrev can : Bool
   can = layout.allowed v.state.sizes
 
   abbrev named : Geometry
-  named = geometryFor v.state.sizes
+  named = geometry_for v.state.sizes
 
-  bad-is : can ≡ true → badState v.state ≡ counts named v.state
-  unfolding badState
-  bad-is q = rw q
+  bad_is : can ≡ true → bad_state v.state ≡ counts named v.state
+  unfolding bad_state
+  bad_is q = rw q
 
-  pub judge-shape : can ≡ false → judgementOf v ≡ Refused refusal.badState
-  unfolding badState
-  judge-shape q = rw q
+  pub judge_shape : can ≡ false → judgement_of v ≡ Refused refusal.bad_state
+  unfolding bad_state
+  judge_shape q = rw q
 
   module _ (g : Geometry) (q : can ≡ true) (p : g ≡ named) where
-    at-state : (b : Bool) → counts g v.state ≡ b → counts named v.state ≡ b
-    at-state b c = rw p at c
+    at_state : (b : Bool) → counts g v.state ≡ b → counts named v.state ≡ b
+    at_state b c = rw p at c
 
-    short-at : (b : Bool) → tooShort (shape g) v.flash v.ram ≡ b → tooShort (shape named) v.flash v.ram ≡ b
-    short-at b t = rw p at t
+    short_at : (b : Bool) → too_short (shape g) v.flash v.ram ≡ b → too_short (shape named) v.flash v.ram ≡ b
+    short_at b t = rw p at t
 
-    pub judge-counts : counts g v.state ≡ true → judgementOf v ≡ Refused refusal.badState
-    judge-counts c = rw (bad-is q, at-state true c)
+    pub judge_counts : counts g v.state ≡ true → judgement_of v ≡ Refused refusal.bad_state
+    judge_counts c = rw (bad_is q, at_state true c)
 
-    pub judge-short : counts g v.state ≡ false → tooShort (shape g) v.flash v.ram ≡ true → judgementOf v ≡ Refused refusal.tooShort
-    judge-short c t = rw (bad-is q, at-state false c, short-at true t)
+    pub judge_short : counts g v.state ≡ false → too_short (shape g) v.flash v.ram ≡ true → judgement_of v ≡ Refused refusal.too_short
+    judge_short c t = rw (bad_is q, at_state false c, short_at true t)
 
-    pub judge-good : counts g v.state ≡ false → tooShort (shape g) v.flash v.ram ≡ false → Good g ≡ judgementOf v
-    judge-good c t =
-        let e : judgementOf v ≡ Good named = rw (bad-is q, at-state false c, short-at false t) in
+    pub judge_good : counts g v.state ≡ false → too_short (shape g) v.flash v.ram ≡ false → Good g ≡ judgement_of v
+    judge_good c t =
+        let e : judgement_of v ≡ Good named = rw (bad_is q, at_state false c, short_at false t) in
         ap Good p ∙ sym e
 
-    pub fits-of : Sound g → counts g v.state ≡ false → tooShort (shape g) v.flash v.ram ≡ false → VolumeFits v g
-    fits-of ok c t =
-        let a = (or-eq-false-iff (ltb (layout.recordCapacity (shape g)) v.state.records) _).0 c in
-        let b = (or-eq-false-iff (ltb (layout.deletionCapacity (shape g)) v.state.deletions) _).0 a.1 in
+    pub fits_of : Sound g → counts g v.state ≡ false → too_short (shape g) v.flash v.ram ≡ false → VolumeFits v g
+    fits_of ok c t =
+        let a = (or_eq_false_iff (ltb (layout.record_capacity (shape g)) v.state.records) _).0 c in
+        let b = (or_eq_false_iff (ltb (layout.deletion_capacity (shape g)) v.state.deletions) _).0 a.1 in
         record {
           sound = ok;
           is = p;
-          good = bad-is q ∙ at-state false c;
+          good = bad_is q ∙ at_state false c;
           long = long_of (shape g) v.flash v.ram t;
-          n-cap = ltb-false _ _ a.0;
-          d-cap = ltb-false _ _ b.0;
-          d-le = ltb-false _ _ b.1;
+          n_cap = ltb-false _ _ a.0;
+          d_cap = ltb-false _ _ b.0;
+          d_le = ltb-false _ _ b.1;
         }
 
 module _ (sizes : layout.Sizes) (flash : Flash) (ram : List ℕ) where
-  pub new-shape : layout.allowed sizes ≡ false → judgementOfNew sizes flash ram ≡ Refused refusal.badState
-  new-shape q = rw q
+  pub new_shape : layout.allowed sizes ≡ false → judgement_of_new sizes flash ram ≡ Refused refusal.bad_state
+  new_shape q = rw q
 
-  module _ (g : Geometry) (q : layout.allowed sizes ≡ true) (p : g ≡ geometryFor sizes) where
-    new-at : (b : Bool) → tooShort (shape g) flash ram ≡ b → tooShort (shape (geometryFor sizes)) flash ram ≡ b
-    new-at b t = rw p at t
+  module _ (g : Geometry) (q : layout.allowed sizes ≡ true) (p : g ≡ geometry_for sizes) where
+    new_at : (b : Bool) → too_short (shape g) flash ram ≡ b → too_short (shape (geometry_for sizes)) flash ram ≡ b
+    new_at b t = rw p at t
 
-    pub new-short : tooShort (shape g) flash ram ≡ true → judgementOfNew sizes flash ram ≡ Refused refusal.tooShort
-    new-short t = rw (q, new-at true t)
+    pub new_short : too_short (shape g) flash ram ≡ true → judgement_of_new sizes flash ram ≡ Refused refusal.too_short
+    new_short t = rw (q, new_at true t)
 
-    pub new-good : tooShort (shape g) flash ram ≡ false → Good g ≡ judgementOfNew sizes flash ram
-    new-good t =
-        let e : judgementOfNew sizes flash ram ≡ Good (geometryFor sizes) = rw (q, new-at false t) in
+    pub new_good : too_short (shape g) flash ram ≡ false → Good g ≡ judgement_of_new sizes flash ram
+    new_good t =
+        let e : judgement_of_new sizes flash ram ≡ Good (geometry_for sizes) = rw (q, new_at false t) in
         ap Good p ∙ sym e
 
-    pub new-of : Sound g → tooShort (shape g) flash ram ≡ false → FormatFits sizes flash ram g
-    new-of ok t = record { sound = ok; is = p; can = q; long = long_of (shape g) flash ram t }
+    pub new_of : Sound g → too_short (shape g) flash ram ≡ false → FormatFits sizes flash ram g
+    new_of ok t = record { sound = ok; is = p; can = q; long = long_of (shape g) flash ram t }

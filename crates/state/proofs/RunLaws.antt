@@ -10,92 +10,92 @@ use lib.Dec.{leb, eqb}
 use borrow.Author.Tests.{lt-ltb, le-ltb, le-leb, lt-leb}
 use Rattle.memory.specs.Bits.{num}
 use Rattle.memory.specs.Cases.{either, le?}
-use Rattle.layout.specs.Flash.{Flash, applyAll}
+use Rattle.layout.specs.Flash.{Flash, apply_all}
 use Rattle.layout.specs.Calls.{Volume, Outcome, accepted, hit, miss, refused, Result}
 use Rattle.layout.specs.Header.{finished}
 use Rattle.layout.specs.Budgets as budgets
-use Rattle.layout.specs.Budgets.{Step, store, Memory, memory, lastSteps, takenBy, taken}
-use Rattle.laws.specs.StepLaws.{last-cut, last-length}
-use Rattle.state.specs.Contract.{CutEffect, cut_of, stateIs, outcomeOf, Effect, effect_of, Ran}
+use Rattle.layout.specs.Budgets.{Step, store, Memory, memory, last_steps, taken_by, taken}
+use Rattle.laws.specs.StepLaws.{last_cut, last_length}
+use Rattle.state.specs.Contract.{CutEffect, cut_of, state_is, outcome_of, Effect, effect_of, Ran}
 use Rattle.state.specs.declared.State.{State}
 use Rattle.state.specs.declared.Progress.{Progress}
 use Rattle.state.proofs.Refusals.{Refusal}
 
 module _ (u b : ℕ) (r : Result) (c : Flash) (ram : List ℕ) (m : Memory) (p : Progress) where
   -- the budget ends among the operations
-  pub ran-cut : b ≤ length r.ops → m ≡ memory (applyAll u (take b r.ops) c) ram → p.steps ≡ b → p.finished ≡ false
-      → Ran u (lastSteps r) b (memory c ram) m p
-  ran-cut h e s f =
+  pub ran_cut_lem : b ≤ length r.ops → m ≡ memory (apply_all u (take b r.ops) c) ram → p.steps ≡ b → p.finished ≡ false
+      → Ran u (last_steps r) b (memory c ram) m p
+  ran_cut_lem h e s f =
       record {
-        memory-is = e ∙ sym (last-cut u b r.ops (finished r.volume) ram c ∙ rw (le-ltb (length r.ops) b h));
-        steps-is = omega (arith, s, h, length-take b (lastSteps r), last-length r);
-        finished-is = f ∙ sym (lt-leb (length (lastSteps r)) b (omega (arith, h, last-length r)));
+        memory_is = e ∙ sym (last_cut u b r.ops (finished r.volume) ram c ∙ rw (le-ltb (length r.ops) b h));
+        steps_is = omega (arith, s, h, length-take b (last_steps r), last_length r);
+        finished_is = f ∙ sym (lt-leb (length (last_steps r)) b (omega (arith, h, last_length r)));
       }
 
   -- it is enough for the store too
-  pub ran-all : length r.ops < b → m ≡ memory (applyAll u r.ops c) (finished r.volume) → p.steps ≡ length r.ops + 1
-      → p.finished ≡ true → Ran u (lastSteps r) b (memory c ram) m p
-  ran-all h e s f =
+  pub ran_all : length r.ops < b → m ≡ memory (apply_all u r.ops c) (finished r.volume) → p.steps ≡ length r.ops + 1
+      → p.finished ≡ true → Ran u (last_steps r) b (memory c ram) m p
+  ran_all h e s f =
       record {
-        memory-is = e
-            ∙ sym (last-cut u b r.ops (finished r.volume) ram c ∙ rw (lt-ltb (length r.ops) b h, take_all b r.ops (omega (arith, h))));
-        steps-is = omega (arith, s, h, length-take b (lastSteps r), last-length r);
-        finished-is = f ∙ sym (le-leb (length (lastSteps r)) b (omega (arith, h, last-length r)));
+        memory_is = e
+            ∙ sym (last_cut u b r.ops (finished r.volume) ram c ∙ rw (lt-ltb (length r.ops) b h, take_all b r.ops (omega (arith, h))));
+        steps_is = omega (arith, s, h, length-take b (last_steps r), last_length r);
+        finished_is = f ∙ sym (le-leb (length (last_steps r)) b (omega (arith, h, last_length r)));
       }
 
 -- no budget
-pub ran-none : (u b : ℕ) (s : Step) (ss : List Step) (m : Memory) (p : Progress) → b ≡ 0 → p.steps ≡ 0 → p.finished ≡ false
+pub ran_none : (u b : ℕ) (s : Step) (ss : List Step) (m : Memory) (p : Progress) → b ≡ 0 → p.steps ≡ 0 → p.finished ≡ false
     → Ran u (s ∷ ss) b m m p
-ran-none u b s ss m p z a f =
-    rw z (record { memory-is = refl; steps-is = a; finished-is = f ∙ sym (lt-leb (suc (length ss)) 0 (omega arith)) })
+ran_none u b s ss m p z a f =
+    rw z (record { memory_is = refl; steps_is = a; finished_is = f ∙ sym (lt-leb (suc (length ss)) 0 (omega arith)) })
 
 -- a store, then a run
-pub ran-stored : (u a b : ℕ) (ss : List Step) (c : Flash) (ram stored : List ℕ) (m : Memory) (p q : Progress) → a ≡ suc b
+pub ran_stored : (u a b : ℕ) (ss : List Step) (c : Flash) (ram stored : List ℕ) (m : Memory) (p q : Progress) → a ≡ suc b
     → Ran u ss b (memory c stored) m p → q.steps ≡ p.steps + 1 → q.finished ≡ p.finished
     → Ran u (store stored ∷ ss) a (memory c ram) m q
-ran-stored u a b ss c ram stored m p q e R s f =
+ran_stored u a b ss c ram stored m p q e R s f =
     rw e
     (record {
-      memory-is = R.memory-is;
-      steps-is = omega (arith, s, R.steps-is);
-      finished-is = f ∙ R.finished-is ∙ leb-suc (length ss) b;
+      memory_is = R.memory_is;
+      steps_is = omega (arith, s, R.steps_is);
+      finished_is = f ∙ R.finished_is ∙ leb_suc (length ss) b;
     })
   where
-    leb-suc : (x y : ℕ) → leb x y ≡ leb (suc x) (suc y)
-    leb-suc x y =
+    leb_suc : (x y : ℕ) → leb x y ≡ leb (suc x) (suc y)
+    leb_suc x y =
         either (le? x y) (λ a. a.0 ∙ sym (le-leb (suc x) (suc y) (omega (arith, a.1))))
         (λ a. a.0 ∙ sym (lt-leb (suc x) (suc y) (omega (arith, a.1))))
 
 -- the answer of an accepted call, by its run
-pub ran-cut-is : (b u : ℕ) (v : Volume) (ss : List Step) (r : Result) (m : Memory) (p : Progress) (old new : State) → r.outcome ≡ accepted
-    → stateIs old ≡ v.state → stateIs new ≡ r.volume.state → Ran u ss b (memory v.flash v.ram) m p
+pub ran_cut_is : (b u : ℕ) (v : Volume) (ss : List Step) (r : Result) (m : Memory) (p : Progress) (old new : State) → r.outcome ≡ accepted
+    → state_is old ≡ v.state → state_is new ≡ r.volume.state → Ran u ss b (memory v.flash v.ram) m p
     → ◌≡◌ {A = CutEffect} (record {
       outcome = accepted;
       complete = num p.finished;
       steps = p.steps;
-      left = record { state = stateIs (cond p.finished new old); flash = m.flash; ram = m.ram };
+      left = record { state = state_is (cond p.finished new old); flash = m.flash; ram = m.ram };
     }) (cut_of (budgets.cut_of b ss (taken b u v ss r)))
-ran-cut-is b u v ss r m p old new a e n R =
-    rw (a, ← R.memory-is, ← R.steps-is, ← R.finished-is, ← e, ← n) (by p.finished)
+ran_cut_is b u v ss r m p old new a e n R =
+    rw (a, ← R.memory_is, ← R.steps_is, ← R.finished_is, ← e, ← n) (by p.finished)
   where
     by : (t : Bool) → ◌≡◌ {A = CutEffect} (record {
       outcome = accepted;
       complete = num t;
       steps = p.steps;
-      left = record { state = stateIs (cond t new old); flash = m.flash; ram = m.ram };
+      left = record { state = state_is (cond t new old); flash = m.flash; ram = m.ram };
     }) (record {
       outcome = accepted;
       complete = num t;
       steps = p.steps;
-      left = record { state = cond t (stateIs new) (stateIs old); flash = m.flash; ram = m.ram };
+      left = record { state = cond t (state_is new) (state_is old); flash = m.flash; ram = m.ram };
     })
     by true = refl
     by false = refl
 
 -- the answer of a refused one
-pub refused-cut : (b u : ℕ) (v w : Volume) (i : ℕ) (ss : List Step) (r : Result) → Refusal w i r
-    → ◌≡◌ {A = CutEffect} (record { outcome = outcomeOf i; complete = 0; steps = 0; left = v }) (cut_of (budgets.cut_of b ss (taken b u v ss r)))
-refused-cut b u v w i ss r p = rw (p.is, p.some)
+pub refused_cut_lem : (b u : ℕ) (v w : Volume) (i : ℕ) (ss : List Step) (r : Result) → Refusal w i r
+    → ◌≡◌ {A = CutEffect} (record { outcome = outcome_of i; complete = 0; steps = 0; left = v }) (cut_of (budgets.cut_of b ss (taken b u v ss r)))
+refused_cut_lem b u v w i ss r p = rw (p.is, p.some)
 
 -- ---- with enough steps: a call that answers with a refusal's number has no count
 
@@ -105,18 +105,18 @@ counted (hit place bytes) = true
 counted miss = true
 counted (refused i) = false
 
-uncounted : (i : ℕ) → counted (outcomeOf i) ≡ false
+uncounted : (i : ℕ) → counted (outcome_of i) ≡ false
 uncounted i = by (eqb i 0)
   where
     by : (t : Bool) → counted (cond t accepted (refused i)) ≡ false
     by true = refl
     by false = refl
 
-pub taken-count : (b u : ℕ) (v : Volume) (ss : List Step) (r : Result) (i : ℕ) → outcomeOf i ≡ (taken b u v ss r).outcome
+pub taken_count : (b u : ℕ) (v : Volume) (ss : List Step) (r : Result) (i : ℕ) → outcome_of i ≡ (taken b u v ss r).outcome
     → (taken b u v ss r).count ≡ 0
-taken-count b u v ss r i e = by r.outcome (sym (ap counted e) ∙ uncounted i)
+taken_count b u v ss r i e = by r.outcome (sym (ap counted e) ∙ uncounted i)
   where
-    by : (o : Outcome) → counted (takenBy o b u v ss r).outcome ≡ false → (takenBy o b u v ss r).count ≡ 0
+    by : (o : Outcome) → counted (taken_by o b u v ss r).outcome ≡ false → (taken_by o b u v ss r).count ≡ 0
     by accepted q = refl
     by (hit place bytes) q = let z : true ≡ false = q in cc
     by miss q = let z : true ≡ false = q in cc
@@ -124,19 +124,19 @@ taken-count b u v ss r i e = by r.outcome (sym (ap counted e) ∙ uncounted i)
 
 -- of any answer with a budget
 module _ (c : CutEffect) (b : ℕ) (ss : List Step) (r : Result) (e : c ≡ cut_of (budgets.cut_of b ss r)) where
-  result-is : (budgets.cut_of b ss r).result ≡ r
-  result-is = by r.outcome
+  result_is : (budgets.cut_of b ss r).result ≡ r
+  result_is = by r.outcome
     where
-      by : (o : Outcome) → (budgets.cutBy o b ss r).result ≡ r
+      by : (o : Outcome) → (budgets.cut_by o b ss r).result ≡ r
       by accepted = refl
       by (hit place bytes) = refl
       by miss = refl
       by (refused i) = refl
 
-  pub outcome-of : c.outcome ≡ r.outcome
-  outcome-of = ap (λ (x : CutEffect). x.outcome) e ∙ ap (λ (x : Result). x.outcome) result-is
+  pub outcome_of_lem : c.outcome ≡ r.outcome
+  outcome_of_lem = ap (λ (x : CutEffect). x.outcome) e ∙ ap (λ (x : Result). x.outcome) result_is
 
-  pub uncut-effect : r.count ≡ 0 → ◌≡◌ {A = Effect} (record { outcome = c.outcome; count = 0; left = c.left }) (effect_of r)
-  uncut-effect z =
-      let left : c.left ≡ r.volume = ap (λ (x : CutEffect). x.left) e ∙ ap (λ (x : Result). x.volume) result-is in
-      rw (outcome-of, left, z)
+  pub uncut_effect_lem : r.count ≡ 0 → ◌≡◌ {A = Effect} (record { outcome = c.outcome; count = 0; left = c.left }) (effect_of r)
+  uncut_effect_lem z =
+      let left : c.left ≡ r.volume = ap (λ (x : CutEffect). x.left) e ∙ ap (λ (x : Result). x.volume) result_is in
+      rw (outcome_of_lem, left, z)

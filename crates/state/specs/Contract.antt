@@ -3,14 +3,14 @@ use Rattle.std.specs.Prelude.{◌≡◌, cond, List, ℕ, length, take, eqb, leb
 use Rattle.memory.specs.Bits.{num}
 use Rattle.memory.specs.Lent.{Lent, before, after}
 use Rattle.layout.specs.Geometry as layout
-use Rattle.layout.specs.Flash.{flashOf}
+use Rattle.layout.specs.Flash.{flash_of}
 use Rattle.layout.specs.Items as items
 use Rattle.layout.specs.Calls.{Volume, Call, insert, update, delete, Outcome, accepted, refused, Result}
 use Rattle.layout.specs.Budgets as budgets
 use Rattle.layout.specs.Budgets.{Step, Memory, memory}
-use Rattle.laws.specs.LentFlash.{flashBefore, flashAfter}
-use Rattle.geometry.specs.Shape.{sizesIs}
-use Rattle.keys.specs.Key.{keyIs}
+use Rattle.laws.specs.LentFlash.{flash_before, flash_after}
+use Rattle.geometry.specs.Shape.{sizes_is}
+use Rattle.keys.specs.Key.{key_is}
 use Rattle.state.specs.declared.State.{State}
 use Rattle.state.specs.declared.Record.{Record}
 use Rattle.state.specs.declared.Change.{Change}
@@ -19,21 +19,21 @@ use Rattle.state.specs.declared.Request.TheVariants.{Insert, Update, Delete}
 use Rattle.state.specs.declared.Cut.{Cut}
 use Rattle.state.specs.declared.Progress.{Progress}
 
-abbrev pub stateIs : State → layout.State
-stateIs s = layout.state_of (sizesIs s.sizes) s.records s.deletions
+abbrev pub state_is : State → layout.State
+state_is s = layout.state_of (sizes_is s.sizes) s.records s.deletions
 
-abbrev pub recordIs : Record → items.Record
-recordIs r = items.recordOf (keyIs r.key) r.moves r.goal r.free
+abbrev pub record_is : Record → items.Record
+record_is r = items.record_of (key_is r.key) r.moves r.goal r.free
 
 -- the layout's call
 abbrev pub call_of : Request → Call
-call_of (Insert r) = insert (recordIs r)
-call_of (Update r) = update (recordIs r)
-call_of (Delete key) = delete (keyIs key)
+call_of (Insert r) = insert (record_is r)
+call_of (Update r) = update (record_is r)
+call_of (Delete key) = delete (key_is key)
 
 -- the volume that is handed in: state, main area, spare area and RAM
 abbrev pub volume : State → List ℕ → List ℕ → List ℕ → Volume
-volume s main spare ram = record { state = stateIs s; flash = flashOf main spare; ram = ram }
+volume s main spare ram = record { state = state_is s; flash = flash_of main spare; ram = ram }
 
 -- the same of the slices lent to a call
 abbrev pub given : State → Lent → Lent → Lent → Volume
@@ -49,15 +49,15 @@ abbrev pub effect_of : Result → Effect
 effect_of r = record { outcome = r.outcome; count = r.count; left = r.volume }
 
 -- a refusal's number, 0 for accepted
-abbrev pub outcomeOf : ℕ → Outcome
-outcomeOf i = cond (eqb i 0) accepted (refused i)
+abbrev pub outcome_of : ℕ → Outcome
+outcome_of i = cond (eqb i 0) accepted (refused i)
 
 -- what a changing call answers and leaves
-abbrev pub changeEffect : Change → List ℕ → List ℕ → List ℕ → Effect
-changeEffect c main spare ram = record { outcome = outcomeOf c.refusal; count = 0; left = volume c.state main spare ram }
+abbrev pub change_effect : Change → List ℕ → List ℕ → List ℕ → Effect
+change_effect c main spare ram = record { outcome = outcome_of c.refusal; count = 0; left = volume c.state main spare ram }
 
-abbrev pub effectBy : Change → Lent → Lent → Lent → Effect
-effectBy c main spare ram = changeEffect c (after main) (after spare) (after ram)
+abbrev pub effect_by : Change → Lent → Lent → Lent → Effect
+effect_by c main spare ram = change_effect c (after main) (after spare) (after ram)
 
 -- ---- with a budget of steps
 
@@ -71,24 +71,24 @@ pub record CutEffect : Type 0 where
 abbrev pub cut_of : budgets.Cut → CutEffect
 cut_of c = record { outcome = c.result.outcome; complete = num c.complete; steps = c.steps; left = c.result.volume }
 
-abbrev pub cutBy : Cut → Lent → Lent → Lent → CutEffect
-cutBy c main spare ram =
+abbrev pub cut_by : Cut → Lent → Lent → Lent → CutEffect
+cut_by c main spare ram =
     record {
-      outcome = outcomeOf c.refusal;
+      outcome = outcome_of c.refusal;
       complete = c.finished;
       steps = c.steps;
       left = volume c.state (after main) (after spare) (after ram);
     }
 
 -- the chip and the RAM, lent to a run of steps
-abbrev pub memoryBefore : Lent → Lent → Lent → Memory
-memoryBefore main spare ram = memory (flashBefore main spare) (before ram)
+abbrev pub memory_before : Lent → Lent → Lent → Memory
+memory_before main spare ram = memory (flash_before main spare) (before ram)
 
-abbrev pub memoryAfter : Lent → Lent → Lent → Memory
-memoryAfter main spare ram = memory (flashAfter main spare) (after ram)
+abbrev pub memory_after : Lent → Lent → Lent → Memory
+memory_after main spare ram = memory (flash_after main spare) (after ram)
 
 -- a run of b of these steps
 pub record Ran (u : ℕ) (ss : List Step) (b : ℕ) (m m' : Memory) (p : Progress) : Type 0 where
-  pub memory-is : m' ≡ budgets.steps u (take b ss) m
-  pub steps-is : p.steps ≡ length (take b ss)
-  pub finished-is : p.finished ≡ leb (length ss) b
+  pub memory_is : m' ≡ budgets.steps u (take b ss) m
+  pub steps_is : p.steps ≡ length (take b ss)
+  pub finished_is : p.finished ≡ leb (length ss) b

@@ -4,35 +4,35 @@ use Prim.{Unit}
 use Rattle.layout.specs.Geometry as layout
 use Rattle.layout.specs.Flash.{Flash}
 use Rattle.layout.specs.Refusals as refusal
-use Rattle.layout.specs.Calls.{Volume, badState, tooShort}
+use Rattle.layout.specs.Calls.{Volume, bad_state, too_short}
 use Rattle.laws.specs.Lengths.{Long}
-use Rattle.geometry.specs.Shape.{geometryFor, shape, Sound}
+use Rattle.geometry.specs.Shape.{geometry_for, shape, Sound}
 use Rattle.geometry.specs.declared.Geometry.{Geometry}
 use Rattle.state.specs.declared.Judgement.{Judgement}
 use Rattle.state.specs.declared.Judgement.TheVariants.{Good, Refused}
 
 -- of a volume: 1, then 2
-abbrev pub judgementOf : Volume → Judgement
-judgementOf v =
-    cond (badState v.state) (Refused refusal.badState)
-    (cond (tooShort (layout.geometry v.state.sizes) v.flash v.ram) (Refused refusal.tooShort)
-    (Good (geometryFor v.state.sizes)))
+abbrev pub judgement_of : Volume → Judgement
+judgement_of v =
+    cond (bad_state v.state) (Refused refusal.bad_state)
+    (cond (too_short (layout.geometry v.state.sizes) v.flash v.ram) (Refused refusal.too_short)
+    (Good (geometry_for v.state.sizes)))
 
 -- of a format's sizes
-abbrev pub judgementOfNew : layout.Sizes → Flash → List ℕ → Judgement
-judgementOfNew sizes flash ram =
+abbrev pub judgement_of_new : layout.Sizes → Flash → List ℕ → Judgement
+judgement_of_new sizes flash ram =
     cond (layout.allowed sizes)
-    (cond (tooShort (layout.geometry sizes) flash ram) (Refused refusal.tooShort) (Good (geometryFor sizes))) (Refused refusal.badState)
+    (cond (too_short (layout.geometry sizes) flash ram) (Refused refusal.too_short) (Good (geometry_for sizes))) (Refused refusal.bad_state)
 
 -- what a call knows of a volume that is not refused
 pub record VolumeFits (v : Volume) (g : Geometry) : Type 0 where
   pub sound : Sound g
-  pub is : g ≡ geometryFor v.state.sizes
-  pub good : badState v.state ≡ false
+  pub is : g ≡ geometry_for v.state.sizes
+  pub good : bad_state v.state ≡ false
   pub long : Long (shape g) v.flash.main v.flash.spare v.ram
-  pub n-cap : v.state.records ≤ layout.recordCapacity (shape g)
-  pub d-cap : v.state.deletions ≤ layout.deletionCapacity (shape g)
-  pub d-le : v.state.deletions ≤ v.state.records
+  pub n_cap : v.state.records ≤ layout.record_capacity (shape g)
+  pub d_cap : v.state.deletions ≤ layout.deletion_capacity (shape g)
+  pub d_le : v.state.deletions ≤ v.state.records
 
 -- a volume that is judged good has it
 abbrev pub GoodFits : Volume → Judgement → Type 0
@@ -42,7 +42,7 @@ GoodFits v (Refused i) = Unit
 -- what a format knows of sizes and lent bytes that are not refused
 pub record FormatFits (sizes : layout.Sizes) (flash : Flash) (ram : List ℕ) (g : Geometry) : Type 0 where
   pub sound : Sound g
-  pub is : g ≡ geometryFor sizes
+  pub is : g ≡ geometry_for sizes
   pub can : layout.allowed sizes ≡ true
   pub long : Long (shape g) flash.main flash.spare ram
 

@@ -3,13 +3,13 @@
 ghost use Rattle.std.specs.Prelude.{◌≡◌, ◌||◌, cond, ◌-◌, ◌≤◌, length, ltb};
 ghost use Rattle.memory.specs.Bits.{num};
 ghost use Rattle.memory.specs.Lent.{before};
-ghost use Rattle.layout.specs.Geometry.{recordCapacity, deletionCapacity};
-ghost use Rattle.layout.specs.Calls.{tooShort};
-ghost use Rattle.layout.specs.Header.{headerSize, pages, onPages};
-ghost use Rattle.laws.specs.LentFlash.{flashBefore};
-ghost use Rattle.geometry.specs.Shape.{sizesIs, shape, Sound};
+ghost use Rattle.layout.specs.Geometry.{record_capacity, deletion_capacity};
+ghost use Rattle.layout.specs.Calls.{too_short};
+ghost use Rattle.layout.specs.Header.{header_size, pages, on_pages};
+ghost use Rattle.laws.specs.LentFlash.{flash_before};
+ghost use Rattle.geometry.specs.Shape.{sizes_is, shape, Sound};
 ghost use Rattle.state.specs.Contract.{given};
-ghost use Rattle.state.specs.Judge.{judgementOf, judgementOfNew, GoodFits, NewFits};
+ghost use Rattle.state.specs.Judge.{judgement_of, judgement_of_new, GoodFits, NewFits};
 
 use geometry::{Geometry, Shaped, Sizes};
 use keys::Key;
@@ -79,8 +79,8 @@ const TAIL_SIZE: usize = HEADER_SIZE;
 
 // Where the pages of the RAM end, by its own end, however long it is.
 pub fn pages_end(ram: &[u8]) -> usize
-    requires { headerSize ≤ length ram.now }
-    ensures { result ≡ length (before ram) - headerSize }
+    requires { header_size ≤ length ram.now }
+    ensures { result ≡ length (before ram) - header_size }
 {
     ram.len() - TAIL_SIZE
 }
@@ -175,7 +175,7 @@ pub enum Judgement {
 // Is n or d above its capacity, or d above n?
 fn counts_bad(g: Geometry, n: u32, d: u32) -> bool
     requires { Sound g }
-    ensures { result ≡ (ltb (recordCapacity (shape g)) n || (ltb (deletionCapacity (shape g)) d || ltb n d)) }
+    ensures { result ≡ (ltb (record_capacity (shape g)) n || (ltb (deletion_capacity (shape g)) d || ltb n d)) }
 {
     if g.record_capacity() < n as usize {
         return true;
@@ -189,7 +189,7 @@ fn counts_bad(g: Geometry, n: u32, d: u32) -> bool
 // Are the lent bytes too few for the volume and the header?
 fn too_short(g: Geometry, main: &[u8], spare: &[u8], ram: &[u8]) -> bool
     requires { Sound g }
-    ensures { result ≡ tooShort (shape g) (flashBefore main spare) (pages (before ram)) }
+    ensures { result ≡ too_short (shape g) (flash_before main spare) (pages (before ram)) }
 {
     if main.len() < g.main_size() {
         return true;
@@ -202,8 +202,8 @@ fn too_short(g: Geometry, main: &[u8], spare: &[u8], ram: &[u8]) -> bool
 
 // Judges a state that is handed in.
 pub fn judge(s: State, main: &[u8], spare: &[u8], ram: &[u8]) -> Judgement
-    ensures equal { result ≡ judgementOf (onPages (given s main spare ram)) }
-    ensures fits { GoodFits (onPages (given s main spare ram)) result }
+    ensures equal { result ≡ judgement_of (on_pages (given s main spare ram)) }
+    ensures fits { GoodFits (on_pages (given s main spare ram)) result }
 {
     match geometry::geometry_for(s.sizes) {
         Shaped::Bad => {
@@ -223,8 +223,8 @@ pub fn judge(s: State, main: &[u8], spare: &[u8], ram: &[u8]) -> Judgement
 
 // Judges the sizes of a format.
 pub fn judge_new(sizes: Sizes, main: &[u8], spare: &[u8], ram: &[u8]) -> Judgement
-    ensures equal { result ≡ judgementOfNew (sizesIs sizes) (flashBefore main spare) (pages (before ram)) }
-    ensures fits { NewFits (sizesIs sizes) (flashBefore main spare) (pages (before ram)) result }
+    ensures equal { result ≡ judgement_of_new (sizes_is sizes) (flash_before main spare) (pages (before ram)) }
+    ensures fits { NewFits (sizes_is sizes) (flash_before main spare) (pages (before ram)) result }
 {
     match geometry::geometry_for(sizes) {
         Shaped::Bad => {

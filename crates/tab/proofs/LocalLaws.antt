@@ -40,7 +40,7 @@ within_new ν κ a m = ∥∥₁_map m (λ d. place (Memᴰ.cases_cons d))
   where
     place : (a ≡ ν) ⊎ Memᴰ a [] → Memᴰ a (ν ∷ κ)
     place (inl e) = Memᴰ.head e
-    place (inr d) = absurd (Memᴰ.not-nil d)
+    place (inr d) = absurd (Memᴰ.not_nil d)
 
 module _ {M : Type 1} {𝓤 : Ura M} (𝓛 : Logic 𝓤) (R : RattleType) (κ : Lft) (q : Share) (l : ℕ) where
   open 𝓛 use {H, A}
@@ -83,7 +83,7 @@ module _ {M : Type 1} {𝓤 : Ura M} (𝓛 : Logic 𝓤) (R : RattleType) (κ : 
       move ! (1 ∷ 2 ∷ []) $ use2 𝓛 (‵ (flft κ q)) (𝓛.lfts.lft_join κ q) $
       -- [κ's token; ν's share; what was kept; the last value]
       move ! (2 ∷ []) $ use1 𝓛 (‵ (flent (z.ν ∷ κ) (Body (mem R) l 0 z.δ)) ⊛ raw (wand 𝓤 (A.lft (z.ν ∷ []) (PosShare.left q)) (A.lft (z.ν ∷ []) full_share))) (id⊢ 𝓤 _) $ split ! $
-      move ! (3 ∷ 1 ∷ []) $ apply ! $ use1 𝓛 (‵ (flft (z.ν ∷ []) full_share)) (id⊢ 𝓤 _) $ lft_end ! tt $ use1 𝓛 (‵ (fdead (z.ν ∷ κ))) (𝓛.lfts.dead-incl (z.ν ∷ κ) (z.ν ∷ []) (within_new z.ν κ)) $
+      move ! (3 ∷ 1 ∷ []) $ apply ! $ use1 𝓛 (‵ (flft (z.ν ∷ []) full_share)) (id⊢ 𝓤 _) $ lft_end ! tt $ use1 𝓛 (‵ (fdead (z.ν ∷ κ))) (𝓛.lfts.dead_incl (z.ν ∷ κ) (z.ν ∷ []) (within_new z.ν κ)) $
       -- [the meet is over; the lender's part; κ's token; the last value]
       move ! (0 ∷ 1 ∷ 3 ∷ []) $ use3 𝓛 (later (‵ (part_at R full_share h l 0))) (ref_back 𝓛 R (z.ν ∷ κ) z.δ h l 0) $ await ! tt $
       fpick ! (λ vs. fsplit ! $ at_once ! $ show ! (λ (us : List Val). ⋆ 𝓛 (had h us)) vs $ done !)

@@ -5,7 +5,7 @@ use Rattle.std.proofs.Math.Option.{Option, none, some, map}
 use Prim.Native.String.{String}
 use Rattle.text.specs.Text.{ascii}
 use Rattle.tab.specs.Grammar.{each, doubled, Field, Row}
-use Rattle.tab.specs.Reader.{digits, decimal, word, bare, quoted, lineEnd, field, line, header, body, Read, rowsIn, rows_of}
+use Rattle.tab.specs.Reader.{digits, decimal, word, bare, quoted, line_end, field, line, header, body, Read, rows_in, rows_of}
 
 abbrev row_of : ℕ → ℕ → ℕ → Row
 row_of a b c = record { level = a; moves = b; goal = c }
@@ -22,144 +22,144 @@ NoHeader text = read_of (ascii text) ≡ none
 
 -- two rows
 pub plain : Reads "level,moves,goal\n7,40,1\n8,41,2\n" (row_of 7 40 1 ∷ row_of 8 41 2 ∷ []) ""
-unfolding digits decimal word bare quoted lineEnd field line rowsIn
+unfolding digits decimal word bare quoted line_end field line rows_in
 plain = refl
 
 -- "each field, the header's too, quoted or not, lines ended by LF or CRLF, the last ending optional"
-pub quoted-mixed : Reads "\"level\",moves,\"goal\"\r\n\"7\",0040,\"1\"\n8,41,2" (row_of 7 40 1 ∷ row_of 8 41 2 ∷ []) ""
-unfolding digits decimal word bare quoted lineEnd field line rowsIn
-quoted-mixed = refl
+pub quoted_mixed : Reads "\"level\",moves,\"goal\"\r\n\"7\",0040,\"1\"\n8,41,2" (row_of 7 40 1 ∷ row_of 8 41 2 ∷ []) ""
+unfolding digits decimal word bare quoted line_end field line rows_in
+quoted_mixed = refl
 
 -- "rows, if any"
-pub header-only : Reads "level,moves,goal" [] ""
-unfolding digits decimal word bare quoted lineEnd field line rowsIn
-header-only = refl
+pub header_only : Reads "level,moves,goal" [] ""
+unfolding digits decimal word bare quoted line_end field line rows_in
+header_only = refl
 
 -- "opening no row"
-pub last-ending : Reads "level,moves,goal\r\n" [] ""
-unfolding digits decimal word bare quoted lineEnd field line rowsIn
-last-ending = refl
+pub last_ending : Reads "level,moves,goal\r\n" [] ""
+unfolding digits decimal word bare quoted line_end field line rows_in
+last_ending = refl
 
 -- a second ending opens a row, and an empty line is none
-pub empty-line : Reads "level,moves,goal\n1,2,3\n\n" (row_of 1 2 3 ∷ []) "\n"
-unfolding digits decimal word bare quoted lineEnd field line rowsIn
-empty-line = refl
+pub empty_line : Reads "level,moves,goal\n1,2,3\n\n" (row_of 1 2 3 ∷ []) "\n"
+unfolding digits decimal word bare quoted line_end field line rows_in
+empty_line = refl
 
 -- "below 2^32"
 pub too_large : Reads "level,moves,goal\n4294967295,0,0\n4294967296,0,0\n" (row_of 4294967295 0 0 ∷ []) "4294967296,0,0\n"
-unfolding digits decimal word bare quoted lineEnd field line rowsIn
+unfolding digits decimal word bare quoted line_end field line rows_in
 too_large = refl
 
 -- "leading zeros allowed", however many
 pub zeros : Reads "level,moves,goal\n00000000000000000000000000000001,2,\"00000000000000000000000000000003\"" (row_of 1 2 3 ∷ []) ""
-unfolding digits decimal word bare quoted lineEnd field line rowsIn
+unfolding digits decimal word bare quoted line_end field line rows_in
 zeros = refl
 
 -- ---- lines that are no rows
 
 -- a lone CR ends no line
-pub lone-cr : Reads "level,moves,goal\n1,2,3\r" [] "1,2,3\r"
-unfolding digits decimal word bare quoted lineEnd field line rowsIn
-lone-cr = refl
+pub lone_cr : Reads "level,moves,goal\n1,2,3\r" [] "1,2,3\r"
+unfolding digits decimal word bare quoted line_end field line rows_in
+lone_cr = refl
 
 -- a legal field, but no number
-pub doubled-quote : Reads "level,moves,goal\n\"1\"\"2\",2,3\n" [] "\"1\"\"2\",2,3\n"
-unfolding digits decimal word bare quoted lineEnd field line rowsIn
-doubled-quote = refl
+pub doubled_quote : Reads "level,moves,goal\n\"1\"\"2\",2,3\n" [] "\"1\"\"2\",2,3\n"
+unfolding digits decimal word bare quoted line_end field line rows_in
+doubled_quote = refl
 
 -- nothing may follow a closing quote
-pub after-quote : Reads "level,moves,goal\n\"1\"0,2,3\n" [] "\"1\"0,2,3\n"
-unfolding digits decimal word bare quoted lineEnd field line rowsIn
-after-quote = refl
+pub after_quote : Reads "level,moves,goal\n\"1\"0,2,3\n" [] "\"1\"0,2,3\n"
+unfolding digits decimal word bare quoted line_end field line rows_in
+after_quote = refl
 
 -- a quote is closed
-pub open-quote : Reads "level,moves,goal\n1,2,\"3\n" [] "1,2,\"3\n"
-unfolding digits decimal word bare quoted lineEnd field line rowsIn
-open-quote = refl
+pub open_quote : Reads "level,moves,goal\n1,2,\"3\n" [] "1,2,\"3\n"
+unfolding digits decimal word bare quoted line_end field line rows_in
+open_quote = refl
 
 -- a quote inside a field without quotes
-pub inner-quote : Reads "level,moves,goal\n1\"2,2,3\n" [] "1\"2,2,3\n"
-unfolding digits decimal word bare quoted lineEnd field line rowsIn
-inner-quote = refl
+pub inner_quote : Reads "level,moves,goal\n1\"2,2,3\n" [] "1\"2,2,3\n"
+unfolding digits decimal word bare quoted line_end field line rows_in
+inner_quote = refl
 
 -- a line feed may stand between quotes, but no number has one
-pub line-in-quotes : Reads "level,moves,goal\n1,2,\"3\n\"\n" [] "1,2,\"3\n\"\n"
-unfolding digits decimal word bare quoted lineEnd field line rowsIn
-line-in-quotes = refl
+pub line_in_quotes : Reads "level,moves,goal\n1,2,\"3\n\"\n" [] "1,2,\"3\n\"\n"
+unfolding digits decimal word bare quoted line_end field line rows_in
+line_in_quotes = refl
 
 -- a comma after the third field
-pub fourth-field : Reads "level,moves,goal\n1,2,3,\n" [] "1,2,3,\n"
-unfolding digits decimal word bare quoted lineEnd field line rowsIn
-fourth-field = refl
+pub fourth_field : Reads "level,moves,goal\n1,2,3,\n" [] "1,2,3,\n"
+unfolding digits decimal word bare quoted line_end field line rows_in
+fourth_field = refl
 
 -- two fields
 pub two_fields : Reads "level,moves,goal\n1,2\n" [] "1,2\n"
-unfolding digits decimal word bare quoted lineEnd field line rowsIn
+unfolding digits decimal word bare quoted line_end field line rows_in
 two_fields = refl
 
 -- a blank is no digit
 pub blank : Reads "level,moves,goal\n1, 2,3\n" [] "1, 2,3\n"
-unfolding digits decimal word bare quoted lineEnd field line rowsIn
+unfolding digits decimal word bare quoted line_end field line rows_in
 blank = refl
 
 -- nor is a sign
 pub sign : Reads "level,moves,goal\n+1,2,3\n" [] "+1,2,3\n"
-unfolding digits decimal word bare quoted lineEnd field line rowsIn
+unfolding digits decimal word bare quoted line_end field line rows_in
 sign = refl
 
 -- an empty field is no number
-pub empty-field : Reads "level,moves,goal\n1,,3\n" [] "1,,3\n"
-unfolding digits decimal word bare quoted lineEnd field line rowsIn
-empty-field = refl
+pub empty_field : Reads "level,moves,goal\n1,,3\n" [] "1,,3\n"
+unfolding digits decimal word bare quoted line_end field line rows_in
+empty_field = refl
 
 -- a quote in a value is written twice
-pub escaped-quote : Field (ascii "\"1\"\"2\"") (ascii "1\"2")
+pub escaped_quote : Field (ascii "\"1\"\"2\"") (ascii "1\"2")
 unfolding each doubled
-escaped-quote = inl (record { may = refl; is = refl })
+escaped_quote = inl (record { may = refl; is = refl })
 
 -- request 6: "a file of no bytes"
 pub nothing : Reads "" [] ""
-unfolding rowsIn
+unfolding rows_in
 nothing = refl
 
 -- ---- texts without a header
 
 -- a row in its place
 pub no_header : NoHeader "1,2,3\n"
-unfolding digits decimal word bare quoted lineEnd field line
+unfolding digits decimal word bare quoted line_end field line
 no_header = refl
 
 -- the names are in lower case
-pub upper-case : NoHeader "Level,moves,goal\n"
-unfolding digits decimal word bare quoted lineEnd field line
-upper-case = refl
+pub upper_case : NoHeader "Level,moves,goal\n"
+unfolding digits decimal word bare quoted line_end field line
+upper_case = refl
 
 -- and in this order
-pub other-order : NoHeader "level,goal,moves\n"
-unfolding digits decimal word bare quoted lineEnd field line
-other-order = refl
+pub other_order : NoHeader "level,goal,moves\n"
+unfolding digits decimal word bare quoted line_end field line
+other_order = refl
 
 -- all of a name
-pub cut-name : NoHeader "level,moves,goa\n"
-unfolding digits decimal word bare quoted lineEnd field line
-cut-name = refl
+pub cut_name : NoHeader "level,moves,goa\n"
+unfolding digits decimal word bare quoted line_end field line
+cut_name = refl
 
 -- and no more
-pub long-name : NoHeader "level,moves,goals\n"
-unfolding digits decimal word bare quoted lineEnd field line
-long-name = refl
+pub long_name : NoHeader "level,moves,goals\n"
+unfolding digits decimal word bare quoted line_end field line
+long_name = refl
 
 -- a quote is closed
-pub open-name : NoHeader "level,moves,\"goal\n"
-unfolding digits decimal word bare quoted lineEnd field line
-open-name = refl
+pub open_name : NoHeader "level,moves,\"goal\n"
+unfolding digits decimal word bare quoted line_end field line
+open_name = refl
 
 -- only a line end
 pub only_ending : NoHeader "\n"
-unfolding digits decimal word bare quoted lineEnd field line
+unfolding digits decimal word bare quoted line_end field line
 only_ending = refl
 
 -- also with a return
-pub only-return : NoHeader "\r\n"
-unfolding digits decimal word bare quoted lineEnd field line
-only-return = refl
+pub only_return : NoHeader "\r\n"
+unfolding digits decimal word bare quoted line_end field line
+only_return = refl

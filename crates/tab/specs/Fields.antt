@@ -5,8 +5,8 @@ use Rattle.std.proofs.Math.Bool.{and-eq-true_iff}
 use Rattle.std.proofs.Math.Option.{Option, none, some, none-ne-some}
 use mathlib.Core.List.{List, [], ◌∷◌, ◌++◌, append_assoc}
 use Rattle.memory.specs.Cases.{either, bool?, eq?}
-use Rattle.text.specs.Text.{isDigit, digitsFrom}
-use Rattle.tab.specs.Grammar.{dquote, textData, quotable, each, doubled, Field, Decimal, Number}
+use Rattle.text.specs.Text.{is_digit, digits_from}
+use Rattle.tab.specs.Grammar.{dquote, text_data, quotable, each, doubled, Field, Decimal, Number}
 use Rattle.tab.specs.Reader.{Got, got, digits, small, decimal, word, name_of, bare, after, ended, quoted}
 use Rattle.tab.specs.declared.Column.{Column}
 use Rattle.tab.specs.declared.Column.TheVariants.{Level, Moves, Goal}
@@ -14,7 +14,7 @@ use Rattle.tab.specs.declared.Column.TheVariants.{Level, Moves, Goal}
 -- ---- values that are written alike with quotes and without
 
 pub record Simple (value : List ℕ) : Type 0 where
-  pub text : each textData value ≡ true
+  pub text : each text_data value ≡ true
   pub quotes : each quotable value ≡ true
   pub same : doubled value ≡ value
 
@@ -26,70 +26,70 @@ Unquoted (c ∷ cs) = eqb c dquote ≡ false
 -- a text that does not begin with a digit
 abbrev pub Stops : List ℕ → Type 0
 Stops [] = Unit {0}
-Stops (c ∷ cs) = isDigit c ≡ false
+Stops (c ∷ cs) = is_digit c ≡ false
 
 -- ---- digits
 
-digit-range : (c : ℕ) → isDigit c ≡ true → (48 ≤ c) × (c ≤ 57)
-digit-range c d =
+digit_range : (c : ℕ) → is_digit c ≡ true → (48 ≤ c) × (c ≤ 57)
+digit_range c d =
     let p = (and-eq-true_iff (leb 48 c) (leb c 57)).0 d in
     (leb-true 48 c p.0, leb-true c 57 p.1)
 
-digit-no-quote : (c : ℕ) → isDigit c ≡ true → eqb c dquote ≡ false
-digit-no-quote c d = ne_eqb c dquote (λ e. omega (arith, (digit-range c d).0))
+digit_no_quote : (c : ℕ) → is_digit c ≡ true → eqb c dquote ≡ false
+digit_no_quote c d = ne_eqb c dquote (λ e. omega (arith, (digit_range c d).0))
 
-or-last : (a b : Bool) → (a || (b || true)) ≡ true
-or-last true b = refl
-or-last false true = refl
-or-last false false = refl
+or_last : (a b : Bool) → (a || (b || true)) ≡ true
+or_last true b = refl
+or_last false true = refl
+or_last false false = refl
 
-digit-text : (c : ℕ) → isDigit c ≡ true → textData c ≡ true
-digit-text c d =
-    let r = digit-range c d in
+digit_text : (c : ℕ) → is_digit c ≡ true → text_data c ≡ true
+digit_text c d =
+    let r = digit_range c d in
     rw (le-leb 0x2D c (omega (arith, r.0)), le-leb c 0x7E (omega (arith, r.1)))
-    (or-last (leb 0x20 c && leb c 0x21) (leb 0x23 c && leb c 0x2B))
+    (or_last (leb 0x20 c && leb c 0x21) (leb 0x23 c && leb c 0x2B))
 
 -- where digits are read, the first byte is one
-digit-first : (v n c : ℕ) (cs : List ℕ) → digitsFrom v (c ∷ cs) ≡ some n → isDigit c ≡ true
-unfolding digitsFrom
-digit-first v n c cs e = either (bool? (isDigit c)) (λ d. d) (λ d. absurd (none-ne-some n (rw d at e)))
+digit_first : (v n c : ℕ) (cs : List ℕ) → digits_from v (c ∷ cs) ≡ some n → is_digit c ≡ true
+unfolding digits_from
+digit_first v n c cs e = either (bool? (is_digit c)) (λ d. d) (λ d. absurd (none-ne-some n (rw d at e)))
 
-digits_more : (v n c : ℕ) (cs : List ℕ) → digitsFrom v (c ∷ cs) ≡ some n → digitsFrom (v * 10 + (c - 48)) cs ≡ some n
-unfolding digitsFrom
-digits_more v n c cs e = rw (digit-first v n c cs e) at e
+digits_more : (v n c : ℕ) (cs : List ℕ) → digits_from v (c ∷ cs) ≡ some n → digits_from (v * 10 + (c - 48)) cs ≡ some n
+unfolding digits_from
+digits_more v n c cs e = rw (digit_first v n c cs e) at e
 
-digits-simple : (v n : ℕ) (value : List ℕ) → digitsFrom v value ≡ some n → Simple value
+digits_simple : (v n : ℕ) (value : List ℕ) → digits_from v value ≡ some n → Simple value
 unfolding each doubled
-digits-simple v n [] e = record { text = refl; quotes = refl; same = refl }
-digits-simple v n (c ∷ cs) e =
-    let d = digit-first v n c cs e in
-    let S = digits-simple (v * 10 + (c - 48)) n cs (digits_more v n c cs e) in
+digits_simple v n [] e = record { text = refl; quotes = refl; same = refl }
+digits_simple v n (c ∷ cs) e =
+    let d = digit_first v n c cs e in
+    let S = digits_simple (v * 10 + (c - 48)) n cs (digits_more v n c cs e) in
     record {
-      text = rw (digit-text c d) S.text;
-      quotes = rw (digit-text c d) S.quotes;
-      same = rw (digit-no-quote c d) (ap (λ (x : List ℕ). c ∷ x) S.same);
+      text = rw (digit_text c d) S.text;
+      quotes = rw (digit_text c d) S.quotes;
+      same = rw (digit_no_quote c d) (ap (λ (x : List ℕ). c ∷ x) S.same);
     }
 
-digits-stop : (v : ℕ) (t : List ℕ) → Stops t → digits v t ≡ got v t
+digits_stop : (v : ℕ) (t : List ℕ) → Stops t → digits v t ≡ got v t
 unfolding digits
-digits-stop v [] s = refl
-digits-stop v (c ∷ cs) s = rw s
+digits_stop v [] s = refl
+digits_stop v (c ∷ cs) s = rw s
 
-digits-read : (v n : ℕ) (value t : List ℕ) → digitsFrom v value ≡ some n → Stops t → digits v (value ++ t) ≡ got n t
-unfolding digits digitsFrom
-digits-read v n [] t e s = let q : v ≡ n = cc in rw (← q) (digits-stop v t s)
-digits-read v n (c ∷ cs) t e s =
-    rw (digit-first v n c cs e) (digits-read (v * 10 + (c - 48)) n cs t (digits_more v n c cs e) s)
+digits_read : (v n : ℕ) (value t : List ℕ) → digits_from v value ≡ some n → Stops t → digits v (value ++ t) ≡ got n t
+unfolding digits digits_from
+digits_read v n [] t e s = let q : v ≡ n = cc in rw (← q) (digits_stop v t s)
+digits_read v n (c ∷ cs) t e s =
+    rw (digit_first v n c cs e) (digits_read (v * 10 + (c - 48)) n cs t (digits_more v n c cs e) s)
 
-decimal-complete : (value t : List ℕ) (n : ℕ) → Decimal value n → Stops t → decimal (value ++ t) ≡ some (got n t)
+decimal_complete : (value t : List ℕ) (n : ℕ) → Decimal value n → Stops t → decimal (value ++ t) ≡ some (got n t)
 unfolding decimal
-decimal-complete [] t n D s = absurd (D.some-digit refl)
-decimal-complete (c ∷ cs) t n D s =
-    rw (digit-first 0 n c cs D.is, digits-read 0 n (c ∷ cs) t D.is s, lt-ltb n 4294967296 D.below)
+decimal_complete [] t n D s = absurd (D.some_digit refl)
+decimal_complete (c ∷ cs) t n D s =
+    rw (digit_first 0 n c cs D.is, digits_read 0 n (c ∷ cs) t D.is s, lt-ltb n 4294967296 D.below)
 
-decimal-unquoted : (value : List ℕ) (n : ℕ) → Decimal value n → Unquoted value
-decimal-unquoted [] n D = absurd (D.some-digit refl)
-decimal-unquoted (c ∷ cs) n D = digit-no-quote c (digit-first 0 n c cs D.is)
+decimal_unquoted : (value : List ℕ) (n : ℕ) → Decimal value n → Unquoted value
+decimal_unquoted [] n D = absurd (D.some_digit refl)
+decimal_unquoted (c ∷ cs) n D = digit_no_quote c (digit_first 0 n c cs D.is)
 
 -- ---- what is read without quotes, as a value of which P is said
 
@@ -103,114 +103,114 @@ pub record Shown (P : List ℕ → ℕ → Type 0) (text : List ℕ) (g : Got) :
 record Digits (v : ℕ) (text : List ℕ) : Type 0 where
   value : List ℕ
   is : text ≡ value ++ (digits v text).rest
-  says : digitsFrom v value ≡ some (digits v text).value
+  says : digits_from v value ≡ some (digits v text).value
 
-digits-sound : (v : ℕ) (text : List ℕ) → Digits v text
-unfolding digits digitsFrom
-digits-sound v [] = record { value = []; is = refl; says = refl }
-digits-sound v (c ∷ cs) =
-    either (bool? (isDigit c))
+digits_sound : (v : ℕ) (text : List ℕ) → Digits v text
+unfolding digits digits_from
+digits_sound v [] = record { value = []; is = refl; says = refl }
+digits_sound v (c ∷ cs) =
+    either (bool? (is_digit c))
     (λ d.
-    let I = digits-sound (v * 10 + (c - 48)) cs in
+    let I = digits_sound (v * 10 + (c - 48)) cs in
     record { value = c ∷ I.value; is = rw d (ap (λ (x : List ℕ). c ∷ x) I.is); says = rw d I.says })
     (λ d. record { value = []; is = rw d; says = rw d })
 
-cons-some : (c : ℕ) (cs : List ℕ) → (c ∷ cs) ≢ []
-cons-some c cs z = let y : suc (length cs) ≡ 0 = ap length z in omega arith
+cons_some : (c : ℕ) (cs : List ℕ) → (c ∷ cs) ≢ []
+cons_some c cs z = let y : suc (length cs) ≡ 0 = ap length z in omega arith
 
 -- of the digits that there are, those after the first
-decimal-first : (c : ℕ) (cs : List ℕ) (g : Got) → isDigit c ≡ true → digits (0 * 10 + (c - 48)) cs ≡ g → g.value < 2 ^ 32
+decimal_first : (c : ℕ) (cs : List ℕ) (g : Got) → is_digit c ≡ true → digits (0 * 10 + (c - 48)) cs ≡ g → g.value < 2 ^ 32
     → Shown Decimal (c ∷ cs) g
-unfolding digitsFrom
-decimal-first c cs g d q below =
-    let I = digits-sound (0 * 10 + (c - 48)) cs in
-    let says : digitsFrom 0 (c ∷ I.value) ≡ some g.value = rw (d, ← q) I.says in
+unfolding digits_from
+decimal_first c cs g d q below =
+    let I = digits_sound (0 * 10 + (c - 48)) cs in
+    let says : digits_from 0 (c ∷ I.value) ≡ some g.value = rw (d, ← q) I.says in
     record {
       value = c ∷ I.value;
       is = ap (λ (x : List ℕ). c ∷ x) (rw (← q) I.is);
-      simple = digits-simple 0 g.value (c ∷ I.value) says;
-      says = record { some-digit = cons-some c I.value; is = says; below = below };
+      simple = digits_simple 0 g.value (c ∷ I.value) says;
+      says = record { some_digit = cons_some c I.value; is = says; below = below };
     }
 
-decimal-sound : (text : List ℕ) (g : Got) → decimal text ≡ some g → Shown Decimal text g
+decimal_sound : (text : List ℕ) (g : Got) → decimal text ≡ some g → Shown Decimal text g
 unfolding digits decimal
-decimal-sound [] g e = absurd (none-ne-some g e)
-decimal-sound (c ∷ cs) g e =
-    either (bool? (isDigit c))
+decimal_sound [] g e = absurd (none-ne-some g e)
+decimal_sound (c ∷ cs) g e =
+    either (bool? (is_digit c))
     (λ d.
     let G : Got = digits (0 * 10 + (c - 48)) cs in
     let e₁ : small G ≡ some g = rw d at e in
     either (bool? (ltb G.value 4294967296))
     (λ b.
     let q : G ≡ g = (let z : some G ≡ some g = rw b at e₁ in cc) in
-    decimal-first c cs g d q (rw (← q) (ltb-true G.value 4294967296 b)))
+    decimal_first c cs g d q (rw (← q) (ltb-true G.value 4294967296 b)))
     (λ b. absurd (none-ne-some g (rw b at e₁))))
     (λ d. absurd (none-ne-some g (rw d at e)))
 
 -- ---- words
 
-word-complete : (w t : List ℕ) → word w (w ++ t) ≡ some (got 0 t)
+word_complete : (w t : List ℕ) → word w (w ++ t) ≡ some (got 0 t)
 unfolding word
-word-complete [] t = refl
-word-complete (x ∷ w) t = rw (eq-eqb x x refl) (word-complete w t)
+word_complete [] t = refl
+word_complete (x ∷ w) t = rw (eq-eqb x x refl) (word_complete w t)
 
 -- a text that is w and stands for 0
 abbrev Named : List ℕ → List ℕ → ℕ → Type 0
 Named w value n = (value ≡ w) × (n ≡ 0)
 
-word-is : (w text : List ℕ) (g : Got) → word w text ≡ some g → (text ≡ w ++ g.rest) × (g.value ≡ 0)
+word_is : (w text : List ℕ) (g : Got) → word w text ≡ some g → (text ≡ w ++ g.rest) × (g.value ≡ 0)
 unfolding word
-word-is [] text g e = let q : got 0 text ≡ g = cc in (ap (λ (x : Got). x.rest) q, sym (ap (λ (x : Got). x.value) q))
-word-is (x ∷ w) [] g e = absurd (none-ne-some g e)
-word-is (x ∷ w) (c ∷ cs) g e =
+word_is [] text g e = let q : got 0 text ≡ g = cc in (ap (λ (x : Got). x.rest) q, sym (ap (λ (x : Got). x.value) q))
+word_is (x ∷ w) [] g e = absurd (none-ne-some g e)
+word_is (x ∷ w) (c ∷ cs) g e =
     either (eq? c x)
-    (λ a. let I = word-is w cs g (rw a.0 at e) in (rw a.1 (ap (λ (t : List ℕ). x ∷ t) I.0), I.1))
+    (λ a. let I = word_is w cs g (rw a.0 at e) in (rw a.1 (ap (λ (t : List ℕ). x ∷ t) I.0), I.1))
     (λ a. absurd (none-ne-some g (rw a.0 at e)))
 
-name-simple : (c : Column) → Simple (name_of c)
+name_simple : (c : Column) → Simple (name_of c)
 unfolding each doubled
-name-simple Level = record { text = refl; quotes = refl; same = refl }
-name-simple Moves = record { text = refl; quotes = refl; same = refl }
-name-simple Goal = record { text = refl; quotes = refl; same = refl }
+name_simple Level = record { text = refl; quotes = refl; same = refl }
+name_simple Moves = record { text = refl; quotes = refl; same = refl }
+name_simple Goal = record { text = refl; quotes = refl; same = refl }
 
-name-unquoted : (c : Column) → Unquoted (name_of c)
-name-unquoted Level = refl
-name-unquoted Moves = refl
-name-unquoted Goal = refl
+name_unquoted : (c : Column) → Unquoted (name_of c)
+name_unquoted Level = refl
+name_unquoted Moves = refl
+name_unquoted Goal = refl
 
-name-sound : (c : Column) (text : List ℕ) (g : Got) → word (name_of c) text ≡ some g → Shown (Named (name_of c)) text g
-name-sound c text g e =
-    let I = word-is (name_of c) text g e in
-    record { value = name_of c; is = I.0; simple = name-simple c; says = (refl, I.1) }
+name_sound : (c : Column) (text : List ℕ) (g : Got) → word (name_of c) text ≡ some g → Shown (Named (name_of c)) text g
+name_sound c text g e =
+    let I = word_is (name_of c) text g e in
+    record { value = name_of c; is = I.0; simple = name_simple c; says = (refl, I.1) }
 
 -- ---- quoted or not
 
-unquoted-read : (f : List ℕ → Option Got) (value t : List ℕ) → Unquoted value → quoted f (value ++ t) ≡ f (value ++ t)
+unquoted_read : (f : List ℕ → Option Got) (value t : List ℕ) → Unquoted value → quoted f (value ++ t) ≡ f (value ++ t)
 unfolding quoted
-unquoted-read f [] t u = absurd u
-unquoted-read f (c ∷ cs) t u = rw u
+unquoted_read f [] t u = absurd u
+unquoted_read f (c ∷ cs) t u = rw u
 
-quoted-complete : (f : List ℕ → Option Got) (value text t : List ℕ) (n : ℕ) → Simple value → Unquoted value
+quoted_complete : (f : List ℕ → Option Got) (value text t : List ℕ) (n : ℕ) → Simple value → Unquoted value
     → f (value ++ (dquote ∷ t)) ≡ some (got n (dquote ∷ t)) → f (value ++ t) ≡ some (got n t) → Field text value
     → quoted f (text ++ t) ≡ some (got n t)
 unfolding quoted
-quoted-complete f value text t n S u inside alone F =
+quoted_complete f value text t n S u inside alone F =
     either F
     (λ q. rw (q.is, S.same, append_assoc value (dquote ∷ []) t, inside))
-    (λ p. rw p.is (unquoted-read f value t u ∙ alone))
+    (λ p. rw p.is (unquoted_read f value t u ∙ alone))
 
-pub after-sound : (x : ℕ) (text t : List ℕ) → after x text ≡ some t → text ≡ x ∷ t
-after-sound x [] t e = absurd (none-ne-some t e)
-after-sound x (c ∷ cs) t e =
+pub after_sound : (x : ℕ) (text t : List ℕ) → after x text ≡ some t → text ≡ x ∷ t
+after_sound x [] t e = absurd (none-ne-some t e)
+after_sound x (c ∷ cs) t e =
     either (eq? c x)
     (λ a. let z : some cs ≡ some t = rw a.0 at e in let q : cs ≡ t = cc in rw (a.1, q))
     (λ a. absurd (none-ne-some t (rw a.0 at e)))
 
 -- what was read before the end, and the end
-pub ended-sound : (end : List ℕ → Option (List ℕ)) (o : Option Got) (g : Got) → ended end o ≡ some g
+pub ended_sound : (end : List ℕ → Option (List ℕ)) (o : Option Got) (g : Got) → ended end o ≡ some g
     → (t : List ℕ) × (o ≡ some (got g.value t)) × (end t ≡ some g.rest)
-ended-sound end none g e = absurd (none-ne-some g e)
-ended-sound end (some x) g e = go (end x.rest) refl e
+ended_sound end none g e = absurd (none-ne-some g e)
+ended_sound end (some x) g e = go (end x.rest) refl e
   where
     go : (o : Option (List ℕ)) → end x.rest ≡ o → ended (λ _. o) (some x) ≡ some g
         → (t : List ℕ) × (some x ≡ some (got g.value t)) × (end t ≡ some g.rest)
@@ -230,8 +230,8 @@ pub record FieldShown (P : List ℕ → ℕ → Type 0) (text : List ℕ) (g : G
   pub says : P value g.value
 
 module _ (P : List ℕ → ℕ → Type 0) where
-  plain-shown : (text : List ℕ) (g : Got) → Shown P text g → FieldShown P text g
-  plain-shown text g S = record {
+  plain_shown : (text : List ℕ) (g : Got) → Shown P text g → FieldShown P text g
+  plain_shown text g S = record {
     field = S.value;
     value = S.value;
     is = S.is;
@@ -239,8 +239,8 @@ module _ (P : List ℕ → ℕ → Type 0) where
     says = S.says;
   }
 
-  quoted-shown : (c : ℕ) (cs : List ℕ) (g : Got) → c ≡ dquote → Shown P cs (got g.value (dquote ∷ g.rest)) → FieldShown P (c ∷ cs) g
-  quoted-shown c cs g a S = record {
+  quoted_shown : (c : ℕ) (cs : List ℕ) (g : Got) → c ≡ dquote → Shown P cs (got g.value (dquote ∷ g.rest)) → FieldShown P (c ∷ cs) g
+  quoted_shown c cs g a S = record {
     field = dquote ∷ (S.value ++ (dquote ∷ []));
     value = S.value;
     is = rw a (ap (λ (x : List ℕ). dquote ∷ x) (S.is ∙ sym (append_assoc S.value (dquote ∷ []) g.rest)));
@@ -248,17 +248,17 @@ module _ (P : List ℕ → ℕ → Type 0) where
     says = S.says;
   }
 
-  quoted-sound : (f : List ℕ → Option Got) → ((t : List ℕ) (g : Got) → f t ≡ some g → Shown P t g)
+  quoted_sound : (f : List ℕ → Option Got) → ((t : List ℕ) (g : Got) → f t ≡ some g → Shown P t g)
       → (text : List ℕ) (g : Got) → quoted f text ≡ some g → FieldShown P text g
   unfolding quoted
-  quoted-sound f sound [] g e = plain-shown [] g (sound [] g e)
-  quoted-sound f sound (c ∷ cs) g e =
+  quoted_sound f sound [] g e = plain_shown [] g (sound [] g e)
+  quoted_sound f sound (c ∷ cs) g e =
       either (eq? c dquote)
       (λ a.
-      let I = ended-sound (after dquote) (f cs) g (rw a.0 at e) in
-      let r : I.0 ≡ dquote ∷ g.rest = after-sound dquote I.0 g.rest I.2 in
-      quoted-shown c cs g a.1 (sound cs (got g.value (dquote ∷ g.rest)) (I.1 ∙ rw r)))
-      (λ a. plain-shown (c ∷ cs) g (sound (c ∷ cs) g (rw a.0 at e)))
+      let I = ended_sound (after dquote) (f cs) g (rw a.0 at e) in
+      let r : I.0 ≡ dquote ∷ g.rest = after_sound dquote I.0 g.rest I.2 in
+      quoted_shown c cs g a.1 (sound cs (got g.value (dquote ∷ g.rest)) (I.1 ∙ rw r)))
+      (λ a. plain_shown (c ∷ cs) g (sound (c ∷ cs) g (rw a.0 at e)))
 
 -- ---- the field of a column: its name in the header, a number in a row
 
@@ -266,16 +266,16 @@ abbrev pub Means : Bool → Column → List ℕ → ℕ → Type 0
 Means true c text n = Field text (name_of c) × (n ≡ 0)
 Means false c text n = Number text n
 
-pub content-complete : (header : Bool) (c : Column) (text t : List ℕ) (n : ℕ) → Means header c text n → Stops t
+pub content_complete : (header : Bool) (c : Column) (text t : List ℕ) (n : ℕ) → Means header c text n → Stops t
     → quoted (bare header c) (text ++ t) ≡ some (got n t)
 unfolding bare
-content-complete true c text t n M s =
+content_complete true c text t n M s =
     rw M.1
-    (quoted-complete (word (name_of c)) (name_of c) text t 0 (name-simple c) (name-unquoted c)
-    (word-complete (name_of c) (dquote ∷ t)) (word-complete (name_of c) t) M.0)
-content-complete false c text t n M s =
-    quoted-complete decimal M.value text t n (digits-simple 0 n M.value M.decimal.is) (decimal-unquoted M.value n M.decimal)
-    (decimal-complete M.value (dquote ∷ t) n M.decimal refl) (decimal-complete M.value t n M.decimal s) M.field
+    (quoted_complete (word (name_of c)) (name_of c) text t 0 (name_simple c) (name_unquoted c)
+    (word_complete (name_of c) (dquote ∷ t)) (word_complete (name_of c) t) M.0)
+content_complete false c text t n M s =
+    quoted_complete decimal M.value text t n (digits_simple 0 n M.value M.decimal.is) (decimal_unquoted M.value n M.decimal)
+    (decimal_complete M.value (dquote ∷ t) n M.decimal refl) (decimal_complete M.value t n M.decimal s) M.field
 
 -- a field, and the text after it
 pub record Content (header : Bool) (c : Column) (text : List ℕ) (g : Got) : Type 0 where
@@ -283,11 +283,11 @@ pub record Content (header : Bool) (c : Column) (text : List ℕ) (g : Got) : Ty
   pub is : text ≡ field ++ g.rest
   pub means : Means header c field g.value
 
-pub content-sound : (header : Bool) (c : Column) (text : List ℕ) (g : Got) → quoted (bare header c) text ≡ some g → Content header c text g
+pub content_sound : (header : Bool) (c : Column) (text : List ℕ) (g : Got) → quoted (bare header c) text ≡ some g → Content header c text g
 unfolding bare
-content-sound true c text g e =
-    let F = quoted-sound (Named (name_of c)) (word (name_of c)) (name-sound c) text g e in
+content_sound true c text g e =
+    let F = quoted_sound (Named (name_of c)) (word (name_of c)) (name_sound c) text g e in
     record { field = F.field; is = F.is; means = (subst (Field F.field) F.says.0 F.field_is, F.says.1) }
-content-sound false c text g e =
-    let F = quoted-sound Decimal decimal decimal-sound text g e in
+content_sound false c text g e =
+    let F = quoted_sound Decimal decimal decimal_sound text g e in
     record { field = F.field; is = F.is; means = record { value = F.value; field = F.field_is; decimal = F.says } }

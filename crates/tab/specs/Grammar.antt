@@ -2,7 +2,7 @@
 -- between a text and what it says: `++` is concatenation, a sum a choice, a list a repetition. No reader is named here.
 use Rattle.std.specs.Prelude.{◌≡◌, ◌≢◌, ◌⊎◌, Bool, true, ◌&&◌, ◌||◌, cond, List, [], ◌∷◌, ◌++◌, ℕ, ◌^◌, ◌<◌, leb, eqb}
 use Rattle.std.proofs.Math.Option.{some}
-use Rattle.text.specs.Text.{ascii, digitsFrom}
+use Rattle.text.specs.Text.{ascii, digits_from}
 
 -- ---- bytes
 
@@ -20,12 +20,12 @@ abbrev pub cr : ℕ
 cr = 0x0D
 
 -- TEXTDATA = %x20-21 / %x23-2B / %x2D-7E
-abbrev pub textData : ℕ → Bool
-textData c = (leb 0x20 c && leb c 0x21) || ((leb 0x23 c && leb c 0x2B) || (leb 0x2D c && leb c 0x7E))
+abbrev pub text_data : ℕ → Bool
+text_data c = (leb 0x20 c && leb c 0x21) || ((leb 0x23 c && leb c 0x2B) || (leb 0x2D c && leb c 0x7E))
 
 -- TEXTDATA / COMMA / CR / LF, and DQUOTE, which 2DQUOTE stands for
 abbrev pub quotable : ℕ → Bool
-quotable c = textData c || (eqb c comma || (eqb c cr || (eqb c lf || eqb c dquote)))
+quotable c = text_data c || (eqb c comma || (eqb c cr || (eqb c lf || eqb c dquote)))
 
 unfoldable pub each : (ℕ → Bool) → List ℕ → Bool
 each f [] = true
@@ -45,7 +45,7 @@ pub record Escaped (text value : List ℕ) : Type 0 where
 
 -- non-escaped = *TEXTDATA
 pub record NonEscaped (text value : List ℕ) : Type 0 where
-  pub may : each textData value ≡ true
+  pub may : each text_data value ≡ true
   pub is : text ≡ value
 
 -- field = (escaped / non-escaped); name = field
@@ -54,8 +54,8 @@ Field text value = Escaped text value ⊎ NonEscaped text value
 
 -- "decimal numbers below 2^32, leading zeros allowed"
 pub record Decimal (value : List ℕ) (n : ℕ) : Type 0 where
-  pub some-digit : value ≢ []
-  pub is : digitsFrom 0 value ≡ some n
+  pub some_digit : value ≢ []
+  pub is : digits_from 0 value ≡ some n
   pub below : n < 2 ^ 32
 
 -- a field whose value is a number

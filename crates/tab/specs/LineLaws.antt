@@ -2,8 +2,8 @@
 use Rattle.std.specs.Prelude.{◌≡◌, Bool, true, false, List, ℕ, ◌-◌, ◌<◌, length, drop}
 use Rattle.std.proofs.Common.{sym, ◌∙◌, arith, length-drop}
 use Rattle.std.proofs.Math.Option.{none, some}
-use Rattle.tab.specs.Reader.{got, field, gotLine, line, row}
-use Rattle.tab.specs.Agree.{row-shorter}
+use Rattle.tab.specs.Reader.{got, field, got_line, line, row}
+use Rattle.tab.specs.Agree.{row_shorter}
 use Rattle.tab.specs.declared.Column.{Column}
 use Rattle.tab.specs.declared.Column.TheVariants.{Level, Moves, Goal}
 use Rattle.tab.specs.declared.Field.{Field}
@@ -11,45 +11,45 @@ use Rattle.tab.specs.Lines.{FieldAt, InOrder}
 use Rattle.tab.specs.declared.reader.Line.{Line}
 
 module _ (tab : List ℕ) (header : Bool) where
-  field-bad : (at : ℕ) (c : Column) (f : Field) → FieldAt tab at c header f → f.good ≡ false → field header c (drop at tab) ≡ none
-  field-bad at c f e g = sym e ∙ rw g
+  field_bad : (at : ℕ) (c : Column) (f : Field) → FieldAt tab at c header f → f.good ≡ false → field header c (drop at tab) ≡ none
+  field_bad at c f e g = sym e ∙ rw g
 
-  field-good : (at : ℕ) (c : Column) (f : Field) → FieldAt tab at c header f → f.good ≡ true
+  field_good : (at : ℕ) (c : Column) (f : Field) → FieldAt tab at c header f → f.good ≡ true
       → field header c (drop at tab) ≡ some (got f.value (drop f.next tab))
-  field-good at c f e g = sym e ∙ rw g
+  field_good at c f e g = sym e ∙ rw g
 
   module _ (at : ℕ) (l : Line) (I : InOrder tab at header l) where
-    pub level-bad : l.level.good ≡ false → line header (drop at tab) ≡ none
+    pub level_bad : l.level.good ≡ false → line header (drop at tab) ≡ none
     unfolding line
-    level-bad g = rw (field-bad at Level l.level I.0 g)
+    level_bad g = rw (field_bad at Level l.level I.0 g)
 
     module _ (a : l.level.good ≡ true) where
-      pub moves-bad : l.moves.good ≡ false → line header (drop at tab) ≡ none
+      pub moves_bad : l.moves.good ≡ false → line header (drop at tab) ≡ none
       unfolding line
-      moves-bad g = rw (field-good at Level l.level I.0 a, field-bad l.level.next Moves l.moves I.1 g)
+      moves_bad g = rw (field_good at Level l.level I.0 a, field_bad l.level.next Moves l.moves I.1 g)
 
       module _ (b : l.moves.good ≡ true) where
-        pub goal-bad : l.goal.good ≡ false → line header (drop at tab) ≡ none
+        pub goal_bad : l.goal.good ≡ false → line header (drop at tab) ≡ none
         unfolding line
-        goal-bad g =
+        goal_bad g =
             rw (
-              field-good at Level l.level I.0 a,
-              field-good l.level.next Moves l.moves I.1 b,
-              field-bad l.moves.next Goal l.goal I.2 g,
+              field_good at Level l.level I.0 a,
+              field_good l.level.next Moves l.moves I.1 b,
+              field_bad l.moves.next Goal l.goal I.2 g,
             )
 
-        pub all-good : l.goal.good ≡ true
-            → line header (drop at tab) ≡ some (gotLine l.level.value l.moves.value l.goal.value (drop l.goal.next tab))
+        pub all_good : l.goal.good ≡ true
+            → line header (drop at tab) ≡ some (got_line l.level.value l.moves.value l.goal.value (drop l.goal.next tab))
         unfolding line
-        all-good c =
+        all_good c =
             rw (
-              field-good at Level l.level I.0 a,
-              field-good l.level.next Moves l.moves I.1 b,
-              field-good l.moves.next Goal l.goal I.2 c,
+              field_good at Level l.level I.0 a,
+              field_good l.level.next Moves l.moves I.1 b,
+              field_good l.moves.next Goal l.goal I.2 c,
             )
 
 -- a row that was read leaves less of the tab: whoever reads row after row comes to an end
-pub row-goes-on : (tab : List ℕ) (at a b c next : ℕ) → row (drop at tab) ≡ some (gotLine a b c (drop next tab))
+pub row_goes_on : (tab : List ℕ) (at a b c next : ℕ) → row (drop at tab) ≡ some (got_line a b c (drop next tab))
     → length tab - next < length tab - at
-row-goes-on tab at a b c next e =
-    omega (arith, row-shorter (drop at tab) (gotLine a b c (drop next tab)) e, length-drop next tab, length-drop at tab)
+row_goes_on tab at a b c next e =
+    omega (arith, row_shorter (drop at tab) (got_line a b c (drop next tab)) e, length-drop next tab, length-drop at tab)

@@ -1,8 +1,8 @@
 -- What is read through a reader: by a field, and by the fields of a line in order.
 use Rattle.std.specs.Prelude.{◌≡◌, Bool, List, ℕ, drop}
 use Rattle.std.proofs.Math.Option.{Option, none, some}
-use Rattle.tab.specs.Reader.{field, GotLine, gotLine}
-use Rattle.tab.specs.Places.{fieldIn}
+use Rattle.tab.specs.Reader.{field, GotLine, got_line}
+use Rattle.tab.specs.Places.{field_in}
 use Rattle.tab.specs.declared.Column.{Column}
 use Rattle.tab.specs.declared.Column.TheVariants.{Level, Moves, Goal}
 use Rattle.tab.specs.declared.Field.{Field}
@@ -15,7 +15,7 @@ use Rattle.tab.specs.declared.reader.AfterHeader.TheVariants.{Missing, Lines}
 
 -- f is the field of column c at a place of the tab
 abbrev pub FieldAt : List ℕ → ℕ → Column → Bool → Field → Type 0
-FieldAt tab at c header f = fieldIn tab f ≡ field header c (drop at tab)
+FieldAt tab at c header f = field_in tab f ≡ field header c (drop at tab)
 
 -- it was read, and the reader went on
 abbrev pub ReadOn : Reader → Column → Bool → Field → Reader → Type 0
@@ -28,10 +28,10 @@ InOrder tab at header l =
     × FieldAt tab l.moves.next Goal header l.goal
 
 -- the code's lines as those of the tab's reader
-abbrev pub lineIn : List ℕ → Parsed → Option GotLine
-lineIn tab Malformed = none
-lineIn tab (Numbers a b c next) = some (gotLine a b c (drop next tab))
+abbrev pub line_in : List ℕ → Parsed → Option GotLine
+line_in tab Malformed = none
+line_in tab (Numbers a b c next) = some (got_line a b c (drop next tab))
 
-abbrev pub headerIn : List ℕ → AfterHeader → Option (List ℕ)
-headerIn tab Missing = none
-headerIn tab (Lines next) = some (drop next tab)
+abbrev pub header_in : List ℕ → AfterHeader → Option (List ℕ)
+header_in tab Missing = none
+header_in tab (Lines next) = some (drop next tab)

@@ -20,9 +20,9 @@ Opened tab i s =
     ((s ≡ i) × ((f : List ℕ → Option Got) → quoted f (drop i tab) ≡ f (drop s tab)))
     ⊎ ((s ≡ i + 1) × ((f : List ℕ → Option Got) → quoted f (drop i tab) ≡ ended (after dquote) (f (drop s tab))))
 
-abbrev pub tokenIn : List ℕ → Token → Option Got
-tokenIn tab tokens.Malformed = none
-tokenIn tab (tokens.Value v next) = some (got v (drop next tab))
+abbrev pub token_in : List ℕ → Token → Option Got
+token_in tab tokens.Malformed = none
+token_in tab (tokens.Value v next) = some (got v (drop next tab))
 
-abbrev pub fieldIn : List ℕ → Field → Option Got
-fieldIn tab f = cond f.good (some (got f.value (drop f.next tab))) none
+abbrev pub field_in : List ℕ → Field → Option Got
+field_in tab f = cond f.good (some (got f.value (drop f.next tab))) none

@@ -4,8 +4,8 @@ pub mod reader;
 
 ghost use Rattle.std.specs.Prelude.{◌≡◌, false, List, ℕ, drop};
 ghost use Rattle.memory.specs.Lent.{before};
-ghost use Rattle.tab.specs.Reader.{got, small, decimal, word, name_of, bare, quoted, after, lineEnd, ends, field};
-ghost use Rattle.tab.specs.Places.{place_in, Opened, tokenIn, fieldIn};
+ghost use Rattle.tab.specs.Reader.{got, small, decimal, word, name_of, bare, quoted, after, line_end, ends, field};
+ghost use Rattle.tab.specs.Places.{place_in, Opened, token_in, field_in};
 
 // A column of a tab.
 #[derive(Drop)]
@@ -55,7 +55,7 @@ fn after_byte(tab: &[u8], at: usize, x: u8) -> Place
 
 // The place after a line's end: LF, CRLF, or the end of the tab.
 fn line_end(tab: &[u8], at: usize) -> Place
-    ensures { place_in (before tab) result ≡ lineEnd (drop at (before tab)) }
+    ensures { place_in (before tab) result ≡ line_end (drop at (before tab)) }
 {
     if at >= tab.len() {
         return Place::At(at);
@@ -84,7 +84,7 @@ fn end_at(tab: &[u8], at: usize, c: Column) -> Place
 
 // A number that is read, and the place after it; from 2^32 on there is none.
 fn read_token(v: u64, next: usize) -> Token
-    ensures { (tab : List ℕ) → tokenIn tab result ≡ small (got v (drop next tab)) }
+    ensures { (tab : List ℕ) → token_in tab result ≡ small (got v (drop next tab)) }
 {
     if v >= 4294967296 {
         return Token::Malformed;
@@ -95,7 +95,7 @@ fn read_token(v: u64, next: usize) -> Token
 // A decimal number. It stops where one digit more would be too many, so that no number has too many digits: leading zeros are free. The
 // test is before the digit, with a number that the compiler compares with directly.
 fn decimal_at(tab: &[u8], at: usize) -> Token
-    ensures { tokenIn (before tab) result ≡ decimal (drop at (before tab)) }
+    ensures { token_in (before tab) result ≡ decimal (drop at (before tab)) }
 {
     if at >= tab.len() {
         return Token::Malformed;
@@ -127,7 +127,7 @@ fn decimal_at(tab: &[u8], at: usize) -> Token
 
 // The bytes of a word.
 fn word_at(tab: &[u8], at: usize, name: &[u8]) -> Token
-    ensures { tokenIn (before tab) result ≡ word (before name) (drop at (before tab)) }
+    ensures { token_in (before tab) result ≡ word (before name) (drop at (before tab)) }
 {
     let mut i = 0;
     let mut next = at;
@@ -146,7 +146,7 @@ fn word_at(tab: &[u8], at: usize, name: &[u8]) -> Token
 
 // A column's name.
 fn name_at(tab: &[u8], at: usize, c: Column) -> Token
-    ensures { tokenIn (before tab) result ≡ word (name_of c) (drop at (before tab)) }
+    ensures { token_in (before tab) result ≡ word (name_of c) (drop at (before tab)) }
 {
     match c {
         Column::Level => word_at(tab, at, b"level"),
@@ -157,7 +157,7 @@ fn name_at(tab: &[u8], at: usize, c: Column) -> Token
 
 // A column's name in the header, a number in a row.
 fn bare_at(tab: &[u8], at: usize, c: Column, header: bool) -> Token
-    ensures { tokenIn (before tab) result ≡ bare header c (drop at (before tab)) }
+    ensures { token_in (before tab) result ≡ bare header c (drop at (before tab)) }
 {
     if header {
         return name_at(tab, at, c);
@@ -180,7 +180,7 @@ fn content_start(tab: &[u8], at: usize) -> usize
 
 // A name or a number, quoted or not. It is read at one place for both, so that the compiler makes one copy of it.
 fn content_at(tab: &[u8], at: usize, c: Column, header: bool) -> Token
-    ensures { tokenIn (before tab) result ≡ quoted (bare header c) (drop at (before tab)) }
+    ensures { token_in (before tab) result ≡ quoted (bare header c) (drop at (before tab)) }
 {
     let start = content_start(tab, at);
     let Token::Value(v, next) = bare_at(tab, start, c, header) else {
@@ -209,7 +209,7 @@ fn malformed(at: usize) -> Field
 
 // A field and what ends it.
 pub fn field_at(tab: &[u8], at: usize, c: Column, header: bool) -> Field
-    ensures { fieldIn (before tab) result ≡ field header c (drop at (before tab)) }
+    ensures { field_in (before tab) result ≡ field header c (drop at (before tab)) }
 {
     let Token::Value(v, end) = content_at(tab, at, c, header) else {
         return malformed(at);

@@ -3,7 +3,7 @@
 ghost use Rattle.std.specs.Prelude.{◌≡◌, drop};
 ghost use Rattle.memory.specs.Lent.{before};
 ghost use Rattle.tab.specs.Reader.{line, row, header};
-ghost use Rattle.tab.specs.Lines.{ReadOn, InOrder, lineIn, headerIn};
+ghost use Rattle.tab.specs.Lines.{ReadOn, InOrder, line_in, header_in};
 
 use crate::{Column, Field};
 
@@ -53,7 +53,7 @@ pub enum Parsed {
 
 // The line from a place on: its three fields are well-formed.
 fn line_at(tab: &[u8], at: usize, header: bool) -> Parsed
-    ensures { lineIn (before tab) result ≡ line header (drop at (before tab)) }
+    ensures { line_in (before tab) result ≡ line header (drop at (before tab)) }
 {
     let l = fields(tab, at, header);
     let level = l.level;
@@ -73,7 +73,7 @@ fn line_at(tab: &[u8], at: usize, header: bool) -> Parsed
 
 // The row from a place on.
 pub fn row_at(tab: &[u8], at: usize) -> Parsed
-    ensures { lineIn (before tab) result ≡ row (drop at (before tab)) }
+    ensures { line_in (before tab) result ≡ row (drop at (before tab)) }
 {
     line_at(tab, at, false)
 }
@@ -87,7 +87,7 @@ pub enum AfterHeader {
 
 // The header of a tab.
 pub fn header_at(tab: &[u8]) -> AfterHeader
-    ensures { headerIn (before tab) result ≡ header (before tab) }
+    ensures { header_in (before tab) result ≡ header (before tab) }
 {
     let Parsed::Numbers(level, moves, goal, next) = line_at(tab, 0, true) else {
         return AfterHeader::Missing;

@@ -10,10 +10,10 @@ ascii end = []
 ascii (c then s) = code c ∷ ascii s
 
 -- the digits 0 to 9
-abbrev pub isDigit : ℕ → Bool
-isDigit c = leb (code "0") c && leb c (code "9")
+abbrev pub is_digit : ℕ → Bool
+is_digit c = leb (code "0") c && leb c (code "9")
 
 -- the number that decimal digits make after those that made v; none where a byte is no digit
-unfoldable pub digitsFrom : ℕ → List ℕ → Option ℕ
-digitsFrom v [] = some v
-digitsFrom v (c ∷ cs) = cond (isDigit c) (digitsFrom (v * 10 + (c - code "0")) cs) none
+unfoldable pub digits_from : ℕ → List ℕ → Option ℕ
+digits_from v [] = some v
+digits_from v (c ∷ cs) = cond (is_digit c) (digits_from (v * 10 + (c - code "0")) cs) none

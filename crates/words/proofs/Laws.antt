@@ -7,31 +7,31 @@ use native.Mathlib.Numerals.{add-one}
 use native.Mathlib.Omega.{arith}
 use lib.ListN.{length, set, take, drop, get_or}
 use lib.Seq.{sets, sets-eq}
-use Rattle.memory.specs.Lists.{write, write-cut}
+use Rattle.memory.specs.Lists.{write, write_cut}
 
 -- stores of the elements of vs, one after another from `at` on, are a write of vs
-sets-write : (l : List ℕ) (at : ℕ) (vs : List ℕ) → at + length vs ≤ length l → sets l at vs ≡ write l at vs
-sets-write l at vs h = rw (sets-eq vs l at h, write-cut l at vs h) (append_assoc (take at l) vs (drop (at + length vs) l))
+sets_write : (l : List ℕ) (at : ℕ) (vs : List ℕ) → at + length vs ≤ length l → sets l at vs ≡ write l at vs
+sets_write l at vs h = rw (sets-eq vs l at h, write_cut l at vs h) (append_assoc (take at l) vs (drop (at + length vs) l))
 
 -- stores of the elements of vs from at + k on, as straight-line code has them
 abbrev stores : List ℕ → ℕ → ℕ → List ℕ → List ℕ
 stores l at k [] = l
 stores l at k (v ∷ vs) = stores (set l (at + k) v) at (suc k) vs
 
-stores-sets : (vs l : List ℕ) (at k a : ℕ) → a ≡ at + k → stores l at k vs ≡ sets l a vs
-stores-sets [] l at k a e = refl
-stores-sets (v ∷ vs) l at k a e = rw (← e) (stores-sets vs (set l a v) at (suc k) (suc a) (omega arith))
+stores_sets : (vs l : List ℕ) (at k a : ℕ) → a ≡ at + k → stores l at k vs ≡ sets l a vs
+stores_sets [] l at k a e = refl
+stores_sets (v ∷ vs) l at k a e = rw (← e) (stores_sets vs (set l a v) at (suc k) (suc a) (omega arith))
 
 -- the bytes of a number of any width, the first of them at `at`
-pub put-bytes : (l : List ℕ) (at v : ℕ) (vs : List ℕ) → at + length (v ∷ vs) ≤ length l → stores (set l at v) at 1 vs ≡ write l at (v ∷ vs)
-put-bytes l at v vs h = stores-sets vs (set l at v) at 1 (suc at) (omega arith) ∙ sets-write l at (v ∷ vs) h
+pub put_bytes : (l : List ℕ) (at v : ℕ) (vs : List ℕ) → at + length (v ∷ vs) ≤ length l → stores (set l at v) at 1 vs ≡ write l at (v ∷ vs)
+put_bytes l at v vs h = stores_sets vs (set l at v) at 1 (suc at) (omega arith) ∙ sets_write l at (v ∷ vs) h
 
 -- a turn of a loop that copies s over d from the front
-copy-suc : (n : ℕ) (s d : List ℕ) → n < length s → n < length d → set (take n s ++ drop n d) n (get_or s n 0) ≡ take (suc n) s ++ drop (suc n) d
-copy-suc n [] d h k = absurd (not-suc-le-zero h)
-copy-suc n (x ∷ s) [] h k = absurd (not-suc-le-zero k)
-copy-suc zero (x ∷ s) (y ∷ d) h k = refl
-copy-suc (suc n) (x ∷ s) (y ∷ d) h k = ap (λ (t : List ℕ). x ∷ t) (copy-suc n s d (le_of_suc-le-suc h) (le_of_suc-le-suc k))
+copy_suc : (n : ℕ) (s d : List ℕ) → n < length s → n < length d → set (take n s ++ drop n d) n (get_or s n 0) ≡ take (suc n) s ++ drop (suc n) d
+copy_suc n [] d h k = absurd (not-suc-le-zero h)
+copy_suc n (x ∷ s) [] h k = absurd (not-suc-le-zero k)
+copy_suc zero (x ∷ s) (y ∷ d) h k = refl
+copy_suc (suc n) (x ∷ s) (y ∷ d) h k = ap (λ (t : List ℕ). x ∷ t) (copy_suc n s d (le_of_suc-le-suc h) (le_of_suc-le-suc k))
 
 pub copy_more : (n : ℕ) (s d : List ℕ) → n < length s → n < length d → set (take n s ++ drop n d) n (get_or s n 0) ≡ take (n + 1) s ++ drop (n + 1) d
-copy_more n s d h k = rw add-one (copy-suc n s d h k)
+copy_more n s d h k = rw add-one (copy_suc n s d h k)

@@ -1,7 +1,7 @@
 // Bytes in a slice: little-endian numbers of four and of eight bytes, copies and fills. Numbers, and bits of a word.
 ghost use Rattle.std.specs.Prelude.{◌≡◌, ◌+◌, ◌*◌, ◌≤◌, ◌<◌, length, replicate};
 ghost use Rattle.memory.specs.Lists.{write};
-ghost use Rattle.memory.specs.Words.{bytes4, bytes8, word, wordsBytes, Word64};
+ghost use Rattle.memory.specs.Words.{bytes4, bytes8, word, words_bytes, Word64};
 ghost use Rattle.memory.specs.Lent.{before, after};
 
 pub mod bits;
@@ -36,7 +36,7 @@ pub fn put32(s: &mut [u8], at: usize, x: u32)
 // The bytes of words from `at` on, one word after another.
 pub fn put_words(s: &mut [u8], at: usize, ws: &[u32])
     requires { at + length ws.now * 4 ≤ length s.old }
-    ensures { after s ≡ write (before s) at (wordsBytes (before ws)) }
+    ensures { after s ≡ write (before s) at (words_bytes (before ws)) }
 {
     let mut i = 0;
     while i < ws.len() {

@@ -2,7 +2,7 @@ use borrow.Author.Rules.{rules}
 use mathlib.Core.Path.{ap, ◌∙◌}
 use Rattle.state.specs.Contract.{volume}
 use Rattle.state.specs.declared.Request.TheVariants.{Delete}
-use Rattle.calls.proofs.WholeLaws.{uncutEffect, whole-effect}
+use Rattle.calls.proofs.WholeLaws.{uncut_effect, whole_effect}
 use Rattle.calls.proofs.delete.Statement.{statement}
 use Rattle.calls.proofs.delete.Tie as tie
 
@@ -26,7 +26,7 @@ returns c =
     let p = c.before.before.before.before.before.before.before in
     let a = p.before.before.before.before.before.before.before.args in
     let v = volume a.s a.main.now a.spare.now a.ram.now in
-    rw c.uncut.ensures (ap uncutEffect p.perform-for.ensures ∙ whole-effect v (Delete a.key))
+    rw c.uncut.ensures (ap uncut_effect p.perform-for.ensures ∙ whole_effect v (Delete a.key))
 
 pub delete-spec : {M : Type 1} → statement M
 delete-spec = tie.close (tie.spec perform-for-requires uncut-requires same_length same-length-2 same-length-3 returns)

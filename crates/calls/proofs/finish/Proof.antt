@@ -6,14 +6,14 @@ use Prim.Native.Nat.{◌-◌}
 use native.Mathlib.Omega.{arith}
 use lib.ListN.{length, take, drop}
 use borrow.Author.Tests.{ltb-true}
-use Rattle.layout.specs.Flash.{flashOf}
+use Rattle.layout.specs.Flash.{flash_of}
 use Rattle.layout.specs.Calls.{Result}
 use Rattle.layout.specs.Header.{pages}
-use Rattle.laws.specs.HeaderLaws.{pages-part}
-use Rattle.geometry.specs.Bounds.{record-capacity-le, deletion-capacity-le}
-use Rattle.changes.specs.Edits.{countedState}
-use Rattle.changes.specs.Tasks.{Carried, taskResult}
-use Rattle.calls.proofs.FinishLaws.{ran-cut, ran-all, pages-back}
+use Rattle.laws.specs.HeaderLaws.{pages_part}
+use Rattle.geometry.specs.Bounds.{record_capacity_le, deletion_capacity_le}
+use Rattle.changes.specs.Edits.{counted_state}
+use Rattle.changes.specs.Tasks.{Carried, task_result}
+use Rattle.calls.proofs.FinishLaws.{ran_cut_lem, ran_all, pages_back}
 use Rattle.calls.proofs.finish.Statement.{statement}
 use Rattle.calls.proofs.finish.Tie as tie
 
@@ -21,7 +21,7 @@ counted-state-requires : tie.Need-counted-state-requires
 counted-state-requires c κs =
     let s = c.before.before.before in
     let f = s.requires.0.1 in
-    (omega (arith, f.n-cap, record-capacity-le s.args.t.g f.sound), omega (arith, f.d-cap, deletion-capacity-le s.args.t.g f.sound))
+    (omega (arith, f.n_cap, record_capacity_le s.args.t.g f.sound), omega (arith, f.d_cap, deletion_capacity_le s.args.t.g f.sound))
 
 pages-end-requires : tie.Need-pages-end-requires
 pages-end-requires c κs = search rules
@@ -40,7 +40,7 @@ begun n = n.before.before.before.before.before.before
 
 -- the pages are lent
 lent : (n : tie.After-pages-end) → let l = (begun n).args.ram.now in take (n.pages-end.result - 0) (drop 0 l) ≡ pages l
-lent n = pages-part (begun n).args.ram.now n.pages-end.result n.pages-end.ensures
+lent n = pages_part (begun n).args.ram.now n.pages-end.result n.pages-end.ensures
 
 carry-on-requires : tie.Need-carry-on-requires
 carry-on-requires c κs =
@@ -57,19 +57,19 @@ abbrev start_of : tie.After-carry-on → tie.Start
 start_of k = begun (pages-at k)
 
 abbrev counted : (k : tie.After-carry-on) → (pages-at k).before.before.counted-state.result
-    ≡ countedState (start_of k).args.t.state (start_of k).args.t.edit
+    ≡ counted_state (start_of k).args.t.state (start_of k).args.t.edit
 counted k = (pages-at k).before.before.counted-state.ensures
 
 -- the change
 abbrev all : tie.Start → Result
-all s = let x = s.args in taskResult x.t x.main.now x.spare.now (pages x.ram.now) x.from
+all s = let x = s.args in task_result x.t x.main.now x.spare.now (pages x.ram.now) x.from
 
 abbrev Left : (k : tie.After-carry-on) → Type 0
 Left k =
     let x = (start_of k).args in
     let l = k.carry-on.new.1.1.1.1 in
-    Carried x.t.g.chip.unit (all (start_of k)) x.budget (flashOf x.main.now x.spare.now) (pages x.ram.now) k.carry-on.result
-    (flashOf l.0 l.1.0) l.1.1.0
+    Carried x.t.g.chip.unit (all (start_of k)) x.budget (flash_of x.main.now x.spare.now) (pages x.ram.now) k.carry-on.result
+    (flash_of l.0 l.1.0) l.1.1.0
 
 carried : (k : tie.After-carry-on) → Left k
 carried k = rw (lent (pages-at k)) at k.carry-on.ensures
@@ -89,8 +89,8 @@ returns c =
     let x = (start_of k).args in
     let n = (pages-at k).pages-end in
     let l = k.carry-on.new.1.1.1.1 in (
-      ran-cut x.t.g.chip.unit (all (start_of k)) x.budget (flashOf x.main.now x.spare.now) (flashOf l.0 l.1.0)
-          k.carry-on.result x.ram.now l.1.1.0 _ (carried k) (pages-back x.ram.now l.1.1.0 n.result n.ensures)
+      ran_cut_lem x.t.g.chip.unit (all (start_of k)) x.budget (flash_of x.main.now x.spare.now) (flash_of l.0 l.1.0)
+          k.carry-on.result x.ram.now l.1.1.0 _ (carried k) (pages_back x.ram.now l.1.1.0 n.result n.ensures)
           (not-true _ c.if1.true),
       counted k,
     )
@@ -110,8 +110,8 @@ add-t20 : tie.Need-overflow-add-t20
 add-t20 c =
     let k = carried-at c in
     let C = carried k in
-    let enough = ltb-true (length (all (start_of k)).ops) (start_of k).args.budget (sym C.finished-is ∙ finished c) in
-    record { fits = omega (arith, C.steps-is, enough, (start_of k).fits) }
+    let enough = ltb-true (length (all (start_of k)).ops) (start_of k).args.budget (sym C.finished_is ∙ finished c) in
+    record { fits = omega (arith, C.steps_is, enough, (start_of k).fits) }
 
 same-length-4 : tie.Need-same-length-4
 same-length-4 c = search rules
@@ -130,8 +130,8 @@ returns-2 c =
     let n = (pages-at k).pages-end in
     let l = k.carry-on.last.1.1.1.1 in
     let e = c.before.before.before in (
-      ran-all x.t.g.chip.unit (all s) x.budget (flashOf x.main.now x.spare.now) (flashOf l.0 l.1.0)
-          k.carry-on.result x.ram.now l.1.1.0 _ (carried k) (pages-back x.ram.now l.1.1.0 n.result n.ensures)
+      ran_all x.t.g.chip.unit (all s) x.budget (flash_of x.main.now x.spare.now) (flash_of l.0 l.1.0)
+          k.carry-on.result x.ram.now l.1.1.0 _ (carried k) (pages_back x.ram.now l.1.1.0 n.result n.ensures)
           (finished c) s.pre.0.0 _ (rw (counted k) at e.clear.ensures),
       counted k,
     )

@@ -1,7 +1,7 @@
 use borrow.Author.Rules.{rules}
 use mathlib.Core.Path.{ap, ◌∙◌}
 use Rattle.state.specs.Contract.{volume}
-use Rattle.calls.specs.Resolve.{resolvedOf}
+use Rattle.calls.specs.Resolve.{resolved_of}
 use Rattle.calls.proofs.perform_for.Statement.{statement}
 use Rattle.calls.proofs.perform_for.Tie as tie
 
@@ -16,7 +16,7 @@ perform-resolved-requires c κs =
     let r = c.before.before.before in
     let k = r.before.before.before.before in
     let x = k.before.before.before.before.args in (
-      r.resolve.ensures.0 ∙ ap (resolvedOf (volume x.s x.main.now x.spare.now x.ram.now)) k.key_of.ensures,
+      r.resolve.ensures.0 ∙ ap (resolved_of (volume x.s x.main.now x.spare.now x.ram.now)) k.key_of.ensures,
       r.resolve.ensures.1,
     )
 

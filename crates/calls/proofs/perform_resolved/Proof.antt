@@ -1,17 +1,17 @@
 use borrow.Author.Rules.{rules}
 use mathlib.Core.Path.{◌≡◌, sym, subst, ◌∙◌}
 use Rattle.layout.specs.Calls.{Volume}
-use Rattle.layout.specs.Header.{onPages}
+use Rattle.layout.specs.Header.{on_pages}
 use Rattle.geometry.specs.Shape.{shape}
 use Rattle.state.specs.Contract.{volume, call_of}
 use Rattle.state.proofs.Refusals.{Refusal}
-use Rattle.changes.specs.Room.{room-told}
+use Rattle.changes.specs.Room.{room_told}
 use Rattle.changes.specs.Tasks.{HasRoom}
-use Rattle.changes.proofs.ChangeLaws.{change-full}
+use Rattle.changes.proofs.ChangeLaws.{change_full}
 use Rattle.changes.specs.declared.Task.{Task}
-use Rattle.calls.specs.Request.{decisionOf, Decided}
+use Rattle.calls.specs.Request.{decision_of, Decided}
 use Rattle.calls.specs.declared.Decision.{Decision}
-use Rattle.calls.proofs.RequestLaws.{change-refused, call-refused, call-changes, refused-cut}
+use Rattle.calls.proofs.RequestLaws.{change_refused, call_refused, call_changes, refused_cut_lem}
 use Rattle.calls.proofs.perform_resolved.Statement.{statement}
 use Rattle.calls.proofs.perform_resolved.Tie as tie
 
@@ -24,7 +24,7 @@ handed c = volume c.args.s c.args.main.now c.args.spare.now c.args.ram.now
 abbrev start_of : tie.After-decide → tie.Start
 start_of d = d.before.before.before.before
 
-decided : (d : tie.After-decide) (x : Decision) → d.decide.result ≡ x → decisionOf (start_of d).args.q (start_of d).args.r ≡ x
+decided : (d : tie.After-decide) (x : Decision) → d.decide.result ≡ x → decision_of (start_of d).args.q (start_of d).args.r ≡ x
 decided d x e = sym d.decide.ensures ∙ e
 
 decide-requires : tie.Need-decide-requires
@@ -43,8 +43,8 @@ returns c =
     let s = start_of d in
     let x = s.args in
     rw c.refuse-cut.ensures
-    (refused-cut (handed s) (call_of x.q) x.budget i.i.given.0.0 (onPages (handed s))
-    (call-refused (handed s) x.q x.r s.pre.0 i.i.given.0.0 (decided d _ i.i.given.1)))
+    (refused_cut_lem (handed s) (call_of x.q) x.budget i.i.given.0.0 (on_pages (handed s))
+    (call_refused (handed s) x.q x.r s.pre.0 i.i.given.0.0 (decided d _ i.i.given.1)))
 
 -- ---- a change
 
@@ -61,7 +61,7 @@ changes : (k : tie.After-g) → Decided (task k) (start-at k).args.q (handed (st
 changes k =
     let s = start-at k in
     let x = s.args in
-    call-changes (handed s) x.q x.r s.pre.0 s.pre.1 (task k).g (task k).edit (decided k.before.before _ k.g.given.1)
+    call_changes (handed s) x.q x.r s.pre.0 s.pre.1 (task k).g (task k).edit (decided k.before.before _ k.g.given.1)
 
 room-refusal-requires : tie.Need-room-refusal-requires
 room-refusal-requires c κs = (changes c.before).0.sound
@@ -75,14 +75,14 @@ returns-2 c =
     let i = c.before.before in
     let k = i.before.before in
     let s = start-at k in
-    let w = onPages (handed s) in
+    let w = on_pages (handed s) in
     let t = task k in
     let j = i.room-refusal.result in
     let some = c.before.if1.true in
     rw c.refuse-cut2.ensures
-    (refused-cut (handed s) (call_of s.args.q) s.args.budget j w
+    (refused_cut_lem (handed s) (call_of s.args.q) s.args.budget j w
     (subst (Refusal w j) (sym (changes k).1)
-    (change-refused (shape t.g) w t.edit j (change-full (shape t.g) w t.edit j i.room-refusal.ensures some) some)))
+    (change_refused (shape t.g) w t.edit j (change_full (shape t.g) w t.edit j i.room-refusal.ensures some) some)))
 
 -- there is room
 abbrev known : tie.Else1 → tie.After-g
@@ -92,7 +92,7 @@ room : (e : tie.Else1) → HasRoom (task (known e))
 room e =
     let t = task (known e) in
     let r = e.before.room-refusal in
-    room-told (shape t.g) t.state.records t.state.deletions t.edit r.result r.ensures e.if1.false
+    room_told (shape t.g) t.state.records t.state.deletions t.edit r.result r.ensures e.if1.false
 
 programs-requires : tie.Need-programs-requires
 programs-requires c κs = (changes (known c)).0.sound

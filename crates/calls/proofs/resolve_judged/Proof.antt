@@ -2,20 +2,20 @@ use borrow.Author.Rules.{rules}
 use mathlib.Core.Path.{◌≡◌, refl, sym, ap, subst, ◌∙◌}
 use lib.ListN.{length}
 use Prim.Native.Nat.{◌-◌}
-use Rattle.layout.specs.Hash.{fnvFamily}
+use Rattle.layout.specs.Hash.{fnv_family}
 use Rattle.layout.specs.Search as find
 use Rattle.layout.specs.Calls.{Volume}
-use Rattle.layout.specs.Header.{onPages}
-use Rattle.laws.specs.HeaderLaws.{pages-part}
+use Rattle.layout.specs.Header.{on_pages}
+use Rattle.laws.specs.HeaderLaws.{pages_part}
 use Rattle.geometry.specs.declared.Geometry.{Geometry}
-use Rattle.search.specs.Find.{stopOf, view-fits, search_is}
+use Rattle.search.specs.Find.{stop_of, view_fits, search_is}
 use Rattle.search.specs.declared.End.{End}
-use Rattle.keys.specs.Key.{keyIs}
+use Rattle.keys.specs.Key.{key_is}
 use Rattle.state.specs.Contract.{volume}
 use Rattle.state.specs.Judge.{VolumeFits, GoodFits}
 use Rattle.state.specs.declared.Judgement.{Judgement}
-use Rattle.calls.specs.Resolve.{stopped, resolvedBy}
-use Rattle.calls.proofs.CallsLaws.{header-fits}
+use Rattle.calls.specs.Resolve.{stopped, resolved_by}
+use Rattle.calls.proofs.CallsLaws.{header_fits}
 use Rattle.calls.proofs.resolve_judged.Statement.{statement}
 use Rattle.calls.proofs.resolve_judged.Tie as tie
 
@@ -39,13 +39,13 @@ start_of c = c.before.before.before.before.before
 abbrev geometry : tie.After-j2 → Geometry
 geometry c = c.j2.given.0.0
 
-fits : (c : tie.After-j2) → VolumeFits (onPages (handed (start_of c))) (geometry c)
-fits c = subst (GoodFits (onPages (handed (start_of c)))) c.j2.given.1 (start_of c).requires
+fits : (c : tie.After-j2) → VolumeFits (on_pages (handed (start_of c))) (geometry c)
+fits c = subst (GoodFits (on_pages (handed (start_of c)))) c.j2.given.1 (start_of c).requires
 
 pages-end-requires : tie.Need-pages-end-requires
 pages-end-requires c κs =
     let k = c.before in
-    header-fits (handed (start_of k)) (geometry k) (fits k)
+    header_fits (handed (start_of k)) (geometry k) (fits k)
 
 cast-all : tie.Need-overflow-cast-all
 cast-all c = search rules
@@ -74,22 +74,22 @@ search-requires c κs =
     let k = known a in
     let s = start_of k in
     let f = fits k in
-    rw (pages-part s.args.ram.now a.before.before.before.pages-end.result a.before.before.before.pages-end.ensures)
-    (view-fits (onPages (handed s)) (geometry k) a.all.result a.all.ensures f.sound f.long.read f.n-cap f.d-cap)
+    rw (pages_part s.args.ram.now a.before.before.before.pages-end.result a.before.before.before.pages-end.ensures)
+    (view_fits (on_pages (handed s)) (geometry k) a.all.result a.all.ensures f.sound f.long.read f.n_cap f.d_cap)
 
 -- by where the search ended
 resolved : (c : tie.After-search) (end : End) → c.search.result.end ≡ end → let k = known c.before.before in
-    resolvedBy (start_of k).args.j (onPages (handed (start_of k))) (keyIs (start_of k).args.key) ≡ stopped (geometry k) (stopOf end)
+    resolved_by (start_of k).args.j (on_pages (handed (start_of k))) (key_is (start_of k).args.key) ≡ stopped (geometry k) (stop_of end)
 resolved c end e =
     let a = c.before.before in
     let k = known a in
     let s = start_of k in
-    let w = onPages (handed s) in
-    ap (λ (j : Judgement). resolvedBy j w (keyIs s.args.key)) k.j2.given.1
+    let w = on_pages (handed s) in
+    ap (λ (j : Judgement). resolved_by j w (key_is s.args.key)) k.j2.given.1
     ∙ ap (λ (f : find.Found). stopped (geometry k) f.stop)
-    (search_is w (geometry k) a.all.result a.all.ensures fnvFamily (keyIs s.args.key) c.search.result
-    (rw (pages-part s.args.ram.now a.before.before.before.pages-end.result a.before.before.before.pages-end.ensures) at c.search.ensures.0))
-    ∙ ap (λ (t : End). stopped (geometry k) (stopOf t)) e
+    (search_is w (geometry k) a.all.result a.all.ensures fnv_family (key_is s.args.key) c.search.result
+    (rw (pages_part s.args.ram.now a.before.before.before.pages-end.result a.before.before.before.pages-end.ensures) at c.search.ensures.0))
+    ∙ ap (λ (t : End). stopped (geometry k) (stop_of t)) e
 
 enum_told : tie.Need-enum-told
 enum_told c = search rules

@@ -1,10 +1,10 @@
 use mathlib.Core.Path.{ap, ◌∙◌}
 use Rattle.geometry.specs.Shape.{shape}
-use Rattle.state.specs.Contract.{recordIs}
-use Rattle.planning.specs.New.{newBytes}
-use Rattle.planning.specs.Edits.{programsIn}
-use Rattle.changes.specs.Tasks.{taskOn}
-use Rattle.changes.proofs.CarryLaws.{ram-appended}
+use Rattle.state.specs.Contract.{record_is}
+use Rattle.planning.specs.New.{new_bytes}
+use Rattle.planning.specs.Edits.{programs_in}
+use Rattle.changes.specs.Tasks.{task_on}
+use Rattle.changes.proofs.CarryLaws.{ram_appended}
 use borrow.Author.Rules.{rules}
 use Rattle.changes.proofs.append.Statement.{statement}
 use Rattle.changes.proofs.append.Tie as tie
@@ -46,17 +46,17 @@ returns c =
     let s = k.before.before.before in
     let x = s.args in
     λ main spare.
-    ram-appended (shape x.t.g) (taskOn x.t main spare x.ram.now) x.t.edit k.slots.result j.old-number.result
+    ram_appended (shape x.t.g) (task_on x.t main spare x.ram.now) x.t.edit k.slots.result j.old_number_lem.result
     r.new-record.result n.new-bytes.result
     (record {
       pos = s.requires.0.0.unit.1.some;
       long = s.requires.0.2;
-      slots-are = k.slots.ensures;
-      number_is = j.old-number.ensures;
-      record_is = r.new-record.ensures;
-      new_is = n.new-bytes.ensures ∙ ap (newBytes j.old-number.result (recordIs r.new-record.result)) n.before.record-number.ensures;
+      slots_are = k.slots.ensures;
+      number_is = j.old_number_lem.ensures;
+      record_is_lem = r.new-record.ensures;
+      new_is = n.new-bytes.ensures ∙ ap (new_bytes j.old_number_lem.result (record_is r.new-record.result)) n.before.record-number.ensures;
     })
-    (ap (programsIn (shape x.t.g)) k.slots.ensures ∙ s.requires.1) _ a.append.ensures
+    (ap (programs_in (shape x.t.g)) k.slots.ensures ∙ s.requires.1) _ a.append.ensures
 
 pub append-spec : {M : Type 1} → statement M
 append-spec =

@@ -5,20 +5,20 @@ use native.Mathlib.Omega.{arith}
 use lib.ListN.{length}
 use Rattle.layout.specs.Calls.{Volume}
 use Rattle.geometry.specs.Shape.{shape}
-use Rattle.state.specs.Contract.{recordIs}
+use Rattle.state.specs.Contract.{record_is}
 use Rattle.plan.specs.declared.Span.{Span}
 use Rattle.plan.specs.Plans.{PlanFits, count_fits}
-use Rattle.planning.specs.New.{newBytes}
-use Rattle.planning.specs.Edits.{numbersOf, edit-fits}
-use Rattle.changes.specs.Tasks.{taskOn, taskSlots, taskPlan}
-use Rattle.changes.proofs.CarryLaws.{plan-as, Parts, total-is, carried-all, carried_some}
+use Rattle.planning.specs.New.{new_bytes}
+use Rattle.planning.specs.Edits.{numbers_of, edit_fits}
+use Rattle.changes.specs.Tasks.{task_on, task_slots, task_plan}
+use Rattle.changes.proofs.CarryLaws.{plan_as, Parts, total_is, carried_all, carried_some}
 use borrow.Author.Rules.{rules}
 use Rattle.changes.proofs.carry_on.Statement.{statement}
 use Rattle.changes.proofs.carry_on.Tie as tie
 
 -- the volume that is handed in
 abbrev handed : tie.Start → Volume
-handed c = taskOn c.args.t c.args.main.now c.args.spare.now c.args.ram.now
+handed c = task_on c.args.t c.args.main.now c.args.spare.now c.args.ram.now
 
 -- where the parts of the edit are known, and the beginning before that
 abbrev begun : tie.After-new-record → tie.Start
@@ -51,40 +51,40 @@ slice-aggregate-new-filters c = search rules
 new-filters-requires : tie.Need-new-filters-requires
 new-filters-requires c κs =
     let s = begun (told c.before.before) in
-    (s.pre.0.0.sound, s.pre.0.0.long.read.ram-fits, refl)
+    (s.pre.0.0.sound, s.pre.0.0.long.read.ram_fits, refl)
 
 -- the plan fits
 plan-fits : (s : tie.Start) → let x = s.args in PlanFits x.p (length x.main.now) (length x.spare.now) (length x.ram.now)
 plan-fits s =
     let x = s.args in
-    plan-as (shape x.t.g) x.p (taskSlots x.t) _ _ _ s.requires.0.1.1
-    (edit-fits x.t.g s.requires.0.0.sound x.main.now x.spare.now x.ram.now s.requires.0.0.long (taskSlots x.t) s.requires.0.1.0)
+    plan_as (shape x.t.g) x.p (task_slots x.t) _ _ _ s.requires.0.1.1
+    (edit_fits x.t.g s.requires.0.0.sound x.main.now x.spare.now x.ram.now s.requires.0.0.long (task_slots x.t) s.requires.0.1.0)
 
 -- the parts of the edit
 parts : (c : tie.After-new-bytes)
     → Parts (shape (begun (told c)).args.t.g) (handed (begun (told c))) (begun (told c)).args.t.edit
-    (told c).before.before.slots.result (told c).before.old-number.result (told c).new-record.result c.new-bytes.result
+    (told c).before.before.slots.result (told c).before.old_number_lem.result (told c).new-record.result c.new-bytes.result
 parts c =
     let o = told c in
     let s = begun o in
-    let j = o.before.old-number.result in
+    let j = o.before.old_number_lem.result in
     let r = o.new-record.result in
     record {
       pos = s.pre.0.0.sound.unit.1.some;
-      long = s.pre.0.0.long.read.ram-fits;
-      slots-are = o.before.before.slots.ensures;
-      number_is = o.before.old-number.ensures;
-      record_is = o.new-record.ensures;
-      new_is = c.new-bytes.ensures ∙ ap (newBytes j (recordIs r)) c.before.record-number.ensures;
+      long = s.pre.0.0.long.read.ram_fits;
+      slots_are = o.before.before.slots.ensures;
+      number_is = o.before.old_number_lem.ensures;
+      record_is_lem = o.new-record.ensures;
+      new_is = c.new-bytes.ensures ∙ ap (new_bytes j (record_is r)) c.before.record-number.ensures;
     }
 
 -- the plan is that of the code's places
-plan-is : (c : tie.After-new-bytes)
-    → (begun (told c)).args.p ≡ numbersOf (shape (begun (told c)).args.t.g) (told c).before.before.slots.result
-plan-is c =
+plan_is : (c : tie.After-new-bytes)
+    → (begun (told c)).args.p ≡ numbers_of (shape (begun (told c)).args.t.g) (told c).before.before.slots.result
+plan_is c =
     let o = told c in
     let s = begun o in
-    s.pre.0.1.1 ∙ ap (numbersOf (shape s.args.t.g)) (sym o.before.before.slots.ensures)
+    s.pre.0.1.1 ∙ ap (numbers_of (shape s.args.t.g)) (sym o.before.before.slots.ensures)
 
 -- the filters
 abbrev made : tie.After-new-filters → tie.After-new-bytes
@@ -109,10 +109,10 @@ from_le c =
     let o = told n in
     let s = begun o in
     let x = s.args in
-    let e : c.whole.result.to ≡ length (taskPlan x.t x.main.now x.spare.now x.ram.now)
+    let e : c.whole.result.to ≡ length (task_plan x.t x.main.now x.spare.now x.ram.now)
     = ap (λ (w : Span). w.to) c.whole.ensures
-    ∙ total-is (shape x.t.g) (handed s) x.t.edit o.before.before.slots.result o.before.old-number.result
-    o.new-record.result n.new-bytes.result (parts n) (filters f) f.new-filters.ensures x.p (plan-is n) in
+    ∙ total_is (shape x.t.g) (handed s) x.t.edit o.before.before.slots.result o.before.old_number_lem.result
+    o.new-record.result n.new-bytes.result (parts n) (filters f) f.new-filters.ensures x.p (plan_is n) in
     omega (arith, e, s.pre.1)
 
 sub-left : tie.Need-overflow-sub-left
@@ -166,8 +166,8 @@ returns c =
     let x = s.args in
     let some = c.if1.true in
     let e : l.lesser.result ≡ x.budget = omega (arith, l.lesser.ensures, some) in
-    carried_some (shape x.t.g) (handed s) x.t.edit o.before.before.slots.result o.before.old-number.result
-    o.new-record.result n.new-bytes.result (parts n) (filters f) f.new-filters.ensures x.p (plan-is n) x.from x.budget
+    carried_some (shape x.t.g) (handed s) x.t.edit o.before.before.slots.result o.before.old_number_lem.result
+    o.new-record.result n.new-bytes.result (parts n) (filters f) f.new-filters.ensures x.p (plan_is n) x.from x.budget
     w.whole.result.to (ap (λ (a : Span). a.to) w.whole.ensures) _ some (rw e at r.run.ensures)
 
 slice-aggregate-finish : tie.Need-slice-aggregate-finish
@@ -184,7 +184,7 @@ finish-requires c κs =
     let f = filled (cut_at (run_at c.before.before.before)).before in
     let n = made f in
     let s = begun (told n) in
-    (s.pre.0.0.sound, omega (arith, n.new-bytes.ok), filters-long f, s.pre.0.0.long.read.ram-fits)
+    (s.pre.0.0.sound, omega (arith, n.new-bytes.ok), filters-long f, s.pre.0.0.long.read.ram_fits)
 
 same-length-4 : tie.Need-same-length-4
 same-length-4 c = search rules
@@ -209,8 +209,8 @@ returns-2 c =
     let x = s.args in
     let all = t.if1.false in
     let e : x.from + l.lesser.result ≡ w.whole.result.to = omega (arith, l.lesser.ensures, all, from_le w) in
-    carried-all (shape x.t.g) (handed s) x.t.edit o.before.before.slots.result o.before.old-number.result
-    o.new-record.result n.new-bytes.result (parts n) (filters f) f.new-filters.ensures x.p (plan-is n) x.from x.budget
+    carried_all (shape x.t.g) (handed s) x.t.edit o.before.before.slots.result o.before.old_number_lem.result
+    o.new-record.result n.new-bytes.result (parts n) (filters f) f.new-filters.ensures x.p (plan_is n) x.from x.budget
     w.whole.result.to (ap (λ (a : Span). a.to) w.whole.ensures) _ (omega (arith, all)) (rw e at r.run.ensures) _
     k.finish.ensures
 

@@ -1,8 +1,8 @@
 use native.Mathlib.Omega.{arith}
 use Rattle.geometry.specs.Shape.{shape}
-use Rattle.changes.specs.Tasks.{taskOn, taskSlots}
-use Rattle.changes.specs.Few.{edit-spare-fits, count-few}
-use Rattle.changes.proofs.ChangeLaws.{done-told}
+use Rattle.changes.specs.Tasks.{task_on, task_slots}
+use Rattle.changes.specs.Few.{edit_spare_fits, count_few}
+use Rattle.changes.proofs.ChangeLaws.{done_told}
 use Rattle.changes.proofs.done.Statement.{statement}
 use Rattle.changes.proofs.done.Tie as tie
 
@@ -11,8 +11,8 @@ done-requires c κs =
     let s = c.before in
     let x = s.args in
     let P = s.requires in
-    let few = count-few x.t.g P.0 (taskSlots x.t) P.1.0 in
-    rw P.1.1 (edit-spare-fits x.t.g P.0 x.spare.now P.2 (taskSlots x.t) P.1.0, omega (arith, few))
+    let few = count_few x.t.g P.0 (task_slots x.t) P.1.0 in
+    rw P.1.1 (edit_spare_fits x.t.g P.0 x.spare.now P.2 (task_slots x.t) P.1.0, omega (arith, few))
 
 returns : tie.Need-returns
 returns c =
@@ -20,7 +20,7 @@ returns c =
     let x = s.args in
     let P = s.requires in
     λ main ram long.
-    done-told (shape x.t.g) (taskOn x.t main x.spare.now ram) x.t.edit P.0.unit.1.some P.0.unit.1.most long
+    done_told (shape x.t.g) (task_on x.t main x.spare.now ram) x.t.edit P.0.unit.1.some P.0.unit.1.most long
     x.p P.1.1 c.done.result c.done.ensures
 
 pub done-spec : {M : Type 1} → statement M

@@ -1,6 +1,6 @@
 use mathlib.Core.Path.{◌∙◌}
-use Rattle.state.specs.Contract.{recordIs}
-use Rattle.changes.proofs.NewLaws.{all-written}
+use Rattle.state.specs.Contract.{record_is}
+use Rattle.changes.proofs.NewLaws.{all_written}
 use borrow.Author.Rules.{rules}
 use Rattle.changes.proofs.new_bytes.Statement.{statement}
 use Rattle.changes.proofs.new_bytes.Tie as tie
@@ -18,7 +18,7 @@ returns : tie.Need-returns
 returns c =
     let p = c.before in
     let x = p.before.before.before.args in
-    p.put-words.ensures ∙ all-written x.old (recordIs x.«record») x.n
+    p.put-words.ensures ∙ all_written x.old (record_is x.«record») x.n
 
 pub new-bytes-spec : {M : Type 1} → statement M
 new-bytes-spec = tie.close (tie.spec slice-aggregate-put-words slice-aggregate-put-words-2 put-words-requires returns)

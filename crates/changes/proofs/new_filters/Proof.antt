@@ -3,10 +3,10 @@ use mathlib.Core.Path.{◌≡◌, ap, ◌∙◌}
 use mathlib.Core.List.{List, ◌++◌}
 use Prim.Native.Nat.{ℕ}
 use lib.ListN.{length, take, drop, replicate}
-use Rattle.keys.specs.Key.{keyIs}
-use Rattle.memory.specs.Lists.{write, length-write, length_part, part-back}
+use Rattle.keys.specs.Key.{key_is}
+use Rattle.memory.specs.Lists.{write, length_write, length_part, part_back}
 use Rattle.geometry.specs.Shape.{shape}
-use Rattle.changes.proofs.NewLaws.{part-behind, deletions-put, deletions-stay, entry-put}
+use Rattle.changes.proofs.NewLaws.{part_behind, deletions_put, deletions_stay, entry_put}
 use borrow.Author.Rules.{rules}
 use Rattle.changes.proofs.new_filters.Statement.{statement}
 use Rattle.changes.proofs.new_filters.Tie as tie
@@ -84,8 +84,8 @@ returns c =
     let D = k.put-deletion-filters.new.1.1.1.1.0 in
     let size = k.put-deletion-filters.auto.1.1.1.1.0 ∙ length_part x.filters.now 0 512 (omega (arith, long s)) in
     rw e.e.given.1
-    (deletions-put (shape x.g) _ x.old x.ram.now D x.filters.now _ size (long s)
-    (part-back x.filters.now 0 512 D (omega arith) (omega (arith, long s)) size) k.put-deletion-filters.ensures)
+    (deletions_put (shape x.g) _ x.old x.ram.now D x.filters.now _ size (long s)
+    (part_back x.filters.now 0 512 D (omega arith) (omega (arith, long s)) size) k.put-deletion-filters.ensures)
 
 same-length-2 : tie.Need-same-length-2
 same-length-2 c = search rules
@@ -99,8 +99,8 @@ returns-2 c =
     let E = k.put-entry-filter.new.1.1.1.1.0 in
     let size = k.put-entry-filter.auto.1.1.1.1.0 ∙ length_part x.filters.now 512 256 (omega (arith, long s)) in
     rw e.e2.given.1
-    (entry-put (shape x.g) _ (keyIs x.key) x.ram.now E x.filters.now _ size (long s)
-    (part-back x.filters.now 512 768 E (omega arith) (omega (arith, long s)) size) k.put-entry-filter.ensures)
+    (entry_put (shape x.g) _ (key_is x.key) x.ram.now E x.filters.now _ size (long s)
+    (part_back x.filters.now 512 768 E (omega arith) (omega (arith, long s)) size) k.put-entry-filter.ensures)
 
 same-length-3 : tie.Need-same-length-3
 same-length-3 c = search rules
@@ -125,16 +125,16 @@ left k = let l = (start_of k).args.filters.now in take 0 l ++ (deleted k ++ drop
 left_is : (k : tie.After-put-deletion-filters2) → left k ≡ write (start_of k).args.filters.now 0 (deleted k)
 left_is k =
     let s = start_of k in
-    part-back s.args.filters.now 0 512 (deleted k) (omega arith) (omega (arith, long s)) (deletion-size k)
+    part_back s.args.filters.now 0 512 (deleted k) (omega arith) (omega (arith, long s)) (deletion-size k)
 
 left-long : (k : tie.After-put-deletion-filters2) → length (left k) ≡ 768
-left-long k = let s = start_of k in ap length (left_is k) ∙ length-write s.args.filters.now 0 (deleted k) ∙ long s
+left-long k = let s = start_of k in ap length (left_is k) ∙ length_write s.args.filters.now 0 (deleted k) ∙ long s
 
 left-zeros : (k : tie.After-put-deletion-filters2) → take 256 (drop 512 (left k)) ≡ replicate 256 0
 left-zeros k =
     let s = start_of k in
     ap (λ (l : List ℕ). take 256 (drop 512 l)) (left_is k)
-    ∙ part-behind s.args.filters.now (deleted k) 0 512 256 (omega (arith, deletion-size k)) (omega (arith, long s)) ∙ zeros s
+    ∙ part_behind s.args.filters.now (deleted k) 0 512 256 (omega (arith, deletion-size k)) (omega (arith, long s)) ∙ zeros s
 
 sub-put-entry-filter-2 : tie.Need-overflow-sub-put-entry-filter-2
 sub-put-entry-filter-2 c = search rules
@@ -160,11 +160,11 @@ returns-3 c =
     let E = f.put-entry-filter2.new.1.1.1.1.0 in
     let size : length E ≡ 256
     = f.put-entry-filter2.auto.1.1.1.1.0 ∙ length_part (left k) 512 256 (omega (arith, left-long k)) in
-    let is = part-back (left k) 512 768 E (omega arith) (omega (arith, left-long k)) size in
+    let is = part_back (left k) 512 768 E (omega arith) (omega (arith, left-long k)) size in
     rw k.before.before.before.e3.given.1 (
-      deletions-stay (shape x.g) _ x.old x.ram.now (deleted k) x.filters.now (left k) (deletion-size k) (long s) (left_is k)
+      deletions_stay (shape x.g) _ x.old x.ram.now (deleted k) x.filters.now (left k) (deletion-size k) (long s) (left_is k)
           k.put-deletion-filters2.ensures E _ is,
-      entry-put (shape x.g) _ (keyIs x.key) x.ram.now E (left k) _ size (left-long k) is f.put-entry-filter2.ensures,
+      entry_put (shape x.g) _ (key_is x.key) x.ram.now E (left k) _ size (left-long k) is f.put-entry-filter2.ensures,
     )
 
 pub new-filters-spec : {M : Type 1} → statement M

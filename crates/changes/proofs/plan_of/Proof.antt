@@ -1,6 +1,6 @@
 use mathlib.Core.Path.{ap, ◌∙◌}
 use Rattle.geometry.specs.Shape.{shape}
-use Rattle.planning.specs.Edits.{numbersOf}
+use Rattle.planning.specs.Edits.{numbers_of}
 use borrow.Author.Rules.{rules}
 use Rattle.changes.proofs.plan_of.Statement.{statement}
 use Rattle.changes.proofs.plan_of.Tie as tie
@@ -17,7 +17,7 @@ returns : tie.Need-returns
 returns c =
     let k = c.before in
     let s = k.before.before in
-    (s.requires.1, c.of.ensures ∙ ap (numbersOf (shape s.args.t.g)) k.slots.ensures)
+    (s.requires.1, c.of.ensures ∙ ap (numbers_of (shape s.args.t.g)) k.slots.ensures)
 
 pub plan-of-spec : {M : Type 1} → statement M
 plan-of-spec = tie.close (tie.spec slots-requires of-requires returns)

@@ -1,7 +1,7 @@
 use native.Mathlib.Omega.{arith}
 use mathlib.Core.Path.{ap, sym, ◌∙◌}
 use mathlib.Core.Bool.{false≢true}
-use Rattle.filter.specs.NewFilter.{half-fourths}
+use Rattle.filter.specs.NewFilter.{half_fourths}
 use Rattle.layout.specs.Items.{Area, fills}
 use Rattle.geometry.specs.Shape.{shape}
 use Rattle.planning.specs.Computed.{not_taken}
@@ -29,7 +29,7 @@ da-ram-requires c κs = search rules
 number-filters-requires : tie.Need-number-filters-requires
 number-filters-requires c κs =
     let s = c.before.before.before.before.before.before.before in
-    ((s.requires.0.unit, s.requires.0.k-most, rw c.before.da-ram.ensures (omega (arith, s.requires.1))), s.requires.2)
+    ((s.requires.0.unit, s.requires.0.k_most, rw c.before.da-ram.ensures (omega (arith, s.requires.1))), s.requires.2)
 
 same_length : tie.Need-same-length
 same_length c = search rules
@@ -40,7 +40,7 @@ returns-2 c =
     let a = f.before.before in
     let s = a.before.before.before.before.before.before in
     λ full.
-    half-fourths (shape s.args.g) s.args.d s.args.old s.args.ram.now s.requires.0.unit.1.some full (omega arith)
+    half_fourths (shape s.args.g) s.args.d s.args.old s.args.ram.now s.requires.0.unit.1.some full (omega arith)
     (omega (arith, s.requires.1)) f.number-filters.new.1.1.1.1.1.0 (rw a.da-ram.ensures at f.number-filters.ensures)
 
 pub put-deletion-filters-spec : {M : Type 1} → statement M

@@ -2,8 +2,8 @@ use native.Mathlib.Omega.{arith}
 use mathlib.Core.Path.{ap, sym, ◌∙◌}
 use mathlib.Core.Bool.{false≢true}
 use lib.ListN.{length}
-use Rattle.keys.specs.Key.{keyIs}
-use Rattle.filter.specs.NewFilter.{entry-fourths}
+use Rattle.keys.specs.Key.{key_is}
+use Rattle.filter.specs.NewFilter.{entry_fourths_lem}
 use Rattle.layout.specs.Items.{Area, fills}
 use Rattle.geometry.specs.Shape.{shape}
 use Rattle.planning.specs.Computed.{not_taken}
@@ -34,7 +34,7 @@ of-key-requires c κs = search rules
 new-filter-requires : tie.Need-new-filter-requires
 new-filter-requires c κs =
     let s = c.before.before.before.before.before.before.before.before in
-    ((s.requires.0.unit, s.requires.0.k-most, omega arith, rw c.before.before.ka-ram.ensures (omega (arith, s.requires.1))), s.requires.2)
+    ((s.requires.0.unit, s.requires.0.k_most, omega arith, rw c.before.before.ka-ram.ensures (omega (arith, s.requires.1))), s.requires.2)
 
 same_length : tie.Need-same-length
 same_length c = search rules
@@ -46,8 +46,8 @@ returns-2 c =
     let a = k.before in
     let s = a.before.before.before.before.before.before in
     λ full.
-    entry-fourths (shape s.args.g) s.args.n (keyIs s.args.key) s.args.ram.now s.requires.0.unit.1.some full
-    (record { level-lt = omega (arith, s.well-formed.1.1.0) })
+    entry_fourths_lem (shape s.args.g) s.args.n (key_is s.args.key) s.args.ram.now s.requires.0.unit.1.some full
+    (record { level_lt = omega (arith, s.well-formed.1.1.0) })
     (omega (arith, s.requires.1)) f.new-filter.new.1.1.1.1.1.1.0 s.requires.0.unit.1.most
     (f.new-filter.auto.1.1.1.1.1.1.0 ∙ ap length s.requires.2) (λ y. omega (arith, c.slice-known2.given y))
     (rw (a.ka-ram.ensures, k.of-key.ensures) at f.new-filter.ensures)

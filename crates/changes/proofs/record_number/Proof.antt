@@ -1,5 +1,5 @@
 use native.Mathlib.Omega.{arith}
-use Rattle.geometry.specs.Bounds.{record-capacity-le}
+use Rattle.geometry.specs.Bounds.{record_capacity_le}
 use borrow.Author.Rules.{rules}
 use Rattle.changes.proofs.record_number.Statement.{statement}
 use Rattle.changes.proofs.record_number.Tie as tie
@@ -13,7 +13,7 @@ enum-known-e c = search rules
 cast-result : tie.Need-overflow-cast-result
 cast-result c =
     let s = c.before.before.before in
-    omega (arith, rw c.before.e.given.1 at s.requires.1, record-capacity-le s.args.g s.requires.0)
+    omega (arith, rw c.before.e.given.1 at s.requires.1, record_capacity_le s.args.g s.requires.0)
 
 enum-known-e-2 : tie.Need-enum-known-e-2
 enum-known-e-2 c = search rules
@@ -21,7 +21,7 @@ enum-known-e-2 c = search rules
 cast-result-2 : tie.Need-overflow-cast-result-2
 cast-result-2 c =
     let s = c.before.before.before in
-    omega (arith, (rw c.before.e2.given.1 at s.requires.1).1, record-capacity-le s.args.g s.requires.0)
+    omega (arith, (rw c.before.e2.given.1 at s.requires.1).1, record_capacity_le s.args.g s.requires.0)
 
 returns : tie.Need-returns
 returns c = search rules

@@ -1,9 +1,9 @@
 use lib.Dec.{leb}
-use Rattle.layout.specs.Geometry.{recordCapacity, deletionCapacity}
+use Rattle.layout.specs.Geometry.{record_capacity, deletion_capacity}
 use Rattle.geometry.specs.Shape.{shape}
-use Rattle.changes.specs.Edits.{deletionsFullAt}
+use Rattle.changes.specs.Edits.{deletions_full_at}
 use mathlib.Core.Path.{◌∙◌}
-use Rattle.changes.proofs.ChangeLaws.{first-refusal, second-refusal}
+use Rattle.changes.proofs.ChangeLaws.{first_refusal, second_refusal}
 use borrow.Author.Rules.{rules}
 use Rattle.changes.proofs.room_refusal.Statement.{statement}
 use Rattle.changes.proofs.room_refusal.Tie as tie
@@ -30,7 +30,7 @@ returns : tie.Need-returns
 returns c =
     let r = c.before in
     let x = r.before.before.before.args in
-    rw r.before.enum-told3.given.1 (first-refusal r.record-refusal2.result (leb (recordCapacity (shape x.g)) x.s.records) (deletionsFullAt (deletionCapacity (shape x.g)) x.s.deletions)
+    rw r.before.enum-told3.given.1 (first_refusal r.record-refusal2.result (leb (record_capacity (shape x.g)) x.s.records) (deletions_full_at (deletion_capacity (shape x.g)) x.s.deletions)
     r.record-refusal2.ensures c.if1.true)
 
 deletion-refusal-requires-2 : tie.Need-deletion-refusal-requires-2
@@ -47,7 +47,7 @@ returns-4 c =
     let r = c.before.before in
     let x = r.before.before.before.args in
     rw r.before.enum-told3.given.1
-    (c.deletion-refusal2.ensures ∙ second-refusal r.record-refusal2.result (leb (recordCapacity (shape x.g)) x.s.records) (deletionsFullAt (deletionCapacity (shape x.g)) x.s.deletions)
+    (c.deletion-refusal2.ensures ∙ second_refusal r.record-refusal2.result (leb (record_capacity (shape x.g)) x.s.records) (deletions_full_at (deletion_capacity (shape x.g)) x.s.deletions)
     r.record-refusal2.ensures c.before.if1.false)
 
 pub room-refusal-spec : {M : Type 1} → statement M

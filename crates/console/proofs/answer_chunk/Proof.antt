@@ -6,8 +6,8 @@ use mathlib.Core.Bool.{Bool, true, false, cond}
 use mathlib.Core.Path.{◌≡◌}
 use lib.ListN.{length}
 use Rattle.console.specs.Buffers.{feed}
-use Rattle.console.specs.Contract.{buffersOf}
-use Rattle.console.proofs.Laws.{chunk-is}
+use Rattle.console.specs.Contract.{buffers_of}
+use Rattle.console.proofs.Laws.{chunk_is}
 use Rattle.console.proofs.answer_chunk.Statement.{statement}
 use Rattle.console.proofs.answer_chunk.Tie as tie
 use Rattle.console.proofs.answer_chunk.Reads as reads
@@ -47,10 +47,10 @@ returns c =
     let x = g.before.before.before.before.before.before.before.before.before.before.before.before.args in
     let e = c.write-answers.ensures in
     let f : g.feed.result.fill ≤ length x.line.now = omega (arith, g.feed.ensures.1) in
-    let k = feed (buffersOf x.p x.line.now x.main.now x.spare.now x.ram.now x.out.now) x.chunk.now in (
+    let k = feed (buffers_of x.p x.line.now x.main.now x.spare.now x.ram.now x.out.now) x.chunk.now in (
       (filled c.write-answers.result.continues e.1 f, e.2),
       (
-        chunk-is c.write-answers.result g.feed.result k g.feed.new.1.1.0 g.feed.new.1.1.1.0 g.feed.new.1.1.1.1.0
+        chunk_is c.write-answers.result g.feed.result k g.feed.new.1.1.0 g.feed.new.1.1.1.0 g.feed.new.1.1.1.1.0
             g.feed.new.1.1.1.1.1.0 g.feed.new.1.1.1.1.1.1.0 g.feed.ensures.0 e.0 e.1 e.2,
         e.3,
       ),

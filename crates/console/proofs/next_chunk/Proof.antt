@@ -3,8 +3,8 @@ use borrow.Author.Rules.{rules}
 use native.Mathlib.Omega.{arith}
 use mathlib.Core.Path.{◌≡◌}
 use Prim.Native.Nat.{◌-◌}
-use Rattle.console.specs.Contract.{buffersOf}
-use Rattle.console.proofs.Laws.{feeds-none, feeds-some}
+use Rattle.console.specs.Contract.{buffers_of}
+use Rattle.console.proofs.Laws.{feeds_none, feeds_some}
 use Rattle.console.proofs.next_chunk.Statement.{statement}
 use Rattle.console.proofs.next_chunk.Tie as tie
 use Rattle.console.proofs.next_chunk.Reads as reads
@@ -32,7 +32,7 @@ returns c =
     let g = c.before.before.before.before.before.before in
     let x = g.before.before.before.before.before.before.before.before.args in
     let e = c.fail.ensures in
-    ((omega (arith, e), e.3), feeds-none c.fail.result x.p g.read.new.1.0 x.line.now x.main.now x.spare.now x.ram.now x.out.now e.0 e.1 (rw e.4 e.2) e.3)
+    ((omega (arith, e), e.3), feeds_none c.fail.result x.p g.read.new.1.0 x.line.now x.main.now x.spare.now x.ram.now x.out.now e.0 e.1 (rw e.4 e.2) e.3)
 
 count-requires : tie.Need-count-requires
 count-requires c κs = search rules
@@ -48,7 +48,7 @@ returns-2 c =
     let g = c.before.before.before.before.before.before.before.before in
     let x = g.before.before.before.before.before.before.before.before.args in
     let e = c.succeed.ensures in
-    ((omega (arith, e), e.3), feeds-none c.succeed.result x.p g.read.new.1.0 x.line.now x.main.now x.spare.now x.ram.now x.out.now e.0 e.1 (rw e.4 e.2) e.3)
+    ((omega (arith, e), e.3), feeds_none c.succeed.result x.p g.read.new.1.0 x.line.now x.main.now x.spare.now x.ram.now x.out.now e.0 e.1 (rw e.4 e.2) e.3)
 
 sub-answer-chunk : tie.Need-overflow-sub-answer-chunk
 sub-answer-chunk c = search rules
@@ -89,8 +89,8 @@ returns-3 c =
     let k = a.answer-chunk in
     let z : n.count.result - 0 ≡ n.count.result = omega arith in (
       k.ensures.0,
-      feeds-some k.result (buffersOf x.p x.line.now x.main.now x.spare.now x.ram.now x.out.now)
-          (buffersOf k.result.progress k.new.1.1.0 k.new.1.1.1.0 k.new.1.1.1.1.0 k.new.1.1.1.1.1.0 k.new.1.1.1.1.1.1.0)
+      feeds_some k.result (buffers_of x.p x.line.now x.main.now x.spare.now x.ram.now x.out.now)
+          (buffers_of k.result.progress k.new.1.1.0 k.new.1.1.1.0 k.new.1.1.1.1.0 k.new.1.1.1.1.1.0 k.new.1.1.1.1.1.1.0)
           g.read.new.1.0 n.count.result (omega (arith, n.count.ensures.0)) (rw z at k.ensures.1.0) k.ensures.1.1,
     )
 

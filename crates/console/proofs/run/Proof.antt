@@ -5,10 +5,10 @@ use Prim.Native.Nat.{ℕ, ◌≤◌, ◌<◌}
 use mathlib.Core.Path.{◌≡◌, refl}
 use mathlib.Core.List.{List}
 use lib.ListN.{length}
-use Rattle.console.specs.Contract.{buffersOf}
-use Rattle.console.specs.Chunks.{initial, feedAll, closeIf, Short, Leaves}
-use Rattle.console.specs.WholeInput.{run-leaves}
-use Rattle.console.proofs.Laws.{SoFar, so-far-first, so_far_more, so-far-ends}
+use Rattle.console.specs.Contract.{buffers_of}
+use Rattle.console.specs.Chunks.{initial, feed_all, close_if, Short, Leaves}
+use Rattle.console.specs.WholeInput.{run_leaves}
+use Rattle.console.proofs.Laws.{SoFar, so_far_first, so_far_more, so_far_ends}
 use Rattle.console.proofs.run.Statement.{statement}
 use Rattle.console.proofs.run.Tie as tie
 
@@ -16,7 +16,7 @@ abbrev invariant-loop : tie.invariant-loop
 invariant-loop chunk₀ line₀ main₀ spare₀ ram₀ out₀ p₀ left₀ ok₀ chunk line main spare ram out p left ok =
     (p.fill ≤ length line) × (p.printed ≡ 0) × (length chunk ≡ length chunk₀) × (length line ≡ length line₀) × (length main ≡ length main₀)
     × (length spare ≡ length spare₀) × (length ram ≡ length ram₀) × (length out ≡ length out₀)
-    × SoFar (buffersOf p₀ line₀ main₀ spare₀ ram₀ out₀) (length chunk₀) left ok (buffersOf p line main spare ram out)
+    × SoFar (buffers_of p₀ line₀ main₀ spare₀ ram₀ out₀) (length chunk₀) left ok (buffers_of p line main spare ram out)
 
 abbrev decreases-loop : tie.decreases-loop
 decreases-loop chunk₀ line₀ main₀ spare₀ ram₀ out₀ p₀ left₀ ok₀ chunk line main spare ram out p left ok = left
@@ -35,7 +35,7 @@ loop-holds c =
       refl,
       refl,
       refl,
-      so-far-first (buffersOf c.begin.result x.line.now x.main.now x.spare.now x.ram.now x.out.now) (length x.chunk.now) _,
+      so_far_first (buffers_of c.begin.result x.line.now x.main.now x.spare.now x.ram.now x.out.now) (length x.chunk.now) _,
     )
 
 next-chunk-requires : tie.Need-next-chunk-requires invariant-loop decreases-loop
@@ -53,8 +53,8 @@ again : (c : tie.After-chunks-left invariant-loop decreases-loop)
     let b = t.before.before.before.before.before.before.before.before.before in
     let x = b.before.before.before.before.before.before.before.args in
     let k = t.next-chunk in
-    SoFar (buffersOf b.begin.result x.line.now x.main.now x.spare.now x.ram.now x.out.now) (length x.chunk.now) c.chunks-left.result k.result.ok
-    (buffersOf k.result.progress k.new.1.1.0 k.new.1.1.1.0 k.new.1.1.1.1.0 k.new.1.1.1.1.1.0 k.new.1.1.1.1.1.1.0)
+    SoFar (buffers_of b.begin.result x.line.now x.main.now x.spare.now x.ram.now x.out.now) (length x.chunk.now) c.chunks-left.result k.result.ok
+    (buffers_of k.result.progress k.new.1.1.0 k.new.1.1.1.0 k.new.1.1.1.1.0 k.new.1.1.1.1.1.0 k.new.1.1.1.1.1.1.0)
 again c =
     let full : length c.before.before.before.before.before.before.before.before.before.before.before.before.before.before.next-chunk.new.1.0 ≡ length c.before.before.before.before.before.before.before.before.before.before.before.before.before.before.before.before.before.before.before.before.before.before.before.before.before.before.before.before.before.before.args.chunk.now = omega arith in
     let pos : 0 < c.before.before.before.before.before.before.before.before.before.before.before.before.before.before.before.before.before.before.before.before.before.before.loop.left = omega arith in
@@ -63,8 +63,8 @@ again c =
     let b = l.before in
     let x = b.before.before.before.before.before.before.before.args in
     let k = t.next-chunk in
-    so_far_more (buffersOf b.begin.result x.line.now x.main.now x.spare.now x.ram.now x.out.now) (buffersOf l.loop.p l.loop.line l.loop.main l.loop.spare l.loop.ram l.loop.out)
-    (buffersOf k.result.progress k.new.1.1.0 k.new.1.1.1.0 k.new.1.1.1.1.0 k.new.1.1.1.1.1.0 k.new.1.1.1.1.1.1.0)
+    so_far_more (buffers_of b.begin.result x.line.now x.main.now x.spare.now x.ram.now x.out.now) (buffers_of l.loop.p l.loop.line l.loop.main l.loop.spare l.loop.ram l.loop.out)
+    (buffers_of k.result.progress k.new.1.1.0 k.new.1.1.1.0 k.new.1.1.1.1.0 k.new.1.1.1.1.1.0 k.new.1.1.1.1.1.1.0)
     (length x.chunk.now) l.loop.left c.chunks-left.result l.loop.ok k.result k.new.1.0
     l.loop.invariant.8 pos k.ensures.1 full c.chunks-left.ensures.1
 
@@ -109,11 +109,11 @@ returns c =
     let b = l.before in
     let x = b.before.before.before.before.before.before.before.args in
     let k = f.finish in
-    let h : (chunks : List (List ℕ)) × Short (length x.chunk.now) chunks × Leaves (closeIf l.loop.ok (feedAll (initial x.line.now x.main.now x.spare.now x.ram.now x.out.now) chunks)) l.loop.line k.new.1.1.0 k.new.1.1.1.0 k.new.1.1.1.1.0 k.new.1.1.1.1.1.0 =
+    let h : (chunks : List (List ℕ)) × Short (length x.chunk.now) chunks × Leaves (close_if l.loop.ok (feed_all (initial x.line.now x.main.now x.spare.now x.ram.now x.out.now) chunks)) l.loop.line k.new.1.1.0 k.new.1.1.1.0 k.new.1.1.1.1.0 k.new.1.1.1.1.1.0 =
     rw b.begin.ensures.0 at
-    (so-far-ends (buffersOf b.begin.result x.line.now x.main.now x.spare.now x.ram.now x.out.now) (buffersOf l.loop.p l.loop.line l.loop.main l.loop.spare l.loop.ram l.loop.out)
+    (so_far_ends (buffers_of b.begin.result x.line.now x.main.now x.spare.now x.ram.now x.out.now) (buffers_of l.loop.p l.loop.line l.loop.main l.loop.spare l.loop.ram l.loop.out)
     (length x.chunk.now) l.loop.left l.loop.ok k.new.1.1.0 k.new.1.1.1.0 k.new.1.1.1.1.0 k.new.1.1.1.1.1.0 l.loop.invariant.8 k.ensures) in
-    (h, λ e. run-leaves x.line.now x.main.now x.spare.now x.ram.now x.out.now l.loop.line k.new.1.1.0 k.new.1.1.1.0 k.new.1.1.1.1.0 k.new.1.1.1.1.1.0 (length x.chunk.now) l.loop.ok e h)
+    (h, λ e. run_leaves x.line.now x.main.now x.spare.now x.ram.now x.out.now l.loop.line k.new.1.1.0 k.new.1.1.1.0 k.new.1.1.1.1.0 k.new.1.1.1.1.1.0 (length x.chunk.now) l.loop.ok e h)
 
 pub run_spec : {M : Type 1} → statement M
 run_spec =

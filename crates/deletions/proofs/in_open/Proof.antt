@@ -6,9 +6,9 @@ use Prim.Native.Nat.{◌*◌, ◌-◌, ◌/◌, ◌≤◌, ◌<◌}
 use Rattle.memory.specs.Numbers.{euclid}
 use Rattle.layout.specs.Geometry as layout
 use Rattle.geometry.specs.Shape.{shape}
-use Rattle.geometry.specs.Bounds.{product_le, deletion-capacity-le}
-use Rattle.laws.specs.Units.{unit-times}
-use Rattle.deletions.proofs.Volume.{open-in-flash, open-on-flash, open-in-ram, open-on-ram}
+use Rattle.geometry.specs.Bounds.{product_le, deletion_capacity_le}
+use Rattle.laws.specs.Units.{unit_times}
+use Rattle.deletions.proofs.Volume.{open_in_flash, open_on_flash, open_in_ram, open_on_ram}
 use Rattle.deletions.proofs.in_open.Statement.{statement}
 use Rattle.deletions.proofs.in_open.Tie as tie
 
@@ -24,7 +24,7 @@ start_of S = S.before.before.before.before
 slot-requires : tie.Need-slot-requires
 slot-requires c κs =
     let b = c.before.before.before in
-    rw c.deletions-per-page.ensures (unit-times 4 b.args.t.g.chip.unit b.requires.sound.unit)
+    rw c.deletions-per-page.ensures (unit_times 4 b.args.t.g.chip.unit b.requires.sound.unit)
 
 sub-full : tie.Need-overflow-sub-full
 sub-full c =
@@ -36,7 +36,7 @@ in-full-pages-requires : tie.Need-in-full-pages-requires
 in-full-pages-requires c κs =
     let S = c.before in
     let b = start_of S in
-    rw S.before.deletions-per-page.ensures (unit-times 4 b.args.t.g.chip.unit b.pre.sound.unit)
+    rw S.before.deletions-per-page.ensures (unit_times 4 b.args.t.g.chip.unit b.pre.sound.unit)
 
 da-block-requires : tie.Need-da-block-requires
 da-block-requires c κs = search rules
@@ -51,7 +51,7 @@ slot_of P = P.before.before.before.before.before
 
 -- the first byte on flash
 start_is : (P : Placed) → let g = (start_of (slot_of P)).args.t.g in
-    P.block-address.result ≡ layout.daBlock (shape g) * layout.block g.chip.unit
+    P.block-address.result ≡ layout.da_block (shape g) * layout.block g.chip.unit
 start_is P = rw P.before.da-block.ensures at P.block-address.ensures
 
 -- it is a number of the machine
@@ -60,20 +60,20 @@ start-few P =
     let b = start_of (slot_of P) in
     let s = b.pre.sound in
     let g = b.args.t.g in
-    let h : layout.daBlock (shape g) ≤ 8192 = omega (arith, s.ra-most) in
-    omega (arith, start_is P, product_le (layout.daBlock (shape g)) g.chip.unit 8192 32 h s.unit.1.most)
+    let h : layout.da_block (shape g) ≤ 8192 = omega (arith, s.ra_most) in
+    omega (arith, start_is P, product_le (layout.da_block (shape g)) g.chip.unit 8192 32 h s.unit.1.most)
 
 block-address-requires : tie.Need-block-address-requires
 block-address-requires c κs =
     let b = start_of c.before.before.before.before in
     let s = b.pre.sound in
     let g = b.args.t.g in
-    let h : layout.daBlock (shape g) ≤ 8192 = omega (arith, s.ra-most) in
-    let k = product_le (layout.daBlock (shape g)) g.chip.unit 8192 32 h s.unit.1.most in
+    let h : layout.da_block (shape g) ≤ 8192 = omega (arith, s.ra_most) in
+    let k = product_le (layout.da_block (shape g)) g.chip.unit 8192 32 h s.unit.1.most in
     (s.unit.1.most, rw c.da-block.ensures (omega (arith, k)))
 
 few : (b : tie.Start) → b.args.t.d0 ≤ 33554432
-few b = omega (arith, b.requires.bound, b.requires.cap, deletion-capacity-le b.args.t.g b.requires.sound)
+few b = omega (arith, b.requires.bound, b.requires.cap, deletion_capacity_le b.args.t.g b.requires.sound)
 
 mul-has-word : tie.Need-overflow-mul-has-word
 mul-has-word c = omega (arith, few (start_of (slot_of c)))
@@ -90,7 +90,7 @@ has-word-requires c κs =
     let S = slot_of c in
     let b = start_of S in
     let x = b.args in
-    open-in-flash b.pre S.before.deletions-per-page.result
+    open_in_flash b.pre S.before.deletions-per-page.result
     S.before.deletions-per-page.ensures
     S.slot.result (x.t.d0 - S.slot.result) S.slot.ensures.0 refl (filled c) c.block-address.result (start_is c)
 
@@ -100,7 +100,7 @@ returns c =
     let S = slot_of P in
     let b = start_of S in
     let x = b.args in
-    open-on-flash b.pre S.before.deletions-per-page.result
+    open_on_flash b.pre S.before.deletions-per-page.result
     S.before.deletions-per-page.ensures
     S.slot.result (x.t.d0 - S.slot.result) S.slot.ensures.0 refl (filled P) P.block-address.result (start_is P)
     x.j c.Has-word.result c.Has-word.ensures
@@ -115,7 +115,7 @@ has-word-requires-2 c κs =
     let S = c.before.before.before.before in
     let b = start_of S in
     let x = b.args in
-    open-in-ram b.pre S.before.deletions-per-page.result
+    open_in_ram b.pre S.before.deletions-per-page.result
     S.before.deletions-per-page.ensures
     S.slot.result (x.t.d0 - S.slot.result) S.slot.ensures.0 refl c.da-ram.result c.da-ram.ensures
 
@@ -126,7 +126,7 @@ returns-2 c =
     let S = F.before.before in
     let b = start_of S in
     let x = b.args in
-    open-on-ram b.pre S.before.deletions-per-page.result
+    open_on_ram b.pre S.before.deletions-per-page.result
     S.before.deletions-per-page.ensures
     S.slot.result (x.t.d0 - S.slot.result) S.slot.ensures.0 refl K.da-ram.result K.da-ram.ensures
     (rw F.in-full-pages.ensures at K.before.if1.false) x.j c.has-word2.result c.has-word2.ensures

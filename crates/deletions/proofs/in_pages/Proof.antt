@@ -5,19 +5,19 @@ use mathlib.Core.Bool.{Bool}
 use mathlib.Core.Option.{Option}
 use Prim.Native.Nat.{ℕ}
 use lib.ListN.{take}
-use Rattle.layout.specs.Calls.{maybeDeleted}
+use Rattle.layout.specs.Calls.{maybe_deleted}
 use Rattle.layout.specs.Search.{Stop, found}
-use Rattle.laws.specs.WalkLaws.{Pages, Part, pages-first, pages-none, part-few, part-ended, part-next, free, part_free}
+use Rattle.laws.specs.WalkLaws.{Pages, Part, pages_first, pages_none, part_few, part_ended, part_next, free, part_free}
 use Rattle.geometry.specs.Shape.{shape}
 use Rattle.deletions.specs.Test.{held}
-use Rattle.deletions.specs.Walk.{testStop, tryHeld}
-use Rattle.deletions.proofs.Volume.{perPage, pagesThen, pages-few, pages-then}
+use Rattle.deletions.specs.Walk.{test_stop, try_held}
+use Rattle.deletions.proofs.Volume.{per_page, pages_then, pages_few, pages_then_lem}
 use Rattle.deletions.proofs.in_pages.Statement.{statement}
 use Rattle.deletions.proofs.in_pages.Tie as tie
 
 abbrev invariant-loop : tie.invariant-loop
 invariant-loop t j ps count main ram opened₀ below₀ opened below =
-    Pages (maybeDeleted (shape t.g) (held t main ram) (take count ps)) (tryHeld t main ram j) free (perPage t) (pagesThen t)
+    Pages (maybe_deleted (shape t.g) (held t main ram) (take count ps)) (try_held t main ram j) free (per_page t) (pages_then t)
     opened 0 below
 
 abbrev decreases-loop : tie.decreases-loop
@@ -30,10 +30,10 @@ Start = tie.Start invariant-loop decreases-loop
 
 abbrev gate-at : Start → ℕ → Bool
 gate-at b =
-    maybeDeleted (shape b.args.t.g) (held b.args.t b.args.main.now b.args.ram.now) (take b.args.count b.args.ps)
+    maybe_deleted (shape b.args.t.g) (held b.args.t b.args.main.now b.args.ram.now) (take b.args.count b.args.ps)
 
 abbrev try-at : Start → ℕ → Option Stop
-try-at b = tryHeld b.args.t b.args.main.now b.args.ram.now b.args.j
+try-at b = try_held b.args.t b.args.main.now b.args.ram.now b.args.j
 
 abbrev start_of : tie.At-loop invariant-loop decreases-loop → Start
 start_of l = l.before.before.before.before.before
@@ -50,7 +50,7 @@ loop-holds : tie.Need-loop-init invariant-loop decreases-loop
 loop-holds c =
     let E = c.before in
     let b = E.before.before.before in
-    rw E.deletions-per-page.ensures (pages-first (gate-at b) (try-at b) free (perPage b.args.t) (pagesThen b.args.t))
+    rw E.deletions-per-page.ensures (pages_first (gate-at b) (try-at b) free (per_page b.args.t) (pages_then b.args.t))
 
 in-block-requires : tie.Need-in-block-requires invariant-loop decreases-loop
 in-block-requires c κs =
@@ -66,8 +66,8 @@ abbrev loop-of : Walked → tie.At-loop invariant-loop decreases-loop
 loop-of r = r.before.before
 
 part : (r : Walked) → let l = loop-of r in let b = start_of l in let w = r.in_block.result in
-    Part (gate-at b) (try-at b) free (perPage b.args.t) l.loop.below w.start w.opened 0 (testStop b.args.j w.met)
-part r = let b = start_of (loop-of r) in part_free (gate-at b) (try-at b) (perPage b.args.t) r.in_block.ensures.1
+    Part (gate-at b) (try-at b) free (per_page b.args.t) l.loop.below w.start w.opened 0 (test_stop b.args.j w.met)
+part r = let b = start_of (loop-of r) in part_free (gate-at b) (try-at b) (per_page b.args.t) r.in_block.ensures.1
 
 add-opened : tie.Need-overflow-add-opened invariant-loop decreases-loop
 add-opened c =
@@ -75,16 +75,16 @@ add-opened c =
     let b = start_of (loop-of r) in
     omega (
       arith,
-      part-few (loop-of r).loop.invariant (part r),
-      pages-then b.pre.0,
-      pages-few b.pre.0,
+      part_few (loop-of r).loop.invariant (part r),
+      pages_then_lem b.pre.0,
+      pages_few b.pre.0,
     )
 
 returns : tie.Need-returns invariant-loop decreases-loop
 returns c =
     let r = c.before.before in
     let j = (start_of (loop-of r)).args.j in
-    sym (part-ended (loop-of r).loop.invariant (part r) (found j) (ap (testStop j) c.if1.true)).0
+    sym (part_ended (loop-of r).loop.invariant (part r) (found j) (ap (test_stop j) c.if1.true)).0
 
 loop-less : tie.Need-loop-smaller invariant-loop decreases-loop
 loop-less c = c.before.before.in_block.ensures.0
@@ -93,10 +93,10 @@ loop-again : tie.Need-loop-preserved invariant-loop decreases-loop
 loop-again c =
     let r = c.before.before in
     let j = (start_of (loop-of r)).args.j in
-    part-next (loop-of r).loop.invariant (part r) (ap (testStop j) c.if1.false) (omega (arith, r.in_block.ensures.0))
+    part_next (loop-of r).loop.invariant (part r) (ap (test_stop j) c.if1.false) (omega (arith, r.in_block.ensures.0))
 
 returns-2 : tie.Need-returns-2 invariant-loop decreases-loop
-returns-2 c = sym (pages-none c.before.loop.invariant (omega arith)).0
+returns-2 c = sym (pages_none c.before.loop.invariant (omega arith)).0
 
 pub in-pages-spec : {M : Type 1} → statement M
 in-pages-spec =

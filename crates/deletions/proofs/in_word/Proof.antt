@@ -8,20 +8,20 @@ use lib.ListN.{length}
 use borrow.Author.Rules.{rules}
 use Rattle.memory.specs.Bits.{bit}
 use Rattle.memory.specs.Candidate.{candidate}
-use Rattle.layout.specs.Geometry.{page, deletionsPerPage}
+use Rattle.layout.specs.Geometry.{page, deletions_per_page}
 use Rattle.layout.specs.Search.{Stop, found, scan}
-use Rattle.laws.specs.TopBits.{cleared-less}
-use Rattle.laws.specs.WalkLaws.{pages-none, pages-few}
+use Rattle.laws.specs.TopBits.{cleared_less}
+use Rattle.laws.specs.WalkLaws.{pages_none, pages_few}
 use Rattle.geometry.specs.Bounds.{product_le}
-use Rattle.deletions.specs.Walk.{testStop, tryWord, eitherBit}
-use Rattle.deletions.proofs.Bits.{Left, left-first, left-none, left-met, left-next, top-open}
-use Rattle.deletions.proofs.Volume.{scan-page}
+use Rattle.deletions.specs.Walk.{test_stop, try_word, either_bit}
+use Rattle.deletions.proofs.Bits.{Left, left_first, left_none, left_met, left_next, top_open}
+use Rattle.deletions.proofs.Volume.{scan_page}
 use Rattle.deletions.proofs.in_word.Statement.{statement}
 use Rattle.deletions.proofs.in_word.Tie as tie
 
 abbrev invariant-loop : tie.invariant-loop
 invariant-loop chip start bits j main left₀ opened₀ left opened =
-    Left (eitherBit bits) (tryWord main start j) (deletionsPerPage chip.unit) left₀ left opened
+    Left (either_bit bits) (try_word main start j) (deletions_per_page chip.unit) left₀ left opened
 
 abbrev decreases-loop : tie.decreases-loop
 decreases-loop chip start bits j main left₀ opened₀ left opened = candidate (bit left) 64
@@ -33,18 +33,18 @@ abbrev Start : Type 0
 Start = tie.Start invariant-loop decreases-loop
 
 abbrev gate-at : Start → ℕ → Bool
-gate-at b = eitherBit b.args.bits
+gate-at b = either_bit b.args.bits
 
 abbrev try-at : Start → ℕ → Option Stop
-try-at b = tryWord b.args.main.now b.args.start b.args.j
+try-at b = try_word b.args.main.now b.args.start b.args.j
 
 abbrev per-page : Start → ℕ
-per-page b = deletionsPerPage b.args.chip.unit
+per-page b = deletions_per_page b.args.chip.unit
 
 loop-holds : tie.Need-loop-init invariant-loop decreases-loop
 loop-holds c =
     let b = c.before.before in
-    left-first (gate-at b) (try-at b) (per-page b) c.pairs.result
+    left_first (gate-at b) (try-at b) (per-page b) c.pairs.result
 
 top-requires : tie.Need-top-requires invariant-loop decreases-loop
 top-requires c κs = omega (arith, c.loop-test.true)
@@ -65,14 +65,14 @@ start_of U = (loop-of U).before.before.before
 
 -- it is to be opened
 is_open : (U : Visited) → gate-at (start_of U) (U.before.top.result / 2) ≡ true
-is_open U = let l = loop-of U in top-open l.loop.inv l.before.pairs.ensures U.before.top.result U.before.top.ensures
+is_open U = let l = loop-of U in top_open l.loop.inv l.before.pairs.ensures U.before.top.result U.before.top.ensures
 
-page-in : (U : Visited) → let b = start_of U in
+page_in : (U : Visited) → let b = start_of U in
     b.args.start + U.before.top.result / 2 * page b.args.chip.unit + page b.args.chip.unit ≤ length b.args.main.now
-page-in U = (start_of U).pre.1.page-in (U.before.top.result / 2) (omega (arith, U.before.top.ensures.0)) (is_open U)
+page_in U = (start_of U).pre.1.page_in (U.before.top.result / 2) (omega (arith, U.before.top.ensures.0)) (is_open U)
 
 add-opened : tie.Need-overflow-add-opened invariant-loop decreases-loop
-add-opened c = omega (arith, pages-few (loop-of c).loop.invariant.pages)
+add-opened c = omega (arith, pages_few (loop-of c).loop.invariant.pages)
 
 page-address-requires : tie.Need-page-address-requires invariant-loop decreases-loop
 page-address-requires c κs =
@@ -82,10 +82,10 @@ page-address-requires c κs =
     (most, omega (arith, product_le (f / 2) (start_of c).args.chip.unit 32 32 h most))
 
 add-page-has : tie.Need-overflow-add-page-has invariant-loop decreases-loop
-add-page-has c = omega (arith, c.page-address.ensures, page-in c.before)
+add-page-has c = omega (arith, c.page-address.ensures, page_in c.before)
 
 page-has-requires : tie.Need-page-has-requires invariant-loop decreases-loop
-page-has-requires c κs = ((start_of c.before).requires.0, rw c.page-address.ensures (page-in c.before))
+page-has-requires c κs = ((start_of c.before).requires.0, rw c.page-address.ensures (page_in c.before))
 
 -- ---- after it
 
@@ -97,13 +97,13 @@ visit H = H.before.before
 
 -- its numbers
 scanned : (H : Looked) → let U = visit H in let b = start_of U in
-    scan (try-at b) (U.before.top.result / 2 * per-page b) (per-page b) ≡ testStop b.args.j H.page-has.result
+    scan (try-at b) (U.before.top.result / 2 * per-page b) (per-page b) ≡ test_stop b.args.j H.page-has.result
 scanned H =
     let U = visit H in
     let x = (start_of U).args in
     let p = U.before.top.result / 2 in
     let A = H.before.page-address in
-    scan-page x.chip.unit x.main.now x.start x.j p (x.start + A.result) H.page-has.result
+    scan_page x.chip.unit x.main.now x.start x.j p (x.start + A.result) H.page-has.result
     (ap (λ (y : ℕ). x.start + y) A.ensures) H.page-has.ensures
 
 returns : tie.Need-returns invariant-loop decreases-loop
@@ -113,13 +113,13 @@ returns c =
     let l = loop-of U in
     let T = U.before.top in
     let j = (start_of U).args.j in
-    sym (left-met l.loop.inv l.before.pairs.ensures T.result T.ensures (found j)
-    (scanned H ∙ ap (testStop j) c.if1.true))
+    sym (left_met l.loop.inv l.before.pairs.ensures T.result T.ensures (found j)
+    (scanned H ∙ ap (test_stop j) c.if1.true))
 
 loop-less : tie.Need-loop-smaller invariant-loop decreases-loop
 loop-less c =
     let U = visit c.before in
-    cleared-less (loop-of U).loop.left U.before.top.result U.before.top.ensures U.without.result U.without.ensures
+    cleared_less (loop-of U).loop.left U.before.top.result U.before.top.ensures U.without.result U.without.ensures
 
 loop-again : tie.Need-loop-preserved invariant-loop decreases-loop
 loop-again c =
@@ -127,14 +127,14 @@ loop-again c =
     let U = visit H in
     let l = loop-of U in
     let T = U.before.top in
-    left-next l.loop.inv l.before.pairs.ensures T.result T.ensures U.without.result U.without.ensures
-    (scanned H ∙ ap (testStop (start_of U).args.j) c.if1.false)
+    left_next l.loop.inv l.before.pairs.ensures T.result T.ensures U.without.result U.without.ensures
+    (scanned H ∙ ap (test_stop (start_of U).args.j) c.if1.false)
 
 -- none is left
 returns-2 : tie.Need-returns-2 invariant-loop decreases-loop
 returns-2 c =
     let l = c.before in
-    sym (pages-none (left-none l.loop.invariant l.before.pairs.ensures c.loop-test.false) (omega arith)).0
+    sym (pages_none (left_none l.loop.invariant l.before.pairs.ensures c.loop-test.false) (omega arith)).0
 
 pub in-word-spec : {M : Type 1} → statement M
 in-word-spec =

@@ -2,7 +2,7 @@ use native.Mathlib.Omega.{arith}
 use Prim.Native.Nat.{ℕ, ◌+◌, ◌*◌}
 use mathlib.Core.Path.{ap, ◌∙◌}
 use lib.ListN.{get_or}
-use Rattle.fields.proofs.Bits.{eight-bytes}
+use Rattle.fields.proofs.Bits.{eight_bytes}
 use borrow.Author.Rules.{rules}
 use Rattle.fields.proofs.column.Statement.{statement}
 use Rattle.fields.proofs.column.Tie as tie
@@ -147,7 +147,7 @@ returns c =
     let c1 = c2.before.before in
     let x = c1.before.before.before in
     let f : ℕ → ℕ = λ k. get_or x.args.bytes.now (x.args.a + k * x.args.stride) 0 in
-    eight-bytes f (λ k. omega (arith, c1.before.before.shared-slice-known.given (x.args.a + k * x.args.stride)))
+    eight_bytes f (λ k. omega (arith, c1.before.before.shared-slice-known.given (x.args.a + k * x.args.stride)))
     c1.u64-of-byte.result c2.u64-of-byte2.result c3.u64-of-byte3.result c4.u64-of-byte4.result c5.u64-of-byte5.result c6.u64-of-byte6.result c7.u64-of-byte7.result c.u64-of-byte8.result
     (c1.u64-of-byte.ensures.0 ∙ ap (λ (i : ℕ). get_or x.args.bytes.now i 0) (omega arith))
     (c2.u64-of-byte2.ensures.0 ∙ ap (λ (i : ℕ). get_or x.args.bytes.now i 0) (omega arith))

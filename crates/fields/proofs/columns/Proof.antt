@@ -4,9 +4,9 @@ use Prim.Native.Nat.{ℕ, ◌+◌, ◌-◌, ◌*◌, ◌%◌, ◌≤◌}
 use mathlib.Core.Path.{◌≡◌, refl, sym, ap, subst, ◌∙◌}
 use mathlib.Core.List.{List}
 use lib.ListN.{length}
-use Rattle.memory.specs.Lists.{Done, length-write}
+use Rattle.memory.specs.Lists.{Done, length_write}
 use Rattle.memory.specs.Words.{bytes8}
-use Rattle.fields.specs.Columns.{columnByte}
+use Rattle.fields.specs.Columns.{column_byte}
 use Rattle.fields.specs.Lists.{done_all}
 use Rattle.fields.proofs.Lanes.{turn_more}
 use Rattle.fields.proofs.columns.Statement.{statement}
@@ -14,7 +14,7 @@ use Rattle.fields.proofs.columns.Tie as tie
 
 abbrev invariant-loop : tie.invariant-loop
 invariant-loop bytes at stride w out₀ a₀ i₀ out a i =
-    (i ≤ 128) × (i % 8 ≡ 0) × (length out ≡ 128) × (a ≡ at + i * stride) × Done (columnByte bytes at stride w) out i
+    (i ≤ 128) × (i % 8 ≡ 0) × (length out ≡ 128) × (a ≡ at + i * stride) × Done (column_byte bytes at stride w) out i
 
 abbrev decreases-loop : tie.decreases-loop
 decreases-loop bytes at stride w out₀ a₀ i₀ out a i = 128 - i
@@ -59,10 +59,10 @@ loop-again c =
     let x = y.before.before.before.before.before in
     let p = c.before.before.put64 in
     let e = p.ensures in
-    let f : ℕ → ℕ = columnByte x.args.bytes.now x.args.at x.args.stride x.args.w in (
+    let f : ℕ → ℕ = column_byte x.args.bytes.now x.args.at x.args.stride x.args.w in (
       omega arith,
       omega arith,
-      ap length e ∙ (length-write l.out l.i (bytes8 z.split.result) ∙ l.invariant.2),
+      ap length e ∙ (length_write l.out l.i (bytes8 z.split.result) ∙ l.invariant.2),
       omega arith,
       subst (λ (o : List ℕ). Done f o (l.i + 8)) (sym e)
           (turn_more x.args.bytes.now x.args.at x.args.stride x.args.w l.i l.a y.column.result z.split.result
@@ -76,7 +76,7 @@ returns : tie.Need-returns invariant-loop decreases-loop
 returns c =
     let x = c.before.before.before.before.args in
     let l = c.before.loop in
-    done_all (columnByte x.bytes.now x.at x.stride x.w) l.out 128 l.i l.invariant.2 (omega arith) l.invariant.4
+    done_all (column_byte x.bytes.now x.at x.stride x.w) l.out 128 l.i l.invariant.2 (omega arith) l.invariant.4
 
 pub columns_spec : {M : Type 1} → statement M
 columns_spec =

@@ -1,6 +1,6 @@
 use native.Mathlib.Omega.{arith}
 use lib.ListN.{length}
-use Rattle.fields.proofs.Strides.{at_size, of_size, last-size}
+use Rattle.fields.proofs.Strides.{at_size, of_size, last_size}
 use borrow.Author.Rules.{rules}
 use Rattle.fields.proofs.copy_runs.Statement.{statement}
 use Rattle.fields.proofs.copy_runs.Tie as tie
@@ -61,7 +61,7 @@ whole-runs-requires-5 : tie.Need-whole-runs-requires-5
 whole-runs-requires-5 c κs =
     let x = c.before.before.before.before.before.before.before in
     at_size (length x.args.bytes.now) x.args.at x.args.stride x.args.n x.args.y (length x.args.out.now) 16
-    (last-size x.args.n x.requires.0.0 c.before.before.before.before.if1.false c.before.before.before.if2.false c.before.before.if3.false c.before.if4.false) (omega arith) x.requires
+    (last_size x.args.n x.requires.0.0 c.before.before.before.before.if1.false c.before.before.before.if2.false c.before.before.if3.false c.before.if4.false) (omega arith) x.requires
 
 same-length-5 : tie.Need-same-length-5
 same-length-5 c = search rules
@@ -70,7 +70,7 @@ returns-5 : tie.Need-returns-5
 returns-5 c =
     let x = c.before.before.before.before.before.before.before.before.before.before in
     of_size x.args.bytes.now x.args.at x.args.stride x.args.n x.args.y (length x.args.out.now) 16 _
-    (last-size x.args.n x.requires.0.0 c.before.before.before.before.before.before.before.if1.false c.before.before.before.before.before.before.if2.false c.before.before.before.before.before.if3.false c.before.before.before.before.if4.false) c.before.before.whole-runs5.ensures
+    (last_size x.args.n x.requires.0.0 c.before.before.before.before.before.before.before.if1.false c.before.before.before.before.before.before.if2.false c.before.before.before.before.before.if3.false c.before.before.before.before.if4.false) c.before.before.whole-runs5.ensures
 
 pub copy-runs-spec : {M : Type 1} → statement M
 copy-runs-spec =

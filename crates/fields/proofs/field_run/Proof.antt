@@ -3,8 +3,8 @@ use Prim.Native.Nat.{ℕ, ◌+◌, ◌*◌}
 use mathlib.Core.Path.{◌≡◌, refl}
 use Rattle.memory.specs.Cases.{either}
 use lib.ListN.{length}
-use Rattle.fields.specs.Sources.{fieldByte}
-use Rattle.memory.specs.Lists.{is-tabulate}
+use Rattle.fields.specs.Sources.{field_byte}
+use Rattle.memory.specs.Lists.{is_tabulate}
 use borrow.Author.Rules.{rules}
 use Rattle.fields.proofs.field_run.Statement.{statement}
 use Rattle.fields.proofs.field_run.Tie as tie
@@ -12,7 +12,7 @@ use Rattle.fields.proofs.field_run.Tie as tie
 returns : tie.Need-returns
 returns c =
     let x = c.before.before.before.args in
-    is-tabulate x.out.now (length x.out.now) (λ (i : ℕ). fieldByte x.bytes.now x.s x.w (x.y + i)) refl (λ i h. absurd (omega arith))
+    is_tabulate x.out.now (length x.out.now) (λ (i : ℕ). field_byte x.bytes.now x.s x.w (x.y + i)) refl (λ i h. absurd (omega arith))
 
 copy-run-requires : tie.Need-copy-run-requires
 copy-run-requires c κs =

@@ -3,14 +3,14 @@ use native.Mathlib.Omega.{arith}
 use Prim.Native.Nat.{ℕ, ◌+◌, ◌-◌, ◌≤◌}
 use mathlib.Core.Path.{◌≡◌, refl}
 use lib.ListN.{length, length-set}
-use Rattle.fields.specs.Sources.{fieldByte}
+use Rattle.fields.specs.Sources.{field_byte}
 use Rattle.memory.specs.Lists.{Done, done_more}
 use Rattle.fields.specs.Lists.{done_all}
 use Rattle.fields.proofs.halve_run.Statement.{statement}
 use Rattle.fields.proofs.halve_run.Tie as tie
 
 abbrev invariant-loop : tie.invariant-loop
-invariant-loop bytes s w y out₀ i₀ out i = (i ≤ length out₀) × (length out ≡ length out₀) × Done (λ (k : ℕ). fieldByte bytes s w (y + k)) out i
+invariant-loop bytes s w y out₀ i₀ out i = (i ≤ length out₀) × (length out ≡ length out₀) × Done (λ (k : ℕ). field_byte bytes s w (y + k)) out i
 
 abbrev decreases-loop : tie.decreases-loop
 decreases-loop bytes s w y out₀ i₀ out i = length out₀ - i
@@ -39,7 +39,7 @@ loop-again : tie.Need-loop-preserved invariant-loop decreases-loop
 loop-again c =
     let x = c.before.before.before.before.before.args in
     let l = c.before.before.loop in
-    let f : ℕ → ℕ = λ k. fieldByte x.bytes.now x.s x.w (x.y + k) in
+    let f : ℕ → ℕ = λ k. field_byte x.bytes.now x.s x.w (x.y + k) in
     (omega arith, simp length-set l.invariant.1, done_more f l.out l.i c.halved-byte.result (omega arith) l.invariant.2 c.halved-byte.ensures)
 
 same_length : tie.Need-same-length invariant-loop decreases-loop
@@ -49,7 +49,7 @@ returns : tie.Need-returns invariant-loop decreases-loop
 returns c =
     let x = c.before.before.before.before.args in
     let l = c.before.loop in
-    let f : ℕ → ℕ = λ k. fieldByte x.bytes.now x.s x.w (x.y + k) in
+    let f : ℕ → ℕ = λ k. field_byte x.bytes.now x.s x.w (x.y + k) in
     done_all f l.out (length x.out.now) l.i l.invariant.1 (omega arith) l.invariant.2
 
 pub halve-run-spec : {M : Type 1} → statement M

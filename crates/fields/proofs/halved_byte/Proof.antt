@@ -2,7 +2,7 @@ use native.Mathlib.Omega.{arith}
 use Prim.Native.Nat.{◌+◌, ◌*◌}
 use mathlib.Core.Path.{refl}
 use lib.ListN.{length}
-use Rattle.fields.proofs.Halving.{down_lt, narrow, both-inside, pair-low, pair-high, halved_is}
+use Rattle.fields.proofs.Halving.{down_lt, narrow, both_inside, pair_low, pair_high, halved_is}
 use borrow.Author.Rules.{rules}
 use Rattle.fields.proofs.halved_byte.Statement.{statement}
 use Rattle.fields.proofs.halved_byte.Tie as tie
@@ -16,7 +16,7 @@ add_a c = search rules
 shared-slice-read-u16-of-byte : tie.Need-shared-slice-read-u16-of-byte
 shared-slice-read-u16-of-byte c =
     let x = c.before.before.before in
-    omega (arith, both-inside x.args.bytes.now x.args.s x.args.w x.args.y x.requires.0 x.requires.2 x.requires.3 (length x.args.bytes.now) x.requires.1)
+    omega (arith, both_inside x.args.bytes.now x.args.s x.args.w x.args.y x.requires.0 x.requires.2 x.requires.3 (length x.args.bytes.now) x.requires.1)
 
 u16-of-byte-requires : tie.Need-u16-of-byte-requires
 u16-of-byte-requires c κs = search rules
@@ -27,7 +27,7 @@ add-u16-of-byte c = search rules
 shared-slice-read-u16-of-byte-2 : tie.Need-shared-slice-read-u16-of-byte-2
 shared-slice-read-u16-of-byte-2 c =
     let x = c.before.before.before.before.before in
-    both-inside x.args.bytes.now x.args.s x.args.w x.args.y x.requires.0 x.requires.2 x.requires.3 (length x.args.bytes.now) x.requires.1
+    both_inside x.args.bytes.now x.args.s x.args.w x.args.y x.requires.0 x.requires.2 x.requires.3 (length x.args.bytes.now) x.requires.1
 
 u16-of-byte-requires-2 : tie.Need-u16-of-byte-requires-2
 u16-of-byte-requires-2 c κs = search rules
@@ -75,8 +75,8 @@ returns c =
     let q = l.before.u16-of-byte2 in
     let p = l.before.before.before.u16-of-byte in
     let x = c.before.before.before.before.before.before.before.before in
-    let low = pair-low x.args.bytes.now x.args.s x.args.w x.args.y x.requires.0 x.requires.2 x.requires.3 p.result q.result _ l.even-fields.result p.ensures.1 refl l.even-fields.ensures in
-    let high = pair-high x.args.bytes.now x.args.s x.args.w x.args.y x.requires.0 x.requires.2 x.requires.3 p.result q.result _ c.even-fields2.result p.ensures.1 refl c.even-fields2.ensures in
+    let low = pair_low x.args.bytes.now x.args.s x.args.w x.args.y x.requires.0 x.requires.2 x.requires.3 p.result q.result _ l.even-fields.result p.ensures.1 refl l.even-fields.ensures in
+    let high = pair_high x.args.bytes.now x.args.s x.args.w x.args.y x.requires.0 x.requires.2 x.requires.3 p.result q.result _ c.even-fields2.result p.ensures.1 refl c.even-fields2.ensures in
     halved_is x.args.bytes.now x.args.s x.args.w x.args.y x.requires.0 x.requires.2 x.requires.3 l.even-fields.result c.even-fields2.result (rw p.ensures.0 at low) (rw q.ensures.0 at high)
 
 pub halved-byte-spec : {M : Type 1} → statement M

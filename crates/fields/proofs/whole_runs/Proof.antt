@@ -3,16 +3,16 @@ use Prim.Native.Nat.{ℕ, ◌+◌, ◌-◌, ◌≤◌, ◌<◌}
 use mathlib.Core.List.{List}
 use mathlib.Core.Path.{◌≡◌, refl, sym, ap, ◌∙◌}
 use lib.ListN.{length, get_or}
-use Rattle.fields.specs.Sources.{runByte}
+use Rattle.fields.specs.Sources.{run_byte}
 use Rattle.memory.specs.Lists.{Done, length_part}
-use Rattle.fields.specs.Lists.{done_all, part_length, part-more}
-use Rattle.fields.proofs.Strides.{At, first-at, first-in, turn-fits, turn_inside, turn-bytes, turn-next}
+use Rattle.fields.specs.Lists.{done_all, part_length, part_more}
+use Rattle.fields.proofs.Strides.{At, first_at, first_in, turn_fits, turn_inside, turn_bytes, turn_next}
 use Rattle.fields.proofs.whole_runs.Statement.{statement}
 use Rattle.fields.proofs.whole_runs.Tie as tie
 
 abbrev invariant-loop : tie.invariant-loop
 invariant-loop bytes at stride n y out₀ a₀ i₀ out a i =
-    (i ≤ length out₀) × (length out ≡ length out₀) × Done (λ (j : ℕ). runByte bytes at stride n (y + j)) out i × At at stride n (y + i) a
+    (i ≤ length out₀) × (length out ≡ length out₀) × Done (λ (j : ℕ). run_byte bytes at stride n (y + j)) out i × At at stride n (y + i) a
 
 abbrev decreases-loop : tie.decreases-loop
 decreases-loop bytes at stride n y out₀ a₀ i₀ out a i = length out₀ - i
@@ -25,7 +25,7 @@ turn c =
     let x = c.before.before.before.before in
     let l = c.before.loop in
     let h : l.i < length x.args.out.now = omega arith in (
-      turn-fits x.args.bytes.now x.args.at x.args.stride x.args.n x.args.y (length x.args.out.now) l.i l.a x.requires.0.0 x.requires.0.3 x.requires.1.0 x.requires.1.1 h l.invariant.3,
+      turn_fits x.args.bytes.now x.args.at x.args.stride x.args.n x.args.y (length x.args.out.now) l.i l.a x.requires.0.0 x.requires.0.3 x.requires.1.0 x.requires.1.1 h l.invariant.3,
       turn_inside x.args.bytes.now x.args.at x.args.stride x.args.n x.args.y (length x.args.out.now) l.i l.a x.requires.0.0 x.requires.0.3 x.requires.1.0 x.requires.1.1 h l.invariant.3,
     )
 
@@ -35,17 +35,17 @@ div-a c = c.before.before.requires.0.0
 mul-a : tie.Need-overflow-mul-a invariant-loop decreases-loop
 mul-a c =
     let x = c.before.before in
-    omega (arith, first-in (length x.args.bytes.now) x.args.at x.args.stride x.args.n x.args.y (length x.args.out.now) x.requires.0.3 x.requires.0.2)
+    omega (arith, first_in (length x.args.bytes.now) x.args.at x.args.stride x.args.n x.args.y (length x.args.out.now) x.requires.0.3 x.requires.0.2)
 
 add_a : tie.Need-overflow-add-a invariant-loop decreases-loop
 add_a c =
     let x = c.before.before in
-    omega (arith, first-in (length x.args.bytes.now) x.args.at x.args.stride x.args.n x.args.y (length x.args.out.now) x.requires.0.3 x.requires.0.2)
+    omega (arith, first_in (length x.args.bytes.now) x.args.at x.args.stride x.args.n x.args.y (length x.args.out.now) x.requires.0.3 x.requires.0.2)
 
 loop-holds : tie.Need-loop-init invariant-loop decreases-loop
 loop-holds c =
     let x = c.before.before in
-    (omega arith, refl, λ k h. absurd (omega arith), first-at x.args.at x.args.stride x.args.n x.args.y x.requires.0.0 x.requires.1.0)
+    (omega arith, refl, λ k h. absurd (omega arith), first_at x.args.at x.args.stride x.args.n x.args.y x.requires.0.0 x.requires.1.0)
 
 add-e : tie.Need-overflow-add-e invariant-loop decreases-loop
 add-e c = omega (arith, (turn c).0)
@@ -94,13 +94,13 @@ loop-again c =
     let h : l.i < length x.args.out.now = omega arith in
     let fit : l.i + x.args.n ≤ length l.out = omega (arith, (turn d).0, l.invariant.1) in
     let size : length k.new.0 ≡ l.i + x.args.n - l.i = ap length k.ensures ∙ length_part x.args.bytes.now l.a x.args.n (turn d).1 ∙ omega arith in
-    let f : ℕ → ℕ = λ j. runByte x.args.bytes.now x.args.at x.args.stride x.args.n (x.args.y + j) in (
+    let f : ℕ → ℕ = λ j. run_byte x.args.bytes.now x.args.at x.args.stride x.args.n (x.args.y + j) in (
       (turn d).0,
       part_length l.out k.new.0 l.i (l.i + x.args.n) (omega arith) fit size ∙ l.invariant.1,
-      part-more l.out k.new.0 l.i (l.i + x.args.n) (omega arith) fit size f l.invariant.2 (λ j p.
+      part_more l.out k.new.0 l.i (l.i + x.args.n) (omega arith) fit size f l.invariant.2 (λ j p.
           ap (λ (v : List ℕ). get_or v j 0) k.ensures
-          ∙ turn-bytes x.args.bytes.now x.args.at x.args.stride x.args.n x.args.y (length x.args.out.now) l.i l.a x.requires.0.0 x.requires.0.3 x.requires.1.0 x.requires.1.1 h l.invariant.3 j (omega arith)),
-      turn-next x.args.bytes.now x.args.at x.args.stride x.args.n x.args.y (length x.args.out.now) l.i l.a x.requires.0.0 x.requires.0.3 x.requires.1.0 x.requires.1.1 h l.invariant.3,
+          ∙ turn_bytes x.args.bytes.now x.args.at x.args.stride x.args.n x.args.y (length x.args.out.now) l.i l.a x.requires.0.0 x.requires.0.3 x.requires.1.0 x.requires.1.1 h l.invariant.3 j (omega arith)),
+      turn_next x.args.bytes.now x.args.at x.args.stride x.args.n x.args.y (length x.args.out.now) l.i l.a x.requires.0.0 x.requires.0.3 x.requires.1.0 x.requires.1.1 h l.invariant.3,
     )
 
 same_length : tie.Need-same-length invariant-loop decreases-loop
@@ -110,7 +110,7 @@ returns : tie.Need-returns invariant-loop decreases-loop
 returns c =
     let x = c.before.before.before.before.args in
     let l = c.before.loop in
-    let f : ℕ → ℕ = λ j. runByte x.bytes.now x.at x.stride x.n (x.y + j) in
+    let f : ℕ → ℕ = λ j. run_byte x.bytes.now x.at x.stride x.n (x.y + j) in
     done_all f l.out (length x.out.now) l.i l.invariant.1 (omega arith) l.invariant.2
 
 pub whole-runs-spec : {M : Type 1} → statement M

@@ -1,7 +1,7 @@
 use mathlib.Core.Path.{◌∙◌}
 use lib.ListN.{replicate}
 use Rattle.memory.specs.Lists.{write}
-use Rattle.layout.specs.Flash.{flashOf}
+use Rattle.layout.specs.Flash.{flash_of}
 use borrow.Author.Rules.{rules}
 use Rattle.flash.proofs.erase_block.Statement.{statement}
 use Rattle.flash.proofs.erase_block.Tie as tie
@@ -40,7 +40,7 @@ returns c =
     let g = n.first-sector.ensures in
     let main = m.fill-at.ensures ∙ (λ i. write x.main.now (e i) (replicate (f i) 255)) in
     let spare = s.fill-at2.ensures ∙ (λ i. write x.spare.now (g i) (replicate 64 255)) in
-    λ i. flashOf (main i) (spare i)
+    λ i. flash_of (main i) (spare i)
 
 pub erase-block-spec : {M : Type 1} → statement M
 erase-block-spec = tie.close (tie.spec block-address-requires block-size-requires fill-at-requires first-sector-requires fill-at-requires-2 same_length same-length-2 returns)

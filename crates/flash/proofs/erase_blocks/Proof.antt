@@ -4,15 +4,15 @@ use native.Mathlib.Nat.{mul-le-mul_right}
 use mathlib.Core.Path.{◌≡◌, refl, sym, ◌∙◌}
 use lib.ListN.{length}
 use Rattle.layout.specs.Geometry.{block}
-use Rattle.layout.specs.Flash.{flashOf, applyAll, erases}
-use Rattle.flash.proofs.Laws.{erase-start, erase-more, erase-end}
+use Rattle.layout.specs.Flash.{flash_of, apply_all, erases}
+use Rattle.flash.proofs.Laws.{erase_start, erase_more, erase_end}
 use Rattle.flash.proofs.erase_blocks.Statement.{statement}
 use Rattle.flash.proofs.erase_blocks.Tie as tie
 
 abbrev invariant-loop : tie.invariant-loop
 invariant-loop chip b k main₀ spare₀ i₀ main spare i =
     (i ≤ k) × (length main ≡ length main₀) × (length spare ≡ length spare₀)
-    × (applyAll chip.unit (erases b k) (flashOf main₀ spare₀) ≡ applyAll chip.unit (erases (b + i) (k - i)) (flashOf main spare))
+    × (apply_all chip.unit (erases b k) (flash_of main₀ spare₀) ≡ apply_all chip.unit (erases (b + i) (k - i)) (flash_of main spare))
 
 abbrev decreases-loop : tie.decreases-loop
 decreases-loop chip b k main₀ spare₀ i₀ main spare i = k - i
@@ -20,7 +20,7 @@ decreases-loop chip b k main₀ spare₀ i₀ main spare i = k - i
 loop-holds : tie.Need-loop-init invariant-loop decreases-loop
 loop-holds c =
     let x = c.before.before.args in
-    (omega arith, refl, refl, erase-start x.chip.unit x.b x.k (flashOf x.main.now x.spare.now))
+    (omega arith, refl, refl, erase_start x.chip.unit x.b x.k (flash_of x.main.now x.spare.now))
 
 add-erase-block : tie.Need-overflow-add-erase-block invariant-loop decreases-loop
 add-erase-block c = omega arith
@@ -47,7 +47,7 @@ loop-again c =
       omega arith,
       omega arith,
       l.loop.invariant.3
-          ∙ erase-more x.chip.unit x.b x.k l.loop.i (flashOf l.loop.main l.loop.spare) (flashOf e.new.1.1.0 e.new.1.1.1.0) (omega arith) e.ensures,
+          ∙ erase_more x.chip.unit x.b x.k l.loop.i (flash_of l.loop.main l.loop.spare) (flash_of e.new.1.1.0 e.new.1.1.1.0) (omega arith) e.ensures,
     )
 
 same_length : tie.Need-same-length invariant-loop decreases-loop
@@ -60,7 +60,7 @@ returns : tie.Need-returns invariant-loop decreases-loop
 returns c =
     let l = c.before.loop in
     let x = c.before.before.before.before.args in
-    sym (l.invariant.3 ∙ erase-end x.chip.unit x.b x.k l.i (flashOf l.main l.spare) (omega arith))
+    sym (l.invariant.3 ∙ erase_end x.chip.unit x.b x.k l.i (flash_of l.main l.spare) (omega arith))
 
 pub erase-blocks-spec : {M : Type 1} → statement M
 erase-blocks-spec =

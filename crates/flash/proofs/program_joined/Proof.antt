@@ -3,8 +3,8 @@ use mathlib.Core.List.{List, ◌++◌}
 use Prim.Native.Nat.{ℕ, ◌+◌}
 use lib.ListN.{length, set}
 use Rattle.memory.specs.Lists.{write}
-use Rattle.layout.specs.Flash.{flashOf}
-use Rattle.memory.specs.Lists.{write-append}
+use Rattle.layout.specs.Flash.{flash_of}
+use Rattle.memory.specs.Lists.{write_append}
 use borrow.Author.Rules.{rules}
 use Rattle.flash.proofs.program_joined.Statement.{statement}
 use Rattle.flash.proofs.program_joined.Tie as tie
@@ -33,10 +33,10 @@ same-length-2 c = search rules
 returns : tie.Need-returns
 returns c =
     let x = c.before.before.before.before.before.before.before.before.before.before.before.before.before.args in
-    ap (λ (m : List ℕ). flashOf m (set x.spare.now x.s 0))
+    ap (λ (m : List ℕ). flash_of m (set x.spare.now x.s 0))
     (c.before.before.copy-at2.ensures
     ∙ ap (λ (m : List ℕ). write m (c.before.before.before.before.before.before.before.before.sector-address.result + length x.a.now) x.b.now) c.before.before.before.before.before.before.copy_at.ensures
-    ∙ write-append x.main.now c.before.before.before.before.before.before.before.before.sector-address.result x.a.now x.b.now
+    ∙ write_append x.main.now c.before.before.before.before.before.before.before.before.sector-address.result x.a.now x.b.now
     ∙ ap (λ (at : ℕ). write x.main.now at (x.a.now ++ x.b.now)) c.before.before.before.before.before.before.before.before.sector-address.ensures)
 
 pub program-joined-spec : {M : Type 1} → statement M

@@ -3,7 +3,7 @@ use mathlib.Core.List.{List}
 use Prim.Native.Nat.{ℕ}
 use lib.ListN.{set}
 use Rattle.memory.specs.Lists.{write}
-use Rattle.layout.specs.Flash.{flashOf}
+use Rattle.layout.specs.Flash.{flash_of}
 use borrow.Author.Rules.{rules}
 use Rattle.flash.proofs.program_sector.Statement.{statement}
 use Rattle.flash.proofs.program_sector.Tie as tie
@@ -27,7 +27,7 @@ returns : tie.Need-returns
 returns c =
     let a = c.before.before.before in
     let x = a.before.before.before.before.before.args in
-    ap (λ (m : List ℕ). flashOf m (set x.spare.now x.s 0))
+    ap (λ (m : List ℕ). flash_of m (set x.spare.now x.s 0))
     (c.before.before.copy_at.ensures ∙ ap (λ (at : ℕ). write x.main.now at x.src.now) a.sector-address.ensures)
 
 pub program-sector-spec : {M : Type 1} → statement M

@@ -1,7 +1,7 @@
 use mathlib.Core.Path.{ap, ◌∙◌}
 use Prim.Native.Nat.{ℕ}
 use Rattle.memory.specs.Lists.{write}
-use Rattle.layout.specs.Flash.{flashOf}
+use Rattle.layout.specs.Flash.{flash_of}
 use borrow.Author.Rules.{rules}
 use Rattle.flash.proofs.program_sectors.Statement.{statement}
 use Rattle.flash.proofs.program_sectors.Tie as tie
@@ -28,7 +28,7 @@ returns c =
     let a = m.before in
     let x = a.before.before.before.before.before.args in
     let main = m.copy_at.ensures ∙ ap (λ (at : ℕ). write x.main.now at x.src.now) a.sector-address.ensures in
-    λ i. flashOf (main i) (s.fill-at.ensures i)
+    λ i. flash_of (main i) (s.fill-at.ensures i)
 
 pub program-sectors-spec : {M : Type 1} → statement M
 program-sectors-spec =

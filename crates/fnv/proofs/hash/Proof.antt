@@ -1,6 +1,6 @@
 -- Five steps are the hash of five bytes.
 use Rattle.std.proofs.Common.{rules}
-use Rattle.fnv.proofs.Laws.{fnv-five}
+use Rattle.fnv.proofs.Laws.{fnv_five}
 use Rattle.fnv.proofs.hash.Statement.{statement}
 use Rattle.fnv.proofs.hash.Tie as tie
 
@@ -25,7 +25,7 @@ returns c =
     let s2 = s1.before in
     let s3 = s2.before in
     let s4 = s3.before in
-    fnv-five _ _ _ _ _ _ s4.absorb.ensures s3.absorb-low.ensures s2.absorb-low2.ensures s1.absorb-low3.ensures c.absorb-low4.ensures
+    fnv_five _ _ _ _ _ _ s4.absorb.ensures s3.absorb-low.ensures s2.absorb-low2.ensures s1.absorb-low3.ensures c.absorb-low4.ensures
 
 pub hash-spec : {M : Type 1} → statement M
 hash-spec =

@@ -1,6 +1,6 @@
 -- A hash modulo the size of a fourth, in the fourth.
 use Rattle.std.proofs.Common.{◌∙◌, arith, rules}
-use Rattle.fnv.proofs.Laws.{fourth-power}
+use Rattle.fnv.proofs.Laws.{fourth_power}
 use Rattle.fnv.proofs.position.Statement.{statement}
 use Rattle.fnv.proofs.position.Tie as tie
 
@@ -24,7 +24,7 @@ within-requires c κs =
     let z = c.before in
     let b = z.before in
     let s = z.sector-size.ensures in
-    (fourth-power b.args.chip.unit z.sector-size.result b.requires.0 s, omega (arith, s, b.requires.0.1.most), omega (arith, s, b.requires.1))
+    (fourth_power b.args.chip.unit z.sector-size.result b.requires.0 s, omega (arith, s, b.requires.0.1.most), omega (arith, s, b.requires.1))
 
 returns : tie.Need-returns
 returns c =

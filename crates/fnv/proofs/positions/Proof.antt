@@ -1,7 +1,7 @@
 -- Position after position.
 use Rattle.std.proofs.Common.{◌≡◌, ℕ, ◌+◌, ◌-◌, ◌*◌, ◌%◌, ◌<◌, ◌≤◌, length, get_or, refl, ap, ◌∙◌, arith, length-set, rules}
 use lib.ListN.{get_or-replicate}
-use Rattle.layout.specs.Hash.{fnvFamily}
+use Rattle.layout.specs.Hash.{fnv_family}
 use Rattle.fnv.specs.Hashed.{bytes_of}
 use Rattle.fnv.proofs.Laws.{filled, more}
 use Rattle.fnv.proofs.positions.Statement.{statement}
@@ -10,7 +10,7 @@ use Rattle.fnv.proofs.positions.Tie as tie
 abbrev invariant-loop : tie.invariant-loop
 invariant-loop chip count x start ps₀ i₀ ps i =
     (i ≤ count) × (length ps ≡ 8)
-    × ((j : ℕ) → j < i → (get_or ps j 0 ≡ start + fnvFamily (j + 1) (bytes_of x) % (16 * chip.unit)) × (get_or ps j 0 < 64 * chip.unit))
+    × ((j : ℕ) → j < i → (get_or ps j 0 ≡ start + fnv_family (j + 1) (bytes_of x) % (16 * chip.unit)) × (get_or ps j 0 < 64 * chip.unit))
     × ((j : ℕ) → i ≤ j → j < 8 → get_or ps j 0 ≡ 0)
 
 abbrev decreases-loop : tie.decreases-loop
@@ -44,7 +44,7 @@ loop-again c =
     let l = c.before.before.loop in
     let f = c.before.before.before in
     let x = f.before.args in
-    let m = more (λ j y. (y ≡ f.fourth-of.result + fnvFamily (j + 1) (bytes_of x.x) % (16 * x.chip.unit)) × (y < 64 * x.chip.unit)) l.ps l.i c.position.result
+    let m = more (λ j y. (y ≡ f.fourth-of.result + fnv_family (j + 1) (bytes_of x.x) % (16 * x.chip.unit)) × (y < 64 * x.chip.unit)) l.ps l.i c.position.result
     (omega arith) l.invariant.1 c.position.ensures l.invariant.2 l.invariant.3 in
     (omega arith, length-set l.ps l.i c.position.result ∙ l.invariant.1, m.0, m.1)
 
@@ -54,11 +54,11 @@ returns c =
     let f = c.before.before in
     let x = f.before.args in
     let done : l.i ≡ x.count = omega arith in
-    let q = fnvFamily 0 (bytes_of x.x) % 4 in
+    let q = fnv_family 0 (bytes_of x.x) % 4 in
     let size = 16 * x.chip.unit in
-    let each : (j : ℕ) → j < x.count → get_or l.ps j 0 ≡ q * size + fnvFamily (j + 1) (bytes_of x.x) % size
-    = λ j h. (l.invariant.2 j (omega arith)).0 ∙ ap (λ (z : ℕ). z + fnvFamily (j + 1) (bytes_of x.x) % size) f.fourth-of.ensures.0 in (
-      filled fnvFamily x.count x.chip.unit (bytes_of x.x) l.ps (omega arith) l.invariant.1 each (λ j h k. l.invariant.3 j (omega arith) k),
+    let each : (j : ℕ) → j < x.count → get_or l.ps j 0 ≡ q * size + fnv_family (j + 1) (bytes_of x.x) % size
+    = λ j h. (l.invariant.2 j (omega arith)).0 ∙ ap (λ (z : ℕ). z + fnv_family (j + 1) (bytes_of x.x) % size) f.fourth-of.ensures.0 in (
+      filled fnv_family x.count x.chip.unit (bytes_of x.x) l.ps (omega arith) l.invariant.1 each (λ j h k. l.invariant.3 j (omega arith) k),
       λ j h. (l.invariant.2 j (omega arith)).1,
     )
 

@@ -7,11 +7,11 @@ use Rattle.layout.specs.Geometry as layout
 use Rattle.layout.specs.Flash.{Flash}
 use Rattle.layout.specs.Calls.{Volume}
 use Rattle.layout.specs.Budgets.{memory}
-use Rattle.laws.specs.HeaderLaws.{length-pages}
-use Rattle.geometry.specs.Shape.{sizesIs, shape}
+use Rattle.laws.specs.HeaderLaws.{length_pages}
+use Rattle.geometry.specs.Shape.{sizes_is, shape}
 use Rattle.state.specs.Contract.{volume}
 use Rattle.state.specs.declared.State.{State}
-use Rattle.format.proofs.FormatLaws.{finish-cut, finish-all}
+use Rattle.format.proofs.FormatLaws.{finish_cut, finish_all}
 use Rattle.format.proofs.finish.Statement.{statement}
 use Rattle.format.proofs.finish.Tie as tie
 
@@ -28,8 +28,8 @@ erase-blocks-requires c κs =
     let n = s.requires.1 in
     let u : ℕ = s.args.g.chip.unit in
     let h : s.args.budget ≤ layout.blocks (shape s.args.g) = omega (arith, c.before.before.if1.true, c.before.before.before.blocks2.ensures) in (
-      (n.sound.unit.1.most, omega (arith, mul-le-mul_right (layout.block u) h, n.long.read.main-fits)),
-      omega (arith, h, n.long.spare-fits),
+      (n.sound.unit.1.most, omega (arith, mul-le-mul_right (layout.block u) h, n.long.read.main_fits)),
+      omega (arith, h, n.long.spare_fits),
     )
 
 same_length : tie.Need-same-length
@@ -42,7 +42,7 @@ returns : tie.Need-returns
 returns c s =
     let t = c.before.before.before.before.before.before.before.before.before.before.before.before in
     let ram = t.args.ram.now in
-    finish-cut (handed t s) (sizesIs t.args.sizes) t.args.g t.requires.1 t.args.budget _ _
+    finish_cut (handed t s) (sizes_is t.args.sizes) t.args.g t.requires.1 t.args.budget _ _
     (omega (arith, c.before.before.before.before.before.before.before.if1.true, c.before.before.before.before.before.before.before.before.blocks2.ensures))
     (ap (λ (f : Flash). memory f ram) c.before.before.before.before.erase-blocks.ensures) refl refl
 
@@ -50,7 +50,7 @@ erase-blocks-requires-2 : tie.Need-erase-blocks-requires-2
 erase-blocks-requires-2 c κs =
     let n = c.before.before.before.before.before.before.before.requires.1 in
     rw c.before.before.before.blocks2.ensures
-    ((n.sound.unit.1.most, omega (arith, n.long.read.main-fits)), omega (arith, n.long.spare-fits))
+    ((n.sound.unit.1.most, omega (arith, n.long.read.main_fits)), omega (arith, n.long.spare_fits))
 
 ram-size-requires : tie.Need-ram-size-requires
 ram-size-requires c κs = search rules
@@ -58,7 +58,7 @@ ram-size-requires c κs = search rules
 fill-at-requires : tie.Need-fill-at-requires
 fill-at-requires c κs =
     let s = c.before.before.before.before.before.before.before.before.before.before.before.before.before.before in
-    omega (arith, c.ram-size.ensures, s.requires.1.long.read.ram-fits, length-pages s.args.ram.now)
+    omega (arith, c.ram-size.ensures, s.requires.1.long.read.ram_fits, length_pages s.args.ram.now)
 
 fresh-state-requires : tie.Need-fresh-state-requires
 fresh-state-requires c κs = search rules
@@ -84,7 +84,7 @@ returns-2 c s =
     let e = c.before.before.before.before.before.before.before.before.before.before.before.before.before.before in
     let f = c.before.before.before.before.before.before.before in
     let blocks = e.before.before.before.before.blocks2.ensures in
-    finish-all (handed t s) (sizesIs t.args.sizes) t.args.g t.requires.1 t.args.budget _ _
+    finish_all (handed t s) (sizes_is t.args.sizes) t.args.g t.requires.1 t.args.budget _ _
     (omega (arith, e.before.before.before.if1.false, blocks))
     (e.erase-blocks2.ensures ∙ rw blocks) (c.before.before.clear.ensures ∙ rw (c.before.before.before.before.fresh-state.ensures, f.fill-at.ensures, f.before.ram-size.ensures)) (omega (arith, blocks)) refl
 

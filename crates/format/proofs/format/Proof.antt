@@ -1,8 +1,8 @@
 use borrow.Author.Rules.{rules}
 use mathlib.Core.Path.{refl}
-use Rattle.geometry.specs.Shape.{sizesIs}
+use Rattle.geometry.specs.Shape.{sizes_is}
 use Rattle.state.specs.Contract.{volume}
-use Rattle.format.proofs.FormatLaws.{whole-effect}
+use Rattle.format.proofs.FormatLaws.{whole_effect}
 use Rattle.format.proofs.format.Statement.{statement}
 use Rattle.format.proofs.format.Tie as tie
 
@@ -26,7 +26,7 @@ returns c =
     let s = c.before.before.before.before.before.before.before.before.before.before.before.before.before.before in
     let f = c.before.before.before.before.before.before.before.format-for in
     rw c.uncut.ensures
-    (whole-effect (volume s.args.old s.args.main.now s.args.spare.now s.args.ram.now) (sizesIs s.args.sizes) _
+    (whole_effect (volume s.args.old s.args.main.now s.args.spare.now s.args.ram.now) (sizes_is s.args.sizes) _
     f.result.refusal f.ensures refl)
 
 pub format-spec : {M : Type 1} → statement M

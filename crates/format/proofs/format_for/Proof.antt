@@ -3,16 +3,16 @@ use native.Mathlib.Omega.{arith}
 use mathlib.Core.Path.{refl, sym, ap, ◌∙◌}
 use mathlib.Core.Bool.{false}
 use Prim.Native.Nat.{◌-◌}
-use Rattle.layout.specs.Flash.{flashOf}
+use Rattle.layout.specs.Flash.{flash_of}
 use Rattle.layout.specs.Calls.{Volume, formatted}
-use Rattle.layout.specs.Header.{pages, onPages, formatIntended}
-use Rattle.layout.specs.Budgets.{store, memory, lastSteps}
-use Rattle.geometry.specs.Shape.{sizesIs}
-use Rattle.state.specs.Contract.{volume, stateIs}
+use Rattle.layout.specs.Header.{pages, on_pages, format_intended}
+use Rattle.layout.specs.Budgets.{store, memory, last_steps}
+use Rattle.geometry.specs.Shape.{sizes_is}
+use Rattle.state.specs.Contract.{volume, state_is}
 use Rattle.state.specs.Judge.{FormatFits}
 use Rattle.state.specs.declared.State.{State}
-use Rattle.state.proofs.RunLaws.{ran-none}
-use Rattle.format.proofs.FormatLaws.{header-fits, steps-few, intended-fits, intended-ran, format-refused-cut, format-ran}
+use Rattle.state.proofs.RunLaws.{ran_none}
+use Rattle.format.proofs.FormatLaws.{header_fits, steps_few, intended_fits, intended_ran, format_refused_cut, format_ran}
 use Rattle.format.proofs.format_for.Statement.{statement}
 use Rattle.format.proofs.format_for.Tie as tie
 
@@ -43,7 +43,7 @@ returns c =
     let s = c.before.before.before.before.before.before.before.before.before.before.before in
     let i = c.before.before.i in
     rw c.refuse-cut.ensures
-    (format-refused-cut s.args.budget (handed s) (sizesIs s.args.sizes) i.given.0.0
+    (format_refused_cut s.args.budget (handed s) (sizes_is s.args.sizes) i.given.0.0
     (sym c.before.before.before.before.judge-new.ensures.0 ∙ i.given.1))
 
 enum-known-g : tie.Need-enum-known-g
@@ -53,7 +53,7 @@ enum-known-g c = search rules
 abbrev start : tie.After-g → tie.Start
 start c = c.before.before.before.before.before.before.before.before.before
 
-new : (c : tie.After-g) → FormatFits (sizesIs (start c).args.sizes) (handed (start c)).flash (pages (start c).args.ram.now) c.g.given.0.0
+new : (c : tie.After-g) → FormatFits (sizes_is (start c).args.sizes) (handed (start c)).flash (pages (start c).args.ram.now) c.g.given.0.0
 new c = rw c.g.given.1 at c.before.before.judge-new.ensures.1
 
 cut-after-requires : tie.Need-cut-after-requires
@@ -73,18 +73,18 @@ returns-2 c =
     let k = c.before.before.before in
     let s = start k in
     let v = handed s in
-    let sizes = sizesIs s.args.sizes in
+    let sizes = sizes_is s.args.sizes in
     let fresh : State = record { sizes = s.args.sizes; records = 0; deletions = 0 } in
-    rw c.cut-after.ensures
-    (format-ran s.args.budget v sizes k.g.given.0.0 (new k) (memory v.flash v.ram) (record { steps = 0; finished = false })
+    rw c.cut_after.ensures
+    (format_ran s.args.budget v sizes k.g.given.0.0 (new k) (memory v.flash v.ram) (record { steps = 0; finished = false })
     s.args.old fresh refl refl
-    (ran-none _ s.args.budget (store (formatIntended v sizes)) (lastSteps (formatted (onPages v) sizes)) _ _ (omega (arith, c.before.if1.true)) refl refl))
+    (ran_none _ s.args.budget (store (format_intended v sizes)) (last_steps (formatted (on_pages v) sizes)) _ _ (omega (arith, c.before.if1.true)) refl refl))
 
 intend-format-requires : tie.Need-intend-format-requires
 intend-format-requires c κs =
     let k = c.before.before.before in
     let s = start k in
-    header-fits (handed s) (sizesIs s.args.sizes) k.g.given.0.0 (new k)
+    header_fits (handed s) (sizes_is s.args.sizes) k.g.given.0.0 (new k)
 
 sub-finish : tie.Need-overflow-sub-finish
 sub-finish c = search rules
@@ -93,13 +93,13 @@ finish-requires : tie.Need-finish-requires
 finish-requires c κs =
     let k = c.before.before.before.before.before.before.before.before.before in
     let s = start k in
-    intended-fits (handed s) (sizesIs s.args.sizes) k.g.given.0.0 (new k) _ c.before.before.before.before.before.intend-format.ensures
+    intended_fits (handed s) (sizes_is s.args.sizes) k.g.given.0.0 (new k) _ c.before.before.before.before.before.intend-format.ensures
 
 add-t23 : tie.Need-overflow-add-t23
 add-t23 c =
     let k = c.before.before.before.before.before.before.before.before.before.before.before.before.before.before.before.before.before in
     let s = start k in
-    omega (arith, steps-few (handed s) (sizesIs s.args.sizes) k.g.given.0.0 (new k) _ _ _ _ _ (c.before.before.before.before.before.before.before.finish.ensures s.args.old))
+    omega (arith, steps_few (handed s) (sizes_is s.args.sizes) k.g.given.0.0 (new k) _ _ _ _ _ (c.before.before.before.before.before.before.before.finish.ensures s.args.old))
 
 fresh-state-requires : tie.Need-fresh-state-requires
 fresh-state-requires c κs = search rules
@@ -123,10 +123,10 @@ returns-3 c =
     let v = handed s in
     let f = c.before.before.before.before.before.before.before.before.before.finish in
     rw c.cut-after2.ensures
-    (format-ran s.args.budget v (sizesIs s.args.sizes) k.g.given.0.0 (new k)
-    (memory (flashOf f.new.1.1.1.0 f.new.1.1.1.1.0) f.new.1.1.1.1.1.0) _ s.args.old c.before.fresh-state.result
-    refl (ap stateIs c.before.fresh-state.ensures)
-    (intended-ran v (sizesIs s.args.sizes) k.g.given.0.0 (new k) s.args.budget (s.args.budget - 1) _ _ f.result _ (omega (arith, c.before.before.before.before.before.before.before.before.before.before.before.before.before.before.before.before.before.if1.false))
+    (format_ran s.args.budget v (sizes_is s.args.sizes) k.g.given.0.0 (new k)
+    (memory (flash_of f.new.1.1.1.0 f.new.1.1.1.1.0) f.new.1.1.1.1.1.0) _ s.args.old c.before.fresh-state.result
+    refl (ap state_is c.before.fresh-state.ensures)
+    (intended_ran v (sizes_is s.args.sizes) k.g.given.0.0 (new k) s.args.budget (s.args.budget - 1) _ _ f.result _ (omega (arith, c.before.before.before.before.before.before.before.before.before.before.before.before.before.before.before.before.before.if1.false))
     c.before.before.before.before.before.before.before.before.before.before.before.before.before.before.before.intend-format.ensures (f.ensures s.args.old) refl refl))
 
 pub format-for-spec : {M : Type 1} → statement M

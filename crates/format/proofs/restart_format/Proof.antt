@@ -1,14 +1,14 @@
 use borrow.Author.Rules.{rules}
 use mathlib.Core.Path.{refl, sym, ap, ◌∙◌}
-use Rattle.layout.specs.Flash.{flashOf}
-use Rattle.layout.specs.Hash.{fnvFamily}
+use Rattle.layout.specs.Flash.{flash_of}
+use Rattle.layout.specs.Hash.{fnv_family}
 use Rattle.layout.specs.Calls.{Volume}
 use Rattle.layout.specs.Header.{pages}
 use Rattle.layout.specs.Budgets.{memory}
-use Rattle.geometry.specs.Shape.{sizesIs}
-use Rattle.state.specs.Contract.{volume, stateIs}
+use Rattle.geometry.specs.Shape.{sizes_is}
+use Rattle.state.specs.Contract.{volume, state_is}
 use Rattle.state.specs.Judge.{FormatFits}
-use Rattle.format.proofs.FormatLaws.{restart-refused-cut, restart-ran}
+use Rattle.format.proofs.FormatLaws.{restart_refused_cut, restart_ran}
 use Rattle.format.proofs.restart_format.Statement.{statement}
 use Rattle.format.proofs.restart_format.Tie as tie
 
@@ -39,7 +39,7 @@ returns c =
     let s = c.before.before.before.before.before.before.before.before.before.before.before in
     let i = c.before.before.i in
     rw c.refuse-cut.ensures
-    (restart-refused-cut fnvFamily s.args.budget (handed s) (sizesIs s.args.sizes) i.given.0.0 s.requires.0 s.requires.1
+    (restart_refused_cut fnv_family s.args.budget (handed s) (sizes_is s.args.sizes) i.given.0.0 s.requires.0 s.requires.1
     (sym c.before.before.before.before.judge-new.ensures.0 ∙ i.given.1))
 
 enum-known-g : tie.Need-enum-known-g
@@ -49,7 +49,7 @@ enum-known-g c = search rules
 abbrev start : tie.After-g → tie.Start
 start c = c.before.before.before.before.before.before.before.before.before
 
-new : (c : tie.After-g) → FormatFits (sizesIs (start c).args.sizes) (handed (start c)).flash (pages (start c).args.ram.now) c.g.given.0.0
+new : (c : tie.After-g) → FormatFits (sizes_is (start c).args.sizes) (handed (start c)).flash (pages (start c).args.ram.now) c.g.given.0.0
 new c = rw c.g.given.1 at c.before.before.judge-new.ensures.1
 
 finish-requires : tie.Need-finish-requires
@@ -77,10 +77,10 @@ returns-2 c =
     let k = c.before.before.before.before.before.before.before.before.before.before.before.before.before in
     let s = start k in
     let f = c.before.before.before.before.before.before.before.before.finish in
-    rw c.cut-after.ensures
-    (restart-ran s.args.budget (handed s) (sizesIs s.args.sizes) k.g.given.0.0 (new k)
-    (memory (flashOf f.new.1.1.1.0 f.new.1.1.1.1.0) f.new.1.1.1.1.1.0) f.result s.args.s
-    c.before.fresh-state.result refl (ap stateIs c.before.fresh-state.ensures) fnvFamily s.pre.0 s.pre.1
+    rw c.cut_after.ensures
+    (restart_ran s.args.budget (handed s) (sizes_is s.args.sizes) k.g.given.0.0 (new k)
+    (memory (flash_of f.new.1.1.1.0 f.new.1.1.1.1.0) f.new.1.1.1.1.1.0) f.result s.args.s
+    c.before.fresh-state.result refl (ap state_is c.before.fresh-state.ensures) fnv_family s.pre.0 s.pre.1
     (f.ensures s.args.s))
 
 pub restart-format-spec : {M : Type 1} → statement M

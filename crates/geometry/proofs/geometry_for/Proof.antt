@@ -5,13 +5,13 @@ use mathlib.Core.Path.{◌≡◌, refl, sym, ap, ◌∙◌}
 use mathlib.Core.Bool.{true}
 use Rattle.geometry.specs.declared.table.SizeRow.{SizeRow}
 use Rattle.geometry.specs.Rows.{row_of, row_is}
-use Rattle.geometry.specs.Shape.{sizesIs, shapedOf}
-use Rattle.geometry.specs.Allowed.{fromRow, from-hit, from_next, from_end, shaped-hit, shaped-miss, shaped-sound}
+use Rattle.geometry.specs.Shape.{sizes_is, shaped_of}
+use Rattle.geometry.specs.Allowed.{from_row, from_hit, from_next, from_end, shaped_hit, shaped_miss, shaped_sound}
 use Rattle.geometry.proofs.geometry_for.Statement.{statement}
 use Rattle.geometry.proofs.geometry_for.Tie as tie
 
 abbrev invariant-loop : tie.invariant-loop
-invariant-loop sizes size i₀ i = (i ≤ 6) × (fromRow sizes.sector_size 0 ≡ fromRow sizes.sector_size i)
+invariant-loop sizes size i₀ i = (i ≤ 6) × (from_row sizes.sector_size 0 ≡ from_row sizes.sector_size i)
 
 abbrev decreases-loop : tie.decreases-loop
 decreases-loop sizes size i₀ i = 6 - i
@@ -40,10 +40,10 @@ with-blocks-requires c κs =
 returns : tie.Need-returns invariant-loop decreases-loop
 returns c =
     let l = c.before.before.before.before.before in
-    let s = sizesIs l.before.before.args.sizes in
-    let hit : fromRow s.sectorSize 0 ≡ true = l.loop.invariant.1 ∙ from-hit s.sectorSize l.loop.i (omega arith) (row-sector c.before.before ∙ c.before.if1.true) in
-    let e : c.with_blocks.result ≡ shapedOf s = c.with_blocks.ensures ∙ sym (shaped-hit s hit) in
-    (e, rw e (shaped-sound s))
+    let s = sizes_is l.before.before.args.sizes in
+    let hit : from_row s.sector_size 0 ≡ true = l.loop.invariant.1 ∙ from_hit s.sector_size l.loop.i (omega arith) (row-sector c.before.before ∙ c.before.if1.true) in
+    let e : c.with_blocks.result ≡ shaped_of s = c.with_blocks.ensures ∙ sym (shaped_hit s hit) in
+    (e, rw e (shaped_sound s))
 
 add-i : tie.Need-overflow-add-i invariant-loop decreases-loop
 add-i c = omega arith
@@ -54,13 +54,13 @@ loop-less c = omega arith
 loop-again : tie.Need-loop-preserved invariant-loop decreases-loop
 loop-again c =
     let l = c.before.before.before.before in
-    let s = sizesIs l.before.before.args.sizes in
-    (omega arith, l.loop.invariant.1 ∙ from_next s.sectorSize l.loop.i (omega arith) (λ e. c.if1.false (sym (row-sector c.before) ∙ e)))
+    let s = sizes_is l.before.before.args.sizes in
+    (omega arith, l.loop.invariant.1 ∙ from_next s.sector_size l.loop.i (omega arith) (λ e. c.if1.false (sym (row-sector c.before) ∙ e)))
 
 returns-2 : tie.Need-returns-2 invariant-loop decreases-loop
 returns-2 c =
-    let s = sizesIs c.before.before.before.args.sizes in
-    (sym (shaped-miss s (c.before.loop.invariant.1 ∙ from_end s.sectorSize c.before.loop.i (omega arith))), tt)
+    let s = sizes_is c.before.before.before.args.sizes in
+    (sym (shaped_miss s (c.before.loop.invariant.1 ∙ from_end s.sector_size c.before.loop.i (omega arith))), tt)
 
 pub geometry-for-spec : {M : Type 1} → statement M
 geometry-for-spec =

@@ -1,5 +1,5 @@
-use Rattle.memory.specs.Words.{wordsBytes}
-use Rattle.layout.specs.Header.{headerBytes}
+use Rattle.memory.specs.Words.{words_bytes}
+use Rattle.layout.specs.Header.{header_bytes}
 use borrow.Author.Rules.{rules}
 use Rattle.header.proofs.clear.Statement.{statement}
 use Rattle.header.proofs.clear.Tie as tie
@@ -14,7 +14,7 @@ same_length : tie.Need-same-length
 same_length c = search rules
 
 returns : tie.Need-returns
-unfolding headerBytes wordsBytes
+unfolding header_bytes words_bytes
 returns c =
     let k = c.before.before in
     k.put-header.ensures

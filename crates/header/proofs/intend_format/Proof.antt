@@ -2,10 +2,10 @@ use mathlib.Core.Path.{ap, ◌∙◌}
 use mathlib.Core.List.{List}
 use Prim.Native.Nat.{ℕ, ◌+◌}
 use Rattle.memory.specs.Lists.{write}
-use Rattle.memory.specs.Words.{wordsBytes, length-words}
-use Rattle.layout.specs.Header.{formatWords}
-use Rattle.geometry.specs.Shape.{sizesIs}
-use Rattle.header.proofs.Laws.{put-intent}
+use Rattle.memory.specs.Words.{words_bytes, length_words}
+use Rattle.layout.specs.Header.{format_words}
+use Rattle.geometry.specs.Shape.{sizes_is}
+use Rattle.header.proofs.Laws.{put_intent}
 use borrow.Author.Rules.{rules}
 use Rattle.header.proofs.intend_format.Statement.{statement}
 use Rattle.header.proofs.intend_format.Tie as tie
@@ -35,10 +35,10 @@ returns c =
     let b = at.before.before in
     let start = b.before.before in
     let x = start.args in
-    let words = formatWords (sizesIs x.sizes) in
-    k.copy_at.ensures ∙ ap (λ (l : List ℕ). write x.ram.now (at.header_at.result + 24) l) b.intent-bytes.ensures
-    ∙ ap (λ (n : ℕ). write x.ram.now (n + 24) (wordsBytes words)) at.header_at.ensures
-    ∙ put-intent x.ram.now (wordsBytes words) start.requires (length-words words)
+    let words = format_words (sizes_is x.sizes) in
+    k.copy_at.ensures ∙ ap (λ (l : List ℕ). write x.ram.now (at.header_at.result + 24) l) b.intent_bytes.ensures
+    ∙ ap (λ (n : ℕ). write x.ram.now (n + 24) (words_bytes words)) at.header_at.ensures
+    ∙ put_intent x.ram.now (words_bytes words) start.requires (length_words words)
 
 pub intend-format-spec : {M : Type 1} → statement M
 intend-format-spec =

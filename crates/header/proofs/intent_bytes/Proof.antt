@@ -1,5 +1,5 @@
 use mathlib.Core.Path.{◌∙◌}
-use Rattle.header.proofs.Laws.{intent-written}
+use Rattle.header.proofs.Laws.{intent_written}
 use borrow.Author.Rules.{rules}
 use Rattle.header.proofs.intent_bytes.Statement.{statement}
 use Rattle.header.proofs.intent_bytes.Tie as tie
@@ -17,7 +17,7 @@ returns : tie.Need-returns
 returns c =
     let p = c.before in
     let x = p.before.before.before.args in
-    p.put-words.ensures ∙ intent-written x.kind x.a x.b x.c x.d
+    p.put-words.ensures ∙ intent_written x.kind x.a x.b x.c x.d
 
 pub intent-bytes-spec : {M : Type 1} → statement M
 intent-bytes-spec = tie.close (tie.spec slice-aggregate-put-words slice-aggregate-put-words-2 put-words-requires returns)

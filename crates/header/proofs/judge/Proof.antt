@@ -5,12 +5,12 @@ use mathlib.Core.Bool.{cond}
 use lib.Dec.{eqb}
 use Rattle.layout.specs.Refusals as refusal
 use Rattle.layout.specs.Calls.{Volume}
-use Rattle.layout.specs.Header.{onPages}
+use Rattle.layout.specs.Header.{on_pages}
 use Rattle.state.specs.Contract.{volume}
 use Rattle.state.specs.Judge.{VolumeFits}
 use Rattle.state.specs.declared.Judgement.TheVariants.{Good, Refused}
-use Rattle.header.specs.Header.{idleJudgement}
-use Rattle.header.proofs.Laws.{idle-refused, idle-good, header-fits}
+use Rattle.header.specs.Header.{idle_judgement}
+use Rattle.header.proofs.Laws.{idle_refused, idle_good, header_fits}
 use borrow.Author.Rules.{rules}
 use Rattle.header.proofs.judge.Statement.{statement}
 use Rattle.header.proofs.judge.Tie as tie
@@ -31,28 +31,28 @@ returns : tie.Need-returns
 returns c =
     let i = c.before in
     let j = i.before.before in
-    (idle-refused (handed j) i.i.given.0.0 (sym i.i.given.1 ∙ j.judge.ensures.0), tt)
+    (idle_refused (handed j) i.i.given.0.0 (sym i.i.given.1 ∙ j.judge.ensures.0), tt)
 
 enum-known-g : tie.Need-enum-known-g
 enum-known-g c = search rules
 
 -- of a volume that is not refused by 1 and 2
-fits : (c : tie.After-g) → VolumeFits (onPages (handed c.before.before)) c.g.given.0.0
+fits : (c : tie.After-g) → VolumeFits (on_pages (handed c.before.before)) c.g.given.0.0
 fits c = rw c.g.given.1 at c.before.before.judge.ensures.1
 
 word-requires : tie.Need-word-requires
 word-requires c κs =
     let g = c.before in
-    (header-fits (handed g.before.before) g.g.given.0.0 (fits g), omega arith)
+    (header_fits (handed g.before.before) g.g.given.0.0 (fits g), omega arith)
 
 -- by the kind that is read
 by_kind : (c : tie.After-word)
     → cond (eqb c.word.result 0) (Good c.before.before.g.given.0.0) (Refused refusal.pending)
-    ≡ idleJudgement (handed c.before.before.before.before)
+    ≡ idle_judgement (handed c.before.before.before.before)
 by_kind c =
     let g = c.before.before in
     let j = g.before.before in
-    rw c.word.ensures (idle-good (handed j) g.g.given.0.0 (sym g.g.given.1 ∙ j.judge.ensures.0))
+    rw c.word.ensures (idle_good (handed j) g.g.given.0.0 (sym g.g.given.1 ∙ j.judge.ensures.0))
 
 returns-2 : tie.Need-returns-2
 returns-2 c =

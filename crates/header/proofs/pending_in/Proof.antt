@@ -1,6 +1,6 @@
 use borrow.Author.Tests.{ne_eqb}
 use mathlib.Core.Path.{◌≡◌}
-use Rattle.layout.specs.Header.{pendingIn, pendingOf}
+use Rattle.layout.specs.Header.{pending_in, pending_of}
 use borrow.Author.Rules.{rules}
 use Rattle.header.proofs.pending_in.Statement.{statement}
 use Rattle.header.proofs.pending_in.Tie as tie
@@ -31,10 +31,10 @@ word-requires-5 c κs = search rules
 
 -- the words read are those of the header
 is-pending : (c : tie.After-word5)
-    → pendingOf c.before.before.before.before.word.result c.before.before.before.word2.result
+    → pending_of c.before.before.before.before.word.result c.before.before.before.word2.result
     c.before.before.word3.result c.before.word4.result c.word5.result
-    ≡ pendingIn c.before.before.before.before.before.before.args.ram.now
-unfolding pendingIn
+    ≡ pending_in c.before.before.before.before.before.before.args.ram.now
+unfolding pending_in
 is-pending c =
     let w4 = c.before in
     let w3 = w4.before in

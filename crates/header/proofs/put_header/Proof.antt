@@ -2,9 +2,9 @@ use mathlib.Core.Path.{ap, ◌∙◌}
 use mathlib.Core.List.{List}
 use Prim.Native.Nat.{ℕ, ◌+◌}
 use Rattle.memory.specs.Lists.{write}
-use Rattle.memory.specs.Words.{wordsBytes, length-words}
-use Rattle.layout.specs.Header.{stateWords}
-use Rattle.state.specs.Contract.{stateIs}
+use Rattle.memory.specs.Words.{words_bytes, length_words}
+use Rattle.layout.specs.Header.{state_words}
+use Rattle.state.specs.Contract.{state_is}
 use Rattle.header.proofs.Laws.{put_whole}
 use borrow.Author.Rules.{rules}
 use Rattle.header.proofs.put_header.Statement.{statement}
@@ -39,11 +39,11 @@ returns c =
     let at = b.before in
     let start = at.before.before.before.before in
     let x = start.args in
-    let words = stateWords (stateIs x.s) in
+    let words = state_words (state_is x.s) in
     let first = k1.copy_at.ensures ∙ ap (λ (l : List ℕ). write x.ram.now at.header_at.result l) b.state-bytes.ensures in
     k2.copy-at2.ensures ∙ ap (λ (l : List ℕ). write l (at.header_at.result + 24) x.intent.now) first
-    ∙ ap (λ (n : ℕ). write (write x.ram.now n (wordsBytes words)) (n + 24) x.intent.now) at.header_at.ensures
-    ∙ put_whole x.ram.now (wordsBytes words) x.intent.now start.requires.0 (length-words words) start.requires.1
+    ∙ ap (λ (n : ℕ). write (write x.ram.now n (words_bytes words)) (n + 24) x.intent.now) at.header_at.ensures
+    ∙ put_whole x.ram.now (words_bytes words) x.intent.now start.requires.0 (length_words words) start.requires.1
 
 pub put-header-spec : {M : Type 1} → statement M
 put-header-spec =

@@ -22,7 +22,7 @@ intent-bytes-requires-3 c κs = search rules
 
 returns : tie.Need-returns
 returns c =
-    rw c.before.before.q.given.1 c.intent-bytes.ensures
+    rw c.before.before.q.given.1 c.intent_bytes.ensures
 
 returns-2 : tie.Need-returns-2
 returns-2 c =

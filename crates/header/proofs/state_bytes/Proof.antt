@@ -1,6 +1,6 @@
 use mathlib.Core.Path.{◌∙◌}
-use Rattle.state.specs.Contract.{stateIs}
-use Rattle.header.proofs.Laws.{state-written}
+use Rattle.state.specs.Contract.{state_is}
+use Rattle.header.proofs.Laws.{state_written}
 use borrow.Author.Rules.{rules}
 use Rattle.header.proofs.state_bytes.Statement.{statement}
 use Rattle.header.proofs.state_bytes.Tie as tie
@@ -18,7 +18,7 @@ returns : tie.Need-returns
 returns c =
     let p = c.before in
     let x = p.before.before.before.args in
-    p.put-words.ensures ∙ state-written (stateIs x.s)
+    p.put-words.ensures ∙ state_written (state_is x.s)
 
 pub state-bytes-spec : {M : Type 1} → statement M
 state-bytes-spec = tie.close (tie.spec slice-aggregate-put-words slice-aggregate-put-words-2 put-words-requires returns)

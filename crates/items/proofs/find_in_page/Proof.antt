@@ -5,8 +5,8 @@ use Prim.Native.Nat.{ℕ, zero, suc, ◌+◌, ◌*◌, ◌-◌, ◌/◌, ◌%◌
 use mathlib.Core.Path.{◌≡◌, refl, sym, ap, ◌∙◌}
 use lib.Pow.{pow_pos}
 use borrow.Author.Rules.{rules}
-use Rattle.keys.specs.Key.{keyIs}
-use Rattle.items.specs.Scans.{has_key, lastEntry, newest-end, newest-none, no_word, entries-no}
+use Rattle.keys.specs.Key.{key_is}
+use Rattle.items.specs.Scans.{has_key, last_entry, newest_end, newest_none, no_word, entries_no}
 use Rattle.items.proofs.find_in_page.Statement.{statement}
 use Rattle.items.proofs.find_in_page.Tie as tie
 
@@ -17,7 +17,7 @@ fours (suc zero) u p = (omega arith, λ h. absurd (omega arith))
 fours (suc (suc e)) u p = (omega (arith, pow_pos e), λ h. omega arith)
 
 abbrev invariant-loop : tie.invariant-loop
-invariant-loop at key s b₀ b = (b ≤ b₀) × (lastEntry s at (b₀ * 32) (keyIs key) ≡ lastEntry s at (b * 32) (keyIs key))
+invariant-loop at key s b₀ b = (b ≤ b₀) × (last_entry s at (b₀ * 32) (key_is key) ≡ last_entry s at (b * 32) (key_is key))
 
 abbrev decreases-loop : tie.decreases-loop
 decreases-loop at key s b₀ b = b
@@ -36,29 +36,29 @@ last-key-requires c κs = omega (arith, c.before.before.before.before.before.bef
 returns : tie.Need-returns invariant-loop decreases-loop
 returns c =
     let x = c.before.before.before.before.before.before.before.args in
-    c.last-key.ensures ∙ ap (λ (n : ℕ). lastEntry x.s.now x.at n (keyIs x.key)) c.before.entries-per-page.ensures
+    c.last-key.ensures ∙ ap (λ (n : ℕ). last_entry x.s.now x.at n (key_is x.key)) c.before.entries-per-page.ensures
 
 returns-2 : tie.Need-returns-2 invariant-loop decreases-loop
 returns-2 c =
     let x = c.before.before.before.before.before.args in
     let e : 16 * x.chip.unit ≡ 8 * x.chip.unit * 2 = omega arith in
     let none = rw e at (sym c.before.small-has.ensures ∙ c.if2.false) in
-    sym (newest-none (has_key x.s.now x.at (keyIs x.key)) (8 * x.chip.unit)
-    (no_word x.s.now x.at (keyIs x.key) (8 * x.chip.unit) none))
+    sym (newest_none (has_key x.s.now x.at (key_is x.key)) (8 * x.chip.unit)
+    (no_word x.s.now x.at (key_is x.key) (8 * x.chip.unit) none))
 
 page-size-requires : tie.Need-page-size-requires invariant-loop decreases-loop
 page-size-requires c κs = c.before.before.before.requires.0.1.most
 
 -- the entries of a page are those of its runs
 page-runs : (c : tie.After-page-size invariant-loop decreases-loop) → let x = c.before.before.before.before.args in
-    lastEntry x.s.now x.at (8 * x.chip.unit) (keyIs x.key)
-    ≡ lastEntry x.s.now x.at (c.page-size.result / 256 * 32) (keyIs x.key)
+    last_entry x.s.now x.at (8 * x.chip.unit) (key_is x.key)
+    ≡ last_entry x.s.now x.at (c.page-size.result / 256 * 32) (key_is x.key)
 page-runs c =
     let b = c.before.before.before.before in
     let x = b.args in
     let f = (fours b.requires.0.0 x.chip.unit b.requires.0.1.power).1 c.before.if1.false in
     let e : 8 * x.chip.unit ≡ c.page-size.result / 256 * 32 = omega (arith, f, c.page-size.ensures) in
-    ap (λ (n : ℕ). lastEntry x.s.now x.at n (keyIs x.key)) e
+    ap (λ (n : ℕ). last_entry x.s.now x.at n (key_is x.key)) e
 
 loop-holds : tie.Need-loop-init invariant-loop decreases-loop
 loop-holds c = (omega arith, refl)
@@ -94,7 +94,7 @@ loop-again c =
     let a : x.at + (l.b - 1) * 256 ≡ x.at + (l.b - 1) * 32 * 8 = omega arith in
     let e : (l.b - 1) * 32 + 32 ≡ l.b * 32 = omega arith in
     let none = rw a at (sym c.before.many-have.ensures ∙ c.if3.false) in
-    (omega (arith, l.invariant.0), l.invariant.1 ∙ rw e at (entries-no x.s.now x.at (keyIs x.key) ((l.b - 1) * 32) 32 none))
+    (omega (arith, l.invariant.0), l.invariant.1 ∙ rw e at (entries_no x.s.now x.at (key_is x.key) ((l.b - 1) * 32) 32 none))
 
 returns-4 : tie.Need-returns-4 invariant-loop decreases-loop
 returns-4 c =
@@ -102,7 +102,7 @@ returns-4 c =
     let x = c.before.before.before.before.before.before.args in
     let e : l.b * 32 ≡ 0 = omega arith in
     sym (page-runs c.before.before ∙ l.invariant.1
-    ∙ (ap (λ (n : ℕ). lastEntry x.s.now x.at n (keyIs x.key)) e ∙ newest-end (has_key x.s.now x.at (keyIs x.key))))
+    ∙ (ap (λ (n : ℕ). last_entry x.s.now x.at n (key_is x.key)) e ∙ newest_end (has_key x.s.now x.at (key_is x.key))))
 
 pub find-in-page-spec : {M : Type 1} → statement M
 find-in-page-spec =

@@ -4,18 +4,18 @@ use Prim.Native.Nat.{◌+◌, ◌*◌, ◌-◌, ◌/◌, ◌≤◌}
 use mathlib.Core.Path.{◌≡◌, sym, ◌∙◌}
 use mathlib.Core.Bool.{false}
 use borrow.Author.Rules.{rules}
-use Rattle.items.specs.Scans.{hasWord, any-end, block-yes, block_no}
+use Rattle.items.specs.Scans.{has_word, any_end, block_yes, block_no}
 use Rattle.items.proofs.has_word.Statement.{statement}
 use Rattle.items.proofs.has_word.Tie as tie
 
 abbrev invariant-loop : tie.invariant-loop
-invariant-loop at n j s blocks b₀ b = (b ≤ n / 64) × (hasWord s at (b * 64) j ≡ false)
+invariant-loop at n j s blocks b₀ b = (b ≤ n / 64) × (has_word s at (b * 64) j ≡ false)
 
 abbrev decreases-loop : tie.decreases-loop
 decreases-loop at n j s blocks b₀ b = n / 64 - b
 
 loop-holds : tie.Need-loop-init invariant-loop decreases-loop
-loop-holds c = (omega arith, any-end _)
+loop-holds c = (omega arith, any_end _)
 
 mul-many-have : tie.Need-overflow-mul-many-have invariant-loop decreases-loop
 mul-many-have c = omega arith
@@ -31,7 +31,7 @@ returns c =
     let l = c.before.before.before.loop in
     let x = c.before.before.before.before.before.args in
     let e : x.at + l.b * 256 ≡ x.at + l.b * 64 * 4 = omega arith in
-    sym (block-yes x.s.now x.at x.j (l.b * 64) 64 x.n (rw e at (sym c.before.many-have.ensures ∙ c.if1.true)) (omega arith))
+    sym (block_yes x.s.now x.at x.j (l.b * 64) 64 x.n (rw e at (sym c.before.many-have.ensures ∙ c.if1.true)) (omega arith))
 
 add-b : tie.Need-overflow-add-b invariant-loop decreases-loop
 add-b c = omega arith

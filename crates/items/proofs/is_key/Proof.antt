@@ -4,8 +4,8 @@ use native.Mathlib.Omega.{arith}
 use mathlib.Core.Path.{ap, ◌∙◌}
 use Prim.Native.Nat.{ℕ}
 use Rattle.memory.specs.Words.{word}
-use Rattle.layout.specs.Keys.{Key, sameKey, keyIn}
-use Rattle.keys.specs.Key.{keyIs}
+use Rattle.layout.specs.Keys.{Key, same_key, key_in}
+use Rattle.keys.specs.Key.{key_is}
 use Rattle.items.proofs.is_key.Statement.{statement}
 use Rattle.items.proofs.is_key.Tie as tie
 
@@ -30,9 +30,9 @@ returns c =
     let g = k.before in
     let f = g.before in
     let x = f.before.before.args in
-    c.same.ensures ∙ ap (λ (z : Key). sameKey z (keyIs x.key)) (
-    k.key_in.ensures ∙ ap (λ (w : ℕ). keyIn w g.get322.result) f.get32.ensures
-    ∙ ap (λ (w : ℕ). keyIn (word x.s.now x.at) w) g.get322.ensures
+    c.same.ensures ∙ ap (λ (z : Key). same_key z (key_is x.key)) (
+    k.key_in.ensures ∙ ap (λ (w : ℕ). key_in w g.get322.result) f.get32.ensures
+    ∙ ap (λ (w : ℕ). key_in (word x.s.now x.at) w) g.get322.ensures
     )
 
 pub is-key-spec : {M : Type 1} → statement M

@@ -5,7 +5,7 @@ use mathlib.Core.Path.{◌≡◌, ap, ◌∙◌}
 use Prim.Native.Nat.{ℕ, zero, suc, ◌^◌}
 use lib.Pow.{pow_pos}
 use borrow.Author.Rules.{rules}
-use Rattle.items.specs.Scans.{hasWord}
+use Rattle.items.specs.Scans.{has_word}
 use Rattle.items.proofs.page_has.Statement.{statement}
 use Rattle.items.proofs.page_has.Tie as tie
 
@@ -31,7 +31,7 @@ has-word-requires c κs = omega (arith, c.before.before.before.before.requires.1
 returns-2 : tie.Need-returns-2
 returns-2 c =
     let x = c.before.before.before.before.before.args in
-    c.Has-word.ensures ∙ ap (λ (n : ℕ). hasWord x.s.now x.at n x.j) c.before.deletions-per-page.ensures
+    c.Has-word.ensures ∙ ap (λ (n : ℕ). has_word x.s.now x.at n x.j) c.before.deletions-per-page.ensures
 
 pub page-has-spec : {M : Type 1} → statement M
 page-has-spec = tie.close (tie.spec small-has-requires returns deletions-per-page-requires has-word-requires returns-2)

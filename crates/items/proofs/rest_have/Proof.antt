@@ -3,12 +3,12 @@ use Prim.Native.Nat.{◌-◌, ◌≤◌}
 use mathlib.Core.Path.{◌≡◌, sym, ◌∙◌}
 use mathlib.Core.Logic.{⊎_elim}
 use Rattle.memory.specs.Ranges.{any}
-use Rattle.items.specs.Scans.{isWord, any-yes, any-skips, word-yes, word-no}
+use Rattle.items.specs.Scans.{is_word, any_yes, any_skips, word_yes, word_no}
 use Rattle.items.proofs.rest_have.Statement.{statement}
 use Rattle.items.proofs.rest_have.Tie as tie
 
 abbrev invariant-loop : tie.invariant-loop
-invariant-loop at m n j s found₀ i₀ found i = (i ≤ n) × (found ≡ any (isWord s at j) i)
+invariant-loop at m n j s found₀ i₀ found i = (i ≤ n) × (found ≡ any (is_word s at j) i)
 
 abbrev decreases-loop : tie.decreases-loop
 decreases-loop at m n j s found₀ i₀ found i = n - i
@@ -36,11 +36,11 @@ loop-again c =
     let g = c.before in
     let l = g.before.before in
     let x = l.before.before.args in
-    let t = isWord x.s.now x.at x.j in (
+    let t = is_word x.s.now x.at x.j in (
       omega arith,
       ⊎_elim
-          (λ w. w.1 ∙ sym (any-yes t l.loop.i (word-yes x.s.now x.at x.j l.loop.i g.get32.result g.get32.ensures w.0.taken)))
-          (λ w. w.1 ∙ (l.loop.invariant.1 ∙ sym (any-skips t l.loop.i (word-no x.s.now x.at x.j l.loop.i g.get32.result g.get32.ensures w.0.left))))
+          (λ w. w.1 ∙ sym (any_yes t l.loop.i (word_yes x.s.now x.at x.j l.loop.i g.get32.result g.get32.ensures w.0.taken)))
+          (λ w. w.1 ∙ (l.loop.invariant.1 ∙ sym (any_skips t l.loop.i (word_no x.s.now x.at x.j l.loop.i g.get32.result g.get32.ensures w.0.left))))
           c.if1.branch,
     )
 

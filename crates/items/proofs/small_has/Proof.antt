@@ -3,7 +3,7 @@ use native.Mathlib.Omega.{arith}
 use Prim.Native.Nat.{◌+◌, ◌*◌}
 use mathlib.Core.Path.{◌≡◌, refl, sym, ◌∙◌}
 use mathlib.Core.Bool.{Bool, true, false, ◌||◌}
-use Rattle.items.specs.Scans.{hasWord, words-sum, block-yes}
+use Rattle.items.specs.Scans.{has_word, words_sum, block_yes}
 use borrow.Author.Rules.{rules}
 use Rattle.items.proofs.small_has.Statement.{statement}
 use Rattle.items.proofs.small_has.Tie as tie
@@ -29,7 +29,7 @@ returns-2 c =
     let b = c.before.before.before.before.before in
     let x = b.args in
     let e : x.at + 0 * 4 ≡ x.at = omega arith in
-    sym (block-yes x.s.now x.at x.j 0 16 (16 * x.chip.unit) (rw e (sym c.before.few-have.ensures ∙ c.if2.true)) (omega (arith, b.requires.0)))
+    sym (block_yes x.s.now x.at x.j 0 16 (16 * x.chip.unit) (rw e (sym c.before.few-have.ensures ∙ c.if2.true)) (omega (arith, b.requires.0)))
 
 returns-3 : tie.Need-returns-3
 returns-3 c =
@@ -48,8 +48,8 @@ returns-4 c =
     let b = c.before.before.before.before.before.before.before.before in
     let x = b.args in
     let u : 16 * x.chip.unit ≡ 16 + 16 = omega (arith, b.requires.0, b.requires.1, b.requires.2, c.before.if3.false, c.before.before.before.before.before.if1.false) in
-    let f : hasWord x.s.now x.at 16 x.j ≡ false = sym c.before.before.before.before.few-have.ensures ∙ c.before.before.before.if2.false in
-    rw u (c.few-have2.ensures ∙ sym (words-sum x.s.now x.at x.j 16 16 ∙ rw f (or-false (hasWord x.s.now (x.at + 16 * 4) 16 x.j))))
+    let f : has_word x.s.now x.at 16 x.j ≡ false = sym c.before.before.before.before.few-have.ensures ∙ c.before.before.before.if2.false in
+    rw u (c.few-have2.ensures ∙ sym (words_sum x.s.now x.at x.j 16 16 ∙ rw f (or-false (has_word x.s.now (x.at + 16 * 4) 16 x.j))))
 
 pub small-has-spec : {M : Type 1} → statement M
 small-has-spec =

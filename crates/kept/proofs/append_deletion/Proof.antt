@@ -3,7 +3,7 @@ use mathlib.Core.Path.{refl, ◌∙◌}
 use Rattle.memory.specs.Lists.{length_part}
 use Rattle.layout.specs.Items.{DA}
 use Rattle.geometry.specs.Shape.{shape}
-use Rattle.kept.specs.Fits.{append-fits, item-appended}
+use Rattle.kept.specs.Fits.{append_fits, item_appended}
 use borrow.Author.Rules.{rules}
 use Rattle.kept.proofs.append_deletion.Statement.{statement}
 use Rattle.kept.proofs.append_deletion.Tie as tie
@@ -26,7 +26,7 @@ append-item-requires c κs =
     let b = c.before.before.before.before.before in
     let x = b.args in
     let P = b.requires in
-    append-fits x.g P.0 a.result (DA (shape x.g)) a.ensures.0 a.ensures.1 _ _
+    append_fits x.g P.0 a.result (DA (shape x.g)) a.ensures.0 a.ensures.1 _ _
     (length_part x.new.now 0 4 (omega (arith, P.1))) refl (omega arith) (omega arith) P.2
 
 same_length : tie.Need-same-length
@@ -37,7 +37,7 @@ returns c =
     let k = c.before.before in
     let a = k.before.before.before in
     let x = a.before.before.before.args in
-    k.append-item.ensures ∙ item-appended a.deletion-area.result (DA (shape x.g)) x.d _ x.ram.now a.deletion-area.ensures.0
+    k.append-item.ensures ∙ item_appended a.deletion-area.result (DA (shape x.g)) x.d _ x.ram.now a.deletion-area.ensures.0
 
 pub append-deletion-spec : {M : Type 1} → statement M
 append-deletion-spec =

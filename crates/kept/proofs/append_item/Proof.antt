@@ -4,7 +4,7 @@ use mathlib.Core.Path.{ap, ◌∙◌}
 use mathlib.Core.List.{List}
 use Prim.Native.Nat.{ℕ, ◌+◌, ◌*◌, ◌≤◌}
 use lib.ListN.{length}
-use Rattle.memory.specs.Lists.{write, length_part, part-back}
+use Rattle.memory.specs.Lists.{write, length_part, part_back}
 use Rattle.layout.specs.Items.{put}
 use borrow.Author.Rules.{rules}
 use Rattle.kept.proofs.append_item.Statement.{statement}
@@ -65,7 +65,7 @@ returns c =
     let P = b.before.before.before.requires in
     let k = c.before.before.copy-words in
     let at : ℕ = x.a.ram + b.slot.result * x.a.size in
-    part-back x.ram.now at (at + length x.item.now) k.new.0 (omega arith) (omega (arith, inside b, P.1, P.3)) (omega (arith, ap length k.ensures))
+    part_back x.ram.now at (at + length x.item.now) k.new.0 (omega arith) (omega (arith, inside b, P.1, P.3)) (omega (arith, ap length k.ensures))
     ∙ ap (λ (ys : List ℕ). write x.ram.now at ys) k.ensures
     ∙ ap (λ (i : ℕ). write x.ram.now (x.a.ram + i * x.a.size) x.item.now) b.slot.ensures.0
 

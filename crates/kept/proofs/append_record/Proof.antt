@@ -3,7 +3,7 @@ use mathlib.Core.Path.{refl}
 use Rattle.memory.specs.Lists.{length_part}
 use Rattle.layout.specs.Items.{Ra, KA}
 use Rattle.geometry.specs.Shape.{shape}
-use Rattle.kept.specs.Fits.{append-fits, record-put}
+use Rattle.kept.specs.Fits.{append_fits, record_put}
 use borrow.Author.Rules.{rules}
 use Rattle.kept.proofs.append_record.Statement.{statement}
 use Rattle.kept.proofs.append_record.Tie as tie
@@ -29,7 +29,7 @@ append-item-requires c κs =
     let b = c.before.before.before.before.before.before in
     let x = b.args in
     let P = b.requires in
-    append-fits x.g P.0 a.result (Ra (shape x.g)) a.ensures.0 a.ensures.1 _ _
+    append_fits x.g P.0 a.result (Ra (shape x.g)) a.ensures.0 a.ensures.1 _ _
     (length_part x.new.now 4 16 (omega (arith, P.1))) refl (omega arith) (omega arith) P.2
 
 sub-append-item-2 : tie.Need-overflow-sub-append-item-2
@@ -48,7 +48,7 @@ append-item-requires-2 c κs =
     let b = r.before.before.before.before.before.before.before.before.before in
     let x = b.args in
     let P = b.requires in
-    append-fits x.g P.0 a.result (KA (shape x.g)) a.ensures.0 a.ensures.1 _ _
+    append_fits x.g P.0 a.result (KA (shape x.g)) a.ensures.0 a.ensures.1 _ _
     (length_part x.new.now 20 8 (omega (arith, P.1))) refl (omega arith) (omega arith) (omega (arith, P.2, r.before.ram.given))
 
 same_length : tie.Need-same-length
@@ -61,7 +61,7 @@ returns c =
     let a2 = k.before.before.before in
     let a = a2.before in
     let x = a.before.before.before.args in
-    record-put (shape x.g) x.n x.new.now x.ram.now a.record-area.result a2.entry-area.result _ _
+    record_put (shape x.g) x.n x.new.now x.ram.now a.record-area.result a2.entry-area.result _ _
     a.record-area.ensures.0 a2.entry-area.ensures.0 k.append-item.ensures k2.append-item2.ensures
 
 pub append-record-spec : {M : Type 1} → statement M

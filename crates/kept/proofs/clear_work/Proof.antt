@@ -1,6 +1,6 @@
 use mathlib.Core.Path.{◌∙◌}
-use Rattle.layout.specs.Geometry.{workRam}
-use Rattle.kept.specs.Pieces.{zero-at}
+use Rattle.layout.specs.Geometry.{work_ram}
+use Rattle.kept.specs.Pieces.{zero_at}
 use borrow.Author.Rules.{rules}
 use Rattle.kept.proofs.clear_work.Statement.{statement}
 use Rattle.kept.proofs.clear_work.Tie as tie
@@ -26,7 +26,7 @@ returns c =
     let x = b4.args in
     let u = x.g.chip.unit in
     b1.fill-at.ensures
-    ∙ zero-at u (workRam u) b3.work-ram.result b2.page-size.result x.ram.now b3.work-ram.ensures b2.page-size.ensures
+    ∙ zero_at u (work_ram u) b3.work-ram.result b2.page-size.result x.ram.now b3.work-ram.ensures b2.page-size.ensures
 
 pub clear-work-spec : {M : Type 1} → statement M
 clear-work-spec = tie.close (tie.spec work-ram-requires page-size-requires fill-at-requires same_length returns)

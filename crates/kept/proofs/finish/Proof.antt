@@ -1,8 +1,8 @@
 use mathlib.Core.Path.{ap, ◌∙◌}
-use Rattle.layout.specs.Geometry.{workRam}
-use Rattle.layout.specs.Items.{zeroPage}
+use Rattle.layout.specs.Geometry.{work_ram}
+use Rattle.layout.specs.Items.{zero_page}
 use Rattle.geometry.specs.Shape.{shape}
-use Rattle.kept.specs.Kept.{recordKept}
+use Rattle.kept.specs.Kept.{record_kept}
 use borrow.Author.Rules.{rules}
 use Rattle.kept.proofs.finish.Statement.{statement}
 use Rattle.kept.proofs.finish.Tie as tie
@@ -47,7 +47,7 @@ returns c =
     let b3 = b2.before.before.before in
     let b4 = b3.before.before.before.before.before in
     let x = b4.args in
-    rw b3.e.given.1 (b1.clear-work.ensures ∙ ap (zeroPage x.g.chip.unit (workRam x.g.chip.unit))
+    rw b3.e.given.1 (b1.clear-work.ensures ∙ ap (zero_page x.g.chip.unit (work_ram x.g.chip.unit))
     b2.keep-deletion.ensures)
 
 same-length-2 : tie.Need-same-length-2
@@ -60,7 +60,7 @@ returns-2 c =
     let b3 = b2.before.before.before in
     let b4 = b3.before.before.before.before.before in
     let x = b4.args in
-    rw b3.e2.given.1 (b1.clear-work2.ensures ∙ ap (zeroPage x.g.chip.unit (workRam x.g.chip.unit))
+    rw b3.e2.given.1 (b1.clear-work2.ensures ∙ ap (zero_page x.g.chip.unit (work_ram x.g.chip.unit))
     b2.keep-record.ensures)
 
 same-length-3 : tie.Need-same-length-3
@@ -76,8 +76,8 @@ returns-3 c =
     let x = b5.args in
     let g = shape x.g in
     rw b4.e3.given.1
-    (b1.clear-work3.ensures ∙ ap (zeroPage x.g.chip.unit (workRam x.g.chip.unit))
-    (b2.keep-record2.ensures ∙ ap (recordKept g _ x.new.now x.filters.now) b3.keep-deletion2.ensures))
+    (b1.clear-work3.ensures ∙ ap (zero_page x.g.chip.unit (work_ram x.g.chip.unit))
+    (b2.keep-record2.ensures ∙ ap (record_kept g _ x.new.now x.filters.now) b3.keep-deletion2.ensures))
 
 pub finish_spec : {M : Type 1} → statement M
 finish_spec =

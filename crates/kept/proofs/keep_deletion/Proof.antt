@@ -3,12 +3,12 @@ use mathlib.Core.Path.{sym, ap, ◌∙◌}
 use mathlib.Core.Bool.{not, not-not}
 use Rattle.memory.specs.Lists.{length_part}
 use Rattle.layout.specs.Items.{DA}
-use Rattle.layout.specs.Calls.{deletionIndex, deletionFilters}
+use Rattle.layout.specs.Calls.{deletion_index, deletion_filters}
 use Rattle.geometry.specs.declared.sets.Index.{Index}
 use Rattle.geometry.specs.Shape.{shape}
 use Rattle.geometry.specs.Indexes.{index_of}
-use Rattle.plan.specs.Plans.{deletionFourths}
-use Rattle.kept.specs.Fits.{item-fits, item-kept, filters-fit, kept-open, kept_full}
+use Rattle.plan.specs.Plans.{deletion_fourths}
+use Rattle.kept.specs.Fits.{item_fits, item_kept, filters_fit, kept_open, kept_full}
 use borrow.Author.Rules.{rules}
 use Rattle.kept.proofs.keep_deletion.Statement.{statement}
 use Rattle.kept.proofs.keep_deletion.Tie as tie
@@ -31,7 +31,7 @@ keep-item-requires c κs =
     let b = c.before.before.before.before.before.before in
     let x = b.args in
     let P = b.requires in
-    item-fits x.g P.0 a.result (DA (shape x.g)) a.ensures.0 a.ensures.1 _ _
+    item_fits x.g P.0 a.result (DA (shape x.g)) a.ensures.0 a.ensures.1 _ _
     (length_part x.new.now 0 4 (omega (arith, P.1))) (omega arith) (omega arith) P.3
 
 fills-requires : tie.Need-fills-requires
@@ -48,9 +48,9 @@ returns c =
     let x = a.before.before.before.before.args in
     let g = shape x.g in
     let r = a.deletion-area.result in
-    let a-is = a.deletion-area.ensures.0 in
-    let y-is = k.keep-item.ensures ∙ item-kept g r (DA g) x.d _ x.ram.now a-is in
-    kept-open g.u r (DA g) a-is x.d (deletionIndex g) (deletionFilters g x.d) 2 (deletionFourths x.filters.now) _ _ y-is
+    let a_is = a.deletion-area.ensures.0 in
+    let y_is = k.keep-item.ensures ∙ item_kept g r (DA g) x.d _ x.ram.now a_is in
+    kept_open g.u r (DA g) a_is x.d (deletion_index g) (deletion_filters g x.d) 2 (deletion_fourths x.filters.now) _ _ y_is
     (sym f.fills.ensures ∙ sym (not-not _) ∙ ap not c.if1.true)
 
 deletion-index-requires : tie.Need-deletion-index-requires
@@ -77,7 +77,7 @@ keep-filters-requires c κs =
     let x = b4.args in
     let P = b4.requires in
     let s = ap (λ (i : Index). i.ska) b1.deletion-index.ensures in
-    filters-fit x.g P.0 _ _ _ _ _ (omega (arith, s)) (omega arith) (omega arith) (omega arith)
+    filters_fit x.g P.0 _ _ _ _ _ (omega (arith, s)) (omega arith) (omega arith) (omega arith)
     (omega (arith, length_part x.filters.now 0 512 (omega (arith, P.2))))
     (omega (arith, P.3, b3.ram.given))
 
@@ -96,11 +96,11 @@ returns-2 c =
     let x = a.before.before.before.before.args in
     let g = shape x.g in
     let r = a.deletion-area.result in
-    let a-is = a.deletion-area.ensures.0 in
-    let y-is = k.keep-item.ensures ∙ item-kept g r (DA g) x.d _ x.ram.now a-is in
-    kept_full g.u r (DA g) a-is x.d (deletionIndex g) (deletionFilters g x.d) 2 (deletionFourths x.filters.now) _ _ y-is
+    let a_is = a.deletion-area.ensures.0 in
+    let y_is = k.keep-item.ensures ∙ item_kept g r (DA g) x.d _ x.ram.now a_is in
+    kept_full g.u r (DA g) a_is x.d (deletion_index g) (deletion_filters g x.d) 2 (deletion_fourths x.filters.now) _ _ y_is
     b2.deletion-index.result _ _ (sym f.fills.ensures ∙ sym (not-not _) ∙ ap not b3.if1.false)
-    (ap index_of b2.deletion-index.ensures) n.deletion-filters.ensures b1.keep-filters.ensures
+    (ap index_of b2.deletion-index.ensures) n.deletion-filters.ensures b1.keep_filters.ensures
 
 pub keep-deletion-spec : {M : Type 1} → statement M
 keep-deletion-spec =

@@ -3,8 +3,8 @@ use mathlib.Core.Path.{refl, sym, ap, ◌∙◌}
 use mathlib.Core.Bool.{not, not-not}
 use mathlib.Core.List.{List}
 use Prim.Native.Nat.{ℕ}
-use Rattle.layout.specs.Items.{zeroPage}
-use Rattle.kept.specs.Pieces.{zero-at, slots-fit, piece-fits, fourths-fit, filters-put}
+use Rattle.layout.specs.Items.{zero_page}
+use Rattle.kept.specs.Pieces.{zero_at, slots_fit, piece_fits, fourths_fit, filters_put}
 use borrow.Author.Rules.{rules}
 use Rattle.kept.proofs.keep_filters.Statement.{statement}
 use Rattle.kept.proofs.keep_filters.Tie as tie
@@ -18,7 +18,7 @@ mul-put-fourths c =
     let x = b.args in
     let P = b.requires in
     let z = c.fourth-size in
-    omega (arith, slots-fit x.chip.unit z.result z.ensures x.first x.n x.ix.ska _ P.0.3 P.1.1)
+    omega (arith, slots_fit x.chip.unit z.result z.ensures x.first x.n x.ix.ska _ P.0.3 P.1.1)
 
 add-put-fourths : tie.Need-overflow-add-put-fourths
 add-put-fourths c =
@@ -26,7 +26,7 @@ add-put-fourths c =
     let x = b.args in
     let P = b.requires in
     let z = c.before.fourth-size in
-    omega (arith, slots-fit x.chip.unit z.result z.ensures x.first x.n x.ix.ska _ P.0.3 P.1.1)
+    omega (arith, slots_fit x.chip.unit z.result z.ensures x.first x.n x.ix.ska _ P.0.3 P.1.1)
 
 mul-put-fourths-2 : tie.Need-overflow-mul-put-fourths-2
 mul-put-fourths-2 c =
@@ -34,7 +34,7 @@ mul-put-fourths-2 c =
     let x = b.args in
     let P = b.requires in
     let z = c.before.fourth-size in
-    omega (arith, slots-fit x.chip.unit z.result z.ensures x.first x.n x.ix.ska _ P.0.3 P.1.1)
+    omega (arith, slots_fit x.chip.unit z.result z.ensures x.first x.n x.ix.ska _ P.0.3 P.1.1)
 
 put-fourths-requires : tie.Need-put-fourths-requires
 put-fourths-requires c κs =
@@ -45,10 +45,10 @@ put-fourths-requires c κs =
     let u = x.chip.unit in (
       (
         P.0.0,
-        fourths-fit u z.result z.ensures x.first x.n _ P.1.0,
-        piece-fits u z.result z.ensures x.first x.n P.0.2,
+        fourths_fit u z.result z.ensures x.first x.n _ P.1.0,
+        piece_fits u z.result z.ensures x.first x.n P.0.2,
       ),
-      slots-fit u z.result z.ensures x.first x.n x.ix.ska _ P.0.3 P.1.1,
+      slots_fit u z.result z.ensures x.first x.n x.ix.ska _ P.0.3 P.1.1,
     )
 
 sub-fills-ska : tie.Need-overflow-sub-fills-ska
@@ -73,7 +73,7 @@ returns c =
     let x = b2.before.before.before.args in
     let z = b2.fourth-size in
     let p = b1.put-fourths.ensures
-    ∙ filters-put x.chip.unit z.result z.ensures x.first x.n x.ix.ska x.fourths.now x.ram.now in
+    ∙ filters_put x.chip.unit z.result z.ensures x.first x.n x.ix.ska x.fourths.now x.ram.now in
     rw (sym f.fills-ska.ensures ∙ sym (not-not _) ∙ ap not c.if1.true) p
 
 page-size-requires : tie.Need-page-size-requires
@@ -96,10 +96,10 @@ returns-2 c =
     let x = b5.before.before.before.args in
     let z = b5.fourth-size in
     let p = b4.put-fourths.ensures
-    ∙ filters-put x.chip.unit z.result z.ensures x.first x.n x.ix.ska x.fourths.now x.ram.now in
+    ∙ filters_put x.chip.unit z.result z.ensures x.first x.n x.ix.ska x.fourths.now x.ram.now in
     rw (sym f.fills-ska.ensures ∙ sym (not-not _) ∙ ap not b3.if1.false)
-    (b1.fill-at.ensures ∙ zero-at x.chip.unit x.ix.ska x.ix.ska b2.page-size.result _ refl b2.page-size.ensures
-    ∙ ap (λ (r : List ℕ). zeroPage x.chip.unit x.ix.ska r) p)
+    (b1.fill-at.ensures ∙ zero_at x.chip.unit x.ix.ska x.ix.ska b2.page-size.result _ refl b2.page-size.ensures
+    ∙ ap (λ (r : List ℕ). zero_page x.chip.unit x.ix.ska r) p)
 
 pub keep-filters-spec : {M : Type 1} → statement M
 keep-filters-spec =

@@ -4,8 +4,8 @@ use mathlib.Core.Path.{refl, sym, ap, ◌∙◌}
 use mathlib.Core.Bool.{not, not-not}
 use mathlib.Core.List.{List}
 use Prim.Native.Nat.{ℕ, ◌+◌, ◌*◌, ◌≤◌}
-use Rattle.layout.specs.Items.{put, zeroPage}
-use Rattle.kept.specs.Pieces.{zero-at}
+use Rattle.layout.specs.Items.{put, zero_page}
+use Rattle.kept.specs.Pieces.{zero_at}
 use borrow.Author.Rules.{rules}
 use Rattle.kept.proofs.keep_item.Statement.{statement}
 use Rattle.kept.proofs.keep_item.Tie as tie
@@ -69,8 +69,8 @@ returns-2 c =
     let b5 = b4.before.before.before.before.before.before.before in
     let x = b5.args in
     rw (sym f.fills.ensures ∙ sym (not-not _) ∙ ap not b3.if1.false)
-    (b1.fill-at.ensures ∙ zero-at x.chip.unit x.a.ram x.a.ram b2.page-size.result _ refl b2.page-size.ensures
-    ∙ ap (λ (r : List ℕ). zeroPage x.chip.unit x.a.ram r)
+    (b1.fill-at.ensures ∙ zero_at x.chip.unit x.a.ram x.a.ram b2.page-size.result _ refl b2.page-size.ensures
+    ∙ ap (λ (r : List ℕ). zero_page x.chip.unit x.a.ram r)
     (rw b4.before.before.before.before.slot.ensures.0 at b4.copy_at.ensures))
 
 pub keep-item-spec : {M : Type 1} → statement M

@@ -5,12 +5,12 @@ use Prim.Native.Nat.{◌/◌}
 use Rattle.memory.specs.Lists.{length_part}
 use Rattle.layout.specs.Items as items
 use Rattle.layout.specs.Items.{Ra, KA}
-use Rattle.layout.specs.Calls.{keyIndex, keyFilters}
+use Rattle.layout.specs.Calls.{key_index, key_filters}
 use Rattle.geometry.specs.declared.sets.Index.{Index}
 use Rattle.geometry.specs.Shape.{shape}
 use Rattle.geometry.specs.Indexes.{index_of}
-use Rattle.plan.specs.Plans.{entryFourths}
-use Rattle.kept.specs.Fits.{item-fits, record-entered, filters-fit, kept-open, kept_full}
+use Rattle.plan.specs.Plans.{entry_fourths}
+use Rattle.kept.specs.Fits.{item_fits, record_entered, filters_fit, kept_open, kept_full}
 use borrow.Author.Rules.{rules}
 use Rattle.kept.proofs.keep_record.Statement.{statement}
 use Rattle.kept.proofs.keep_record.Tie as tie
@@ -37,7 +37,7 @@ keep-item-requires c κs =
     let x = b2.args in
     let P = b2.requires in
     let a = b1.record-area in
-    item-fits x.g P.0 a.result (Ra (shape x.g)) a.ensures.0 a.ensures.1
+    item_fits x.g P.0 a.result (Ra (shape x.g)) a.ensures.0 a.ensures.1
     _ _ (length_part x.new.now 4 16 (omega (arith, P.1)))
     (omega arith) (omega arith) P.3
 
@@ -58,7 +58,7 @@ keep-item-requires-2 c κs =
     let x = b3.args in
     let P = b3.requires in
     let a = b1.entry-area in
-    item-fits x.g P.0 a.result (KA (shape x.g)) a.ensures.0 a.ensures.1
+    item_fits x.g P.0 a.result (KA (shape x.g)) a.ensures.0 a.ensures.1
     _ _ (length_part x.new.now 20 8 (omega (arith, P.1)))
     (omega arith) (omega arith) (omega (arith, P.3, b2.ram.given))
 
@@ -78,10 +78,10 @@ returns c =
     let x = b4.before.before.before.before.args in
     let g = shape x.g in
     let r = b4.entry-area.result in
-    let r-is = b4.entry-area.ensures.0 in
-    let y-is = record-entered g x.n x.new.now x.ram.now b3.record-area.result r _ _
-    b3.record-area.ensures.0 r-is b2.keep-item.ensures b1.keep-item2.ensures in
-    kept-open g.u r (KA g) r-is x.n (keyIndex g) (keyFilters g x.n) 1 (entryFourths x.filters.now) _ _ y-is
+    let r_is = b4.entry-area.ensures.0 in
+    let y_is = record_entered g x.n x.new.now x.ram.now b3.record-area.result r _ _
+    b3.record-area.ensures.0 r_is b2.keep-item.ensures b1.keep-item2.ensures in
+    kept_open g.u r (KA g) r_is x.n (key_index g) (key_filters g x.n) 1 (entry_fourths x.filters.now) _ _ y_is
     (sym f.fills.ensures ∙ sym (not-not _) ∙ ap not c.if1.true)
 
 key-index-requires : tie.Need-key-index-requires
@@ -108,7 +108,7 @@ keep-filters-requires c κs =
     let x = b4.args in
     let P = b4.requires in
     let s = ap (λ (i : Index). i.ska) b1.key-index.ensures in
-    filters-fit x.g P.0 _ _ _ _ _ (omega (arith, s)) (omega arith) (omega arith) (omega arith)
+    filters_fit x.g P.0 _ _ _ _ _ (omega (arith, s)) (omega arith) (omega arith) (omega arith)
     (omega (arith, length_part x.filters.now 512 256 (omega (arith, P.2))))
     (omega (arith, P.3, b3.ram.given, b2.ram2.given))
 
@@ -128,12 +128,12 @@ returns-2 c =
     let x = b7.before.before.before.before.args in
     let g = shape x.g in
     let r = b7.entry-area.result in
-    let r-is = b7.entry-area.ensures.0 in
-    let y-is = record-entered g x.n x.new.now x.ram.now b6.record-area.result r _ _
-    b6.record-area.ensures.0 r-is b5.keep-item.ensures b4.keep-item2.ensures in
-    kept_full g.u r (KA g) r-is x.n (keyIndex g) (keyFilters g x.n) 1 (entryFourths x.filters.now) _ _ y-is
+    let r_is = b7.entry-area.ensures.0 in
+    let y_is = record_entered g x.n x.new.now x.ram.now b6.record-area.result r _ _
+    b6.record-area.ensures.0 r_is b5.keep-item.ensures b4.keep-item2.ensures in
+    kept_full g.u r (KA g) r_is x.n (key_index g) (key_filters g x.n) 1 (entry_fourths x.filters.now) _ _ y_is
     b2.key-index.result _ _ (sym f.fills.ensures ∙ sym (not-not _) ∙ ap not b3.if1.false)
-    (ap index_of b2.key-index.ensures) (ap (λ (y : items.Area). x.n / y.perPage) r-is) b1.keep-filters.ensures
+    (ap index_of b2.key-index.ensures) (ap (λ (y : items.Area). x.n / y.per_page) r_is) b1.keep_filters.ensures
 
 pub keep-record-spec : {M : Type 1} → statement M
 keep-record-spec =

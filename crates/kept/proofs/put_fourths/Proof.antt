@@ -4,7 +4,7 @@ use Prim.Native.Nat.{◌-◌, ◌*◌, ◌≤◌}
 use mathlib.Core.Path.{◌≡◌, refl}
 use lib.ListN.{length}
 use Rattle.memory.specs.Lists.{length_part}
-use Rattle.kept.specs.Pieces.{pieces_of, none_yet, in-fourths, in-page, more-pieces, all-pieces}
+use Rattle.kept.specs.Pieces.{pieces_of, none_yet, in_fourths, in_page, more_pieces, all_pieces}
 use Rattle.kept.proofs.put_fourths.Statement.{statement}
 use Rattle.kept.proofs.put_fourths.Tie as tie
 
@@ -25,14 +25,14 @@ mul-lo c =
     let b1 = c.before in
     let b2 = b1.before.before.before in
     let x = b2.args in
-    omega (arith, in-fourths x.chip.unit x.piece x.at b1.loop.i _ c.loop-test.true b2.requires.0.1)
+    omega (arith, in_fourths x.chip.unit x.piece x.at b1.loop.i _ c.loop-test.true b2.requires.0.1)
 
 add-hi : tie.Need-overflow-add-hi invariant-loop decreases-loop
 add-hi c =
     let b1 = c.before in
     let b2 = b1.before.before.before in
     let x = b2.args in
-    omega (arith, in-fourths x.chip.unit x.piece x.at b1.loop.i _ c.loop-test.true b2.requires.0.1)
+    omega (arith, in_fourths x.chip.unit x.piece x.at b1.loop.i _ c.loop-test.true b2.requires.0.1)
 
 sector-address-requires : tie.Need-sector-address-requires invariant-loop decreases-loop
 sector-address-requires c κs =
@@ -48,7 +48,7 @@ add-copy-at c =
     let x = b3.args in
     omega (
       arith,
-      in-page x.chip.unit x.piece x.at b2.loop.i _ b1.loop-test.true b3.requires.1,
+      in_page x.chip.unit x.piece x.at b2.loop.i _ b1.loop-test.true b3.requires.1,
       c.sector-address.ensures,
     )
 
@@ -64,7 +64,7 @@ part-copy-at-end c =
     let b2 = b1.before in
     let b3 = b2.before.before.before in
     let x = b3.args in
-    omega (arith, in-fourths x.chip.unit x.piece x.at b2.loop.i _ b1.loop-test.true b3.requires.0.1)
+    omega (arith, in_fourths x.chip.unit x.piece x.at b2.loop.i _ b1.loop-test.true b3.requires.0.1)
 
 copy-at-requires : tie.Need-copy-at-requires invariant-loop decreases-loop
 copy-at-requires c κs =
@@ -74,9 +74,9 @@ copy-at-requires c κs =
     let b3 = b2.before.before.before in
     let x = b3.args in
     let P = b3.requires in
-    let b = in-fourths x.chip.unit x.piece x.at l.i _ b1.loop-test.true P.0.1 in
+    let b = in_fourths x.chip.unit x.piece x.at l.i _ b1.loop-test.true P.0.1 in
     let k = length_part x.fourths.now (l.i * x.piece) x.piece b in
-    let p = in-page x.chip.unit x.piece x.at l.i _ b1.loop-test.true P.1 in
+    let p = in_page x.chip.unit x.piece x.at l.i _ b1.loop-test.true P.1 in
     omega (arith, p, k, l.invariant.1, c.before.sector-address.ensures)
 
 add-i : tie.Need-overflow-add-i invariant-loop decreases-loop
@@ -97,7 +97,7 @@ loop-again c =
     let a = b2.sector-address in (
       omega arith,
       omega arith,
-      more-pieces x.chip.unit x.piece x.at l.i a.result a.ensures x.fourths.now x.ram.now l.ram _
+      more_pieces x.chip.unit x.piece x.at l.i a.result a.ensures x.fourths.now x.ram.now l.ram _
           b3.loop-test.true b5.requires.0.1 l.invariant.2 b1.copy_at.ensures,
     )
 
@@ -108,7 +108,7 @@ returns : tie.Need-returns invariant-loop decreases-loop
 returns c =
     let l = c.before.loop in
     let x = c.before.before.before.before.args in
-    all-pieces x.chip.unit x.piece x.at l.i x.fourths.now x.ram.now l.ram (omega arith) l.invariant.2
+    all_pieces x.chip.unit x.piece x.at l.i x.fourths.now x.ram.now l.ram (omega arith) l.invariant.2
 
 pub put-fourths-spec : {M : Type 1} → statement M
 put-fourths-spec =

@@ -4,8 +4,8 @@ use mathlib.Core.Path.{◌≡◌, ap, ◌∙◌}
 use Prim.Native.Nat.{ℕ, ◌+◌, ◌*◌, ◌/◌, ◌%◌, ◌≤◌, ◌<◌}
 use lib.ListN.{get_or, length}
 use Rattle.memory.specs.Bits.{bit}
-use Rattle.kernels.specs.Rows.{allIn}
-use Rattle.kernels.proofs.Uptos.{single, one, upto_all, upto-map}
+use Rattle.kernels.specs.Rows.{all_in}
+use Rattle.kernels.proofs.Uptos.{single, one, upto_all, upto_map}
 use borrow.Author.Rules.{rules}
 use Rattle.kernels.proofs.block.Statement.{statement}
 use Rattle.kernels.proofs.block.Tie as tie
@@ -38,8 +38,8 @@ field-block-requires c κs =
       some = G.some;
       firsts = G.firsts;
       lows = G.lows;
-      row_in = λ k h. inside (get_or b.args.at.now k 0) b.args.first b.args.n b.args.w (length b.args.bytes.now) o b.requires.2 b.requires.0 (G.blocks-in k h);
-      low-lt = λ k h. omega (arith, G.low-lt k h, o);
+      row_in = λ k h. inside (get_or b.args.at.now k 0) b.args.first b.args.n b.args.w (length b.args.bytes.now) o b.requires.2 b.requires.0 (G.blocks_in k h);
+      low_lt = λ k h. omega (arith, G.low_lt k h, o);
     }
 
 returns-3 : tie.Need-returns-3
@@ -47,8 +47,8 @@ returns-3 c =
     let b = c.before.before.before.before.before.before.before in
     let x = b.args in
     let G = b.requires.3 in
-    upto_all (λ j i. allIn x.bytes.now x.at.now x.low.now x.w x.count (x.first + (j * 64 + i))) x.n c.before.field-block.result c.if3.true
-    (single x.bytes.now x.at.now x.low.now x.count x.w x.first c.before.field-block.result (one G.power.0 x.w G.power.2 c.before.before.if2.false) b.requires.2 G.low-lt c.before.field-block.ensures)
+    upto_all (λ j i. all_in x.bytes.now x.at.now x.low.now x.w x.count (x.first + (j * 64 + i))) x.n c.before.field-block.result c.if3.true
+    (single x.bytes.now x.at.now x.low.now x.count x.w x.first c.before.field-block.result (one G.power.0 x.w G.power.2 c.before.before.if2.false) b.requires.2 G.low_lt c.before.field-block.ensures)
 
 part-requires : tie.Need-part-requires
 part-requires c κs = search rules
@@ -58,8 +58,8 @@ returns-4 c =
     let b = c.before.before.before.before.before.before.before.before in
     let x = b.args in
     let G = b.requires.3 in
-    upto-map (λ j i. bit (get_or c.before.before.field-block.result j 0) i) (λ j i. allIn x.bytes.now x.at.now x.low.now x.w x.count (x.first + (j * 64 + i))) x.n c.part.result
-    (single x.bytes.now x.at.now x.low.now x.count x.w x.first c.before.before.field-block.result (one G.power.0 x.w G.power.2 c.before.before.before.if2.false) b.requires.2 G.low-lt c.before.before.field-block.ensures) c.part.ensures
+    upto_map (λ j i. bit (get_or c.before.before.field-block.result j 0) i) (λ j i. all_in x.bytes.now x.at.now x.low.now x.w x.count (x.first + (j * 64 + i))) x.n c.part.result
+    (single x.bytes.now x.at.now x.low.now x.count x.w x.first c.before.before.field-block.result (one G.power.0 x.w G.power.2 c.before.before.before.if2.false) b.requires.2 G.low_lt c.before.before.field-block.ensures) c.part.ensures
 
 pub block_spec : {M : Type 1} → statement M
 block_spec =

@@ -7,7 +7,7 @@ use Prim.Native.Nat.{ℕ, zero, suc, ◌+◌, ◌-◌, ◌*◌, ◌%◌, ◌^◌
 use lib.ListN.{get_or}
 use lib.Pow.{pow-add}
 use Rattle.memory.specs.Bits.{bit}
-use Rattle.kernels.proofs.Gather.{Packed, one_of, pack-none, pack-more, pack-small, pack-all, unpack}
+use Rattle.kernels.proofs.Gather.{Packed, one_of, pack_none, pack_more, pack_small, pack_all, unpack}
 use borrow.Author.Rules.{rules}
 use Rattle.kernels.proofs.byte_bits.Statement.{statement}
 use Rattle.kernels.proofs.byte_bits.Tie as tie
@@ -63,7 +63,7 @@ loop-holds : tie.Need-loop-init invariant-loop decreases-loop
 loop-holds c =
     let x = c.before.before.args in
     let z : x.n - x.n ≡ 0 = omega arith in
-    (x.n, omega arith, refl, pack-none (has x.at x.low x.step x.bytes.now) c.bit-place.result x.n (x.n - x.n) z)
+    (x.n, omega arith, refl, pack_none (has x.at x.low x.step x.bytes.now) c.bit-place.result x.n (x.n - x.n) z)
 
 -- ---- a byte
 
@@ -83,7 +83,7 @@ small l =
     let b = P.before.before in
     let x = b.args in
     let k = l.loop.invariant.0 in
-    pack-small (has x.at x.low x.step x.bytes.now) P.bit-place.result k (x.n - k) l.loop.r P.bit-place.ensures.1 (fewer x.n k b.requires.0) l.loop.invariant.3
+    pack_small (has x.at x.low x.step x.bytes.now) P.bit-place.result k (x.n - k) l.loop.r P.bit-place.ensures.1 (fewer x.n k b.requires.0) l.loop.invariant.3
 
 sub-o : tie.Need-overflow-sub-o invariant-loop decreases-loop
 sub-o c = (turn c).1
@@ -119,7 +119,7 @@ loop-again c =
       k - 1,
       omega (arith, l.invariant.1),
       t.2,
-      pack-more f s (k - 1) (get_or x.bytes.now (l.o - x.step) 0) ((1 * 2 ^ s) % 2 ^ 64) c.masked.result (one_of s (omega (arith, P.bit-place.ensures.1))) c.masked.ensures.0 is
+      pack_more f s (k - 1) (get_or x.bytes.now (l.o - x.step) 0) ((1 * 2 ^ s) % 2 ^ 64) c.masked.result (one_of s (omega (arith, P.bit-place.ensures.1))) c.masked.ensures.0 is
           (x.n - k) (2 ^ (x.n - k)) k (x.n - (k - 1)) (2 ^ (x.n - (k - 1))) l.r (omega (arith, t.0)) (omega (arith, t.0, l.invariant.1)) (twice x.n k t.0 l.invariant.1) l.invariant.3,
     )
 
@@ -136,7 +136,7 @@ returns c =
     let x = b.args in
     let z = none_left x.at x.step l.invariant.0 l.o l.invariant.2 b.requires.1 (omega arith) in
     let f = has x.at x.low x.step x.bytes.now in
-    unpack f P.bit-place.result x.n (2 ^ x.n) l.r _ refl (pack-all f P.bit-place.result x.n l.invariant.0 l.r z l.invariant.3)
+    unpack f P.bit-place.result x.n (2 ^ x.n) l.r _ refl (pack_all f P.bit-place.result x.n l.invariant.0 l.r z l.invariant.3)
 
 pub byte-bits-spec : {M : Type 1} → statement M
 byte-bits-spec =

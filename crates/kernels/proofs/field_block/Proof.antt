@@ -5,7 +5,7 @@ use Prim.Native.Nat.{ℕ, ◌+◌, ◌-◌, ◌≤◌, ◌<◌}
 use lib.ListN.{get_or}
 use borrow.Author.Rules.{rules}
 use Rattle.kernels.specs.Rows.{Words}
-use Rattle.kernels.proofs.Filters.{words-one, words_more}
+use Rattle.kernels.proofs.Filters.{words_one, words_more}
 use Rattle.kernels.proofs.Eights.{block_row}
 use Rattle.kernels.proofs.field_block.Statement.{statement}
 use Rattle.kernels.proofs.field_block.Tie as tie
@@ -30,7 +30,7 @@ shared-slice-read-row-block-2 : tie.Need-shared-slice-read-row-block-2 invariant
 shared-slice-read-row-block-2 c = let b = c.before.before.before.before.before in omega (arith, b.requires.some, b.requires.lows)
 
 row-block-requires : tie.Need-row-block-requires invariant-loop decreases-loop
-row-block-requires c κs = let b = c.before.before.before.before.before in (omega (arith, b.requires.row_in 0 b.requires.some), b.requires.low-lt 0 b.requires.some)
+row-block-requires c κs = let b = c.before.before.before.before.before in (omega (arith, b.requires.row_in 0 b.requires.some), b.requires.low_lt 0 b.requires.some)
 
 loop-holds : tie.Need-loop-init invariant-loop decreases-loop
 loop-holds c =
@@ -38,7 +38,7 @@ loop-holds c =
     let x = b.args in (
       omega arith,
       b.requires.some,
-      λ j l. words-one x.bytes.now x.at.now x.low.now (x.q + j) (get_or c.Row-block.result j 0)
+      λ j l. words_one x.bytes.now x.at.now x.low.now (x.q + j) (get_or c.Row-block.result j 0)
           (λ i h. block_row x.bytes.now x.at.now x.low.now x.q j 0 (get_or c.Row-block.result j 0) i (c.Row-block.ensures.1 j l i h)),
     )
 
@@ -58,7 +58,7 @@ shared-slice-read-row-block-4 : tie.Need-shared-slice-read-row-block-4 invariant
 shared-slice-read-row-block-4 c = let b = c.before.before.before.before.before.before.before.before.before.before in omega (arith, b.requires.lows, c.before.before.loop-test.true)
 
 row-block-requires-2 : tie.Need-row-block-requires-2 invariant-loop decreases-loop
-row-block-requires-2 c κs = let b = c.before.before.before.before.before.before.before.before.before.before in (omega (arith, b.requires.row_in c.before.before.before.loop.i c.before.before.loop-test.true), b.requires.low-lt c.before.before.before.loop.i c.before.before.loop-test.true)
+row-block-requires-2 c κs = let b = c.before.before.before.before.before.before.before.before.before.before in (omega (arith, b.requires.row_in c.before.before.before.loop.i c.before.before.loop-test.true), b.requires.low_lt c.before.before.before.loop.i c.before.before.loop-test.true)
 
 and-eight-requires : tie.Need-and-eight-requires invariant-loop decreases-loop
 and-eight-requires c κs = search rules

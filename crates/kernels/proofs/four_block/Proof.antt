@@ -4,15 +4,15 @@ use mathlib.Core.Path.{◌≡◌, refl}
 use Prim.Native.Nat.{◌+◌, ◌*◌, ◌-◌, ◌/◌, ◌%◌, ◌≤◌}
 use lib.ListN.{length, get_or}
 use borrow.Author.Rules.{rules}
-use Rattle.kernels.specs.Rows.{allIn}
+use Rattle.kernels.specs.Rows.{all_in}
 use Rattle.kernels.specs.Blocks.{Shows}
-use Rattle.kernels.proofs.Fews.{of_four, Filled, filled_none, filled_more, filled-part, inside-4}
+use Rattle.kernels.proofs.Fews.{of_four, Filled, filled_none, filled_more, filled_part, inside_4}
 use Rattle.kernels.proofs.four_block.Statement.{statement}
 use Rattle.kernels.proofs.four_block.Tie as tie
 
 abbrev invariant-loop : tie.invariant-loop
 invariant-loop first n count at low bytes r₀ j₀ r j =
-    (j ≤ 8) × (j % 2 ≡ 0) × Filled (allIn bytes at low 4 count) first j r
+    (j ≤ 8) × (j % 2 ≡ 0) × Filled (all_in bytes at low 4 count) first j r
 
 abbrev decreases-loop : tie.decreases-loop
 decreases-loop first n count at low bytes r₀ j₀ r j = 8 - j
@@ -39,8 +39,8 @@ field-block-requires c κs =
       some = G.some;
       firsts = G.firsts;
       lows = G.lows;
-      row_in = λ k h. inside-4 (get_or x.at.now k 0) x.first x.n l.j (length x.bytes.now) b.requires.1 l.invariant.1 (omega arith) (G.blocks-in k h);
-      low-lt = λ k h. omega (arith, G.low-lt k h);
+      row_in = λ k h. inside_4 (get_or x.at.now k 0) x.first x.n l.j (length x.bytes.now) b.requires.1 l.invariant.1 (omega arith) (G.blocks_in k h);
+      low_lt = λ k h. omega (arith, G.low_lt k h);
     }
 
 array-read-quarters : tie.Need-array-read-quarters invariant-loop decreases-loop
@@ -100,13 +100,13 @@ loop-again c =
     let b = c.before.before.before.before.before.before.before.before in
     let x = b.args in
     let F = c.before.before.field-block in
-    let gate = allIn x.bytes.now x.at.now x.low.now 4 x.count in
+    let gate = all_in x.bytes.now x.at.now x.low.now 4 x.count in
     let h : l.j + 2 ≤ 8 = omega (arith, b.requires.0, l.invariant.1) in
     let m : x.first % 512 ≡ 0 = b.requires.1 in
     let S0 : Shows gate (x.first + l.j * 64) 64 c.before.quarters.result =
-    of_four x.bytes.now x.at.now x.low.now x.count (x.first + l.j * 64) c.before.quarters.result F.result ((x.first / 64 + l.j) * 4) 0 F.ensures b.requires.2.low-lt (omega arith) (omega arith) c.before.quarters.ensures in
+    of_four x.bytes.now x.at.now x.low.now x.count (x.first + l.j * 64) c.before.quarters.result F.result ((x.first / 64 + l.j) * 4) 0 F.ensures b.requires.2.low_lt (omega arith) (omega arith) c.before.quarters.ensures in
     let S1 : Shows gate (x.first + (l.j + 1) * 64) 64 c.quarters2.result =
-    of_four x.bytes.now x.at.now x.low.now x.count (x.first + (l.j + 1) * 64) c.quarters2.result F.result ((x.first / 64 + l.j) * 4) 4 F.ensures b.requires.2.low-lt (omega arith) (omega arith) c.quarters2.ensures in
+    of_four x.bytes.now x.at.now x.low.now x.count (x.first + (l.j + 1) * 64) c.quarters2.result F.result ((x.first / 64 + l.j) * 4) 4 F.ensures b.requires.2.low_lt (omega arith) (omega arith) c.quarters2.ensures in
     let F0 = filled_more gate x.first l.j (l.j + 1) l.r c.before.quarters.result (omega arith) (omega arith) S0 l.invariant.2 in
     let F1 = filled_more gate x.first (l.j + 1) (l.j + 2) _ c.quarters2.result (omega arith) (omega arith) S1 F0 in
     (omega arith, omega (arith, l.invariant.1), F1)
@@ -118,7 +118,7 @@ returns : tie.Need-returns invariant-loop decreases-loop
 returns c =
     let l = c.before.before.loop in
     let x = c.before.before.before.before.before.before.args in
-    filled-part (allIn x.bytes.now x.at.now x.low.now 4 x.count) x.first x.n l.j l.r c.part.result (omega arith) l.invariant.2 c.part.ensures
+    filled_part (all_in x.bytes.now x.at.now x.low.now 4 x.count) x.first x.n l.j l.r c.part.result (omega arith) l.invariant.2 c.part.ensures
 
 pub four-block-spec : {M : Type 1} → statement M
 four-block-spec =

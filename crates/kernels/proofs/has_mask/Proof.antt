@@ -3,7 +3,7 @@ use native.Mathlib.Omega.{arith}
 use mathlib.Core.Path.{sym, ap}
 use mathlib.Core.Bool.{not}
 use Rattle.memory.specs.Bits.{bit}
-use Rattle.kernels.proofs.Masks.{kept, not-kept}
+use Rattle.kernels.proofs.Masks.{kept, not_kept}
 use Rattle.kernels.proofs.has_mask.Statement.{statement}
 use Rattle.kernels.proofs.has_mask.Tie as tie
 
@@ -15,7 +15,7 @@ returns-2 : tie.Need-returns-2
 unfolding bit
 returns-2 c =
     let x = c.before.args in
-    (omega arith, sym (ap not (not-kept x.x x.m (omega arith) (omega arith) c.if1.false)))
+    (omega arith, sym (ap not (not_kept x.x x.m (omega arith) (omega arith) c.if1.false)))
 
 pub has-mask-spec : {M : Type 1} → statement M
 has-mask-spec = tie.close (tie.spec returns returns-2)

@@ -1,5 +1,5 @@
 -- What is not shut.
-use Rattle.kernels.proofs.Shuts.{not-shut}
+use Rattle.kernels.proofs.Shuts.{not_shut}
 use borrow.Author.Rules.{rules}
 use Rattle.kernels.proofs.having.Statement.{statement}
 use Rattle.kernels.proofs.having.Tie as tie
@@ -22,7 +22,7 @@ lowest-requires c κs = search rules
 returns : tie.Need-returns
 returns c gate S =
     let b = c.before.before in
-    not-shut gate b.args.n b.args.x c.before.interleaved.result c.lowest.result b.requires.1 S c.before.interleaved.ensures c.lowest.ensures
+    not_shut gate b.args.n b.args.x c.before.interleaved.result c.lowest.result b.requires.1 S c.before.interleaved.ensures c.lowest.ensures
 
 pub having-spec : {M : Type 1} → statement M
 having-spec =

@@ -1,20 +1,20 @@
 -- Four exchanges.
 use native.Mathlib.Omega.{arith}
-use Rattle.kernels.proofs.Exchanges.{apart-30, apart-15, apart-24, apart-12, interleaving}
+use Rattle.kernels.proofs.Exchanges.{apart_30, apart_15, apart_24, apart_12, interleaving}
 use Rattle.kernels.proofs.interleaved.Statement.{statement}
 use Rattle.kernels.proofs.interleaved.Tie as tie
 
 exchanged-requires : tie.Need-exchanged-requires
-exchanged-requires c κs = (omega arith, apart-30)
+exchanged-requires c κs = (omega arith, apart_30)
 
 exchanged-requires-2 : tie.Need-exchanged-requires-2
-exchanged-requires-2 c κs = (omega arith, apart-15)
+exchanged-requires-2 c κs = (omega arith, apart_15)
 
 exchanged-requires-3 : tie.Need-exchanged-requires-3
-exchanged-requires-3 c κs = (omega arith, apart-24)
+exchanged-requires-3 c κs = (omega arith, apart_24)
 
 exchanged-requires-4 : tie.Need-exchanged-requires-4
-exchanged-requires-4 c κs = (omega arith, apart-12)
+exchanged-requires-4 c κs = (omega arith, apart_12)
 
 returns : tie.Need-returns
 returns c =

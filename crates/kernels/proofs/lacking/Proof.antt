@@ -4,8 +4,8 @@ use mathlib.Core.Path.{◌≡◌, sym, ap, ◌∙◌}
 use mathlib.Core.Bool.{Bool, not}
 use Prim.Native.Nat.{ℕ, ◌+◌, ◌-◌, ◌*◌, ◌/◌, ◌^◌, ◌≤◌, ◌<◌}
 use lib.Bits.{or_lt}
-use Rattle.kernels.specs.Masks.{hasMask, Shut}
-use Rattle.kernels.proofs.Masks.{lacks, shut-more}
+use Rattle.kernels.specs.Masks.{has_mask, Shut}
+use Rattle.kernels.proofs.Masks.{lacks, shut_more}
 use borrow.Author.Rules.{rules}
 use Rattle.kernels.proofs.lacking.Statement.{statement}
 use Rattle.kernels.proofs.lacking.Tie as tie
@@ -14,7 +14,7 @@ abbrev invariant-loop : tie.invariant-loop
 invariant-loop start m at n bytes mask r₀ j₀ r j =
     (j ≤ n) × (r < 2 ^ 64)
     × ((gate : ℕ → Bool) (q : ℕ) → q + n ≤ 16 → Shut gate q start
-    → ((g : ℕ) → g < 4 * n → gate (4 * q + g) ≡ hasMask bytes at 16 m g) → Shut gate (q + j) r)
+    → ((g : ℕ) → g < 4 * n → gate (4 * q + g) ≡ has_mask bytes at 16 m g) → Shut gate (q + j) r)
 
 abbrev decreases-loop : tie.decreases-loop
 decreases-loop start m at n bytes mask r₀ j₀ r j = n - j
@@ -58,7 +58,7 @@ loop-again c =
       or_lt 64 (l.r / 2) z.result (omega (arith, l.invariant.1)) (omega arith),
       λ gate q h S G.
           let e : q + l.j + 1 ≡ q + (l.j + 1) = omega arith in
-          rw e at (shut-more gate (q + l.j) l.r z.result l.invariant.1 (omega arith) (l.invariant.2 gate q h S G)
+          rw e at (shut_more gate (q + l.j) l.r z.result l.invariant.1 (omega arith) (l.invariant.2 gate q h S G)
           (λ i t.
           let g : 4 * (q + l.j) + i ≡ 4 * q + (4 * l.j + i) = omega arith in
           lacks x.bytes.now x.at x.m f.result w.result d.result z.result l.j

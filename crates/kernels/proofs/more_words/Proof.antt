@@ -1,26 +1,26 @@
 -- A word more each turn, a block after another.
 use native.Mathlib.Nat.{mul-le-mul_right}
-use Rattle.kernels.proofs.Folds.{eight-le, per-le}
+use Rattle.kernels.proofs.Folds.{eight_le, per_le}
 use native.Mathlib.Omega.{arith}
 use mathlib.Core.Path.{◌≡◌, ap, ◌∙◌}
 use Prim.Native.Nat.{ℕ, ◌+◌, ◌-◌, ◌*◌, ◌/◌, ◌≤◌}
 use lib.ListN.{get_or}
-use Rattle.kernels.specs.Rows.{allIn}
+use Rattle.kernels.specs.Rows.{all_in}
 use Rattle.kernels.specs.Blocks.{Shows}
-use Rattle.kernels.proofs.Folds.{word_more, shows-none}
+use Rattle.kernels.proofs.Folds.{word_more, shows_none}
 use Rattle.kernels.proofs.more_words.Statement.{statement}
 use Rattle.kernels.proofs.more_words.Tie as tie
 
 abbrev invariant-loop2 : tie.invariant-loop2
 invariant-loop2 w q n count at low bytes per r₀ b f j₀ r j =
-    (j ≤ 8) × Shows (allIn bytes at low w count) ((q + b * 8 + j) * (64 / w)) (((n - b) * 8 - j) * (64 / w)) r
+    (j ≤ 8) × Shows (all_in bytes at low w count) ((q + b * 8 + j) * (64 / w)) (((n - b) * 8 - j) * (64 / w)) r
 
 abbrev decreases-loop2 : tie.decreases-loop2
 decreases-loop2 w q n count at low bytes per r₀ b f j₀ r j = j
 
 abbrev invariant-loop : tie.invariant-loop
 invariant-loop w q n count at low bytes per r₀ b₀ r b =
-    (b ≤ n) × Shows (allIn bytes at low w count) ((q + b * 8) * (64 / w)) ((n - b) * 8 * (64 / w)) r
+    (b ≤ n) × Shows (all_in bytes at low w count) ((q + b * 8) * (64 / w)) ((n - b) * 8 * (64 / w)) r
 
 abbrev decreases-loop : tie.decreases-loop
 decreases-loop w q n count at low bytes per r₀ b₀ r b = b
@@ -29,13 +29,13 @@ most : (n b j : ℕ) → (n - b) * 8 - j ≤ n * 8
 most n b j = omega arith
 
 div-per : tie.Need-nonzero-div-per invariant-loop2 decreases-loop2 invariant-loop decreases-loop
-div-per c = let p = c.before.before.before.requires.0.0 in omega (arith, eight-le p.0 c.before.before.before.args.w p.1 p.3)
+div-per c = let p = c.before.before.before.requires.0.0 in omega (arith, eight_le p.0 c.before.before.before.args.w p.1 p.3)
 
 loop-holds : tie.Need-loop-init invariant-loop2 decreases-loop2 invariant-loop decreases-loop
 loop-holds c =
     let x = c.before.before.before.args in
     let z : (x.n - x.n) * 8 ≡ 0 = omega arith in
-    (omega arith, shows-none (allIn x.bytes.now x.at.now x.low.now x.w x.count) _ _ 0 (ap (λ (y : ℕ). y * (64 / x.w)) z ∙ omega arith))
+    (omega arith, shows_none (all_in x.bytes.now x.at.now x.low.now x.w x.count) _ _ 0 (ap (λ (y : ℕ). y * (64 / x.w)) z ∙ omega arith))
 
 sub-b : tie.Need-overflow-sub-b invariant-loop2 decreases-loop2 invariant-loop decreases-loop
 sub-b c = omega arith
@@ -82,13 +82,13 @@ squeeze-requires : tie.Need-squeeze-requires invariant-loop2 decreases-loop2 inv
 squeeze-requires c κs =
     let b = c.before.before.before.before.before.before.before.before in
     let p = b.requires.0.0 in
-    ((p.0, omega (arith, p.1), p.2, p.3), λ q. omega (arith, q, eight-le p.0 b.args.w p.1 p.3))
+    ((p.0, omega (arith, p.1), p.2, p.3), λ q. omega (arith, q, eight_le p.0 b.args.w p.1 p.3))
 
 shl-r : tie.Need-overflow-shl-r invariant-loop2 decreases-loop2 invariant-loop decreases-loop
 shl-r c =
     let b = c.before.before.before.before.before.before.before.before.before in
     let p = b.requires.0 in
-    omega (arith, per-le p.0.0 b.args.w (64 / b.args.w) p.0.1 p.0.3 p.1)
+    omega (arith, per_le p.0.0 b.args.w (64 / b.args.w) p.0.1 p.0.3 p.1)
 
 loop2-less : tie.Need-loop2-smaller invariant-loop2 decreases-loop2 invariant-loop decreases-loop
 loop2-less c = omega arith
@@ -106,7 +106,7 @@ loop2-again c =
     let N = (x.n - (l.b - 1)) * 8 - k.j in (
       omega (arith, k.invariant.0),
       word_more x.bytes.now x.at.now x.low.now x.count x.w ((64 / x.w)) Q N k.r (get_or F.field-block.result j 0) c.squeeze.result
-          (omega (arith, eight-le p.0.0 x.w p.0.1 p.0.3)) p.1 b.requires.1.1 (F.field-block.ensures j (omega (arith, k.invariant.0))) c.squeeze.ensures
+          (omega (arith, eight_le p.0.0 x.w p.0.1 p.0.3)) p.1 b.requires.1.1 (F.field-block.ensures j (omega (arith, k.invariant.0))) c.squeeze.ensures
           (x.q + (l.b - 1) * 8 + k.j) ((x.n - (l.b - 1)) * 8 - j) (omega arith) (omega (arith, k.invariant.0, l.invariant.0))
           (omega (arith, mul-le-mul_right ((64 / x.w)) (most x.n (l.b - 1) j), p.2)) k.invariant.1,
     )

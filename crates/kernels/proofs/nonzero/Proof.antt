@@ -2,7 +2,7 @@
 use native.Mathlib.Omega.{arith}
 use Prim.Native.Nat.{◌+◌}
 use lib.Bits.{bit_and, bit_or, and_le_r}
-use Rattle.kernels.proofs.Lanes.{not-zero, nothing-below}
+use Rattle.kernels.proofs.Lanes.{not_zero, nothing_below}
 use Rattle.kernels.proofs.nonzero.Statement.{statement}
 use Rattle.kernels.proofs.nonzero.Tie as tie
 
@@ -12,7 +12,7 @@ add-result c = omega (arith, and_le_r c.args.d 9223231297218904063)
 returns : tie.Need-returns
 returns c =
     let d = c.args.d in
-    (λ i h. not-zero d i h, λ i j h l. nothing-below (bit_or (bit_and d 9223231297218904063 + 9223231297218904063) d) i j h l)
+    (λ i h. not_zero d i h, λ i j h l. nothing_below (bit_or (bit_and d 9223231297218904063 + 9223231297218904063) d) i j h l)
 
 pub nonzero-spec : {M : Type 1} → statement M
 nonzero-spec = tie.close (tie.spec add-result returns)

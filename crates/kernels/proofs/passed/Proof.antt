@@ -4,8 +4,8 @@ use native.Mathlib.Nat.{mul-le-mul_right}
 use mathlib.Core.Path.{◌≡◌, refl}
 use Prim.Native.Nat.{ℕ, ◌+◌, ◌/◌, ◌^◌, ◌≤◌, ◌<◌}
 use lib.Pow.{pow_mono}
-use Rattle.kernels.specs.Rows.{allIn}
-use Rattle.kernels.specs.Blocks.{open-lowest}
+use Rattle.kernels.specs.Rows.{all_in}
+use Rattle.kernels.specs.Blocks.{open_lowest}
 use Rattle.kernels.proofs.Choices.{more}
 use borrow.Author.Rules.{rules}
 use Rattle.kernels.proofs.passed.Statement.{statement}
@@ -34,8 +34,8 @@ more-words-requires c κs =
     let G = b.requires.4 in
     let W = most G.power.0 x.w G.power.2 G.power.1 in
     let F = more G.power.0 x.w x.from x.m _ G.power.2 b.requires.0 (omega (arith, W)) b.requires.3 b.requires.1 b.requires.2 G.small refl in (
-      ((G.power.0, F.low-e, F.high-e, G.power.2), F.word, F.fits, F.n-le, F.q-lt),
-      (λ y l. record { some = G.some; firsts = G.firsts; lows = G.lows; row_in = λ k h. omega (arith, F.in_block y l, G.blocks-in k h); low-lt = λ k h. omega (arith, G.low-lt k h, W) }, G.low-lt),
+      ((G.power.0, F.low_e, F.high_e, G.power.2), F.word, F.fits, F.n_le, F.q_lt),
+      (λ y l. record { some = G.some; firsts = G.firsts; lows = G.lows; row_in = λ k h. omega (arith, F.in_block y l, G.blocks_in k h); low_lt = λ k h. omega (arith, G.low_lt k h, W) }, G.low_lt),
     )
 
 lowest-requires : tie.Need-lowest-requires
@@ -48,8 +48,8 @@ returns c =
     let G = b.requires.4 in
     let W = most G.power.0 x.w G.power.2 G.power.1 in
     let F = more G.power.0 x.w x.from x.m _ G.power.2 b.requires.0 (omega (arith, W)) b.requires.3 b.requires.1 b.requires.2 G.small refl in
-    open-lowest (allIn x.bytes.now x.at.now x.low.now x.w x.count) x.from x.m x.m _ c.before.more-words.result c.lowest.result refl F.enough
-    (rw F.first at c.before.more-words.ensures) c.lowest.ensures
+    open_lowest (all_in x.bytes.now x.at.now x.low.now x.w x.count) x.from x.m x.m _ c.before.more_words.result c.lowest.result refl F.enough
+    (rw F.first at c.before.more_words.ensures) c.lowest.ensures
 
 pub passed-spec : {M : Type 1} → statement M
 passed-spec =

@@ -5,7 +5,7 @@ use mathlib.Core.Path.{◌≡◌, ap, ◌∙◌}
 use Prim.Native.Nat.{ℕ, ◌+◌, ◌-◌, ◌*◌, ◌%◌, ◌≤◌, ◌<◌}
 use lib.ListN.{get_or, length}
 use Rattle.memory.specs.Bits.{bit}
-use Rattle.kernels.proofs.Gather.{eight-more, above-eight}
+use Rattle.kernels.proofs.Gather.{eight_more, above_eight}
 use Rattle.kernels.proofs.row_bits.Statement.{statement}
 use Rattle.kernels.proofs.row_bits.Tie as tie
 
@@ -61,14 +61,14 @@ loop-again c =
     let f : ℕ → Bool = λ k. bit (get_or x.bytes.now (x.at + k * x.step) 0) (x.low % 8) in
     let e : (l.j - 1) * 8 + 8 ≡ l.j * 8 = omega arith in (
       omega (arith, l.invariant.0),
-      λ i h. eight-more f ((l.j - 1) * 8) ((x.n - l.j) * 8) l.r c.eight-bits.result (omega (arith, b.requires.0, l.invariant.0)) c.eight-bits.ensures.0
+      λ i h. eight_more f ((l.j - 1) * 8) ((x.n - l.j) * 8) l.r c.eight_bits.result (omega (arith, b.requires.0, l.invariant.0)) c.eight_bits.ensures.0
           (λ k t.
           let d : x.at + (l.j - 1) * 8 * x.step + k * x.step ≡ x.at + ((l.j - 1) * 8 + k) * x.step = omega arith in
-          c.eight-bits.ensures.1 k t ∙ ap (λ (z : ℕ). bit (get_or x.bytes.now z 0) (x.low % 8)) d)
+          c.eight_bits.ensures.1 k t ∙ ap (λ (z : ℕ). bit (get_or x.bytes.now z 0) (x.low % 8)) d)
           (λ k t. rw e (l.invariant.1 k t)) i (omega (arith, l.invariant.0)),
       λ i h.
           let d : (x.n - (l.j - 1)) * 8 + i ≡ 8 + ((x.n - l.j) * 8 + i) = omega (arith, l.invariant.0) in
-          rw d (above-eight l.r c.eight-bits.result ((x.n - l.j) * 8 + i) (omega (arith, d, h)) c.eight-bits.ensures.0 ∙ l.invariant.2 i (omega (arith, d, h))),
+          rw d (above_eight l.r c.eight_bits.result ((x.n - l.j) * 8 + i) (omega (arith, d, h)) c.eight_bits.ensures.0 ∙ l.invariant.2 i (omega (arith, d, h))),
     )
 
 returns : tie.Need-returns invariant-loop decreases-loop

@@ -4,15 +4,15 @@ use mathlib.Core.Path.{◌≡◌, refl}
 use Prim.Native.Nat.{◌+◌, ◌*◌, ◌-◌, ◌/◌, ◌%◌, ◌≤◌}
 use lib.ListN.{length, get_or}
 use borrow.Author.Rules.{rules}
-use Rattle.kernels.specs.Rows.{allIn}
+use Rattle.kernels.specs.Rows.{all_in}
 use Rattle.kernels.specs.Blocks.{Shows}
-use Rattle.kernels.proofs.Fews.{of_two, Filled, filled_none, filled_more, filled-part, inside-2}
+use Rattle.kernels.proofs.Fews.{of_two, Filled, filled_none, filled_more, filled_part, inside_2}
 use Rattle.kernels.proofs.two_block.Statement.{statement}
 use Rattle.kernels.proofs.two_block.Tie as tie
 
 abbrev invariant-loop : tie.invariant-loop
 invariant-loop first n count at low bytes r₀ j₀ r j =
-    (j ≤ 8) × (j % 4 ≡ 0) × Filled (allIn bytes at low 2 count) first j r
+    (j ≤ 8) × (j % 4 ≡ 0) × Filled (all_in bytes at low 2 count) first j r
 
 abbrev decreases-loop : tie.decreases-loop
 decreases-loop first n count at low bytes r₀ j₀ r j = 8 - j
@@ -39,8 +39,8 @@ field-block-requires c κs =
       some = G.some;
       firsts = G.firsts;
       lows = G.lows;
-      row_in = λ k h. inside-2 (get_or x.at.now k 0) x.first x.n l.j (length x.bytes.now) b.requires.1 l.invariant.1 (omega arith) (G.blocks-in k h);
-      low-lt = λ k h. omega (arith, G.low-lt k h);
+      row_in = λ k h. inside_2 (get_or x.at.now k 0) x.first x.n l.j (length x.bytes.now) b.requires.1 l.invariant.1 (omega arith) (G.blocks_in k h);
+      low_lt = λ k h. omega (arith, G.low_lt k h);
     }
 
 array-read-halves : tie.Need-array-read-halves invariant-loop decreases-loop
@@ -124,17 +124,17 @@ loop-again c =
     let b = c.before.before.before.before.before.before.before.before.before.before in
     let x = b.args in
     let F = c.before.before.before.before.field-block in
-    let gate = allIn x.bytes.now x.at.now x.low.now 2 x.count in
+    let gate = all_in x.bytes.now x.at.now x.low.now 2 x.count in
     let h : l.j + 4 ≤ 8 = omega (arith, b.requires.0, l.invariant.1) in
     let m : x.first % 512 ≡ 0 = b.requires.1 in
     let S0 : Shows gate (x.first + l.j * 64) 64 c.before.before.before.halves.result =
-    of_two x.bytes.now x.at.now x.low.now x.count (x.first + l.j * 64) c.before.before.before.halves.result F.result ((x.first / 64 + l.j) * 2) 0 F.ensures b.requires.2.low-lt (omega arith) (omega arith) c.before.before.before.halves.ensures in
+    of_two x.bytes.now x.at.now x.low.now x.count (x.first + l.j * 64) c.before.before.before.halves.result F.result ((x.first / 64 + l.j) * 2) 0 F.ensures b.requires.2.low_lt (omega arith) (omega arith) c.before.before.before.halves.ensures in
     let S1 : Shows gate (x.first + (l.j + 1) * 64) 64 c.before.before.halves2.result =
-    of_two x.bytes.now x.at.now x.low.now x.count (x.first + (l.j + 1) * 64) c.before.before.halves2.result F.result ((x.first / 64 + l.j) * 2) 2 F.ensures b.requires.2.low-lt (omega arith) (omega arith) c.before.before.halves2.ensures in
+    of_two x.bytes.now x.at.now x.low.now x.count (x.first + (l.j + 1) * 64) c.before.before.halves2.result F.result ((x.first / 64 + l.j) * 2) 2 F.ensures b.requires.2.low_lt (omega arith) (omega arith) c.before.before.halves2.ensures in
     let S2 : Shows gate (x.first + (l.j + 2) * 64) 64 c.before.halves3.result =
-    of_two x.bytes.now x.at.now x.low.now x.count (x.first + (l.j + 2) * 64) c.before.halves3.result F.result ((x.first / 64 + l.j) * 2) 4 F.ensures b.requires.2.low-lt (omega arith) (omega arith) c.before.halves3.ensures in
+    of_two x.bytes.now x.at.now x.low.now x.count (x.first + (l.j + 2) * 64) c.before.halves3.result F.result ((x.first / 64 + l.j) * 2) 4 F.ensures b.requires.2.low_lt (omega arith) (omega arith) c.before.halves3.ensures in
     let S3 : Shows gate (x.first + (l.j + 3) * 64) 64 c.halves4.result =
-    of_two x.bytes.now x.at.now x.low.now x.count (x.first + (l.j + 3) * 64) c.halves4.result F.result ((x.first / 64 + l.j) * 2) 6 F.ensures b.requires.2.low-lt (omega arith) (omega arith) c.halves4.ensures in
+    of_two x.bytes.now x.at.now x.low.now x.count (x.first + (l.j + 3) * 64) c.halves4.result F.result ((x.first / 64 + l.j) * 2) 6 F.ensures b.requires.2.low_lt (omega arith) (omega arith) c.halves4.ensures in
     let F0 = filled_more gate x.first l.j (l.j + 1) l.r c.before.before.before.halves.result (omega arith) (omega arith) S0 l.invariant.2 in
     let F1 = filled_more gate x.first (l.j + 1) (l.j + 2) _ c.before.before.halves2.result (omega arith) (omega arith) S1 F0 in
     let F2 = filled_more gate x.first (l.j + 2) (l.j + 3) _ c.before.halves3.result (omega arith) (omega arith) S2 F1 in
@@ -148,7 +148,7 @@ returns : tie.Need-returns invariant-loop decreases-loop
 returns c =
     let l = c.before.before.loop in
     let x = c.before.before.before.before.before.before.args in
-    filled-part (allIn x.bytes.now x.at.now x.low.now 2 x.count) x.first x.n l.j l.r c.part.result (omega arith) l.invariant.2 c.part.ensures
+    filled_part (all_in x.bytes.now x.at.now x.low.now 2 x.count) x.first x.n l.j l.r c.part.result (omega arith) l.invariant.2 c.part.ensures
 
 pub two-block-spec : {M : Type 1} → statement M
 two-block-spec =

@@ -9,15 +9,15 @@ use lib.Dec.{ltb}
 use lib.ListN.{length, length-set}
 use borrow.Author.Rules.{rules}
 use Rattle.memory.specs.Bits.{bit}
-use Rattle.kernels.specs.Rows.{allIn}
+use Rattle.kernels.specs.Rows.{all_in}
 use Rattle.kernels.specs.Blocks.{Upto, Open}
-use Rattle.kernels.proofs.Uptos.{upto-more, upto-end, upto-none, group-fewer}
+use Rattle.kernels.proofs.Uptos.{upto_more, upto_end, upto_none, group_fewer}
 use Rattle.kernels.proofs.wide_block.Statement.{statement}
 use Rattle.kernels.proofs.wide_block.Tie as tie
 
 abbrev invariant-loop : tie.invariant-loop
 invariant-loop w first n count at low bytes r₀ j₀ r j =
-    (j ≤ (n + 63) / 64) × (length r ≡ 8) × Upto (λ k i. allIn bytes at low w count (first + (k * 64 + i))) (min (j * 64) n) r
+    (j ≤ (n + 63) / 64) × (length r ≡ 8) × Upto (λ k i. all_in bytes at low w count (first + (k * 64 + i))) (min (j * 64) n) r
 
 abbrev decreases-loop : tie.decreases-loop
 decreases-loop w first n count at low bytes r₀ j₀ r j = (n + 63) / 64 - j
@@ -32,7 +32,7 @@ of-open gate first j m k y e R i h =
     R i h ∙ (ap (λ (t : ℕ). ltb i t && gate (first + j * 64 + i)) e ∙ ap (λ (t : ℕ). ltb i k && gate t) z)
 
 loop-holds : tie.Need-loop-init invariant-loop decreases-loop
-loop-holds c = (omega arith, refl, upto-none _ _ _ (omega arith) nought)
+loop-holds c = (omega arith, refl, upto_none _ _ _ (omega arith) nought)
 
 add-loop : tie.Need-overflow-add-loop invariant-loop decreases-loop
 add-loop c = omega arith
@@ -61,7 +61,7 @@ passed-requires c κs =
       omega (arith, c.lesser.ensures),
       omega (arith, c.lesser.ensures),
       omega (arith, b.requires.2),
-      group-fewer x.at.now x.low.now x.count x.w (x.first + x.n) (x.first + l.j * 64 + c.lesser.result) (length x.bytes.now) (omega (arith, c.lesser.ensures)) b.requires.3,
+      group_fewer x.at.now x.low.now x.count x.w (x.first + x.n) (x.first + l.j * 64 + c.lesser.result) (length x.bytes.now) (omega (arith, c.lesser.ensures)) b.requires.3,
     )
 
 mul-r : tie.Need-overflow-mul-r invariant-loop decreases-loop
@@ -84,14 +84,14 @@ loop-again c =
     let m = c.before.lesser in (
       omega arith,
       length-set l.r l.j c.passed.result ∙ l.invariant.1,
-      upto-more (λ k i. allIn x.bytes.now x.at.now x.low.now x.w x.count (x.first + (k * 64 + i))) x.n l.j c.passed.result l.r (omega arith) (omega (arith, b.requires.1)) l.invariant.1 l.invariant.2
-          (λ i h. of-open (allIn x.bytes.now x.at.now x.low.now x.w x.count) x.first l.j m.result (min 64 (x.n - l.j * 64)) c.passed.result m.ensures c.passed.ensures i h),
+      upto_more (λ k i. all_in x.bytes.now x.at.now x.low.now x.w x.count (x.first + (k * 64 + i))) x.n l.j c.passed.result l.r (omega arith) (omega (arith, b.requires.1)) l.invariant.1 l.invariant.2
+          (λ i h. of-open (all_in x.bytes.now x.at.now x.low.now x.w x.count) x.first l.j m.result (min 64 (x.n - l.j * 64)) c.passed.result m.ensures c.passed.ensures i h),
     )
 
 returns : tie.Need-returns invariant-loop decreases-loop
 returns c =
     let l = c.before.loop in
-    upto-end _ _ _ _ (omega arith) l.invariant.2
+    upto_end _ _ _ _ (omega arith) l.invariant.2
 
 pub wide-block-spec : {M : Type 1} → statement M
 wide-block-spec =

@@ -3,14 +3,14 @@ use native.Mathlib.Omega.{arith}
 use mathlib.Core.Path.{◌≡◌}
 use Prim.Native.Nat.{◌-◌, ◌≤◌}
 use Rattle.kernels.specs.Blocks.{Open, open_none}
-use Rattle.kernels.specs.Masks.{hasMask}
-use Rattle.kernels.proofs.Masks.{word-has, open_more}
+use Rattle.kernels.specs.Masks.{has_mask}
+use Rattle.kernels.proofs.Masks.{word_has, open_more}
 use borrow.Author.Rules.{rules}
 use Rattle.kernels.proofs.words_with.Statement.{statement}
 use Rattle.kernels.proofs.words_with.Tie as tie
 
 abbrev invariant-loop : tie.invariant-loop
-invariant-loop m at n bytes r₀ k₀ r k = (k ≤ n) × Open (hasMask bytes at 64 m) k (n - k) r
+invariant-loop m at n bytes r₀ k₀ r k = (k ≤ n) × Open (has_mask bytes at 64 m) k (n - k) r
 
 abbrev decreases-loop : tie.decreases-loop
 decreases-loop m at n bytes r₀ k₀ r k = k
@@ -18,7 +18,7 @@ decreases-loop m at n bytes r₀ k₀ r k = k
 loop-holds : tie.Need-loop-init invariant-loop decreases-loop
 loop-holds c =
     let x = c.before.args in
-    (omega arith, open_none (hasMask x.bytes.now x.at 64 x.m) x.n (x.n - x.n) (omega arith))
+    (omega arith, open_none (has_mask x.bytes.now x.at 64 x.m) x.n (x.n - x.n) (omega arith))
 
 sub-k : tie.Need-overflow-sub-k invariant-loop decreases-loop
 sub-k c = omega arith
@@ -46,9 +46,9 @@ loop-again c =
     let x = c.before.before.before.before.before.args in
     let k = l.k - 1 in (
       omega arith,
-      open_more (hasMask x.bytes.now x.at 64 x.m) k l.k (x.n - l.k) (x.n - k) l.r b.result
+      open_more (has_mask x.bytes.now x.at 64 x.m) k l.k (x.n - l.k) (x.n - k) l.r b.result
           (omega arith) (omega arith) b.ensures.0
-          (word-has x.bytes.now x.at x.m k w.result b.result w.ensures b.ensures.1) l.invariant.1,
+          (word_has x.bytes.now x.at x.m k w.result b.result w.ensures b.ensures.1) l.invariant.1,
     )
 
 returns : tie.Need-returns invariant-loop decreases-loop

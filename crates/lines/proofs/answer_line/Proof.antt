@@ -1,7 +1,7 @@
 -- What is read is performed, and what is performed is written.
 use Rattle.state.specs.Contract.{volume}
-use Rattle.script.specs.Values.{commandOf}
-use Rattle.lines.proofs.Answering.{line-answer}
+use Rattle.script.specs.Values.{command_of}
+use Rattle.lines.proofs.Answering.{line_answer}
 use borrow.Author.Rules.{rules}
 use Rattle.lines.proofs.answer_line.Statement.{statement}
 use Rattle.lines.proofs.answer_line.Tie as tie
@@ -33,7 +33,7 @@ returns c =
     let d = c.before.before.before.before.before.before.before.before.before.before.before in
     let q = d.before.before.before.before.parse-line in
     let x = c.before.before.before.before.before.before.before.before.before.before.before.before.before.before.before.before.before.before.before.before.before.args in
-    line-answer d.perform.result (volume x.s x.main.now x.spare.now x.ram.now) (commandOf q.result) x.line.now
+    line_answer d.perform.result (volume x.s x.main.now x.spare.now x.ram.now) (command_of q.result) x.line.now
     d.perform.new.1.1.0 d.perform.new.1.1.1.0 d.perform.new.1.1.1.1.0 x.out.now w.new.1.0 w.result
     q.ensures d.perform.ensures w.ensures.0 w.ensures.1.1
 

@@ -47,7 +47,7 @@ use denote.Triple.Walked.{says, needs, Stays, gave_slice, stay_dropped, walk_of,
 use denote.Exit.{yes}
 use Rattle.state.specs.Contract.{volume}
 use Rattle.state.specs.declared.State.{State}
-use Rattle.lines.specs.Contract.{afterLine, answerLine}
+use Rattle.lines.specs.Contract.{after_line, answer_line}
 use Rattle.lines.specs.declared.LineReply.{LineReply}
 use Rattle.lines.specs.declared.Held.{Held}
 use Rattle.lines.proofs.LocalLaws.{cell_in, cell_out}
@@ -146,7 +146,7 @@ module _ {M : Type 1} {𝓤 : Ura M} (𝓛 : Logic 𝓤) (at_mem : Memory → SP
   step_is r v fits is = LL.owes R.the_type R'.the_laws (step r v) (is, ((refl, fits), tt))
 
   abbrev Said : ℕ → Held → List ℕ → List ℕ → List ℕ → List ℕ → Type 0
-  Said r v l₂ l₃ l₄ l₅ = afterLine (step r v) l₂ l₃ l₄ l₅ ≡ answerLine (volume st x₂.now x₃.now x₄.now) x₁.now x₅.now
+  Said r v l₂ l₃ l₄ l₅ = after_line (step r v) l₂ l₃ l₄ l₅ ≡ answer_line (volume st x₂.now x₃.now x₄.now) x₁.now x₅.now
 
   abbrev left : List ℕ → List ℕ → List ℕ → List ℕ → List (Item 𝓤)
   left l₂ l₃ l₄ l₅ = (‵ (flft κ₁ q₁) ⊛ ‵ (flft κ₂ q₂) ⊛ ‵ (flft κ₃ q₃) ⊛ ‵ (flft κ₄ q₄) ⊛ ‵ (flft κ₅ q₅) ⊛ ‵ ftrue) ∷ ‵ (finally u8 x₂.name l₂) ∷ ‵ (finally u8 x₃.name l₃) ∷ ‵ (finally u8 x₄.name l₄) ∷ ‵ (finally u8 x₅.name l₅) ∷ []

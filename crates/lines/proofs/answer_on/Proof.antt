@@ -45,7 +45,7 @@ use denote.Triple.Walked.{says, needs, Stays, stay_ref, gave_slice, stay_dropped
 use denote.Exit.{yes}
 use Rattle.state.specs.Contract.{volume}
 use Rattle.state.specs.declared.State.{State}
-use Rattle.lines.specs.Contract.{afterLine, answerLine}
+use Rattle.lines.specs.Contract.{after_line, answer_line}
 use Rattle.lines.specs.declared.LineReply.{LineReply}
 use Rattle.lines.specs.declared.Held.{Held}
 use Rattle.state.specs.contracts.State as S
@@ -131,7 +131,7 @@ module _ {M : Type 1} {𝓤 : Ura M} (𝓛 : Logic 𝓤) (at_mem : Memory → SP
   Ends = Lasts g.ended (κ₁, (κ₂, (κ₃, (κ₄, (κ₅, tt))))) arg
 
   abbrev Said : LineReply → List ℕ → List ℕ → List ℕ → List ℕ → Type 0
-  Said r l₂ l₃ l₄ l₅ = afterLine r l₂ l₃ l₄ l₅ ≡ answerLine (volume h.state x₂.now x₃.now x₄.now) x₁.now x₅.now
+  Said r l₂ l₃ l₄ l₅ = after_line r l₂ l₃ l₄ l₅ ≡ answer_line (volume h.state x₂.now x₃.now x₄.now) x₁.now x₅.now
 
   abbrev left : LineReply → List ℕ → List ℕ → List ℕ → List ℕ → List (Item 𝓤)
   left r l₂ l₃ l₄ l₅ = ‵ (fobs γ ((T.the_row).coded.code (h' r))) ∷ ‵ (fbor κ₀ (Body (mem T.the_row) b o γ)) ∷ ‵ (flft κ₀ q₀) ∷ (‵ (flft κ₁ q₁) ⊛ ‵ (flft κ₂ q₂) ⊛ ‵ (flft κ₃ q₃) ⊛ ‵ (flft κ₄ q₄) ⊛ ‵ (flft κ₅ q₅) ⊛ ‵ ftrue)

@@ -4,16 +4,16 @@ use mathlib.Core.Path.{◌≡◌, ap, ◌∙◌}
 use mathlib.Core.List.{List}
 use Prim.Native.Nat.{ℕ}
 use lib.ListN.{get_or}
-use Rattle.layout.specs.Hash.{fnvFamily}
+use Rattle.layout.specs.Hash.{fnv_family}
 use Rattle.layout.specs.Calls.{lookup}
-use Rattle.layout.specs.Budgets.{callWhole}
-use Rattle.keys.specs.Key.{keyIs}
+use Rattle.layout.specs.Budgets.{call_whole}
+use Rattle.keys.specs.Key.{key_is}
 use Rattle.state.specs.Contract.{volume}
-use Rattle.lookup.specs.Results.{lookupOf, answerNumbers}
-use Rattle.lookup.specs.Small.{lookup-small}
+use Rattle.lookup.specs.Results.{lookup_of, answer_numbers}
+use Rattle.lookup.specs.Small.{lookup_small}
 use Rattle.script.specs.Answers.{hit}
 use Rattle.script.specs.Script.{perform}
-use Rattle.lines.proofs.Answering.{lookup-refused, lookup-missed, lookup-hit}
+use Rattle.lines.proofs.Answering.{lookup_refused, lookup_missed, lookup_hit}
 use borrow.Author.Rules.{rules}
 use Rattle.lines.proofs.lookup.Statement.{statement}
 use Rattle.lines.proofs.lookup.Tie as tie
@@ -28,7 +28,7 @@ cast-refusal : tie.Need-overflow-cast-refusal
 cast-refusal c =
     let x = c.before.before.before.before.before.args in
     let v = volume x.s x.main.now x.spare.now x.ram.now in
-    omega (arith, ap (λ (l : List ℕ). get_or l 0 0) c.lookup.ensures.1, (lookup-small fnvFamily v (keyIs x.key)).refusal)
+    omega (arith, ap (λ (l : List ℕ). get_or l 0 0) c.lookup.ensures.1, (lookup_small fnv_family v (key_is x.key)).refusal)
 
 array-read-found : tie.Need-array-read-found
 array-read-found c = search rules
@@ -40,7 +40,7 @@ cast-count : tie.Need-overflow-cast-count
 cast-count c =
     let x = c.before.before.before.before.before.args in
     let v = volume x.s x.main.now x.spare.now x.ram.now in
-    omega (arith, ap (λ (l : List ℕ). get_or l 2 0) c.lookup.ensures.1, (lookup-small fnvFamily v (keyIs x.key)).count)
+    omega (arith, ap (λ (l : List ℕ). get_or l 2 0) c.lookup.ensures.1, (lookup_small fnv_family v (key_is x.key)).count)
 
 returns : tie.Need-returns
 unfolding perform
@@ -48,9 +48,9 @@ returns c =
     let k = c.before.lookup in
     let x = c.before.before.before.before.before.before.args in
     let v = volume x.s x.main.now x.spare.now x.ram.now in
-    let at : (i : ℕ) → get_or k.new.1.1.1.1.1.0 i 0 ≡ get_or (answerNumbers (lookupOf (callWhole fnvFamily v (lookup (keyIs x.key))))) i 0
+    let at : (i : ℕ) → get_or k.new.1.1.1.1.1.0 i 0 ≡ get_or (answer_numbers (lookup_of (call_whole fnv_family v (lookup (key_is x.key))))) i 0
     = λ i. ap (λ (l : List ℕ). get_or l i 0) k.ensures.1 in
-    lookup-refused fnvFamily v (keyIs x.key) _ (at 0) c.if1.true
+    lookup_refused fnv_family v (key_is x.key) _ (at 0) c.if1.true
 
 returns-2 : tie.Need-returns-2
 unfolding perform
@@ -58,18 +58,18 @@ returns-2 c =
     let k = c.before.before.lookup in
     let x = c.before.before.before.before.before.before.before.args in
     let v = volume x.s x.main.now x.spare.now x.ram.now in
-    let at : (i : ℕ) → get_or k.new.1.1.1.1.1.0 i 0 ≡ get_or (answerNumbers (lookupOf (callWhole fnvFamily v (lookup (keyIs x.key))))) i 0
+    let at : (i : ℕ) → get_or k.new.1.1.1.1.1.0 i 0 ≡ get_or (answer_numbers (lookup_of (call_whole fnv_family v (lookup (key_is x.key))))) i 0
     = λ i. ap (λ (l : List ℕ). get_or l i 0) k.ensures.1 in
-    lookup-missed fnvFamily v (keyIs x.key) _ _ _ (at 0) (at 1) (at 2) c.before.if1.false c.if2.true
+    lookup_missed fnv_family v (key_is x.key) _ _ _ (at 0) (at 1) (at 2) c.before.if1.false c.if2.true
 
 get32-requires : tie.Need-get32-requires
 get32-requires c κs =
     let k = c.before.before.lookup in
     let x = c.before.before.before.before.before.before.before.args in
     let v = volume x.s x.main.now x.spare.now x.ram.now in
-    let at : (i : ℕ) → get_or k.new.1.1.1.1.1.0 i 0 ≡ get_or (answerNumbers (lookupOf (callWhole fnvFamily v (lookup (keyIs x.key))))) i 0
+    let at : (i : ℕ) → get_or k.new.1.1.1.1.1.0 i 0 ≡ get_or (answer_numbers (lookup_of (call_whole fnv_family v (lookup (key_is x.key))))) i 0
     = λ i. ap (λ (l : List ℕ). get_or l i 0) k.ensures.1 in
-    omega (arith, (lookup-hit fnvFamily v (keyIs x.key) _ _ k.result.now (at 1) (at 2) k.ensures.0.0 c.if2.false).0)
+    omega (arith, (lookup_hit fnv_family v (key_is x.key) _ _ k.result.now (at 1) (at 2) k.ensures.0.0 c.if2.false).0)
 
 returns-3 : tie.Need-returns-3
 unfolding perform
@@ -77,10 +77,10 @@ returns-3 c =
     let k = c.before.before.before.lookup in
     let x = c.before.before.before.before.before.before.before.before.args in
     let v = volume x.s x.main.now x.spare.now x.ram.now in
-    let at : (i : ℕ) → get_or k.new.1.1.1.1.1.0 i 0 ≡ get_or (answerNumbers (lookupOf (callWhole fnvFamily v (lookup (keyIs x.key))))) i 0
+    let at : (i : ℕ) → get_or k.new.1.1.1.1.1.0 i 0 ≡ get_or (answer_numbers (lookup_of (call_whole fnv_family v (lookup (key_is x.key))))) i 0
     = λ i. ap (λ (l : List ℕ). get_or l i 0) k.ensures.1 in
     ap (λ (m : ℕ). hit m (get_or k.new.1.1.1.1.1.0 2 0)) c.get32.ensures
-    ∙ (lookup-hit fnvFamily v (keyIs x.key) _ _ k.result.now (at 1) (at 2) k.ensures.0.0 c.before.if2.false).1
+    ∙ (lookup_hit fnv_family v (key_is x.key) _ _ k.result.now (at 1) (at 2) k.ensures.0.0 c.before.if2.false).1
 
 pub lookup-spec : {M : Type 1} → statement M
 lookup-spec =

@@ -1,14 +1,14 @@
 -- Each command is its call's.
 use mathlib.Core.Path.{ap, ◌∙◌}
-use Rattle.layout.specs.Geometry.{sizesOf, defaultHashCount}
-use Rattle.layout.specs.Hash.{fnvFamily}
-use Rattle.layout.specs.Items.{Record, recordOf}
+use Rattle.layout.specs.Geometry.{sizes_of, default_hash_count}
+use Rattle.layout.specs.Hash.{fnv_family}
+use Rattle.layout.specs.Items.{Record, record_of}
 use Rattle.layout.specs.Calls as calls
-use Rattle.layout.specs.Budgets.{callWhole, formatWhole}
+use Rattle.layout.specs.Budgets.{call_whole, format_whole}
 use Rattle.state.specs.Contract.{volume, effect_of}
 use Rattle.script.specs.Values.{answer_of}
 use Rattle.script.specs.Script.{perform}
-use Rattle.lines.proofs.Answering.{change-reply, lookup-reply}
+use Rattle.lines.proofs.Answering.{change_reply, lookup_reply}
 use borrow.Author.Rules.{rules}
 use Rattle.lines.proofs.perform.Statement.{statement}
 use Rattle.lines.proofs.perform.Tie as tie
@@ -38,7 +38,7 @@ returns c =
     let x = c.before.before.before.before.before.before.before.before.before.before.before.before.before.before.before.before.before.args in
     let g = c.before.before.before.before.before.before.before.before.before.before.before.before.q.given in
     let v = volume x.s x.main.now x.spare.now x.ram.now in
-    rw g.1 (change-reply c.after-change.result k.result k.new.1.1.0 k.new.1.1.1.0 k.new.1.1.1.1.0 (formatWhole v (sizesOf g.0.0 g.0.1.0 g.0.1.1.0 defaultHashCount)) c.after-change.ensures k.ensures)
+    rw g.1 (change_reply c.after-change.result k.result k.new.1.1.0 k.new.1.1.1.0 k.new.1.1.1.1.0 (format_whole v (sizes_of g.0.0 g.0.1.0 g.0.1.1.0 default_hash_count)) c.after-change.ensures k.ensures)
 
 enum-known-q-2 : tie.Need-enum-known-q-2
 enum-known-q-2 c = search rules
@@ -69,8 +69,8 @@ returns-2 c =
     let g = c.before.before.before.before.before.before.before.before.before.before.before.before.before.q2.given in
     let v = volume x.s x.main.now x.spare.now x.ram.now in
     rw g.1
-    (change-reply c.after-change2.result k.result k.new.1.1.0 k.new.1.1.1.0 k.new.1.1.1.1.0 (callWhole fnvFamily v (calls.insert (recordOf g.0.0 g.0.1.0 0 0))) c.after-change2.ensures
-    (k.ensures ∙ ap (λ (r : Record). effect_of (callWhole fnvFamily v (calls.insert r))) c.before.before.before.before.before.before.before.before.before.before.before.level.ensures))
+    (change_reply c.after-change2.result k.result k.new.1.1.0 k.new.1.1.1.0 k.new.1.1.1.1.0 (call_whole fnv_family v (calls.insert (record_of g.0.0 g.0.1.0 0 0))) c.after-change2.ensures
+    (k.ensures ∙ ap (λ (r : Record). effect_of (call_whole fnv_family v (calls.insert r))) c.before.before.before.before.before.before.before.before.before.before.before.level.ensures))
 
 enum-known-q-3 : tie.Need-enum-known-q-3
 enum-known-q-3 c = search rules
@@ -101,8 +101,8 @@ returns-3 c =
     let g = c.before.before.before.before.before.before.before.before.before.before.before.before.before.q3.given in
     let v = volume x.s x.main.now x.spare.now x.ram.now in
     rw g.1
-    (change-reply c.after-change3.result k.result k.new.1.1.0 k.new.1.1.1.0 k.new.1.1.1.1.0 (callWhole fnvFamily v (calls.update (recordOf g.0.0 g.0.1.0 0 0))) c.after-change3.ensures
-    (k.ensures ∙ ap (λ (r : Record). effect_of (callWhole fnvFamily v (calls.update r))) c.before.before.before.before.before.before.before.before.before.before.before.level2.ensures))
+    (change_reply c.after-change3.result k.result k.new.1.1.0 k.new.1.1.1.0 k.new.1.1.1.1.0 (call_whole fnv_family v (calls.update (record_of g.0.0 g.0.1.0 0 0))) c.after-change3.ensures
+    (k.ensures ∙ ap (λ (r : Record). effect_of (call_whole fnv_family v (calls.update r))) c.before.before.before.before.before.before.before.before.before.before.before.level2.ensures))
 
 enum-known-q-4 : tie.Need-enum-known-q-4
 enum-known-q-4 c = search rules
@@ -129,7 +129,7 @@ returns-4 c =
     let x = c.before.before.before.before.before.before.before.before.before.before.before.before.before.before.before.before.before.args in
     let g = c.before.before.before.before.before.before.before.before.before.before.before.before.q4.given in
     let v = volume x.s x.main.now x.spare.now x.ram.now in
-    rw g.1 (change-reply c.after-change4.result k.result k.new.1.1.0 k.new.1.1.1.0 k.new.1.1.1.1.0 (callWhole fnvFamily v (calls.delete g.0.0)) c.after-change4.ensures k.ensures)
+    rw g.1 (change_reply c.after-change4.result k.result k.new.1.1.0 k.new.1.1.1.0 k.new.1.1.1.1.0 (call_whole fnv_family v (calls.delete g.0.0)) c.after-change4.ensures k.ensures)
 
 enum-known-q-5 : tie.Need-enum-known-q-5
 enum-known-q-5 c = search rules
@@ -151,7 +151,7 @@ unfolding perform
 returns-5 c =
     let x = c.before.before.before.before.before.before.before.before.before.before.args in
     rw c.before.before.before.before.before.q5.given.1
-    (lookup-reply fnvFamily (volume x.s x.main.now x.spare.now x.ram.now) c.before.before.before.before.before.q5.given.0.0 (answer_of c.lookup.result) c.lookup.ensures)
+    (lookup_reply fnv_family (volume x.s x.main.now x.spare.now x.ram.now) c.before.before.before.before.before.q5.given.0.0 (answer_of c.lookup.result) c.lookup.ensures)
 
 enum_told : tie.Need-enum-told
 enum_told c = search rules

@@ -4,17 +4,17 @@ use mathlib.Core.Path.{◌≡◌, sym, ap, subst, ◌∙◌}
 use mathlib.Core.Option.{Option}
 use mathlib.Core.List.{List}
 use Prim.Native.Nat.{ℕ}
-use Rattle.layout.specs.Hash.{fnvFamily}
+use Rattle.layout.specs.Hash.{fnv_family}
 use Rattle.layout.specs.Calls.{Volume}
 use Rattle.layout.specs.Several.{Several}
-use Rattle.layout.specs.Header.{onPages}
+use Rattle.layout.specs.Header.{on_pages}
 use Rattle.state.specs.Contract.{volume}
 use Rattle.state.specs.Judge.{GoodFits}
 use Rattle.tab.specs.Reader.{body}
-use Rattle.tab.specs.Lines.{headerIn}
+use Rattle.tab.specs.Lines.{header_in}
 use Rattle.tab.specs.declared.reader.AfterHeader.{AfterHeader}
-use Rattle.load.specs.Load.{loadLinesBy, rowWhole, loadWhole}
-use Rattle.load.proofs.Steps.{load-judged, load-good, body-none, body-some, none-loaded}
+use Rattle.load.specs.Load.{load_lines_by, row_whole, load_whole}
+use Rattle.load.proofs.Steps.{load_judged, load_good, body_none, body_some, none_loaded}
 use Rattle.load.proofs.load.Statement.{statement}
 use Rattle.load.proofs.load.Tie as tie
 
@@ -24,7 +24,7 @@ handed c = volume c.args.s c.args.main.now c.args.spare.now c.args.ram.now
 
 -- its load where a text of lines is left, or none
 abbrev lines_of : tie.Start → Option (List ℕ) → Several
-lines_of s o = loadLinesBy (rowWhole fnvFamily) (handed s) o
+lines_of s o = load_lines_by (row_whole fnv_family) (handed s) o
 
 abbrev start_of : tie.After-judge → tie.Start
 start_of j = j.before.before.before.before.before.before.before.before
@@ -37,18 +37,18 @@ abbrev judge-at : tie.After-g → tie.After-judge
 judge-at g = g.before.before
 
 after-judge : (g : tie.After-g) → let s = start_of (judge-at g) in
-    loadWhole fnvFamily (handed s) s.args.tab.now ≡ lines_of s (body s.args.tab.now)
+    load_whole fnv_family (handed s) s.args.tab.now ≡ lines_of s (body s.args.tab.now)
 after-judge g =
     let j = judge-at g in
     let s = start_of j in
-    load-good fnvFamily (handed s) s.args.tab.now g.g.given.0.0 (sym j.judge.ensures.0 ∙ g.g.given.1)
+    load_good fnv_family (handed s) s.args.tab.now g.g.given.0.0 (sym j.judge.ensures.0 ∙ g.g.given.1)
 
 good : (h : tie.After-header-at) → let s = start_of (judge-at (good-at h)) in
-    loadWhole fnvFamily (handed s) s.args.tab.now ≡ lines_of s (headerIn s.args.tab.now h.header_at.result)
+    load_whole fnv_family (handed s) s.args.tab.now ≡ lines_of s (header_in s.args.tab.now h.header_at.result)
 good h =
     let s = start_of (judge-at (good-at h)) in
     after-judge (good-at h)
-    ∙ ap (lines_of s) (body-some s.args.tab.now h.before.if1.false ∙ sym h.header_at.ensures)
+    ∙ ap (lines_of s) (body_some s.args.tab.now h.before.if1.false ∙ sym h.header_at.ensures)
 
 judge-requires : tie.Need-judge-requires
 judge-requires c κs = search rules
@@ -70,7 +70,7 @@ returns c =
     let i = c.before in
     let j = i.before.before in
     let s = start_of j in
-    sym (load-judged fnvFamily (handed s) s.args.tab.now i.i.given.0.0 (sym j.judge.ensures.0 ∙ i.i.given.1))
+    sym (load_judged fnv_family (handed s) s.args.tab.now i.i.given.0.0 (sym j.judge.ensures.0 ∙ i.i.given.1))
 
 enum-known-g : tie.Need-enum-known-g
 enum-known-g c = search rules
@@ -88,8 +88,8 @@ returns-2 : tie.Need-returns-2
 returns-2 c =
     let g = c.before.before in
     let s = start_of (judge-at g) in
-    sym (after-judge g ∙ ap (lines_of s) (body-none s.args.tab.now c.if1.true)
-    ∙ none-loaded (rowWhole fnvFamily) (handed s))
+    sym (after-judge g ∙ ap (lines_of s) (body_none s.args.tab.now c.if1.true)
+    ∙ none_loaded (row_whole fnv_family) (handed s))
 
 header-at-requires : tie.Need-header-at-requires
 header-at-requires c κs = search rules
@@ -110,7 +110,7 @@ returns-3 : tie.Need-returns-3
 returns-3 c =
     let h = c.before.before in
     let s = start_of (judge-at (good-at h)) in
-    sym (good h ∙ ap (λ (r : AfterHeader). lines_of s (headerIn s.args.tab.now r)) c.enum_told.given.1)
+    sym (good h ∙ ap (λ (r : AfterHeader). lines_of s (header_in s.args.tab.now r)) c.enum_told.given.1)
 
 enum-known-next : tie.Need-enum-known-next
 enum-known-next c = search rules
@@ -119,7 +119,7 @@ load-rows-requires : tie.Need-load-rows-requires
 load-rows-requires c κs =
     let g = good-at c.before.before.before.before.before.before in
     let j = judge-at g in
-    (sym j.judge.ensures.0 ∙ g.g.given.1, subst (GoodFits (onPages (handed (start_of j)))) g.g.given.1 j.judge.ensures.1)
+    (sym j.judge.ensures.0 ∙ g.g.given.1, subst (GoodFits (on_pages (handed (start_of j)))) g.g.given.1 j.judge.ensures.1)
 
 same-length-10 : tie.Need-same-length-10
 same-length-10 c = search rules
@@ -136,7 +136,7 @@ returns-4 c =
     let n = l.before.before.before.before.before in
     let h = n.before.before in
     let s = start_of (judge-at (good-at h)) in
-    l.load-rows.ensures ∙ sym (good h ∙ ap (λ (r : AfterHeader). lines_of s (headerIn s.args.tab.now r)) n.next.given.1)
+    l.load_rows_lem.ensures ∙ sym (good h ∙ ap (λ (r : AfterHeader). lines_of s (header_in s.args.tab.now r)) n.next.given.1)
 
 pub load_spec : {M : Type 1} → statement M
 load_spec =

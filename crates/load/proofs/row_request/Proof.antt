@@ -1,7 +1,7 @@
 -- By what the level resolved to.
 use borrow.Author.Rules.{rules}
 use mathlib.Core.Path.{◌≡◌, sym, ap}
-use Rattle.load.specs.Contract.{rowRequest}
+use Rattle.load.specs.Contract.{row_request}
 use Rattle.load.proofs.row_request.Statement.{statement}
 use Rattle.load.proofs.row_request.Tie as tie
 
@@ -15,13 +15,13 @@ enum-told-3 : tie.Need-enum-told-3
 enum-told-3 c = search rules
 
 returns : tie.Need-returns
-returns c = sym (ap (rowRequest _) c.enum_told.given.1)
+returns c = sym (ap (row_request _) c.enum_told.given.1)
 
 returns-2 : tie.Need-returns-2
-returns-2 c = sym (ap (rowRequest _) c.enum-told2.given.1)
+returns-2 c = sym (ap (row_request _) c.enum-told2.given.1)
 
 returns-3 : tie.Need-returns-3
-returns-3 c = sym (ap (rowRequest _) c.enum-told3.given.1)
+returns-3 c = sym (ap (row_request _) c.enum-told3.given.1)
 
 pub row-request-spec : {M : Type 1} → statement M
 row-request-spec = tie.close (tie.spec enum_told enum-told-2 enum-told-3 returns returns-2 returns-3)

@@ -4,17 +4,17 @@ use mathlib.Core.Path.{◌≡◌, sym, ap, ◌∙◌}
 use mathlib.Core.List.{List}
 use Prim.Native.Nat.{ℕ, ◌-◌, ◌≤◌}
 use lib.ListN.{length, take, drop}
-use Rattle.layout.specs.Hash.{fnvFamily}
+use Rattle.layout.specs.Hash.{fnv_family}
 use Rattle.layout.specs.Calls.{Volume, lookup, answer}
-use Rattle.layout.specs.Header.{pages, onPages}
-use Rattle.laws.specs.HeaderLaws.{length-pages, pages-part}
+use Rattle.layout.specs.Header.{pages, on_pages}
+use Rattle.laws.specs.HeaderLaws.{length_pages, pages_part}
 use Rattle.geometry.specs.Shape.{shape}
 use Rattle.geometry.specs.declared.Geometry.{Geometry}
-use Rattle.keys.specs.Key.{keyIs}
+use Rattle.keys.specs.Key.{key_is}
 use Rattle.state.specs.Contract.{volume}
 use Rattle.state.specs.Judge.{VolumeFits}
-use Rattle.lookup.specs.Results.{lookupOf}
-use Rattle.lookup.proofs.LookupLaws.{lookup-refused, lookup-fits}
+use Rattle.lookup.specs.Results.{lookup_of}
+use Rattle.lookup.proofs.LookupLaws.{lookup_refused, lookup_fits}
 use Rattle.lookup.proofs.find.Statement.{statement}
 use Rattle.lookup.proofs.find.Tie as tie
 
@@ -35,7 +35,7 @@ returns : tie.Need-returns
 returns c =
     let s = c.before.before.before.before.before.before.before.before in
     let i = c.before.before.i in
-    c.refuse-lookup.ensures ∙ lookup-refused fnvFamily (handed s) (keyIs s.args.key) i.given.0.0 (sym c.before.before.before.before.judge.ensures.0 ∙ i.given.1)
+    c.refuse-lookup.ensures ∙ lookup_refused fnv_family (handed s) (key_is s.args.key) i.given.0.0 (sym c.before.before.before.before.judge.ensures.0 ∙ i.given.1)
 
 enum-known-g : tie.Need-enum-known-g
 enum-known-g c = search rules
@@ -48,13 +48,13 @@ start_of c = c.before.before.before.before.before.before.before
 abbrev judged : tie.After-known-told2 → Geometry
 judged c = c.before.g.given.0.0
 
-fits : (c : tie.After-known-told2) → VolumeFits (onPages (handed (start_of c))) (judged c)
+fits : (c : tie.After-known-told2) → VolumeFits (on_pages (handed (start_of c))) (judged c)
 fits c = rw c.before.g.given.1 at c.before.before.before.judge.ensures.1
 
 -- its RAM has a header
 has-header : (c : tie.After-known-told2) → 64 ≤ length (start_of c).args.ram.now
 has-header c =
-    omega (arith, (fits c).long.read.ram-fits, (fits c).sound.unit.1.some, length-pages (start_of c).args.ram.now)
+    omega (arith, (fits c).long.read.ram_fits, (fits c).sound.unit.1.some, length_pages (start_of c).args.ram.now)
 
 pages-end-requires : tie.Need-pages-end-requires
 pages-end-requires c κs = has-header c
@@ -62,7 +62,7 @@ pages-end-requires c κs = has-header c
 -- and what is lent of it are its pages
 lent-pages : (e : tie.After-pages-end)
     → let ram : List ℕ = (start_of e.before).args.ram.now in take (e.pages-end.result - 0) (drop 0 ram) ≡ pages ram
-lent-pages e = pages-part (start_of e.before).args.ram.now e.pages-end.result e.pages-end.ensures
+lent-pages e = pages_part (start_of e.before).args.ram.now e.pages-end.result e.pages-end.ensures
 
 sub-find-in : tie.Need-overflow-sub-find-in
 sub-find-in c = search rules
@@ -83,8 +83,8 @@ returns-2 c =
     let s = start_of k in
     let v : (List ℕ → Volume) = λ ram. volume s.args.s s.args.main.now s.args.spare.now ram in
     c.find-in.ensures
-    ∙ ap (λ (ram : List ℕ). lookupOf (answer fnvFamily (shape (judged k)) (v ram) (lookup (keyIs s.args.key)))) (lent-pages e)
-    ∙ lookup-fits fnvFamily (handed s) (keyIs s.args.key) (judged k) (fits k) (sym k.before.before.before.judge.ensures.0 ∙ k.before.g.given.1)
+    ∙ ap (λ (ram : List ℕ). lookup_of (answer fnv_family (shape (judged k)) (v ram) (lookup (key_is s.args.key)))) (lent-pages e)
+    ∙ lookup_fits fnv_family (handed s) (key_is s.args.key) (judged k) (fits k) (sym k.before.before.before.judge.ensures.0 ∙ k.before.g.given.1)
 
 pub find_spec : {M : Type 1} → statement M
 find_spec =

@@ -3,16 +3,16 @@ use borrow.Author.Rules.{rules}
 use native.Mathlib.Omega.{arith}
 use mathlib.Core.Path.{◌≡◌, ap, ◌∙◌}
 use Prim.Native.Nat.{ℕ, ◌<◌}
-use Rattle.layout.specs.Hash.{fnvFamily}
-use Rattle.layout.specs.Items.{Area, Ra, itemPlace}
+use Rattle.layout.specs.Hash.{fnv_family}
+use Rattle.layout.specs.Items.{Area, Ra, item_place}
 use Rattle.layout.specs.Search as find
-use Rattle.layout.specs.Calls.{Volume, search as searchOf, searchDaPages}
+use Rattle.layout.specs.Calls.{Volume, search as searchOf, search_da_pages}
 use Rattle.geometry.specs.Shape.{shape, place}
-use Rattle.search.specs.Find.{stopOf, view-fits, search_is, search-pages}
+use Rattle.search.specs.Find.{stop_of, view_fits, search_is, search_pages_lem}
 use Rattle.search.specs.declared.End.{End}
-use Rattle.keys.specs.Key.{keyIs}
+use Rattle.keys.specs.Key.{key_is}
 use Rattle.state.specs.Contract.{volume}
-use Rattle.lookup.proofs.LookupLaws.{lookup-corrupt, lookup-nothing, lookup-ram, lookup-main, place-fits}
+use Rattle.lookup.proofs.LookupLaws.{lookup_corrupt, lookup_nothing, lookup_ram, lookup_main, place_fits}
 use Rattle.lookup.proofs.find_in.Statement.{statement}
 use Rattle.lookup.proofs.find_in.Tie as tie
 
@@ -36,24 +36,24 @@ search-requires : tie.Need-search-requires
 search-requires c κs =
     let b = start_of c in
     let f = b.pre in
-    view-fits (handed b) b.args.g c.all.result c.all.ensures f.sound f.long.read f.n-cap f.d-cap
+    view_fits (handed b) b.args.g c.all.result c.all.ensures f.sound f.long.read f.n_cap f.d_cap
 
 -- what the search found, by where it ended
 found_at : (c : tie.After-search) (end : End) → c.search.result.end ≡ end
-    → let b = start_of c.before in searchOf fnvFamily (shape b.args.g) (handed b) (keyIs b.args.key) ≡ find.reply (stopOf end) c.search.result.opened
+    → let b = start_of c.before in searchOf fnv_family (shape b.args.g) (handed b) (key_is b.args.key) ≡ find.reply (stop_of end) c.search.result.opened
 found_at c end e =
     let A = c.before in
     let b = start_of A in
-    search_is (handed b) b.args.g A.all.result A.all.ensures fnvFamily (keyIs b.args.key) c.search.result c.search.ensures.0
-    ∙ ap (λ (y : End). find.reply (stopOf y) c.search.result.opened) e
+    search_is (handed b) b.args.g A.all.result A.all.ensures fnv_family (key_is b.args.key) c.search.result c.search.ensures.0
+    ∙ ap (λ (y : End). find.reply (stop_of y) c.search.result.opened) e
 
 -- and the pages of deletions that it opened
 pages-at : (c : tie.After-search) → let b = start_of c.before in
-    searchDaPages fnvFamily (shape b.args.g) (handed b) (keyIs b.args.key) ≡ c.search.result.da_pages
+    search_da_pages fnv_family (shape b.args.g) (handed b) (key_is b.args.key) ≡ c.search.result.da_pages
 pages-at c =
     let A = c.before in
     let b = start_of A in
-    search-pages (handed b) b.args.g A.all.result A.all.ensures fnvFamily (keyIs b.args.key) c.search.result c.search.ensures.1
+    search_pages_lem (handed b) b.args.g A.all.result A.all.ensures fnv_family (key_is b.args.key) c.search.result c.search.ensures.1
 
 enum_told : tie.Need-enum-told
 enum_told c = search rules
@@ -67,7 +67,7 @@ returns c =
     let S = T.before.before in
     let b = start_of S.before in
     c.refuse-lookup.ensures
-    ∙ lookup-corrupt fnvFamily (shape b.args.g) (handed b) (keyIs b.args.key) S.search.result.opened (found_at S _ T.enum_told.given.1)
+    ∙ lookup_corrupt fnv_family (shape b.args.g) (handed b) (key_is b.args.key) S.search.result.opened (found_at S _ T.enum_told.given.1)
 
 enum-told-2 : tie.Need-enum-told-2
 enum-told-2 c = search rules
@@ -76,7 +76,7 @@ returns-2 : tie.Need-returns-2
 returns-2 c =
     let S = c.before.before in
     let b = start_of S.before in
-    lookup-nothing fnvFamily (shape b.args.g) (handed b) (keyIs b.args.key) S.search.result.opened S.search.result.da_pages (found_at S _ c.enum-told2.given.1) (pages-at S)
+    lookup_nothing fnv_family (shape b.args.g) (handed b) (key_is b.args.key) S.search.result.opened S.search.result.da_pages (found_at S _ c.enum-told2.given.1) (pages-at S)
 
 -- ---- a live record
 
@@ -103,15 +103,15 @@ searched P = (ended P).before.before
 
 -- its place
 place_is : (P : tie.After-item-place) → let b = start_of (searched P).before in
-    place P.item-place.result ≡ itemPlace b.args.g.chip.unit (Ra (shape b.args.g)) b.args.s.records (number P)
+    place P.item-place.result ≡ item_place b.args.g.chip.unit (Ra (shape b.args.g)) b.args.s.records (number P)
 place_is P =
     let b = start_of (searched P).before in
-    P.item-place.ensures ∙ ap (λ (a : Area). itemPlace b.args.g.chip.unit a b.args.s.records (number P)) P.before.record-area.ensures.0
+    P.item-place.ensures ∙ ap (λ (a : Area). item_place b.args.g.chip.unit a b.args.s.records (number P)) P.before.record-area.ensures.0
 
 place-small : (P : tie.After-item-place) → P.item-place.result.at < 4294967296
 place-small P =
     let b = start_of (searched P).before in
-    place-fits b.args.g b.pre.sound b.args.s.records (number P) b.pre.n-cap (place P.item-place.result) (place_is P)
+    place_fits b.args.g b.pre.sound b.args.s.records (number P) b.pre.n_cap (place P.item-place.result) (place_is P)
 
 cast-t21 : tie.Need-overflow-cast-t21
 cast-t21 c = omega (arith, place-small c.before)
@@ -121,7 +121,7 @@ returns-3 c =
     let P = c.before in
     let S = searched P in
     let b = start_of S.before in
-    lookup-ram fnvFamily (shape b.args.g) (handed b) (keyIs b.args.key) S.search.result.opened S.search.result.da_pages (number P) P.item-place.result.at P.item-place.result.in_ram
+    lookup_ram fnv_family (shape b.args.g) (handed b) (key_is b.args.key) S.search.result.opened S.search.result.da_pages (number P) P.item-place.result.at P.item-place.result.in_ram
     (found_at S _ (ended P).end.given.1) (pages-at S) (place_is P) c.if1.true
 
 cast-t22 : tie.Need-overflow-cast-t22
@@ -132,7 +132,7 @@ returns-4 c =
     let P = c.before in
     let S = searched P in
     let b = start_of S.before in
-    lookup-main fnvFamily (shape b.args.g) (handed b) (keyIs b.args.key) S.search.result.opened S.search.result.da_pages (number P) P.item-place.result.at P.item-place.result.in_ram
+    lookup_main fnv_family (shape b.args.g) (handed b) (key_is b.args.key) S.search.result.opened S.search.result.da_pages (number P) P.item-place.result.at P.item-place.result.in_ram
     (found_at S _ (ended P).end.given.1) (pages-at S) (place_is P) c.if1.false
 
 pub find-in-spec : {M : Type 1} → statement M

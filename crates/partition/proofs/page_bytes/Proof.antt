@@ -2,8 +2,8 @@ use native.Mathlib.Omega.{arith}
 use Prim.Native.Nat.{◌-◌}
 use mathlib.Core.Path.{refl}
 use lib.ListN.{length}
-use Rattle.fields.specs.Lists.{take-lt}
-use Rattle.partition.proofs.Pages.{Cuts, order, old-run, old-part, l1-part, made}
+use Rattle.fields.specs.Lists.{take_lt}
+use Rattle.partition.proofs.Pages.{Cuts, order, old_run, old_part, l1_part, made}
 use borrow.Author.Rules.{rules}
 use Rattle.partition.proofs.page_bytes.Statement.{statement}
 use Rattle.partition.proofs.page_bytes.Tie as tie
@@ -11,7 +11,7 @@ use Rattle.partition.proofs.page_bytes.Tie as tie
 cuts : (c : tie.After-less)
     → Cuts c.before.before.before.before.before.before.before.args.r c.before.before.before.before.before.before.before.args.y (length c.before.before.before.before.before.before.before.args.out.now)
     c.before.before.below.result c.before.below2.result c.less.result
-cuts c = record { a-is = c.before.before.below.ensures; b-is = c.before.below2.ensures; from_is = c.less.ensures }
+cuts c = record { a_is = c.before.before.below.ensures; b_is = c.before.below2.ensures; from_is = c.less.ensures }
 
 below-requires : tie.Need-below-requires
 below-requires c κs = search rules
@@ -36,11 +36,11 @@ field-run-requires c κs =
     let b = c.before in
     let x = b.before.before.before.before.before.before.before in (
       (
-        x.requires.0.0.old-aligned,
-        x.requires.0.0.old-near,
-        λ i h. old-run x.args.main.now x.args.r x.args.y (length x.args.out.now) b.before.before.below.result b.before.below2.result b.less.result x.requires.0.0 (cuts b) i (let t = take-lt x.args.out.now (b.before.before.below.result - 0) i h in omega arith),
+        x.requires.0.0.old_aligned,
+        x.requires.0.0.old_near,
+        λ i h. old_run x.args.main.now x.args.r x.args.y (length x.args.out.now) b.before.before.below.result b.before.below2.result b.less.result x.requires.0.0 (cuts b) i (let t = take_lt x.args.out.now (b.before.before.below.result - 0) i h in omega arith),
       ),
-      old-part x.args.main.now x.args.r x.args.y (length x.args.out.now) b.before.before.below.result b.before.below2.result b.less.result x.requires.0.0 (cuts b) x.requires.1.0 x.requires.1.1 x.args.out.now refl,
+      old_part x.args.main.now x.args.r x.args.y (length x.args.out.now) b.before.before.below.result b.before.below2.result b.less.result x.requires.0.0 (cuts b) x.requires.1.0 x.requires.1.1 x.args.out.now refl,
     )
 
 sub-l1-bytes : tie.Need-overflow-sub-l1-bytes
@@ -57,7 +57,7 @@ l1-bytes-requires c κs =
     let b = c.before.before.before.before.before in
     let x = b.before.before.before.before.before.before.before in
     let o = c.before.before.before.field-run in
-    (x.requires.0, l1-part x.args.main.now x.args.r x.args.y (length x.args.out.now) b.before.before.below.result b.before.below2.result b.less.result x.requires.0.0 (cuts b) x.requires.1.0 x.requires.1.1 x.args.out.now refl o.new.1.1.1.1.0 o.ensures)
+    (x.requires.0, l1_part x.args.main.now x.args.r x.args.y (length x.args.out.now) b.before.before.below.result b.before.below2.result b.less.result x.requires.0.0 (cuts b) x.requires.1.0 x.requires.1.1 x.args.out.now refl o.new.1.1.1.1.0 o.ensures)
 
 sub-fill : tie.Need-overflow-sub-fill
 sub-fill c =
@@ -86,7 +86,7 @@ returns c =
     let b = c.before.before.before.before.before.before.before.before.before.before.before.before in
     let x = b.before.before.before.before.before.before.before in
     let o = c.before.before.before.before.before.before.before.before.before.before.field-run in
-    let l = c.before.before.before.before.before.before.l1-bytes in
+    let l = c.before.before.before.before.before.before.l1_bytes in
     made x.args.main.now x.args.r x.args.y (length x.args.out.now) b.before.before.below.result b.before.below2.result b.less.result x.requires.0.0 (cuts b)
     x.args.out.now o.new.1.1.1.1.0 l.new.1.1.1.1.0 c.before.before.fill.new.0 refl
     o.ensures l.ensures c.before.before.fill.ensures

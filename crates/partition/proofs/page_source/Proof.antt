@@ -2,9 +2,9 @@ use native.Mathlib.Omega.{arith}
 use native.Mathlib.Nat.{mul-le-mul, mul-le-mul_right}
 use Prim.Native.Nat.{◌+◌, ◌≤◌, ◌<◌}
 use mathlib.Core.Path.{◌≡◌}
-use Rattle.layout.specs.Index.{setWidth}
+use Rattle.layout.specs.Index.{set_width}
 use Rattle.geometry.specs.Indexes.{index_of}
-use Rattle.partition.proofs.Numbers.{width_of, next_le, sector-le, row_made}
+use Rattle.partition.proofs.Numbers.{width_of, next_le, sector_le, row_made}
 use borrow.Author.Rules.{rules}
 use Rattle.partition.proofs.page_source.Statement.{statement}
 use Rattle.partition.proofs.page_source.Tie as tie
@@ -39,13 +39,13 @@ mul-split c = search rules
 
 -- the width of the next set, and that of the set before it
 new-width : (b : tie.After-set-width)
-    → (b.set-width.result ≡ setWidth b.before.args.chip.unit (b.before.args.set.rounds + 1)) × (0 < b.set-width.result) × (b.set-width.result ≤ 128)
+    → (b.set-width.result ≡ set_width b.before.args.chip.unit (b.before.args.set.rounds + 1)) × (0 < b.set-width.result) × (b.set-width.result ≤ 128)
 new-width b =
     let x = b.before in
     width_of x.args.chip.unit (x.args.set.rounds + 1) b.set-width.result x.requires.0 (omega (arith, x.requires.1)) b.set-width.ensures
 
 old-width : (b : tie.After-set-width2)
-    → (b.set-width2.result ≡ setWidth b.before.before.args.chip.unit b.before.before.args.set.rounds) × (0 < b.set-width2.result) × (b.set-width2.result ≤ 128)
+    → (b.set-width2.result ≡ set_width b.before.before.args.chip.unit b.before.before.args.set.rounds) × (0 < b.set-width2.result) × (b.set-width2.result ≤ 128)
 old-width b =
     let x = b.before.before in
     width_of x.args.chip.unit x.args.set.rounds b.set-width2.result x.requires.0 (omega (arith, x.requires.1)) b.set-width2.ensures
@@ -101,7 +101,7 @@ source-of-requires-2 c κs =
       omega (arith, a.block-address2.ensures, mul-le-mul x.requires.2 l),
       omega (arith, k.page-address.ensures, l),
       (new-width b).1,
-      rw ((new-width b).0, c.sector-size.ensures) (sector-le x.args.chip.unit (x.args.set.rounds + 1) x.requires.0 (omega (arith, x.requires.1))),
+      rw ((new-width b).0, c.sector-size.ensures) (sector_le x.args.chip.unit (x.args.set.rounds + 1) x.requires.0 (omega (arith, x.requires.1))),
       omega (arith, c.sector-size.ensures, l),
       x.requires.3,
     )

@@ -5,10 +5,10 @@ use lib.ListN.{length}
 use Rattle.memory.specs.Lists.{tabulate}
 use Rattle.geometry.specs.Indexes.{index_of}
 use Rattle.partition.specs.Reach.{row_fits}
-use Rattle.partition.specs.Sources.{pageByte}
-use Rattle.partition.proofs.Numbers.{pages-le}
-use Rattle.partition.proofs.Pages.{sectors-are}
-use Rattle.partition.proofs.Lanes.{whole-sectors}
+use Rattle.partition.specs.Sources.{page_byte}
+use Rattle.partition.proofs.Numbers.{pages_le}
+use Rattle.partition.proofs.Pages.{sectors_are}
+use Rattle.partition.proofs.Lanes.{whole_sectors}
 use borrow.Author.Rules.{rules}
 use Rattle.partition.proofs.set_sectors.Statement.{statement}
 use Rattle.partition.proofs.set_sectors.Tie as tie
@@ -17,7 +17,7 @@ page-source-requires : tie.Need-page-source-requires
 page-source-requires c κs =
     let x = c.before.before.before in
     let p = x.requires.0 in
-    (p.0, p.1, p.2, omega (arith, x.requires.1.0, pages-le x.args.chip.unit (x.args.set.rounds + 1) p.0 (omega (arith, p.1))))
+    (p.0, p.1, p.2, omega (arith, x.requires.1.0, pages_le x.args.chip.unit (x.args.set.rounds + 1) p.0 (omega (arith, p.1))))
 
 sector-address-requires : tie.Need-sector-address-requires
 sector-address-requires c κs = search rules
@@ -36,8 +36,8 @@ page-bytes-requires c κs =
         rw r.page-source.ensures q.0,
       ),
       rw r.page-source.ensures (
-        whole-sectors u U.0 U.1.power (x.args.set.rounds + 1) (omega (arith, p.1)) (x.args.j % 4) s.sector-address.result s.sector-address.ensures,
-        whole-sectors u U.0 U.1.power (x.args.set.rounds + 1) (omega (arith, p.1)) q.1.whole.0 (length x.args.out.now) q.1.whole.1,
+        whole_sectors u U.0 U.1.power (x.args.set.rounds + 1) (omega (arith, p.1)) (x.args.j % 4) s.sector-address.result s.sector-address.ensures,
+        whole_sectors u U.0 U.1.power (x.args.set.rounds + 1) (omega (arith, p.1)) q.1.whole.0 (length x.args.out.now) q.1.whole.1,
       ),
     )
 
@@ -52,8 +52,8 @@ returns c =
     let U = x.requires.0.0 in
     let n = length x.args.out.now in
     c.before.before.page-bytes.ensures
-    ∙ ap (λ (y : ℕ). tabulate n (λ (i : ℕ). pageByte x.args.main.now r.page-source.result (y + i))) s.sector-address.ensures
-    ∙ sectors-are x.args.chip.unit U.0 U.1.power (index_of x.args.set.index) x.args.main.now x.args.set.full_sets x.args.set.rounds x.requires.0.1 x.args.j n r.page-source.result r.page-source.ensures x.requires.1.1.1.1.room
+    ∙ ap (λ (y : ℕ). tabulate n (λ (i : ℕ). page_byte x.args.main.now r.page-source.result (y + i))) s.sector-address.ensures
+    ∙ sectors_are x.args.chip.unit U.0 U.1.power (index_of x.args.set.index) x.args.main.now x.args.set.full_sets x.args.set.rounds x.requires.0.1 x.args.j n r.page-source.result r.page-source.ensures x.requires.1.1.1.1.room
 
 pub set-sectors-spec : {M : Type 1} → statement M
 set-sectors-spec =

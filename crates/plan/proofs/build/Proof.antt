@@ -1,9 +1,9 @@
 use native.Mathlib.Omega.{arith}
 use native.Mathlib.Nat.{le_refl}
-use Rattle.layout.specs.Flash.{flashOf}
-use Rattle.plan.specs.Spans.{among-le}
-use Rattle.plan.specs.Fits.{WipeFits, at-lengths, fewer}
-use Rattle.plan.specs.Plans.{build-run}
+use Rattle.layout.specs.Flash.{flash_of}
+use Rattle.plan.specs.Spans.{among_le}
+use Rattle.plan.specs.Fits.{WipeFits, at_lengths, fewer}
+use Rattle.plan.specs.Plans.{build_run}
 use borrow.Author.Rules.{rules}
 use Rattle.plan.proofs.build.Statement.{statement}
 use Rattle.plan.proofs.build.Tie as tie
@@ -23,7 +23,7 @@ set-run-requires c κs =
     let s = r.before.before.before.before.before in
     let x = s.args in
     fewer x.chip.unit x.s.next x.s.set.first x.s.set.count _ _ s.requires.set r.among.result.to
-    (among-le _ _ _ _ r.among.ensures (le_refl x.s.set.count))
+    (among_le _ _ _ _ r.among.ensures (le_refl x.s.set.count))
 
 among-requires-2 : tie.Need-among-requires-2
 among-requires-2 c κs = search rules
@@ -35,9 +35,9 @@ wipe-run-requires c κs =
     let m = n.before.before in
     let s = m.before.before.before.before.before.before.before.before.before in
     let x = s.args in (
-      at-lengths (λ m s. WipeFits x.chip.unit x.s.l1 m s) _ _ _ _
+      at_lengths (λ m s. WipeFits x.chip.unit x.s.l1 m s) _ _ _ _
           (omega (arith, m.main.given)) (omega (arith, n.spare.given)) s.requires.l1,
-      among-le _ _ _ _ r.among2.ensures (le_refl x.s.l1.count),
+      among_le _ _ _ _ r.among2.ensures (le_refl x.s.l1.count),
     )
 
 among-requires-3 : tie.Need-among-requires-3
@@ -52,9 +52,9 @@ wipe-run-requires-2 c κs =
     let m = n.before.before in
     let s = m.before.before.before.before.before.before.before.before.before in
     let x = s.args in (
-      at-lengths (λ m s. WipeFits x.chip.unit x.s.old m s) _ _ _ _
+      at_lengths (λ m s. WipeFits x.chip.unit x.s.old m s) _ _ _ _
           (omega (arith, m.main.given, m2.main2.given)) (omega (arith, n.spare.given, n2.spare2.given)) s.requires.old,
-      among-le _ _ _ _ r.among3.ensures (le_refl x.s.old.count),
+      among_le _ _ _ _ r.among3.ensures (le_refl x.s.old.count),
     )
 
 same_length : tie.Need-same-length
@@ -75,7 +75,7 @@ returns c =
     let b1 = b2.before in
     let s = b1.before.before.before in
     let x = s.args in
-    build-run x.chip.unit x.s x.part b1.behind.result (flashOf x.main.now x.spare.now) b2.behind2.result
+    build_run x.chip.unit x.s x.part b1.behind.result (flash_of x.main.now x.spare.now) b2.behind2.result
     r1.among.result r2.among2.result r3.among3.result
     b1.behind.ensures b2.behind2.ensures r1.among.ensures r2.among2.ensures r3.among3.ensures
     w.set-run.ensures w1.wipe-run.ensures w2.wipe-run2.ensures

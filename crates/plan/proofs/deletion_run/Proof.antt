@@ -2,10 +2,10 @@ use native.Mathlib.Omega.{arith}
 use mathlib.Core.Path.{refl}
 use lib.ListN.{length}
 use Rattle.memory.specs.Lists.{length_part}
-use Rattle.layout.specs.Flash.{flashOf}
-use Rattle.plan.specs.Spans.{among-le}
-use Rattle.plan.specs.Fits.{PageFits, at-numbers}
-use Rattle.plan.specs.Plans.{SummaryFits, deletionOf, deletion-run, none-run}
+use Rattle.layout.specs.Flash.{flash_of}
+use Rattle.plan.specs.Spans.{among_le}
+use Rattle.plan.specs.Fits.{PageFits, at_numbers}
+use Rattle.plan.specs.Plans.{SummaryFits, deletion_of, deletion_run, none_run}
 use borrow.Author.Rules.{rules}
 use Rattle.plan.proofs.deletion_run.Statement.{statement}
 use Rattle.plan.proofs.deletion_run.Tie as tie
@@ -14,7 +14,7 @@ returns : tie.Need-returns
 returns c =
     let s = c.before.before.before.before.before.before.before in
     let x = s.args in
-    none-run x.p.chip.unit (deletionOf x.p x.new.now x.filters.now x.ram.now) x.part _ c.if1.true
+    none_run x.p.chip.unit (deletion_of x.p x.new.now x.filters.now x.ram.now) x.part _ c.if1.true
 
 page-address-requires : tie.Need-page-address-requires
 page-address-requires c κs = search rules
@@ -43,9 +43,9 @@ page-run-requires c κs =
     let P = s.requires.0 in
     let n = length x.ram.now in
     let i = length_part x.new.now 0 4 (omega (arith, s.requires.1.0)) in (
-      at-numbers (λ a m s. PageFits x.p.chip.unit (record { sector = x.p.da.first; at = a }) m s n) _ _ _ _ _ _
+      at_numbers (λ a m s. PageFits x.p.chip.unit (record { sector = x.p.da.first; at = a }) m s n) _ _ _ _ _ _
           a.page-address.ensures refl refl P.da,
-      (among-le _ _ _ 4 r.among.ensures P.da-count, omega (arith, i, P.some)),
+      (among_le _ _ _ 4 r.among.ensures P.da_count, omega (arith, i, P.some)),
     )
 
 sub-index-run : tie.Need-overflow-sub-index-run
@@ -69,8 +69,8 @@ index-run-requires c κs =
     let x = s.args in
     let k = length x.ram.now in
     let i = length_part x.filters.now 0 512 (omega (arith, s.requires.1.1)) in
-    at-numbers (λ a m s. SummaryFits x.p.chip.unit x.p.da_index a m s k) _ _ _ _ _ _ i
-    (omega (arith, m.main.given)) (omega (arith, n.spare.given)) s.requires.0.da-index
+    at_numbers (λ a m s. SummaryFits x.p.chip.unit x.p.da_index a m s k) _ _ _ _ _ _ i
+    (omega (arith, m.main.given)) (omega (arith, n.spare.given)) s.requires.0.da_index
 
 same_length : tie.Need-same-length
 same_length c = search rules
@@ -87,9 +87,9 @@ returns-2 c =
     let a = b.before in
     let s = a.before.before.before.before.before.before.before.before.before in
     let x = s.args in
-    deletion-run x.p x.new.now x.filters.now x.ram.now x.part b.behind.result (flashOf x.main.now x.spare.now)
+    deletion_run x.p x.new.now x.filters.now x.ram.now x.part b.behind.result (flash_of x.main.now x.spare.now)
     a.page-address.result r.among.result a.page-address.ensures b.behind.ensures r.among.ensures
-    w.page-run.ensures d.index-run.ensures
+    w.page-run.ensures d.index_run.ensures
 
 pub deletion-run-spec : {M : Type 1} → statement M
 deletion-run-spec =

@@ -2,18 +2,18 @@ use native.Mathlib.Omega.{arith}
 use Prim.Native.Nat.{ℕ, ◌-◌, ◌≤◌}
 use mathlib.Core.Path.{◌≡◌, refl, ap, ◌∙◌}
 use lib.ListN.{length}
-use Rattle.layout.specs.Flash.{flashOf, plannedFrom}
+use Rattle.layout.specs.Flash.{flash_of, planned_from}
 use Rattle.plan.specs.Runs.{done, turn}
 use Rattle.plan.specs.Segments.{flushed}
-use Rattle.plan.specs.Fits.{FlushFits, at-lengths}
+use Rattle.plan.specs.Fits.{FlushFits, at_lengths}
 use Rattle.plan.proofs.flush_run.Statement.{statement}
 use Rattle.plan.proofs.flush_run.Tie as tie
 
 abbrev invariant-loop : tie.invariant-loop
 invariant-loop chip f part fourths main₀ spare₀ ram j₀ main spare j =
     (part.from ≤ j) × (j - part.from ≤ part.to - part.from) × (length main ≡ length main₀) × (length spare ≡ length spare₀)
-    × (flashOf main spare
-    ≡ done chip.unit (plannedFrom (flushed chip.unit f fourths ram) part.from (j - part.from)) (flashOf main₀ spare₀))
+    × (flash_of main spare
+    ≡ done chip.unit (planned_from (flushed chip.unit f fourths ram) part.from (j - part.from)) (flash_of main₀ spare₀))
 
 abbrev decreases-loop : tie.decreases-loop
 decreases-loop chip f part fourths main₀ spare₀ ram j₀ main spare j = part.to - j
@@ -31,7 +31,7 @@ flush-step-requires c κs =
     let P = c.before.before.before.before.before.before.before.before.before.requires in
     let k = length x.fourths.now in
     let n = length x.ram.now in (
-      at-lengths (λ m s. FlushFits x.chip.unit x.f k m s n) _ _ _ _ l.invariant.2 l.invariant.3 P.0,
+      at_lengths (λ m s. FlushFits x.chip.unit x.f k m s n) _ _ _ _ l.invariant.2 l.invariant.3 P.0,
       omega (arith, c.before.before.if1.true, P.1),
     )
 
@@ -52,7 +52,7 @@ loop-again c =
       omega arith,
       omega arith,
       omega arith,
-      turn u f x.part.from l.j (flashOf x.main.now x.spare.now) l.invariant.0 l.invariant.4 r.ensures,
+      turn u f x.part.from l.j (flash_of x.main.now x.spare.now) l.invariant.0 l.invariant.4 r.ensures,
     )
 
 same_length : tie.Need-same-length invariant-loop decreases-loop
@@ -69,7 +69,7 @@ returns c =
     let f = flushed u x.f x.fourths.now x.ram.now in
     let k : l.j - x.part.from ≡ x.part.to - x.part.from = omega arith in
     l.invariant.4
-    ∙ ap (λ (n : ℕ). done u (plannedFrom f x.part.from n) (flashOf x.main.now x.spare.now)) k
+    ∙ ap (λ (n : ℕ). done u (planned_from f x.part.from n) (flash_of x.main.now x.spare.now)) k
 
 pub flush-run-spec : {M : Type 1} → statement M
 flush-run-spec =

@@ -6,9 +6,9 @@ use mathlib.Core.List.{List}
 use lib.ListN.{length}
 use Rattle.memory.specs.Lists.{length_part}
 use Rattle.layout.specs.Geometry.{sector}
-use Rattle.layout.specs.Flash.{flashOf, program, apply}
-use Rattle.plan.specs.Segments.{flush-sector}
-use Rattle.plan.specs.Fits.{flush-on-flash, flush-in-ram, flush-in-fourths}
+use Rattle.layout.specs.Flash.{flash_of, program, apply}
+use Rattle.plan.specs.Segments.{flush_sector_lem}
+use Rattle.plan.specs.Fits.{flush_on_flash, flush_in_ram, flush_in_fourths}
 use borrow.Author.Rules.{rules}
 use Rattle.plan.proofs.flush_step.Statement.{statement}
 use Rattle.plan.proofs.flush_step.Tie as tie
@@ -25,36 +25,36 @@ abbrev start_of : tie.After-sector-address → tie.Start
 start_of a = a.before.before.before.before.before.before
 
 -- the sector lies in the SKA page, and its piece in the fourths
-in-ram : (a : tie.After-sector-address)
+in_ram_lem : (a : tie.After-sector-address)
     → (start_of a).args.f.at + a.sector-address.result + a.before.sector-size.result ≤ length (start_of a).args.ram.now
-in-ram a =
+in_ram_lem a =
     let x = (start_of a).args in
     let P = (start_of a).requires in
-    flush-in-ram x.chip.unit x.f _ _ _ _ P.0 x.j P.1 _ _ a.before.sector-size.ensures a.sector-address.ensures
+    flush_in_ram x.chip.unit x.f _ _ _ _ P.0 x.j P.1 _ _ a.before.sector-size.ensures a.sector-address.ensures
 
-in-fourths : (a : tie.After-sector-address)
+in_fourths : (a : tie.After-sector-address)
     → (start_of a).args.j * (start_of a).args.f.piece + (start_of a).args.f.piece ≤ length (start_of a).args.fourths.now
-in-fourths a =
+in_fourths a =
     let x = (start_of a).args in
-    flush-in-fourths x.chip.unit x.f _ _ _ _ (start_of a).requires.0 x.j (start_of a).requires.1
+    flush_in_fourths x.chip.unit x.f _ _ _ _ (start_of a).requires.0 x.j (start_of a).requires.1
 
 add-from : tie.Need-overflow-add-from
-add-from c = omega (arith, in-ram c.before)
+add-from c = omega (arith, in_ram_lem c.before)
 
 sub-to : tie.Need-overflow-sub-to
 sub-to c =
     let z = c.before.before in
     let s = z.before.before.before.before.before in
-    omega (arith, z.sector-size.ensures, s.requires.0.in-sector)
+    omega (arith, z.sector-size.ensures, s.requires.0.in_sector)
 
 add-to : tie.Need-overflow-add-to
-add-to c = omega (arith, in-ram c.before)
+add-to c = omega (arith, in_ram_lem c.before)
 
 mul-lo : tie.Need-overflow-mul-lo
-mul-lo c = omega (arith, in-fourths c.before)
+mul-lo c = omega (arith, in_fourths c.before)
 
 add-hi : tie.Need-overflow-add-hi
-add-hi c = omega (arith, in-fourths c.before)
+add-hi c = omega (arith, in_fourths c.before)
 
 mul-program-joined : tie.Need-overflow-mul-program-joined
 mul-program-joined c = search rules
@@ -69,7 +69,7 @@ part-program-joined-start : tie.Need-slice-bounds-program-joined-start
 part-program-joined-start c = search rules
 
 part-program-joined-end : tie.Need-slice-bounds-program-joined-end
-part-program-joined-end c = omega (arith, in-ram c.before.before)
+part-program-joined-end c = omega (arith, in_ram_lem c.before.before)
 
 sub-program-joined-2 : tie.Need-overflow-sub-program-joined-2
 sub-program-joined-2 c = search rules
@@ -78,7 +78,7 @@ part-program-joined-start-2 : tie.Need-slice-bounds-program-joined-start-2
 part-program-joined-start-2 c = search rules
 
 part-program-joined-end-2 : tie.Need-slice-bounds-program-joined-end-2
-part-program-joined-end-2 c = omega (arith, in-fourths c.before.before.before)
+part-program-joined-end-2 c = omega (arith, in_fourths c.before.before.before)
 
 program-joined-requires : tie.Need-program-joined-requires
 program-joined-requires c κs =
@@ -89,10 +89,10 @@ program-joined-requires c κs =
     let P = s.requires in
     let e : z.sector-size.result ≡ sector x.chip.unit = z.sector-size.ensures in
     let n = length_part x.ram.now (x.f.at + a.sector-address.result) (z.sector-size.result - x.f.piece)
-    (omega (arith, in-ram a)) in
-    let k = length_part x.fourths.now (x.j * x.f.piece) x.f.piece (omega (arith, in-fourths a)) in (
-      (P.0.small, omega (arith, n, k, e, P.0.in-sector)),
-      (flush-on-flash x.chip.unit x.f _ _ _ _ P.0 x.j P.1, omega (arith, P.0.in-spare, P.1)),
+    (omega (arith, in_ram_lem a)) in
+    let k = length_part x.fourths.now (x.j * x.f.piece) x.f.piece (omega (arith, in_fourths a)) in (
+      (P.0.small, omega (arith, n, k, e, P.0.in_sector)),
+      (flush_on_flash x.chip.unit x.f _ _ _ _ P.0 x.j P.1, omega (arith, P.0.in_spare, P.1)),
     )
 
 same_length : tie.Need-same-length
@@ -111,8 +111,8 @@ returns c =
     let P = s.requires in
     let u = x.chip.unit in
     r.program-joined.ensures
-    ∙ ap (λ (l : List ℕ). apply u (program (x.f.sector + x.j * 16) l) (flashOf x.main.now x.spare.now))
-    (flush-sector u x.f x.fourths.now x.ram.now P.0.in-sector P.0.in-fourths P.0.in-ram
+    ∙ ap (λ (l : List ℕ). apply u (program (x.f.sector + x.j * 16) l) (flash_of x.main.now x.spare.now))
+    (flush_sector_lem u x.f x.fourths.now x.ram.now P.0.in_sector P.0.in_fourths P.0.in_ram_lem
     z.sector-size.result a.sector-address.result x.j z.sector-size.ensures a.sector-address.ensures P.1)
 
 pub flush-step-spec : {M : Type 1} → statement M

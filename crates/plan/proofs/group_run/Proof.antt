@@ -4,22 +4,22 @@ use Prim.Native.Nat.{ℕ, ◌-◌, ◌/◌, ◌≤◌, ◌<◌}
 use mathlib.Core.Path.{◌≡◌, refl, sym, subst}
 use mathlib.Core.List.{List}
 use lib.ListN.{length}
-use Rattle.layout.specs.Flash.{flashOf, plannedFrom}
+use Rattle.layout.specs.Flash.{flash_of, planned_from}
 use Rattle.geometry.specs.Indexes.{index_of}
-use Rattle.partition.specs.Sources.{pageSource}
+use Rattle.partition.specs.Sources.{page_source}
 use Rattle.partition.specs.Shared.{Shares}
-use Rattle.partition.specs.Sharing.{shares-made}
+use Rattle.partition.specs.Sharing.{shares_made}
 use Rattle.plan.specs.Runs.{done}
-use Rattle.plan.specs.Segments.{nextSet}
-use Rattle.plan.specs.Groups.{Turn, turn-of, turn-span, steps-few, few-sectors, next-part, of-page, shared_at}
+use Rattle.plan.specs.Segments.{next_set}
+use Rattle.plan.specs.Groups.{Turn, turn_of, turn_span, steps_few, few_sectors, next_part, of_page, shared_at}
 use Rattle.plan.proofs.group_run.Statement.{statement}
 use Rattle.plan.proofs.group_run.Tie as tie
 
 abbrev invariant-loop : tie.invariant-loop
 invariant-loop chip set s part main₀ spare₀ shared n j₀ main spare j =
     (part.from ≤ j) × (j ≤ part.to) × (length main ≡ length main₀) × (length spare ≡ length spare₀)
-    × (flashOf main spare ≡ done chip.unit (plannedFrom (nextSet chip.unit set s) part.from (j - part.from)) (flashOf main₀ spare₀))
-    × Shares main₀ (pageSource chip.unit (index_of set.index) set.rounds (part.from / 4)) shared
+    × (flash_of main spare ≡ done chip.unit (planned_from (next_set chip.unit set s) part.from (j - part.from)) (flash_of main₀ spare₀))
+    × Shares main₀ (page_source chip.unit (index_of set.index) set.rounds (part.from / 4)) shared
 
 abbrev decreases-loop : tie.decreases-loop
 decreases-loop chip set s part main₀ spare₀ shared n j₀ main spare j = part.to - j
@@ -45,23 +45,23 @@ loop-holds c =
       refl,
       refl,
       rw z refl,
-      subst (λ (v : List ℕ). Shares x.args.main.now (pageSource x.args.chip.unit (index_of x.args.set.index) x.args.set.rounds (x.args.part.from / 4)) v)
-          (sym c.before.shared-bytes.ensures) (shares-made x.args.main.now _ _ refl),
+      subst (λ (v : List ℕ). Shares x.args.main.now (page_source x.args.chip.unit (index_of x.args.set.index) x.args.set.rounds (x.args.part.from / 4)) v)
+          (sym c.before.shared-bytes.ensures) (shares_made x.args.main.now _ _ refl),
     )
 
 up-to-requires : tie.Need-up-to-requires invariant-loop decreases-loop
 up-to-requires c κs =
     let n = c.before.before.before.before.before.before.before.before.at_once in
     let x = c.before.before.before.before.before.before.before.before.before.before.before in
-    let f = steps-few n.result n.ensures.1 in
-    let l = few-sectors x.args.chip.unit x.args.set x.args.s x.args.part.to _ _ x.requires.0.0 in
+    let f = steps_few n.result n.ensures.1 in
+    let l = few_sectors x.args.chip.unit x.args.set x.args.s x.args.part.to _ _ x.requires.0.0 in
     (f.0, f.1, omega (arith, l), omega arith)
 
 -- a turn goes on
 turn : (c : tie.After-up-to invariant-loop decreases-loop) → Turn c.before.before.before.loop.j c.before.before.before.before.before.before.before.before.before.before.before.before.args.part.to c.up_to_lem.result
 turn c =
     let n = c.before.before.before.before.before.before.before.before.before.at_once in
-    turn-of c.before.before.before.loop.j n.result c.before.before.before.before.before.before.before.before.before.before.before.before.args.part.to c.up_to_lem.result (steps-few n.result n.ensures.1).0 (omega arith) c.up_to_lem.ensures
+    turn_of c.before.before.before.loop.j n.result c.before.before.before.before.before.before.before.before.before.before.before.before.args.part.to c.up_to_lem.result (steps_few n.result n.ensures.1).0 (omega arith) c.up_to_lem.ensures
 
 slice-aggregate-page-part : tie.Need-slice-aggregate-page-part invariant-loop decreases-loop
 slice-aggregate-page-part c = omega (arith, c.before.before.before.before.loop.invariant.5.size)
@@ -77,9 +77,9 @@ page-part-requires c κs =
     let F = x.requires.0.0 in
     let e = d.up_to_lem.ensures in
     let h : l.j < x.args.part.to = omega arith in (
-      (next-part u x.args.set x.args.s x.args.part.to d.up_to_lem.result.to _ _ _ _ F T.most l.invariant.2 l.invariant.3, omega (arith, T.first, T.more)),
+      (next_part u x.args.set x.args.s x.args.part.to d.up_to_lem.result.to _ _ _ _ F T.most l.invariant.2 l.invariant.3, omega (arith, T.first, T.more)),
       (
-        rw e (of-page u l.j n.result x.args.part.to n.ensures.1 n.ensures.2 h),
+        rw e (of_page u l.j n.result x.args.part.to n.ensures.1 n.ensures.2 h),
         rw T.first (shared_at u x.args.set x.args.s x.args.part.to x.args.main.now x.args.spare.now l.main l.spare F x.args.part.from l.j _
             l.invariant.0 h (x.requires.1 l.j l.invariant.0 h) l.invariant.4 l.invariant.5),
       ),
@@ -101,7 +101,7 @@ loop-again c =
       T.most,
       omega arith,
       omega arith,
-      turn-span u (nextSet u x.args.set x.args.s) x.args.part.from l.j d.up_to_lem.result (flashOf x.args.main.now x.args.spare.now)
+      turn_span u (next_set u x.args.set x.args.s) x.args.part.from l.j d.up_to_lem.result (flash_of x.args.main.now x.args.spare.now)
           T.first l.invariant.0 (omega (arith, T.more)) l.invariant.4 c.before.before.before.before.page-part.ensures,
       l.invariant.5,
     )

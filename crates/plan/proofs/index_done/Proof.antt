@@ -1,6 +1,6 @@
 use native.Mathlib.Omega.{arith}
 use borrow.Author.Rules.{rules}
-use Rattle.plan.specs.Done.{later, earlier, last-le}
+use Rattle.plan.specs.Done.{later, earlier, last_le}
 use Rattle.plan.proofs.index_done.Statement.{statement}
 use Rattle.plan.proofs.index_done.Tie as tie
 
@@ -11,7 +11,7 @@ add-result : tie.Need-overflow-add-result
 add-result c =
     let a = c.before.before in
     let x = a.before.before.args in
-    omega (arith, a.last-programmed.ensures, last-le x.spare.now 1 x.s.set.first x.s.set.count)
+    omega (arith, a.last-programmed.ensures, last_le x.spare.now 1 x.s.set.first x.s.set.count)
 
 returns : tie.Need-returns
 returns c =

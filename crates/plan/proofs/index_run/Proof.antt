@@ -1,8 +1,8 @@
 use native.Mathlib.Omega.{arith}
-use Rattle.layout.specs.Flash.{flashOf}
-use Rattle.plan.specs.Spans.{among-le}
-use Rattle.plan.specs.Fits.{at-lengths}
-use Rattle.plan.specs.Plans.{BuildFits, summaryOf, buildOf, index-run, none-run}
+use Rattle.layout.specs.Flash.{flash_of}
+use Rattle.plan.specs.Spans.{among_le}
+use Rattle.plan.specs.Fits.{at_lengths}
+use Rattle.plan.specs.Plans.{BuildFits, summary_of, build_of, index_run, none_run}
 use borrow.Author.Rules.{rules}
 use Rattle.plan.proofs.index_run.Statement.{statement}
 use Rattle.plan.proofs.index_run.Tie as tie
@@ -11,7 +11,7 @@ returns : tie.Need-returns
 returns c =
     let s = c.before.before.before.before.before.before in
     let x = s.args in
-    none-run x.chip.unit (summaryOf x.chip.unit x.s x.fourths.now x.ram.now) x.part _ c.if1.true
+    none_run x.chip.unit (summary_of x.chip.unit x.s x.fourths.now x.ram.now) x.part _ c.if1.true
 
 behind-requires : tie.Need-behind-requires
 behind-requires c κs = search rules
@@ -23,7 +23,7 @@ flush-run-requires : tie.Need-flush-run-requires
 flush-run-requires c κs =
     let r = c.before.before in
     let s = r.before.before.before.before.before.before.before.before in
-    (s.requires.flush, among-le _ _ _ 4 r.among.ensures s.requires.flush-count)
+    (s.requires.flush, among_le _ _ _ 4 r.among.ensures s.requires.flush_count)
 
 same_length : tie.Need-same-length
 same_length c = search rules
@@ -39,9 +39,9 @@ returns-2 c =
     let s = b.before.before.before.before.before.before.before in
     let x = s.args in
     let u = x.chip.unit in
-    index-run u x.s x.part b.behind.result (flashOf x.main.now x.spare.now) x.fourths.now x.ram.now
+    index_run u x.s x.part b.behind.result (flash_of x.main.now x.spare.now) x.fourths.now x.ram.now
     r.among.result b.behind.ensures r.among.ensures f.flush-run.ensures
-    (none-run u (buildOf u x.s) b.behind.result _ c.if2.true)
+    (none_run u (build_of u x.s) b.behind.result _ c.if2.true)
 
 build-requires : tie.Need-build-requires
 build-requires c κs =
@@ -49,7 +49,7 @@ build-requires c κs =
     let m = n.before.before in
     let s = m.before.before.before.before.before.before.before.before.before.before.before.before in
     let x = s.args in
-    at-lengths (λ m s. BuildFits x.chip.unit x.s m s) _ _ _ _
+    at_lengths (λ m s. BuildFits x.chip.unit x.s m s) _ _ _ _
     (omega (arith, m.main.given)) (omega (arith, n.spare.given)) s.requires.build
 
 same-length-3 : tie.Need-same-length-3
@@ -66,7 +66,7 @@ returns-3 c =
     let b = r.before in
     let s = b.before.before.before.before.before.before.before in
     let x = s.args in
-    index-run x.chip.unit x.s x.part b.behind.result (flashOf x.main.now x.spare.now) x.fourths.now x.ram.now
+    index_run x.chip.unit x.s x.part b.behind.result (flash_of x.main.now x.spare.now) x.fourths.now x.ram.now
     r.among.result b.behind.ensures r.among.ensures f.flush-run.ensures d.build.ensures
 
 pub index-run-spec : {M : Type 1} → statement M

@@ -2,8 +2,8 @@ use native.Mathlib.Omega.{arith}
 use Prim.Native.Nat.{◌+◌, ◌-◌}
 use mathlib.Core.Path.{◌≡◌, refl, ap, ◌∙◌}
 use lib.ListN.{length}
-use Rattle.memory.specs.Lists.{length-tabulate}
-use Rattle.plan.specs.Groups.{page-is, made-size, made_in, made-are, in-page}
+use Rattle.memory.specs.Lists.{length_tabulate}
+use Rattle.plan.specs.Groups.{page_is, made_size, made_in, made_are, in_page}
 use borrow.Author.Rules.{rules}
 use Rattle.plan.proofs.page_part.Statement.{statement}
 use Rattle.plan.proofs.page_part.Tie as tie
@@ -31,7 +31,7 @@ set-sectors-requires c κs =
       (P.unit, P.rounds, P.near),
       (
         omega (arith, P.sectors, x.requires.0.1),
-        (P.sides, (x.requires.1.1, in-page x.args.chip.unit n.result _ x.args.part x.requires.1.0 n.ensures (made-size _ n.result (omega (arith, n.ensures, x.requires.1.0.small))))),
+        (P.sides, (x.requires.1.1, in_page x.args.chip.unit n.result _ x.args.part x.requires.1.0 n.ensures (made_size _ n.result (omega (arith, n.ensures, x.requires.1.0.small))))),
       ),
     )
 
@@ -49,7 +49,7 @@ made : (d : tie.After-set-sectors) → length d.set-sectors.new.1.1.1.1.1.0 ≡ 
 made d =
     let x = d.before.before.before.before.before.before.before.before in
     let n = d.before.before.before.sector-address in
-    ap length d.set-sectors.ensures ∙ (length-tabulate _ _ ∙ made-size _ n.result (omega (arith, n.ensures, x.requires.1.0.small)))
+    ap length d.set-sectors.ensures ∙ (length_tabulate _ _ ∙ made_size _ n.result (omega (arith, n.ensures, x.requires.1.0.small)))
 
 part-program-sectors-end : tie.Need-slice-bounds-program-sectors-end
 part-program-sectors-end c =
@@ -63,8 +63,8 @@ program-sectors-requires c κs =
     let d = c.before.before.before.before.before.before in
     let n = d.before.before.before.sector-address in
     let e : x.args.s + x.args.part.from + (x.args.part.to - x.args.part.from) ≡ x.args.s + x.args.part.to = omega (arith, x.requires.0.1) in (
-      (P.unit.1.most, ap length (made-are d.set-sectors.new.1.1.1.1.1.0 _ n.result (made d)) ∙ (made d ∙ n.ensures)),
-      (rw e P.in-main, rw e P.in-spare),
+      (P.unit.1.most, ap length (made_are d.set-sectors.new.1.1.1.1.1.0 _ n.result (made d)) ∙ (made d ∙ n.ensures)),
+      (rw e P.in_main, rw e P.in_spare),
     )
 
 same_length : tie.Need-same-length
@@ -80,7 +80,7 @@ returns c =
     let n = d.before.before.before.sector-address in
     let F = x.requires.0.0 in
     let u = x.args.chip.unit in
-    page-is u x.args.set x.args.s x.args.part.to _ _ F x.args.part refl x.requires.0.1 x.args.main.now x.args.spare.now
+    page_is u x.args.set x.args.s x.args.part.to _ _ F x.args.part refl x.requires.0.1 x.args.main.now x.args.spare.now
     d.set-sectors.new.1.1.1.1.1.0 _ _ n.result (made d) n.ensures d.set-sectors.ensures c.before.before.before.before.program-sectors.ensures
 
 pub page-part-spec : {M : Type 1} → statement M

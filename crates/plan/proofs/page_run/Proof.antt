@@ -2,18 +2,18 @@ use native.Mathlib.Omega.{arith}
 use Prim.Native.Nat.{ℕ, ◌-◌, ◌≤◌}
 use mathlib.Core.Path.{◌≡◌, refl, ap, ◌∙◌}
 use lib.ListN.{length}
-use Rattle.layout.specs.Flash.{flashOf, plannedFrom}
+use Rattle.layout.specs.Flash.{flash_of, planned_from}
 use Rattle.plan.specs.Runs.{done, turn}
-use Rattle.plan.specs.Segments.{filledPage}
-use Rattle.plan.specs.Fits.{PageFits, at-lengths}
+use Rattle.plan.specs.Segments.{filled_page}
+use Rattle.plan.specs.Fits.{PageFits, at_lengths}
 use Rattle.plan.proofs.page_run.Statement.{statement}
 use Rattle.plan.proofs.page_run.Tie as tie
 
 abbrev invariant-loop : tie.invariant-loop
 invariant-loop chip page part item main₀ spare₀ ram j₀ main spare j =
     (part.from ≤ j) × (j - part.from ≤ part.to - part.from) × (length main ≡ length main₀) × (length spare ≡ length spare₀)
-    × (flashOf main spare
-    ≡ done chip.unit (plannedFrom (filledPage chip.unit page item ram) part.from (j - part.from)) (flashOf main₀ spare₀))
+    × (flash_of main spare
+    ≡ done chip.unit (planned_from (filled_page chip.unit page item ram) part.from (j - part.from)) (flash_of main₀ spare₀))
 
 abbrev decreases-loop : tie.decreases-loop
 decreases-loop chip page part item main₀ spare₀ ram j₀ main spare j = part.to - j
@@ -30,7 +30,7 @@ page-step-requires c κs =
     let x = c.before.before.before.before.before.before.before.before.before.args in
     let P = c.before.before.before.before.before.before.before.before.before.requires in
     let n = length x.ram.now in (
-      at-lengths (λ m s. PageFits x.chip.unit x.page m s n) _ _ _ _ l.invariant.2 l.invariant.3 P.0,
+      at_lengths (λ m s. PageFits x.chip.unit x.page m s n) _ _ _ _ l.invariant.2 l.invariant.3 P.0,
       (omega (arith, c.before.before.if1.true, P.1.0), P.1.1),
     )
 
@@ -46,12 +46,12 @@ loop-again c =
     let x = c.before.before.before.before.before.before.before.before.before.before.before.before.before.before.args in
     let r = c.before.before.before.before.page-step in
     let u = x.chip.unit in
-    let f = filledPage u x.page x.item.now x.ram.now in (
+    let f = filled_page u x.page x.item.now x.ram.now in (
       omega arith,
       omega arith,
       omega arith,
       omega arith,
-      turn u f x.part.from l.j (flashOf x.main.now x.spare.now) l.invariant.0 l.invariant.4 r.ensures,
+      turn u f x.part.from l.j (flash_of x.main.now x.spare.now) l.invariant.0 l.invariant.4 r.ensures,
     )
 
 same_length : tie.Need-same-length invariant-loop decreases-loop
@@ -65,10 +65,10 @@ returns c =
     let l = c.before.before.loop in
     let x = c.before.before.before.before.before.before.before.args in
     let u = x.chip.unit in
-    let f = filledPage u x.page x.item.now x.ram.now in
+    let f = filled_page u x.page x.item.now x.ram.now in
     let k : l.j - x.part.from ≡ x.part.to - x.part.from = omega arith in
     l.invariant.4
-    ∙ ap (λ (n : ℕ). done u (plannedFrom f x.part.from n) (flashOf x.main.now x.spare.now)) k
+    ∙ ap (λ (n : ℕ). done u (planned_from f x.part.from n) (flash_of x.main.now x.spare.now)) k
 
 pub page-run-spec : {M : Type 1} → statement M
 page-run-spec =

@@ -6,9 +6,9 @@ use mathlib.Core.List.{List}
 use lib.ListN.{length}
 use Rattle.memory.specs.Lists.{length_part}
 use Rattle.layout.specs.Geometry.{sector}
-use Rattle.layout.specs.Flash.{flashOf, program, apply}
-use Rattle.plan.specs.Segments.{page-low, page-last}
-use Rattle.plan.specs.Fits.{page-on-flash, page-in-ram}
+use Rattle.layout.specs.Flash.{flash_of, program, apply}
+use Rattle.plan.specs.Segments.{page_low, page_last}
+use Rattle.plan.specs.Fits.{page_on_flash, page_in_ram}
 use borrow.Author.Rules.{rules}
 use Rattle.plan.proofs.page_step.Statement.{statement}
 use Rattle.plan.proofs.page_step.Tie as tie
@@ -26,21 +26,21 @@ sector-address-requires c κs =
     (P.0.small, omega (arith, mul-le-mul P.1.0 P.0.small))
 
 -- the sector lies in the RAM page
-in-ram : (a : tie.After-sector-address)
+in_ram_lem : (a : tie.After-sector-address)
     → a.before.before.before.before.before.before.before.args.page.at + a.sector-address.result + a.before.before.sector-size.result ≤ length a.before.before.before.before.before.before.before.args.ram.now
-in-ram a =
+in_ram_lem a =
     let x = a.before.before.before.before.before.before.before.args in
     let P = a.before.before.before.before.before.before.before.requires in
-    page-in-ram x.chip.unit x.page _ _ _ P.0 x.j P.1.0 _ _ a.before.before.sector-size.ensures a.sector-address.ensures
+    page_in_ram x.chip.unit x.page _ _ _ P.0 x.j P.1.0 _ _ a.before.before.sector-size.ensures a.sector-address.ensures
 
 add-from : tie.Need-overflow-add-from
-add-from c = omega (arith, in-ram c.before)
+add-from c = omega (arith, in_ram_lem c.before)
 
 add-if1 : tie.Need-overflow-add-if1
 add-if1 c = search rules
 
 add-to : tie.Need-overflow-add-to
-add-to c = omega (arith, in-ram c.before.before)
+add-to c = omega (arith, in_ram_lem c.before.before)
 
 sub-program-sector : tie.Need-overflow-sub-program-sector
 sub-program-sector c = search rules
@@ -49,7 +49,7 @@ part-program-sector-start : tie.Need-slice-bounds-program-sector-start
 part-program-sector-start c = search rules
 
 part-program-sector-end : tie.Need-slice-bounds-program-sector-end
-part-program-sector-end c = omega (arith, in-ram c.before.before)
+part-program-sector-end c = omega (arith, in_ram_lem c.before.before)
 
 program-sector-requires : tie.Need-program-sector-requires
 program-sector-requires c κs =
@@ -58,8 +58,8 @@ program-sector-requires c κs =
     let x = a.before.before.before.before.before.before.before.args in
     let P = a.before.before.before.before.before.before.before.requires in
     let e : size.result ≡ sector x.chip.unit = size.ensures in (
-      (P.0.small, length_part x.ram.now (x.page.at + a.sector-address.result) size.result (in-ram a) ∙ e),
-      (page-on-flash x.chip.unit x.page _ _ _ P.0 x.j P.1.0, omega (arith, P.0.in-spare, P.1.0)),
+      (P.0.small, length_part x.ram.now (x.page.at + a.sector-address.result) size.result (in_ram_lem a) ∙ e),
+      (page_on_flash x.chip.unit x.page _ _ _ P.0 x.j P.1.0, omega (arith, P.0.in_spare, P.1.0)),
     )
 
 same_length : tie.Need-same-length
@@ -79,15 +79,15 @@ returns c =
     let P = b5.requires in
     let u = x.chip.unit in
     b1.program-sector.ensures
-    ∙ ap (λ (l : List ℕ). apply u (program (x.page.sector + x.j) l) (flashOf x.main.now x.spare.now))
-    (page-low u x.page.at x.item.now x.ram.now P.1.1 P.0.in-ram
+    ∙ ap (λ (l : List ℕ). apply u (program (x.page.sector + x.j) l) (flash_of x.main.now x.spare.now))
+    (page_low u x.page.at x.item.now x.ram.now P.1.1 P.0.in_ram_lem
     b4.sector-size.result b4.sector-size.ensures x.j b3.sector-address.result b3.sector-address.ensures b2.if1.true)
 
 sub-to : tie.Need-overflow-sub-to
 sub-to c = search rules
 
 add-to-2 : tie.Need-overflow-add-to-2
-add-to-2 c = omega (arith, in-ram c.before.before)
+add-to-2 c = omega (arith, in_ram_lem c.before.before)
 
 sub-program-joined : tie.Need-overflow-sub-program-joined
 sub-program-joined c = search rules
@@ -96,7 +96,7 @@ part-program-joined-start : tie.Need-slice-bounds-program-joined-start
 part-program-joined-start c = search rules
 
 part-program-joined-end : tie.Need-slice-bounds-program-joined-end
-part-program-joined-end c = omega (arith, in-ram c.before.before)
+part-program-joined-end c = omega (arith, in_ram_lem c.before.before)
 
 program-joined-requires : tie.Need-program-joined-requires
 program-joined-requires c κs =
@@ -106,9 +106,9 @@ program-joined-requires c κs =
     let P = a.before.before.before.before.before.before.before.requires in
     let e : size.result ≡ sector x.chip.unit = size.ensures in
     let n = length x.item.now in
-    let l = length_part x.ram.now (x.page.at + a.sector-address.result) (size.result - n) (omega (arith, in-ram a)) in (
+    let l = length_part x.ram.now (x.page.at + a.sector-address.result) (size.result - n) (omega (arith, in_ram_lem a)) in (
       (P.0.small, omega (arith, l, e, P.1.1)),
-      (page-on-flash x.chip.unit x.page _ _ _ P.0 x.j P.1.0, omega (arith, P.0.in-spare, P.1.0)),
+      (page_on_flash x.chip.unit x.page _ _ _ P.0 x.j P.1.0, omega (arith, P.0.in_spare, P.1.0)),
     )
 
 same-length-3 : tie.Need-same-length-3
@@ -128,8 +128,8 @@ returns-2 c =
     let P = b5.requires in
     let u = x.chip.unit in
     b1.program-joined.ensures
-    ∙ ap (λ (l : List ℕ). apply u (program (x.page.sector + x.j) l) (flashOf x.main.now x.spare.now))
-    (page-last u x.page.at x.item.now x.ram.now P.1.1 P.0.in-ram
+    ∙ ap (λ (l : List ℕ). apply u (program (x.page.sector + x.j) l) (flash_of x.main.now x.spare.now))
+    (page_last u x.page.at x.item.now x.ram.now P.1.1 P.0.in_ram_lem
     b4.sector-size.result b4.sector-size.ensures x.j b3.sector-address.result b3.sector-address.ensures P.1.0 b2.if1.false)
 
 pub page-step-spec : {M : Type 1} → statement M

@@ -2,10 +2,10 @@ use native.Mathlib.Omega.{arith}
 use mathlib.Core.Path.{refl}
 use lib.ListN.{length}
 use Rattle.memory.specs.Lists.{length_part}
-use Rattle.layout.specs.Flash.{flashOf}
-use Rattle.plan.specs.Spans.{among-le}
-use Rattle.plan.specs.Fits.{PageFits, at-numbers}
-use Rattle.plan.specs.Plans.{SummaryFits, record-run}
+use Rattle.layout.specs.Flash.{flash_of}
+use Rattle.plan.specs.Spans.{among_le}
+use Rattle.plan.specs.Fits.{PageFits, at_numbers}
+use Rattle.plan.specs.Plans.{SummaryFits, record_run}
 use borrow.Author.Rules.{rules}
 use Rattle.plan.proofs.record_run.Statement.{statement}
 use Rattle.plan.proofs.record_run.Tie as tie
@@ -43,9 +43,9 @@ page-run-requires c κs =
     let P = s.requires.0 in
     let n = length x.ram.now in
     let i = length_part x.new.now 4 16 (omega (arith, s.requires.1.0)) in (
-      at-numbers (λ a m s. PageFits x.p.chip.unit (record { sector = x.p.ra.first; at = a }) m s n) _ _ _ _ _ _
+      at_numbers (λ a m s. PageFits x.p.chip.unit (record { sector = x.p.ra.first; at = a }) m s n) _ _ _ _ _ _
           (omega (arith, a.page-address.ensures)) refl refl P.ra,
-      (among-le _ _ _ 4 r.among.ensures P.ra-count, omega (arith, i, P.some)),
+      (among_le _ _ _ 4 r.among.ensures P.ra_count, omega (arith, i, P.some)),
     )
 
 among-requires-2 : tie.Need-among-requires-2
@@ -74,9 +74,9 @@ page-run-requires-2 c κs =
     let P = s.requires.0 in
     let n = length x.ram.now in
     let i = length_part x.new.now 20 8 (omega (arith, s.requires.1.0)) in (
-      at-numbers (λ a m s. PageFits x.p.chip.unit (record { sector = x.p.ka.first; at = a }) m s n) _ _ _ _ _ _
+      at_numbers (λ a m s. PageFits x.p.chip.unit (record { sector = x.p.ka.first; at = a }) m s n) _ _ _ _ _ _
           (omega (arith, a.page-address2.ensures)) (omega (arith, m.main.given)) (omega (arith, k.spare.given)) P.ka,
-      (among-le _ _ _ 4 r.among2.ensures P.ka-count, omega (arith, i, P.some)),
+      (among_le _ _ _ 4 r.among2.ensures P.ka_count, omega (arith, i, P.some)),
     )
 
 sub-index-run : tie.Need-overflow-sub-index-run
@@ -103,8 +103,8 @@ index-run-requires c κs =
     let x = s.args in
     let k = length x.ram.now in
     let i = length_part x.filters.now 512 256 (omega (arith, s.requires.1.1)) in
-    at-numbers (λ a m s. SummaryFits x.p.chip.unit x.p.ka_index a m s k) _ _ _ _ _ _ i
-    (omega (arith, m.main.given, m2.main2.given)) (omega (arith, n.spare.given, n2.spare2.given)) s.requires.0.ka-index
+    at_numbers (λ a m s. SummaryFits x.p.chip.unit x.p.ka_index a m s k) _ _ _ _ _ _ i
+    (omega (arith, m.main.given, m2.main2.given)) (omega (arith, n.spare.given, n2.spare2.given)) s.requires.0.ka_index
 
 same_length : tie.Need-same-length
 same_length c =
@@ -133,10 +133,10 @@ returns c =
     let a1 = a2.before in
     let s = a1.before.before.before.before.before.before.before in
     let x = s.args in
-    record-run x.p x.new.now x.filters.now x.ram.now x.part b1.behind.result (flashOf x.main.now x.spare.now)
+    record_run x.p x.new.now x.filters.now x.ram.now x.part b1.behind.result (flash_of x.main.now x.spare.now)
     a1.page-address.result a2.page-address2.result b2.behind2.result r1.among.result r2.among2.result
     (omega (arith, a1.page-address.ensures)) (omega (arith, a2.page-address2.ensures)) b1.behind.ensures b2.behind2.ensures
-    r1.among.ensures r2.among2.ensures w1.page-run.ensures w2.page-run2.ensures d.index-run.ensures
+    r1.among.ensures r2.among2.ensures w1.page-run.ensures w2.page-run2.ensures d.index_run.ensures
 
 pub record-run-spec : {M : Type 1} → statement M
 record-run-spec =

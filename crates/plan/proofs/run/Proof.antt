@@ -1,8 +1,8 @@
 use native.Mathlib.Omega.{arith}
 use lib.ListN.{length}
-use Rattle.layout.specs.Flash.{flashOf}
-use Rattle.plan.specs.Fits.{at-lengths}
-use Rattle.plan.specs.Plans.{PlanFits, deletion-fits, whole_run}
+use Rattle.layout.specs.Flash.{flash_of}
+use Rattle.plan.specs.Fits.{at_lengths}
+use Rattle.plan.specs.Plans.{PlanFits, deletion_fits, whole_run}
 use borrow.Author.Rules.{rules}
 use Rattle.plan.proofs.run.Statement.{statement}
 use Rattle.plan.proofs.run.Tie as tie
@@ -10,7 +10,7 @@ use Rattle.plan.proofs.run.Tie as tie
 deletion-count-requires : tie.Need-deletion-count-requires
 deletion-count-requires c κs =
     let s = c.before.before.before.before.before in
-    omega (arith, deletion-fits s.args.p _ _ _ s.requires.0 s.well-formed.1.1.1.1.1.0.0)
+    omega (arith, deletion_fits s.args.p _ _ _ s.requires.0 s.well-formed.1.1.1.1.1.0.0)
 
 behind-requires : tie.Need-behind-requires
 behind-requires c κs = search rules
@@ -28,7 +28,7 @@ record-run-requires c κs =
     let s = m.before.before.before.before.before.before.before.before.before.before.before.before in
     let x = s.args in
     let k = length x.ram.now in (
-      at-lengths (λ m s. PlanFits x.p m s k) _ _ _ _ (omega (arith, m.main.given)) (omega (arith, n.spare.given)) s.requires.0,
+      at_lengths (λ m s. PlanFits x.p m s k) _ _ _ _ (omega (arith, m.main.given)) (omega (arith, n.spare.given)) s.requires.0,
       s.requires.1,
     )
 
@@ -47,9 +47,9 @@ returns c =
     let n = b.before in
     let s = n.before.before.before.before.before.before in
     let x = s.args in
-    let e = n.deletion-count.ensures in
-    whole_run x.p x.new.now x.filters.now x.ram.now x.part b.behind.result (flashOf x.main.now x.spare.now)
-    r.among.result (rw e at b.behind.ensures) (rw e at r.among.ensures) w.deletion-run.ensures d.record-run.ensures
+    let e = n.deletion_count_lem.ensures in
+    whole_run x.p x.new.now x.filters.now x.ram.now x.part b.behind.result (flash_of x.main.now x.spare.now)
+    r.among.result (rw e at b.behind.ensures) (rw e at r.among.ensures) w.deletion_run.ensures d.record_run.ensures
 
 pub run_spec : {M : Type 1} → statement M
 run_spec =

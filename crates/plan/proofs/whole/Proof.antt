@@ -18,7 +18,7 @@ add-t4 : tie.Need-overflow-add-t4
 add-t4 c = search rules
 
 returns : tie.Need-returns
-returns c = rw (c.deletion-count.ensures, c.before.summary-count.ensures)
+returns c = rw (c.deletion_count_lem.ensures, c.before.summary-count.ensures)
 
 pub whole-spec : {M : Type 1} → statement M
 whole-spec =

@@ -1,9 +1,9 @@
 use native.Mathlib.Omega.{arith}
 use Prim.Native.Nat.{◌-◌}
 use mathlib.Core.Path.{◌≡◌, refl, ◌∙◌}
-use Rattle.layout.specs.Flash.{flashOf}
-use Rattle.plan.specs.Runs.{done-wipes}
-use Rattle.plan.specs.Fits.{blocks-inside}
+use Rattle.layout.specs.Flash.{flash_of}
+use Rattle.plan.specs.Runs.{done_wipes}
+use Rattle.plan.specs.Fits.{blocks_inside}
 use borrow.Author.Rules.{rules}
 use Rattle.plan.proofs.wipe_run.Statement.{statement}
 use Rattle.plan.proofs.wipe_run.Tie as tie
@@ -26,7 +26,7 @@ erase-blocks-requires c κs =
     let b2 = b1.before.before.before.before in
     let x = b2.args in
     let P = b2.requires in
-    blocks-inside x.chip.unit x.blocks _ _ P.0 x.part.from (x.part.to - x.part.from) (omega (arith, P.1, b1.if1.false))
+    blocks_inside x.chip.unit x.blocks _ _ P.0 x.part.from (x.part.to - x.part.from) (omega (arith, P.1, b1.if1.false))
 
 same_length : tie.Need-same-length
 same_length c = search rules
@@ -38,7 +38,7 @@ returns-2 : tie.Need-returns-2
 returns-2 c =
     let x = c.before.before.before.before.before.before.before.before.before.before.before.before.before.before.args in
     c.before.before.before.before.erase-blocks.ensures
-    ∙ done-wipes x.chip.unit x.blocks.first x.part.from (x.part.to - x.part.from) (flashOf x.main.now x.spare.now)
+    ∙ done_wipes x.chip.unit x.blocks.first x.part.from (x.part.to - x.part.from) (flash_of x.main.now x.spare.now)
 
 pub wipe-run-spec : {M : Type 1} → statement M
 wipe-run-spec =

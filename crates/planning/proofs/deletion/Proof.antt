@@ -1,8 +1,8 @@
 use mathlib.Core.Path.{refl}
 use native.Mathlib.Omega.{arith}
 use Rattle.geometry.specs.Shape.{shape, area}
-use Rattle.geometry.specs.Bounds.{deletion-capacity-le}
-use Rattle.planning.specs.Computed.{deletion-is}
+use Rattle.geometry.specs.Bounds.{deletion_capacity_le}
+use Rattle.planning.specs.Computed.{deletion_is}
 use borrow.Author.Rules.{rules}
 use Rattle.planning.proofs.deletion.Statement.{statement}
 use Rattle.planning.proofs.deletion.Tie as tie
@@ -16,7 +16,7 @@ deletion-area-requires c κs = search rules
 page-requires : tie.Need-page-requires
 page-requires c κs =
     let s = c.before.before.before in
-    (c.deletion-area.ensures.1, omega (arith, deletion-capacity-le s.args.g s.requires.0, s.requires.1))
+    (c.deletion-area.ensures.1, omega (arith, deletion_capacity_le s.args.g s.requires.0, s.requires.1))
 
 deletion-summary-requires : tie.Need-deletion-summary-requires
 deletion-summary-requires c κs = search rules
@@ -31,7 +31,7 @@ returns c =
     let b3 = b2.before in
     let b4 = b3.before in
     let x = b4.before.before.args in
-    deletion-is (shape x.g) x.g.chip refl x.d b4.nothing.result b2.page.result (area b3.deletion-area.result)
+    deletion_is (shape x.g) x.g.chip refl x.d b4.nothing.result b2.page.result (area b3.deletion-area.result)
     b1.deletion-summary.result c.no-entries.result b4.nothing.ensures b3.deletion-area.ensures.0 b2.page.ensures
     b1.deletion-summary.ensures c.no-entries.ensures
 

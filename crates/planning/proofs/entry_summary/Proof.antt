@@ -2,8 +2,8 @@ use mathlib.Core.Path.{sym, ◌∙◌}
 use Prim.Native.Nat.{◌≤◌}
 use native.Mathlib.Omega.{arith}
 use Rattle.geometry.specs.Shape.{shape}
-use Rattle.geometry.specs.Bounds.{index-le}
-use Rattle.planning.specs.Computed.{full-le, not_taken, not_left, no-entry-summary, entry-summary-is}
+use Rattle.geometry.specs.Bounds.{index_le}
+use Rattle.planning.specs.Computed.{full_le, not_taken, not_left, no_entry_summary, entry_summary_is}
 use borrow.Author.Rules.{rules}
 use Rattle.planning.proofs.entry_summary.Statement.{statement}
 use Rattle.planning.proofs.entry_summary.Tie as tie
@@ -19,7 +19,7 @@ returns c =
     let b1 = c.before in
     let b2 = b1.before in
     let x = b2.before.args in
-    c.no-entries.ensures ∙ no-entry-summary (shape x.g) x.n (sym b2.entry-fills.ensures ∙ not_taken _ b1.if1.true)
+    c.no-entries.ensures ∙ no_entry_summary (shape x.g) x.n (sym b2.entry-fills.ensures ∙ not_taken _ b1.if1.true)
 
 entries-per-page-requires : tie.Need-entries-per-page-requires
 entries-per-page-requires c κs = search rules
@@ -42,10 +42,10 @@ summary-requires c κs =
     let q = b2.entries-per-page in
     let i = b1.key-index in
     let S = s.requires.0 in
-    let near : i.result.first ≤ 10240 = rw i.ensures (index-le x.g S) in (
+    let near : i.result.first ≤ 10240 = rw i.ensures (index_le x.g S) in (
       S.unit,
       omega (arith, near),
-      full-le x.g.chip.unit x.g.ra x.n q.result q.ensures S.unit.1.some S.ra-most s.requires.1,
+      full_le x.g.chip.unit x.g.ra x.n q.result q.ensures S.unit.1.some S.ra_most s.requires.1,
     )
 
 returns-2 : tie.Need-returns-2
@@ -57,7 +57,7 @@ returns-2 c =
     let b2 = b1.before in
     let x = b2.before.args in
     c.summary.ensures
-    ∙ entry-summary-is (shape x.g) i.key-index.result p.fourth-size.result x.n q.entries-per-page.result
+    ∙ entry_summary_is (shape x.g) i.key-index.result p.fourth-size.result x.n q.entries-per-page.result
     (sym b2.entry-fills.ensures ∙ not_left _ b1.if1.false) i.key-index.ensures p.fourth-size.ensures
     q.entries-per-page.ensures
 

@@ -1,4 +1,4 @@
-use Rattle.planning.specs.Computed.{flush-segment-is}
+use Rattle.planning.specs.Computed.{flush_segment_is}
 use borrow.Author.Rules.{rules}
 use Rattle.planning.proofs.flush_segment.Statement.{statement}
 use Rattle.planning.proofs.flush_segment.Tie as tie
@@ -16,7 +16,7 @@ returns : tie.Need-returns
 returns c =
     let n = c.before in
     let x = n.before.args in
-    flush-segment-is 0 x.index x.filters c.first-sector.result n.flush-number.result c.first-sector.ensures
+    flush_segment_is 0 x.index x.filters c.first-sector.result n.flush-number.result c.first-sector.ensures
     n.flush-number.ensures
 
 pub flush-segment-spec : {M : Type 1} → statement M

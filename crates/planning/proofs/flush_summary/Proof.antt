@@ -1,4 +1,4 @@
-use Rattle.planning.specs.Computed.{flush-summary-is}
+use Rattle.planning.specs.Computed.{flush_summary_is}
 use borrow.Author.Rules.{rules}
 use Rattle.planning.proofs.flush_summary.Statement.{statement}
 use Rattle.planning.proofs.flush_summary.Tie as tie
@@ -13,7 +13,7 @@ returns : tie.Need-returns
 returns c =
     let n = c.before in
     let x = n.before.args in
-    flush-summary-is x.piece x.index x.filters n.no-summary.result c.flush-segment.result n.no-summary.ensures
+    flush_summary_is x.piece x.index x.filters n.no-summary.result c.flush-segment.result n.no-summary.ensures
     c.flush-segment.ensures
 
 pub flush-summary-spec : {M : Type 1} → statement M

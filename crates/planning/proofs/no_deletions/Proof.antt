@@ -1,6 +1,6 @@
 use mathlib.Core.Path.{◌∙◌}
 use Rattle.geometry.specs.Shape.{shape}
-use Rattle.planning.specs.Computed.{no-deletions-is}
+use Rattle.planning.specs.Computed.{no_deletions_is}
 use borrow.Author.Rules.{rules}
 use Rattle.planning.proofs.no_deletions.Statement.{statement}
 use Rattle.planning.proofs.no_deletions.Tie as tie
@@ -23,7 +23,7 @@ returns c =
     let i = p.before in
     let x = i.before.args in
     c.no-summary.ensures
-    ∙ no-deletions-is (shape x.g) i.deletion-index.result p.fourth-size.result i.deletion-index.ensures
+    ∙ no_deletions_is (shape x.g) i.deletion-index.result p.fourth-size.result i.deletion-index.ensures
     p.fourth-size.ensures
 
 pub no-deletions-spec : {M : Type 1} → statement M

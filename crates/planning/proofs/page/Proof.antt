@@ -1,7 +1,7 @@
 use native.Mathlib.Omega.{arith}
 use mathlib.Core.Path.{sym, ◌∙◌}
 use Rattle.geometry.specs.Shape.{area}
-use Rattle.planning.specs.Computed.{quotient_le, not_taken, not_left, page-open, page-full}
+use Rattle.planning.specs.Computed.{quotient_le, not_taken, not_left, page_open, page_full}
 use borrow.Author.Rules.{rules}
 use Rattle.planning.proofs.page.Statement.{statement}
 use Rattle.planning.proofs.page.Tie as tie
@@ -24,7 +24,7 @@ add-first c =
     let x = b.before.args in
     let P = b.before.requires in
     let l = quotient_le x.n x.a.per_page P.0.some in
-    omega (arith, l, P.1, P.0.first-most, b.first-sector.ensures, c.page-sectors.ensures)
+    omega (arith, l, P.1, P.0.first_most, b.first-sector.ensures, c.page-sectors.ensures)
 
 fills-requires : tie.Need-fills-requires
 fills-requires c κs = search rules
@@ -35,7 +35,7 @@ returns c =
     let b2 = b1.before in
     let b3 = b2.before.before in
     let x = b3.before.args in
-    page-open (area x.a) x.n b3.first-sector.result b2.page-sectors.result b3.first-sector.ensures
+    page_open (area x.a) x.n b3.first-sector.result b2.page-sectors.result b3.first-sector.ensures
     b2.page-sectors.ensures (sym b1.fills.ensures ∙ not_taken _ c.if1.true)
 
 returns-2 : tie.Need-returns-2
@@ -44,7 +44,7 @@ returns-2 c =
     let b2 = b1.before in
     let b3 = b2.before.before in
     let x = b3.before.args in
-    page-full (area x.a) x.n b3.first-sector.result b2.page-sectors.result b3.first-sector.ensures
+    page_full (area x.a) x.n b3.first-sector.result b2.page-sectors.result b3.first-sector.ensures
     b2.page-sectors.ensures (sym b1.fills.ensures ∙ not_left _ c.if1.false)
 
 pub page-spec : {M : Type 1} → statement M

@@ -1,8 +1,8 @@
 use Prim.Native.Nat.{◌/◌, ◌<◌, ◌≤◌}
 use Rattle.memory.specs.Power.{PowerOfTwo}
-use Rattle.layout.specs.Geometry.{sideBlocks}
-use Rattle.laws.specs.Units.{unit-times}
-use Rattle.planning.specs.Computed.{set-summary-is}
+use Rattle.layout.specs.Geometry.{side_blocks}
+use Rattle.laws.specs.Units.{unit_times}
+use Rattle.planning.specs.Computed.{set_summary_is}
 use borrow.Author.Rules.{rules}
 use Rattle.planning.proofs.set_summary.Statement.{statement}
 use Rattle.planning.proofs.set_summary.Tie as tie
@@ -13,7 +13,7 @@ side-blocks-requires c κs = search rules
 slot-requires : tie.Need-slot-requires
 slot-requires c κs =
     let x = c.before.args in
-    let power : PowerOfTwo c.side-blocks.result = rw c.side-blocks.ensures (unit-times 2 x.chip.unit c.before.requires.0) in
+    let power : PowerOfTwo c.side-blocks.result = rw c.side-blocks.ensures (unit_times 2 x.chip.unit c.before.requires.0) in
     power
 
 div-t9 : tie.Need-nonzero-div-t9
@@ -29,7 +29,7 @@ set-block-requires c κs =
     let P = side.before.requires in
     let x = side.before.args in
     let z-le : x.filters / 8 / 16 / side.side-blocks.result ≤ 1024 = rw side.side-blocks.ensures P.2 in
-    let c_lt : slot.slot.result < sideBlocks x.chip.unit = rw (← side.side-blocks.ensures) slot.slot.ensures.1 in
+    let c_lt : slot.slot.result < side_blocks x.chip.unit = rw (← side.side-blocks.ensures) slot.slot.ensures.1 in
     ((P.0.1.most, P.1), (z-le, c_lt))
 
 first-sector-requires : tie.Need-first-sector-requires
@@ -61,7 +61,7 @@ returns c =
     let b7 = b6.before in
     let b8 = b7.before in
     let x = b8.before.args in
-    set-summary-is x.piece x.index x.filters x.chip.unit b6.flush-segment.result b8.side-blocks.result
+    set_summary_is x.piece x.index x.filters x.chip.unit b6.flush-segment.result b8.side-blocks.result
     b7.slot.result b5.set-block.result b4.first-sector.result b3.set-pages.result b2.page-sectors.result
     b1.side-block.result c.set-blocks.result b6.flush-segment.ensures b8.side-blocks.ensures b7.slot.ensures.0
     b5.set-block.ensures.0 b4.first-sector.ensures b3.set-pages.ensures.0 b2.page-sectors.ensures

@@ -1,5 +1,5 @@
 use mathlib.Core.Path.{sym, ◌∙◌}
-use Rattle.planning.specs.Computed.{not_taken, not_left, no-flush, a-flush, a-set}
+use Rattle.planning.specs.Computed.{not_taken, not_left, no_flush, a_flush, a_set}
 use borrow.Author.Rules.{rules}
 use Rattle.planning.proofs.summary.Statement.{statement}
 use Rattle.planning.proofs.summary.Tie as tie
@@ -16,7 +16,7 @@ returns c =
     let b2 = b1.before in
     let x = b2.before.args in
     c.no-summary.ensures
-    ∙ no-flush x.piece x.index x.filters x.chip.unit (sym b2.fills-ska.ensures ∙ not_taken _ b1.if1.true)
+    ∙ no_flush x.piece x.index x.filters x.chip.unit (sym b2.fills-ska.ensures ∙ not_taken _ b1.if1.true)
 
 flush-number-requires : tie.Need-flush-number-requires
 flush-number-requires c κs = search rules
@@ -35,7 +35,7 @@ returns-2 c =
     let b4 = b3.before in
     let x = b4.before.args in
     c.flush-summary.ensures
-    ∙ a-flush x.piece x.index x.filters x.chip.unit b2.flush-number.result b2.flush-number.ensures
+    ∙ a_flush x.piece x.index x.filters x.chip.unit b2.flush-number.result b2.flush-number.ensures
     (sym b4.fills-ska.ensures ∙ not_left _ b3.if1.false) b1.if2.true
 
 set-summary-requires : tie.Need-set-summary-requires
@@ -49,7 +49,7 @@ returns-3 c =
     let b4 = b3.before in
     let x = b4.before.args in
     c.set-summary.ensures
-    ∙ a-set x.piece x.index x.filters x.chip.unit b2.flush-number.result b2.flush-number.ensures
+    ∙ a_set x.piece x.index x.filters x.chip.unit b2.flush-number.result b2.flush-number.ensures
     (sym b4.fills-ska.ensures ∙ not_left _ b3.if1.false) b1.if2.false
 
 pub summary-spec : {M : Type 1} → statement M

@@ -1,7 +1,7 @@
 use native.Mathlib.Omega.{arith}
 use Rattle.geometry.specs.Shape.{shape, area}
-use Rattle.geometry.specs.Bounds.{deletion-capacity-le}
-use Rattle.planning.specs.Computed.{update-is}
+use Rattle.geometry.specs.Bounds.{deletion_capacity_le}
+use Rattle.planning.specs.Computed.{update_is}
 use borrow.Author.Rules.{rules}
 use Rattle.planning.proofs.update.Statement.{statement}
 use Rattle.planning.proofs.update.Tie as tie
@@ -15,7 +15,7 @@ deletion-area-requires c κs = search rules
 page-requires : tie.Need-page-requires
 page-requires c κs =
     let s = c.before.before in
-    (c.deletion-area.ensures.1, omega (arith, deletion-capacity-le s.args.g s.requires.0, s.requires.1))
+    (c.deletion-area.ensures.1, omega (arith, deletion_capacity_le s.args.g s.requires.0, s.requires.1))
 
 deletion-summary-requires : tie.Need-deletion-summary-requires
 deletion-summary-requires c κs = search rules
@@ -26,7 +26,7 @@ returns c =
     let b2 = b1.before in
     let b3 = b2.before in
     let x = b3.before.args in
-    update-is (shape x.g) x.d x.n b3.insertion.result b1.page.result (area b2.deletion-area.result)
+    update_is (shape x.g) x.d x.n b3.insertion.result b1.page.result (area b2.deletion-area.result)
     c.deletion-summary.result b3.insertion.ensures b2.deletion-area.ensures.0 b1.page.ensures
     c.deletion-summary.ensures
 

@@ -1,7 +1,7 @@
 use borrow.Author.Rules.{rules}
 use mathlib.Core.Path.{refl}
 use Rattle.state.specs.Contract.{volume}
-use Rattle.restart.proofs.RestartLaws.{whole-effect}
+use Rattle.restart.proofs.RestartLaws.{whole_effect}
 use Rattle.restart.proofs.restart.Statement.{statement}
 use Rattle.restart.proofs.restart.Tie as tie
 
@@ -25,7 +25,7 @@ returns c =
     let s = c.before.before.before.before.before.before.before.before.before.before.before.before.before.before in
     let f = c.before.before.before.before.before.before.before.restart-for in
     rw c.uncut.ensures
-    (whole-effect (volume s.args.s s.args.main.now s.args.spare.now s.args.ram.now) _ f.result.refusal f.ensures refl)
+    (whole_effect (volume s.args.s s.args.main.now s.args.spare.now s.args.ram.now) _ f.result.refusal f.ensures refl)
 
 pub restart-spec : {M : Type 1} → statement M
 restart-spec =

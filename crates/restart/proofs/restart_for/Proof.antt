@@ -2,13 +2,13 @@ use borrow.Author.Rules.{rules}
 use mathlib.Core.Path.{◌≡◌, sym, ap, ◌∙◌}
 use Prim.Native.Nat.{◌≤◌}
 use lib.ListN.{length}
-use Rattle.layout.specs.Hash.{fnvFamily}
+use Rattle.layout.specs.Hash.{fnv_family}
 use Rattle.layout.specs.Calls.{Volume}
-use Rattle.layout.specs.Header.{headerSize, pendingIn}
-use Rattle.state.specs.Contract.{volume, stateIs}
-use Rattle.header.specs.Header.{pendingIs}
+use Rattle.layout.specs.Header.{header_size, pending_in}
+use Rattle.state.specs.Contract.{volume, state_is}
+use Rattle.header.specs.Header.{pending_is}
 use Rattle.header.specs.declared.Pending.{Pending}
-use Rattle.restart.proofs.RestartLaws.{short_cut, unknown-cut, none-refused, none_found}
+use Rattle.restart.proofs.RestartLaws.{short_cut, unknown_cut, none_refused, none_found}
 use Rattle.restart.proofs.restart_for.Statement.{statement}
 use Rattle.restart.proofs.restart_for.Tie as tie
 
@@ -22,7 +22,7 @@ refuse-cut-requires c κs = search rules
 returns : tie.Need-returns
 returns c =
     let s = c.before.before.before.before.before in
-    rw c.refuse-cut.ensures (short_cut fnvFamily s.args.budget (handed s) c.before.if1.true)
+    rw c.refuse-cut.ensures (short_cut fnv_family s.args.budget (handed s) c.before.if1.true)
 
 pending-in-requires : tie.Need-pending-in-requires
 pending-in-requires c κs = search rules
@@ -31,11 +31,11 @@ pending-in-requires c κs = search rules
 abbrev start : tie.After-pending-in → tie.Start
 start c = c.before.before.before.before.before.before
 
-long : (c : tie.After-pending-in) → headerSize ≤ length (start c).args.ram.now
+long : (c : tie.After-pending-in) → header_size ≤ length (start c).args.ram.now
 long c = c.before.before.if1.false
 
-pending : (c : tie.After-pending-in) (p : Pending) → c.pending-in.result ≡ p → pendingIn (start c).args.ram.now ≡ pendingIs p
-pending c p e = sym c.pending-in.ensures ∙ ap pendingIs e
+pending : (c : tie.After-pending-in) (p : Pending) → c.pending-in.result ≡ p → pending_in (start c).args.ram.now ≡ pending_is p
+pending c p e = sym c.pending-in.ensures ∙ ap pending_is e
 
 enum_told : tie.Need-enum-told
 enum_told c = search rules
@@ -68,7 +68,7 @@ returns-2 c =
     let j = c.before.before.before.before in
     let f = c.before.before.before.before.before.before.before.before.state-in in
     rw c.refuse-cut2.ensures
-    (none-refused fnvFamily s.args.budget (handed s) (long p) (pending p _ c.before.before.before.before.before.before.before.before.before.before.enum_told.given.1) (stateIs f.result) f.ensures
+    (none_refused fnv_family s.args.budget (handed s) (long p) (pending p _ c.before.before.before.before.before.before.before.before.before.before.enum_told.given.1) (state_is f.result) f.ensures
     c.before.before.i.given.0.0 (sym j.judge.ensures.0 ∙ c.before.before.i.given.1))
 
 enum-told-2 : tie.Need-enum-told-2
@@ -92,8 +92,8 @@ returns-3 c =
     let s = start p in
     let t = c.before.enum-told2 in
     let f = c.before.before.before.before.before.before.before.state-in in
-    rw c.cut-after.ensures
-    (none_found fnvFamily s.args.budget (handed s) (long p) (pending p _ c.before.before.before.before.before.before.before.before.before.enum_told.given.1) (stateIs f.result) f.ensures
+    rw c.cut_after.ensures
+    (none_found fnv_family s.args.budget (handed s) (long p) (pending p _ c.before.before.before.before.before.before.before.before.before.enum_told.given.1) (state_is f.result) f.ensures
     t.given.0.0 (rw t.given.1 at c.before.before.before.judge.ensures.1))
 
 enum-known-q : tie.Need-enum-known-q
@@ -149,7 +149,7 @@ returns-6 : tie.Need-returns-6
 returns-6 c =
     let p = c.before.before.before in
     let s = start p in
-    rw c.refuse-cut3.ensures (unknown-cut fnvFamily s.args.budget (handed s) (long p) (pending p _ c.before.enum-told3.given.1))
+    rw c.refuse-cut3.ensures (unknown_cut fnv_family s.args.budget (handed s) (long p) (pending p _ c.before.enum-told3.given.1))
 
 pub restart-for-spec : {M : Type 1} → statement M
 restart-for-spec =

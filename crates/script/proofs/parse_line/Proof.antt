@@ -1,8 +1,8 @@
 -- The first word is the letter.
 use native.Mathlib.Omega.{arith}
 use mathlib.Core.Path.{◌≡◌, sym, ◌∙◌}
-use Rattle.script.specs.FirstWord.{wordLength}
-use Rattle.script.proofs.Parsing.{no-letter, no_words, letter}
+use Rattle.script.specs.FirstWord.{word_length}
+use Rattle.script.proofs.Parsing.{no_letter, no_words, letter}
 use borrow.Author.Rules.{rules}
 use Rattle.script.proofs.parse_line.Statement.{statement}
 use Rattle.script.proofs.parse_line.Tie as tie
@@ -13,12 +13,12 @@ word-length-requires c κs = search rules
 returns : tie.Need-returns
 returns c =
     let n = c.before.word-length in
-    sym (no-letter c.before.before.before.args.line.now n.result n.ensures.0 n.ensures.1 c.if1.true)
+    sym (no_letter c.before.before.before.args.line.now n.result n.ensures.0 n.ensures.1 c.if1.true)
 
 returns-2 : tie.Need-returns-2
 returns-2 c =
     let l = c.before.before.before.before.args.line.now in
-    let e : 1 ≡ wordLength l = omega (arith, c.before.before.word-length.ensures.0) in
+    let e : 1 ≡ word_length l = omega (arith, c.before.before.word-length.ensures.0) in
     sym (no_words l e c.if2.true)
 
 after-space-requires : tie.Need-after-space-requires
@@ -34,7 +34,7 @@ returns-3 : tie.Need-returns-3
 returns-3 c =
     let l = c.before.before.before.before.before.before.before.args.line.now in
     let n = c.before.before.before.before.before.word-length in
-    let e : 1 ≡ wordLength l = omega (arith, n.ensures.0) in
+    let e : 1 ≡ word_length l = omega (arith, n.ensures.0) in
     let w = c.before.before.after-space in
     c.parse-words.ensures ∙ sym (letter l w.result.now e (omega arith) w.ensures)
 

@@ -1,7 +1,7 @@
 -- One word, two, three, or more.
 use native.Mathlib.Omega.{arith}
 use mathlib.Core.Path.{sym, ◌∙◌}
-use Rattle.script.proofs.Parsing.{one_word, two-words, three-words, more-words}
+use Rattle.script.proofs.Parsing.{one_word, two_words, three_words, more_words}
 use borrow.Author.Rules.{rules}
 use Rattle.script.proofs.parse_words.Statement.{statement}
 use Rattle.script.proofs.parse_words.Tie as tie
@@ -41,7 +41,7 @@ returns-2 c =
     let s = c.before.before.before.before.after-space in
     let b = c.before.before.before.word-length2 in
     c.two-numbers.ensures
-    ∙ rw (c.before.before.before.before.before.before.number_in.ensures, c.before.before.number-in2.ensures) (sym (two-words x.letter x.words.now a.result a.ensures.0 (omega arith) s.result.now s.ensures b.result b.ensures.0 c.before.if2.true))
+    ∙ rw (c.before.before.before.before.before.before.number_in.ensures, c.before.before.number-in2.ensures) (sym (two_words x.letter x.words.now a.result a.ensures.0 (omega arith) s.result.now s.ensures b.result b.ensures.0 c.before.if2.true))
 
 after-space-requires-2 : tie.Need-after-space-requires-2
 after-space-requires-2 c κs = search rules
@@ -57,7 +57,7 @@ returns-3 c =
     let b = c.before.before.before.before.before.word-length2 in
     let t = c.before.before.after-space2 in
     let d = c.before.word-length3 in
-    sym (more-words x.letter x.words.now a.result a.ensures.0 (omega arith) s.result.now s.ensures b.result b.ensures.0 (omega arith) t.result.now t.ensures d.result d.ensures.0 c.if3.true)
+    sym (more_words x.letter x.words.now a.result a.ensures.0 (omega arith) s.result.now s.ensures b.result b.ensures.0 (omega arith) t.result.now t.ensures d.result d.ensures.0 c.if3.true)
 
 number-in-requires-3 : tie.Need-number-in-requires-3
 number-in-requires-3 c κs = search rules
@@ -74,7 +74,7 @@ returns-4 c =
     let t = c.before.before.before.before.after-space2 in
     let d = c.before.before.before.word-length3 in
     c.three-numbers.ensures
-    ∙ rw (c.before.before.before.before.before.before.before.before.before.before.number_in.ensures, c.before.before.before.before.before.before.number-in2.ensures, c.before.number-in3.ensures) (sym (three-words x.letter x.words.now a.result a.ensures.0 (omega arith) s.result.now s.ensures b.result b.ensures.0 (omega arith) t.result.now t.ensures d.result d.ensures.0 (omega arith)))
+    ∙ rw (c.before.before.before.before.before.before.before.before.before.before.number_in.ensures, c.before.before.before.before.before.before.number-in2.ensures, c.before.number-in3.ensures) (sym (three_words x.letter x.words.now a.result a.ensures.0 (omega arith) s.result.now s.ensures b.result b.ensures.0 (omega arith) t.result.now t.ensures d.result d.ensures.0 (omega arith)))
 
 pub parse-words-spec : {M : Type 1} → statement M
 parse-words-spec =

@@ -4,14 +4,14 @@ use mathlib.Core.Path.{◌≡◌, refl, sym, ap, ◌∙◌}
 use Prim.Native.Nat.{◌+◌, ◌*◌, ◌-◌, ◌≤◌, ◌<◌}
 use borrow.Author.Tests.{lt-ltb}
 use lib.ListN.{length, drop}
-use Rattle.text.specs.Text.{digitsFrom}
+use Rattle.text.specs.Text.{digits_from}
 use Rattle.script.specs.Lines.{small}
-use Rattle.script.specs.ReadNumber.{digits_more, digits_low, digits-high, digits-end, stays-large}
+use Rattle.script.specs.ReadNumber.{digits_more, digits_low, digits_high, digits_end, stays_large}
 use Rattle.script.proofs.read_digits.Statement.{statement}
 use Rattle.script.proofs.read_digits.Tie as tie
 
 abbrev invariant-loop : tie.invariant-loop
-invariant-loop word v₀ i₀ v i = (i ≤ length word) × (v < 4294967296) × (small (digitsFrom 0 word) ≡ small (digitsFrom v (drop i word)))
+invariant-loop word v₀ i₀ v i = (i ≤ length word) × (v < 4294967296) × (small (digits_from 0 word) ≡ small (digits_from v (drop i word)))
 
 abbrev decreases-loop : tie.decreases-loop
 decreases-loop word v₀ i₀ v i = length word - i
@@ -32,7 +32,7 @@ returns-2 : tie.Need-returns-2 invariant-loop decreases-loop
 returns-2 c =
     let l = c.before.before.before.before in
     let s = l.before.before.args.word.now in
-    sym (l.loop.invariant.2 ∙ ap small (digits-high l.loop.v l.loop.i s (omega arith) c.if2.true))
+    sym (l.loop.invariant.2 ∙ ap small (digits_high l.loop.v l.loop.i s (omega arith) c.if2.true))
 
 mul-v : tie.Need-overflow-mul-v invariant-loop decreases-loop
 mul-v c = omega arith
@@ -47,7 +47,7 @@ add-v c = omega arith
 step : (c : tie.After-digit-value invariant-loop decreases-loop)
     → let l = c.before.before.before.before.before in
     let s = l.before.before.args.word.now in
-    small (digitsFrom 0 s) ≡ small (digitsFrom (l.loop.v * 10 + c.digit_value.result) (drop (l.loop.i + 1) s))
+    small (digits_from 0 s) ≡ small (digits_from (l.loop.v * 10 + c.digit_value.result) (drop (l.loop.i + 1) s))
 step c =
     let l = c.before.before.before.before.before in
     let s = l.before.before.args.word.now in
@@ -58,7 +58,7 @@ returns-3 c =
     let e = c.before in
     let l = e.before.before.before.before.before in
     let s = l.before.before.args.word.now in
-    sym (step e ∙ stays-large (l.loop.v * 10 + e.digit_value.result) (drop (l.loop.i + 1) s) c.if3.true)
+    sym (step e ∙ stays_large (l.loop.v * 10 + e.digit_value.result) (drop (l.loop.i + 1) s) c.if3.true)
 
 add-i : tie.Need-overflow-add-i invariant-loop decreases-loop
 add-i c = omega arith
@@ -76,7 +76,7 @@ returns-4 : tie.Need-returns-4 invariant-loop decreases-loop
 returns-4 c =
     let l = c.before in
     let s = l.before.before.args.word.now in
-    sym (l.loop.invariant.2 ∙ rw (digits-end l.loop.v l.loop.i s (omega arith), lt-ltb l.loop.v 4294967296 (omega arith)))
+    sym (l.loop.invariant.2 ∙ rw (digits_end l.loop.v l.loop.i s (omega arith), lt-ltb l.loop.v 4294967296 (omega arith)))
 
 pub read-digits-spec : {M : Type 1} → statement M
 read-digits-spec =

@@ -1,25 +1,25 @@
 -- Two digits or more do not begin with 0.
 use native.Mathlib.Omega.{arith}
 use mathlib.Core.Path.{sym, ◌∙◌}
-use Rattle.script.specs.ReadNumber.{number-empty, number-one, number-zero, number_more}
+use Rattle.script.specs.ReadNumber.{number_empty, number_one, number_zero, number_more}
 use borrow.Author.Rules.{rules}
 use Rattle.script.proofs.read_number.Statement.{statement}
 use Rattle.script.proofs.read_number.Tie as tie
 
 returns : tie.Need-returns
-returns c = sym (number-empty c.before.before.args.word.now c.if1.true)
+returns c = sym (number_empty c.before.before.args.word.now c.if1.true)
 
 read-digits-requires : tie.Need-read-digits-requires
 read-digits-requires c κs = search rules
 
 returns-2 : tie.Need-returns-2
-returns-2 c = c.read-digits.ensures ∙ sym (number-one c.before.before.before.before.args.word.now c.before.if2.true)
+returns-2 c = c.read-digits.ensures ∙ sym (number_one c.before.before.before.before.args.word.now c.before.if2.true)
 
 shared-slice-read-if3 : tie.Need-shared-slice-read-if3
 shared-slice-read-if3 c = search rules
 
 returns-3 : tie.Need-returns-3
-returns-3 c = sym (number-zero c.before.before.before.before.before.args.word.now (omega arith) c.if3.true)
+returns-3 c = sym (number_zero c.before.before.before.before.before.args.word.now (omega arith) c.if3.true)
 
 read-digits-requires-2 : tie.Need-read-digits-requires-2
 read-digits-requires-2 c κs = search rules

@@ -3,12 +3,12 @@ use native.Mathlib.Omega.{arith}
 use mathlib.Core.Path.{◌≡◌, sym, ◌∙◌}
 use Prim.Native.Nat.{◌+◌, ◌-◌, ◌≤◌}
 use lib.ListN.{length, drop}
-use Rattle.script.specs.FirstWord.{wordLength, word-space, word_more, word_end}
+use Rattle.script.specs.FirstWord.{word_length, word_space, word_more, word_end}
 use Rattle.script.proofs.word_length.Statement.{statement}
 use Rattle.script.proofs.word_length.Tie as tie
 
 abbrev invariant-loop : tie.invariant-loop
-invariant-loop line i₀ i = (i ≤ length line) × (wordLength line ≡ i + wordLength (drop i line))
+invariant-loop line i₀ i = (i ≤ length line) × (word_length line ≡ i + word_length (drop i line))
 
 abbrev decreases-loop : tie.decreases-loop
 decreases-loop line i₀ i = length line - i
@@ -22,7 +22,7 @@ shared-slice-read-if1 c = omega arith
 returns : tie.Need-returns invariant-loop decreases-loop
 returns c =
     let l = c.before.before.before in
-    (sym (l.loop.invariant.1 ∙ word-space l.loop.i l.before.args.line.now (omega arith) c.if1.true), omega arith)
+    (sym (l.loop.invariant.1 ∙ word_space l.loop.i l.before.args.line.now (omega arith) c.if1.true), omega arith)
 
 add-i : tie.Need-overflow-add-i invariant-loop decreases-loop
 add-i c = omega arith

@@ -5,14 +5,14 @@ use mathlib.Core.Bool.{Bool}
 use mathlib.Core.Option.{Option}
 use Prim.Native.Nat.{ℕ, ◌<◌}
 use Rattle.layout.specs.Search.{Stop}
-use Rattle.layout.specs.Hash.{fnvFamily}
-use Rattle.layout.specs.Calls.{testDeletion}
+use Rattle.layout.specs.Hash.{fnv_family}
+use Rattle.layout.specs.Calls.{test_deletion}
 use Rattle.geometry.specs.Shape.{shape}
 use Rattle.deletions.specs.Test.{tested_of}
-use Rattle.keys.specs.Key.{keyIs}
-use Rattle.search.specs.Find.{viewed, tryIn, costIn, deletedOf, testCost}
-use Rattle.search.proofs.Entries.{Same, Left, left-none, left-first, left-corrupt, left-most, left-found, left-next, left_less}
-use Rattle.search.proofs.Volume.{same_bytes, tested-met, tested-opened, test_fits, test-viewed, row-most}
+use Rattle.keys.specs.Key.{key_is}
+use Rattle.search.specs.Find.{viewed, try_in, cost_in, deleted_of, test_cost}
+use Rattle.search.proofs.Entries.{Same, Left, left_none, left_first, left_corrupt, left_most, left_found, left_next, left_less}
+use Rattle.search.proofs.Volume.{same_bytes, tested_met, tested_opened, test_fits, test_viewed, row_most}
 use borrow.Author.Rules.{rules}
 use borrow.Author.Tests.{not-true, not-false}
 use Rattle.search.proofs.in_page.Statement.{statement}
@@ -20,7 +20,7 @@ use Rattle.search.proofs.in_page.Tie as tie
 
 abbrev invariant-loop : tie.invariant-loop
 invariant-loop v key start count page main ram da₀ e₀ da e =
-    Left page start (keyIs key) (tryIn v main ram (keyIs key) page start) (costIn v main ram (keyIs key) page start) 0 count 0 e da
+    Left page start (key_is key) (try_in v main ram (key_is key) page start) (cost_in v main ram (key_is key) page start) 0 count 0 e da
 
 abbrev decreases-loop : tie.decreases-loop
 decreases-loop v key start count page main ram da₀ e₀ da e = e
@@ -31,19 +31,19 @@ abbrev Start : Type 0
 Start = tie.Start invariant-loop decreases-loop
 
 abbrev try-at : Start → ℕ → Option Stop
-try-at b = tryIn b.args.v b.args.main.now b.args.ram.now (keyIs b.args.key) b.args.page.now b.args.start
+try-at b = try_in b.args.v b.args.main.now b.args.ram.now (key_is b.args.key) b.args.page.now b.args.start
 
 abbrev cost-at : Start → ℕ → ℕ
-cost-at b = costIn b.args.v b.args.main.now b.args.ram.now (keyIs b.args.key) b.args.page.now b.args.start
+cost-at b = cost_in b.args.v b.args.main.now b.args.ram.now (key_is b.args.key) b.args.page.now b.args.start
 
 abbrev deleted-at : Start → ℕ → Bool
-deleted-at b = deletedOf b.args.v b.args.main.now b.args.ram.now
+deleted-at b = deleted_of b.args.v b.args.main.now b.args.ram.now
 
 abbrev test_at : Start → ℕ → ℕ
-test_at b = testCost b.args.v b.args.main.now b.args.ram.now
+test_at b = test_cost b.args.v b.args.main.now b.args.ram.now
 
-same_at : (b : Start) → Same b.args.page.now b.args.start b.args.count b.args.v.n0 (keyIs b.args.key) (deleted-at b) (test_at b) (try-at b) (cost-at b) 0
-same_at b = same_bytes b.args.v b.args.main.now b.args.ram.now (keyIs b.args.key) b.args.page.now b.args.start b.args.count
+same_at : (b : Start) → Same b.args.page.now b.args.start b.args.count b.args.v.n0 (key_is b.args.key) (deleted-at b) (test_at b) (try-at b) (cost-at b) 0
+same_at b = same_bytes b.args.v b.args.main.now b.args.ram.now (key_is b.args.key) b.args.page.now b.args.start b.args.count
 
 abbrev start_of : tie.At-loop invariant-loop decreases-loop → Start
 start_of l = l.before.before.before.before.before
@@ -54,7 +54,7 @@ find-entry-requires c κs = c.before.before.before.requires.1
 loop-holds : tie.Need-loop-init invariant-loop decreases-loop
 loop-holds c =
     let b = c.before.before.before.before in
-    left-first (same_at b) 0 c.find-entry.result c.find-entry.ensures
+    left_first (same_at b) 0 c.find-entry.result c.find-entry.ensures
 
 sub-k : tie.Need-overflow-sub-k invariant-loop decreases-loop
 sub-k c = omega arith
@@ -72,7 +72,7 @@ returns c =
     let N = c.before.before.before in
     let l = N.before.before in
     let b = start_of l in
-    let e = left-corrupt (same_at b) l.loop.invariant (omega arith) N.number_at.ensures
+    let e = left_corrupt (same_at b) l.loop.invariant (omega arith) N.number_at.ensures
     (omega (arith, c.before.before.usize-of-u32.ensures)) in
     (sym e.0, omega (arith, e.1))
 
@@ -103,21 +103,21 @@ number_lt D = omega (arith, (wide_of D).usize-of-u32.ensures, D.before.before.if
 
 -- the test is of the view's deletions
 told : (D : Tests) → let x = (start_of (loop-of D)).args in let j = (number_of D).number_at.result in
-    tested_of j D.test.result ≡ testDeletion fnvFamily (shape x.v.g) (viewed x.v x.main.now x.ram.now) x.v.d0 j
+    tested_of j D.test.result ≡ test_deletion fnv_family (shape x.v.g) (viewed x.v x.main.now x.ram.now) x.v.d0 j
 told D =
     let x = (start_of (loop-of D)).args in
-    rw D.before.deletions-of.ensures at D.test.ensures ∙ test-viewed x.v x.main.now x.ram.now (number_of D).number_at.result
+    rw D.before.deletions-of.ensures at D.test.ensures ∙ test_viewed x.v x.main.now x.ram.now (number_of D).number_at.result
 
 -- what it says of the view's deletions
 told-met : (D : Tests) → D.test.result.met ≡ deleted-at (start_of (loop-of D)) (number_of D).number_at.result
 told-met D =
     let x = (start_of (loop-of D)).args in
-    tested-met x.v x.main.now x.ram.now (number_of D).number_at.result D.test.result (told D)
+    tested_met x.v x.main.now x.ram.now (number_of D).number_at.result D.test.result (told D)
 
 told-opened : (D : Tests) → D.test.result.opened ≡ test_at (start_of (loop-of D)) (number_of D).number_at.result
 told-opened D =
     let x = (start_of (loop-of D)).args in
-    tested-opened x.v x.main.now x.ram.now (number_of D).number_at.result D.test.result (told D)
+    tested_opened x.v x.main.now x.ram.now (number_of D).number_at.result D.test.result (told D)
 
 cast-da-pages : tie.Need-overflow-cast-da-pages invariant-loop decreases-loop
 cast-da-pages c = search rules
@@ -131,9 +131,9 @@ add-da-pages c =
     let x = b.args in
     omega (
       arith,
-      left-most (same_at b) l.loop.inv N.before.loop-test.taken N.number_at.ensures (number_lt D),
+      left_most (same_at b) l.loop.inv N.before.loop-test.taken N.number_at.ensures (number_lt D),
       told-opened D,
-      row-most b.pre.0 (keyIs x.key) x.page.now x.start x.count b.pre.2,
+      row_most b.pre.0 (key_is x.key) x.page.now x.start x.count b.pre.2,
     )
 
 returns-2 : tie.Need-returns-2 invariant-loop decreases-loop
@@ -142,7 +142,7 @@ returns-2 c =
     let N = number_of D in
     let l = loop-of D in
     let b = start_of l in
-    let e = left-found (same_at b) l.loop.inv N.before.loop-test.taken N.number_at.ensures (number_lt D)
+    let e = left_found (same_at b) l.loop.inv N.before.loop-test.taken N.number_at.ensures (number_lt D)
     D.test.result.met D.test.result.opened (told-met D) (told-opened D) (not-true D.test.result.met c.if2.true) in
     (sym e.0, omega (arith, e.1))
 
@@ -166,14 +166,14 @@ loop-again c =
     let N = number_of D in
     let l = loop-of D in
     let b = start_of l in
-    left-next (same_at b) l.loop.inv N.before.loop-test.taken N.number_at.ensures (number_lt D)
+    left_next (same_at b) l.loop.inv N.before.loop-test.taken N.number_at.ensures (number_lt D)
     D.test.result.met D.test.result.opened (told-met D) (told-opened D) c.find-entry2.result
     (not-false D.test.result.met c.before.if2.false) c.find-entry2.ensures
 
 returns-3 : tie.Need-returns-3 invariant-loop decreases-loop
 returns-3 c =
     let l = c.before in
-    let e = left-none l.loop.invariant (omega arith) in
+    let e = left_none l.loop.invariant (omega arith) in
     (sym e.0, omega (arith, e.1))
 
 pub in-page-spec : {M : Type 1} → statement M

@@ -5,32 +5,32 @@ use mathlib.Core.Path.{◌≡◌, refl, sym, ap, ◌∙◌}
 use Prim.Native.Nat.{ℕ, ◌-◌, ◌<◌}
 use Rattle.memory.specs.Bits.{bit}
 use Rattle.memory.specs.Cases.{either, lt?}
-use Rattle.keys.specs.Key.{keyIs}
-use Rattle.search.specs.Tries.{newestIn, entry_of}
-use Rattle.search.proofs.Tries.{newest-some, newest-le}
+use Rattle.keys.specs.Key.{key_is}
+use Rattle.search.specs.Tries.{newest_in, entry_of}
+use Rattle.search.proofs.Tries.{newest_some, newest_le}
 use Rattle.search.proofs.next_with_key.Statement.{statement}
 use Rattle.search.proofs.next_with_key.Tie as tie
 
 -- the newest with an entry, plus one
 abbrev newest : tie.Start → ℕ
-newest b = newestIn b.args.g (keyIs b.args.key) b.args.from b.args.bits b.args.main.now
+newest b = newest_in b.args.g (key_is b.args.key) b.args.from b.args.bits b.args.main.now
 
 abbrev Opened : Type 0
 Opened = tie.After-next-page
 
 -- an entry was found if and only if there is one
-found : (c : Opened) → 0 < newest c.before.before → 0 < c.next-page.result.entry
+found : (c : Opened) → 0 < newest c.before.before → 0 < c.next_page.result.entry
 found c h =
     let x = c.before.before.args in
-    omega (arith, (c.next-page.ensures.some h).1, newest-some (bit x.bits) (entry_of x.g (keyIs x.key) x.from x.main.now) 64 h)
+    omega (arith, (c.next_page.ensures.some h).1, newest_some (bit x.bits) (entry_of x.g (key_is x.key) x.from x.main.now) 64 h)
 
-there : (c : Opened) → 0 < c.next-page.result.entry → 0 < newest c.before.before
-there c h = either (lt? 0 (newest c.before.before)) (λ t. t.1) (λ t. absurd (omega (arith, (c.next-page.ensures.none (omega (arith, t.1))).1)))
+there : (c : Opened) → 0 < c.next_page.result.entry → 0 < newest c.before.before
+there c h = either (lt? 0 (newest c.before.before)) (λ t. t.1) (λ t. absurd (omega (arith, (c.next_page.ensures.none (omega (arith, t.1))).1)))
 
-page-lt : (c : Opened) → 0 < c.next-page.result.entry → c.next-page.result.page < 64
+page-lt : (c : Opened) → 0 < c.next_page.result.entry → c.next_page.result.page < 64
 page-lt c h =
     let x = c.before.before.args in
-    omega (arith, (c.next-page.ensures.some (there c h)).0, there c h, newest-le (bit x.bits) (entry_of x.g (keyIs x.key) x.from x.main.now) 64)
+    omega (arith, (c.next_page.ensures.some (there c h)).0, there c h, newest_le (bit x.bits) (entry_of x.g (key_is x.key) x.from x.main.now) 64)
 
 next-page-requires : tie.Need-next-page-requires
 next-page-requires c κs = search rules
@@ -38,7 +38,7 @@ next-page-requires c κs = search rules
 returns : tie.Need-returns
 returns c =
     let o = c.before in
-    let P = o.next-page.ensures in
+    let P = o.next_page.ensures in
     let z : newest o.before.before ≡ 0 = either (lt? 0 (newest o.before.before)) (λ t. absurd (omega (arith, found o t.1, c.if1.true))) (λ t. omega (arith, t.1)) in
     record {
       pages = record { left = λ i h. sym (ap (λ (y : ℕ). bit y i) (P.none z).0) ∙ P.pages.left i h; opened = P.pages.opened };
@@ -61,7 +61,7 @@ returns-2 : tie.Need-returns-2
 returns-2 c =
     let e = c.before.before in
     let o = e.before in
-    let P = o.next-page.ensures in
+    let P = o.next_page.ensures in
     let h = there o (omega (arith, e.if1.false)) in
     record {
       pages = P.pages;

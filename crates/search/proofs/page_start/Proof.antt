@@ -12,7 +12,7 @@ block-address-requires : tie.Need-block-address-requires
 block-address-requires c κs =
     let x = c.before.args in
     let s = c.before.requires.0 in
-    let k = product_le x.g.ra x.g.chip.unit 4096 32 s.ra-most s.unit.1.most in
+    let k = product_le x.g.ra x.g.chip.unit 4096 32 s.ra_most s.unit.1.most in
     (s.unit.1.most, rw c.ka-block.ensures (omega (arith, k)))
 
 page-address-requires : tie.Need-page-address-requires
@@ -26,7 +26,7 @@ add-result c =
     let B = c.before.before.before in
     let x = B.args in
     let s = B.requires.0 in
-    let k = product_le x.g.ra x.g.chip.unit 4096 32 s.ra-most s.unit.1.most in
+    let k = product_le x.g.ra x.g.chip.unit 4096 32 s.ra_most s.unit.1.most in
     let l = product_le x.p x.g.chip.unit 262144 32 B.requires.1 s.unit.1.most in
     rw (c.page-address.ensures, c.before.block-address.ensures, c.before.before.ka-block.ensures) (omega (arith, k, l))
 

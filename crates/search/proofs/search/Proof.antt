@@ -4,15 +4,15 @@ use mathlib.Core.Path.{◌≡◌, ap, ◌∙◌}
 use mathlib.Core.Option.{none, some}
 use Prim.Native.Nat.{ℕ, ◌+◌, ◌*◌, ◌%◌, ◌<◌}
 use lib.ListN.{take}
-use Rattle.layout.specs.Keys.{keyBytes}
-use Rattle.layout.specs.Hash.{fnvFamily}
+use Rattle.layout.specs.Keys.{key_bytes}
+use Rattle.layout.specs.Hash.{fnv_family}
 use Rattle.layout.specs.Search.{Stop, found, corrupt, reply, scan}
-use Rattle.layout.specs.Calls.{searchAt, daPagesAt}
-use Rattle.laws.specs.Positions.{take-positions}
+use Rattle.layout.specs.Calls.{search_at, da_pages_at}
+use Rattle.laws.specs.Positions.{take_positions}
 use Rattle.geometry.specs.Shape.{shape}
-use Rattle.keys.specs.Key.{keyIs}
-use Rattle.search.specs.Find.{viewed, tryOf}
-use Rattle.search.proofs.Volume.{perPage, pagesThen, search_is, search-cost, search-open, cost-open, all_most}
+use Rattle.keys.specs.Key.{key_is}
+use Rattle.search.specs.Find.{viewed, try_of}
+use Rattle.search.proofs.Volume.{per_page, pages_then, search_is, search_cost, search_open, cost_open, all_most}
 use borrow.Author.Rules.{rules}
 use Rattle.search.proofs.search.Statement.{statement}
 use Rattle.search.proofs.search.Tie as tie
@@ -33,10 +33,10 @@ returns c =
     let s = O.before.before.before in
     let x = s.args in
     let e = rw Q.before.enum_told.given.1 at O.in-open.ensures.0 in
-    let some_fit : 0 < perPage x.v = omega (arith, s.requires.sound.unit.1.some) in
+    let some_fit : 0 < per_page x.v = omega (arith, s.requires.sound.unit.1.some) in
     let few = rw Q.entries-per-page.ensures at c.if1.true in (
-      search-open x.v x.main.now x.ram.now (keyIs x.key) some_fit few e,
-      cost-open x.v x.main.now x.ram.now (keyIs x.key) some_fit few e O.in-open.result.da_pages O.in-open.ensures.1,
+      search_open x.v x.main.now x.ram.now (key_is x.key) some_fit few e,
+      cost_open x.v x.main.now x.ram.now (key_is x.key) some_fit few e O.in-open.result.da_pages O.in-open.ensures.1,
     )
 
 of-key-requires : tie.Need-of-key-requires
@@ -45,12 +45,12 @@ of-key-requires c κs = search rules
 positions-requires : tie.Need-positions-requires
 positions-requires c κs =
     let sound = c.before.before.before.before.before.before.before.before.before.requires.sound in
-    (sound.unit, omega (arith, sound.k-most))
+    (sound.unit, omega (arith, sound.k_most))
 
 in-pages-requires : tie.Need-in-pages-requires
 in-pages-requires c κs =
     let pre = c.before.before.before.before.before.before.before.before.before.before.requires in
-    (pre, record { some = omega (arith, pre.sound.k-some); few = omega (arith, pre.sound.k-most); within = c.positions.ensures.1 })
+    (pre, record { some = omega (arith, pre.sound.k_some); few = omega (arith, pre.sound.k_most); within = c.positions.ensures.1 })
 
 add-t18 : tie.Need-overflow-add-t18
 add-t18 c =
@@ -60,7 +60,7 @@ add-t18 c =
     let x = s.args in
     omega (
       arith,
-      all_most s.requires (keyIs x.key) O.in-open.result.da_pages I.in-pages.result.da_pages
+      all_most s.requires (key_is x.key) O.in-open.result.da_pages I.in-pages.result.da_pages
           (take x.v.g.hashes I.before.positions.result) O.in-open.ensures.1 I.in-pages.ensures.1,
     )
 
@@ -73,23 +73,23 @@ returns-2 c =
     let O = Q.before.before.before in
     let x = O.before.before.before.args in
     let e = rw Q.before.enum_told.given.1 at O.in-open.ensures.0 in
-    let positions = take-positions fnvFamily x.v.g.hashes x.v.g.chip.unit (keyBytes (keyIs x.key)) in
+    let positions = take_positions fnv_family x.v.g.hashes x.v.g.chip.unit (key_bytes (key_is x.key)) in
     let f = rw (P.positions.ensures.0, N.of-key.ensures, positions) at I.in-pages.ensures.0 in
     let d = rw (P.positions.ensures.0, N.of-key.ensures, positions) at I.in-pages.ensures.1 in (
-      f ∙ search_is x.v x.main.now x.ram.now (keyIs x.key) none e,
+      f ∙ search_is x.v x.main.now x.ram.now (key_is x.key) none e,
       ap (λ (k : ℕ). O.in-open.result.da_pages + k) d
-          ∙ search-cost x.v x.main.now x.ram.now (keyIs x.key) none O.in-open.result.da_pages e O.in-open.ensures.1,
+          ∙ search_cost x.v x.main.now x.ram.now (key_is x.key) none O.in-open.result.da_pages e O.in-open.ensures.1,
     )
 
 -- it ended before the full pages
 ended : (O : tie.After-in-open) (r : Stop) → let x = O.before.before.before.args in
-    some r ≡ scan (tryOf x.v x.main.now x.ram.now (keyIs x.key)) (pagesThen x.v * perPage x.v) (x.v.n0 % perPage x.v)
-    → (reply (some r) 0 ≡ searchAt fnvFamily (shape x.v.g) (viewed x.v x.main.now x.ram.now) x.v.n0 x.v.d0 (keyIs x.key))
-    × (O.in-open.result.da_pages ≡ daPagesAt fnvFamily (shape x.v.g) (viewed x.v x.main.now x.ram.now) x.v.n0 x.v.d0 (keyIs x.key))
+    some r ≡ scan (try_of x.v x.main.now x.ram.now (key_is x.key)) (pages_then x.v * per_page x.v) (x.v.n0 % per_page x.v)
+    → (reply (some r) 0 ≡ search_at fnv_family (shape x.v.g) (viewed x.v x.main.now x.ram.now) x.v.n0 x.v.d0 (key_is x.key))
+    × (O.in-open.result.da_pages ≡ da_pages_at fnv_family (shape x.v.g) (viewed x.v x.main.now x.ram.now) x.v.n0 x.v.d0 (key_is x.key))
 ended O r e =
     let x = O.before.before.before.args in (
-      search_is x.v x.main.now x.ram.now (keyIs x.key) (some r) e,
-      omega (arith, search-cost x.v x.main.now x.ram.now (keyIs x.key) (some r) O.in-open.result.da_pages e O.in-open.ensures.1),
+      search_is x.v x.main.now x.ram.now (key_is x.key) (some r) e,
+      omega (arith, search_cost x.v x.main.now x.ram.now (key_is x.key) (some r) O.in-open.result.da_pages e O.in-open.ensures.1),
     )
 
 enum-known-end : tie.Need-enum-known-end

@@ -4,9 +4,9 @@ use mathlib.Core.Bool.{true}
 use Rattle.layout.specs.Geometry.{allowed}
 use Rattle.layout.specs.Calls.{Volume}
 use Rattle.layout.specs.Header.{pages}
-use Rattle.geometry.specs.Shape.{Sound, sizesIs, geometryFor}
+use Rattle.geometry.specs.Shape.{Sound, sizes_is, geometry_for}
 use Rattle.state.specs.Contract.{volume}
-use Rattle.state.proofs.Laws.{shaped-bad, shaped-good, judge-shape, judge-counts, judge-short, judge-good, fits-of}
+use Rattle.state.proofs.Laws.{shaped_bad, shaped_good, judge_shape, judge_counts, judge_short, judge_good, fits_of}
 use Rattle.state.proofs.judge.Statement.{statement}
 use Rattle.state.proofs.judge.Tie as tie
 
@@ -26,19 +26,19 @@ returns : tie.Need-returns
 returns c =
     let G = c.before.before in
     let v = handed G in
-    let bad = shaped-bad (allowed v.state.sizes) v.state.sizes G.geometry-for.result G.geometry-for.ensures.0 c.enum_told.given.1 in
-    (sym (judge-shape v bad), tt)
+    let bad = shaped_bad (allowed v.state.sizes) v.state.sizes G.geometry-for.result G.geometry-for.ensures.0 c.enum_told.given.1 in
+    (sym (judge_shape v bad), tt)
 
 enum-known-g : tie.Need-enum-known-g
 enum-known-g c = search rules
 
 -- the geometry of allowed sizes
 good : (c : tie.After-g)
-    → (allowed (handed c.before.before).state.sizes ≡ true) × (c.g.given.0.0 ≡ geometryFor (handed c.before.before).state.sizes)
+    → (allowed (handed c.before.before).state.sizes ≡ true) × (c.g.given.0.0 ≡ geometry_for (handed c.before.before).state.sizes)
 good c =
     let G = c.before.before in
     let sizes = (handed G).state.sizes in
-    shaped-good (allowed sizes) sizes G.geometry-for.result c.g.given.0.0 G.geometry-for.ensures.0 c.g.given.1
+    shaped_good (allowed sizes) sizes G.geometry-for.result c.g.given.0.0 G.geometry-for.ensures.0 c.g.given.1
 
 is-sound : (c : tie.After-g) → Sound c.g.given.0.0
 is-sound c = rw c.g.given.1 at c.before.before.geometry-for.ensures.1
@@ -49,7 +49,7 @@ counts-bad-requires c κs = is-sound c.before
 returns-2 : tie.Need-returns-2
 returns-2 c =
     let K = c.before.before.before in
-    (sym (judge-counts (handed K.before.before) K.g.given.0.0 (good K).0 (good K).1 (sym c.before.counts-bad.ensures ∙ c.if1.true)), tt)
+    (sym (judge_counts (handed K.before.before) K.g.given.0.0 (good K).0 (good K).1 (sym c.before.counts-bad.ensures ∙ c.if1.true)), tt)
 
 too-short-requires : tie.Need-too-short-requires
 too-short-requires c κs = is-sound c.before.before.before
@@ -58,7 +58,7 @@ returns-3 : tie.Need-returns-3
 returns-3 c =
     let E = c.before.before in
     let K = E.before.before.before in
-    (sym (judge-short (handed K.before.before) K.g.given.0.0 (good K).0 (good K).1 (sym E.before.counts-bad.ensures ∙ E.if1.false) (sym c.before.too_short.ensures ∙ c.if2.true)), tt)
+    (sym (judge_short (handed K.before.before) K.g.given.0.0 (good K).0 (good K).1 (sym E.before.counts-bad.ensures ∙ E.if1.false) (sym c.before.too_short.ensures ∙ c.if2.true)), tt)
 
 returns-4 : tie.Need-returns-4
 returns-4 c =
@@ -67,7 +67,7 @@ returns-4 c =
     let v = handed K.before.before in
     let counts = sym E.before.counts-bad.ensures ∙ E.if1.false in
     let enough = sym c.before.too_short.ensures ∙ c.if2.false in
-    (judge-good v K.g.given.0.0 (good K).0 (good K).1 counts enough, fits-of v K.g.given.0.0 (good K).0 (good K).1 (is-sound K) counts enough)
+    (judge_good v K.g.given.0.0 (good K).0 (good K).1 counts enough, fits_of v K.g.given.0.0 (good K).0 (good K).1 (is-sound K) counts enough)
 
 pub judge-spec : {M : Type 1} → statement M
 judge-spec =

@@ -2,15 +2,15 @@ use borrow.Author.Rules.{rules}
 use mathlib.Core.Path.{◌≡◌, sym, ◌∙◌}
 use mathlib.Core.Bool.{true}
 use Rattle.layout.specs.Geometry.{Sizes, allowed}
-use Rattle.layout.specs.Flash.{flashOf}
+use Rattle.layout.specs.Flash.{flash_of}
 use Rattle.layout.specs.Header.{pages}
-use Rattle.geometry.specs.Shape.{Sound, sizesIs, geometryFor}
-use Rattle.state.proofs.Laws.{shaped-bad, shaped-good, new-shape, new-short, new-good, new-of}
+use Rattle.geometry.specs.Shape.{Sound, sizes_is, geometry_for}
+use Rattle.state.proofs.Laws.{shaped_bad, shaped_good, new_shape, new_short, new_good, new_of}
 use Rattle.state.proofs.judge_new.Statement.{statement}
 use Rattle.state.proofs.judge_new.Tie as tie
 
 abbrev named : tie.After-geometry-for → Sizes
-named c = sizesIs c.before.before.before.before.args.sizes
+named c = sizes_is c.before.before.before.before.args.sizes
 
 geometry-for-requires : tie.Need-geometry-for-requires
 geometry-for-requires c κs = search rules
@@ -22,17 +22,17 @@ returns : tie.Need-returns
 returns c =
     let G = c.before.before in
     let x = G.before.before.before.before.args in
-    let bad = shaped-bad (allowed (named G)) (named G) G.geometry-for.result G.geometry-for.ensures.0 c.enum_told.given.1 in
-    (sym (new-shape (named G) (flashOf x.main.now x.spare.now) (pages x.ram.now) bad), tt)
+    let bad = shaped_bad (allowed (named G)) (named G) G.geometry-for.result G.geometry-for.ensures.0 c.enum_told.given.1 in
+    (sym (new_shape (named G) (flash_of x.main.now x.spare.now) (pages x.ram.now) bad), tt)
 
 enum-known-g : tie.Need-enum-known-g
 enum-known-g c = search rules
 
 -- the geometry of allowed sizes
-good : (c : tie.After-g) → (allowed (named c.before.before) ≡ true) × (c.g.given.0.0 ≡ geometryFor (named c.before.before))
+good : (c : tie.After-g) → (allowed (named c.before.before) ≡ true) × (c.g.given.0.0 ≡ geometry_for (named c.before.before))
 good c =
     let G = c.before.before in
-    shaped-good (allowed (named G)) (named G) G.geometry-for.result c.g.given.0.0 G.geometry-for.ensures.0 c.g.given.1
+    shaped_good (allowed (named G)) (named G) G.geometry-for.result c.g.given.0.0 G.geometry-for.ensures.0 c.g.given.1
 
 is-sound : (c : tie.After-g) → Sound c.g.given.0.0
 is-sound c = rw c.g.given.1 at c.before.before.geometry-for.ensures.1
@@ -44,16 +44,16 @@ returns-2 : tie.Need-returns-2
 returns-2 c =
     let K = c.before.before.before in
     let x = K.before.before.before.before.before.before.args in
-    (sym (new-short (named K.before.before) (flashOf x.main.now x.spare.now) (pages x.ram.now) K.g.given.0.0 (good K).0 (good K).1 (sym c.before.too_short.ensures ∙ c.if1.true)), tt)
+    (sym (new_short (named K.before.before) (flash_of x.main.now x.spare.now) (pages x.ram.now) K.g.given.0.0 (good K).0 (good K).1 (sym c.before.too_short.ensures ∙ c.if1.true)), tt)
 
 returns-3 : tie.Need-returns-3
 returns-3 c =
     let K = c.before.before.before in
     let x = K.before.before.before.before.before.before.args in
     let sizes = named K.before.before in
-    let flash = flashOf x.main.now x.spare.now in
+    let flash = flash_of x.main.now x.spare.now in
     let enough = sym c.before.too_short.ensures ∙ c.if1.false in
-    (new-good sizes flash (pages x.ram.now) K.g.given.0.0 (good K).0 (good K).1 enough, new-of sizes flash (pages x.ram.now) K.g.given.0.0 (good K).0 (good K).1 (is-sound K) enough)
+    (new_good sizes flash (pages x.ram.now) K.g.given.0.0 (good K).0 (good K).1 enough, new_of sizes flash (pages x.ram.now) K.g.given.0.0 (good K).0 (good K).1 (is-sound K) enough)
 
 pub judge-new-spec : {M : Type 1} → statement M
 judge-new-spec =

@@ -2,24 +2,24 @@
 use native.Mathlib.Omega.{arith}
 use mathlib.Core.Path.{sym}
 use borrow.Author.Rules.{rules}
-use Rattle.tab.specs.ReaderLaws.{after-end, after-yes, after-no}
+use Rattle.tab.specs.ReaderLaws.{after_end, after_yes, after_no}
 use Rattle.tab.proofs.after_byte.Statement.{statement}
 use Rattle.tab.proofs.after_byte.Tie as tie
 
 returns : tie.Need-returns
-returns c = let x = c.before.args in sym (after-end x.tab.now x.at x.x (omega arith))
+returns c = let x = c.before.args in sym (after_end x.tab.now x.at x.x (omega arith))
 
 shared-slice-read-if2 : tie.Need-shared-slice-read-if2
 shared-slice-read-if2 c = search rules
 
 returns-2 : tie.Need-returns-2
-returns-2 c = let x = c.before.before.before.args in sym (after-no x.tab.now x.at x.x (omega arith) c.if2.true)
+returns-2 c = let x = c.before.before.before.args in sym (after_no x.tab.now x.at x.x (omega arith) c.if2.true)
 
 add-t4 : tie.Need-overflow-add-t4
 add-t4 c = search rules
 
 returns-3 : tie.Need-returns-3
-returns-3 c = let x = c.before.before.before.args in sym (after-yes x.tab.now x.at x.x (omega arith) c.if2.false)
+returns-3 c = let x = c.before.before.before.args in sym (after_yes x.tab.now x.at x.x (omega arith) c.if2.false)
 
 pub after-byte-spec : {M : Type 1} → statement M
 after-byte-spec = tie.close (tie.spec returns shared-slice-read-if2 returns-2 add-t4 returns-3)

@@ -10,8 +10,8 @@ use lib.ListN.{drop}
 use Rattle.memory.specs.Cases.{either}
 use Rattle.tab.specs.Grammar.{dquote}
 use Rattle.tab.specs.Reader.{Got, bare, after, ended, quoted}
-use Rattle.tab.specs.Places.{Opened, tokenIn, place_in}
-use Rattle.tab.specs.ReaderLaws.{ended-none, ended-open, ended-yes}
+use Rattle.tab.specs.Places.{Opened, token_in, place_in}
+use Rattle.tab.specs.ReaderLaws.{ended_none, ended_open, ended_yes}
 use Rattle.tab.proofs.content_at.Statement.{statement}
 use Rattle.tab.proofs.content_at.Tie as tie
 
@@ -24,7 +24,7 @@ module _ (tab : List ℕ) (i s : ℕ) (O : Opened tab i s) (f : List ℕ → Opt
 
   -- nothing to read, with a quote or without
   unread : f (drop s tab) ≡ none → quoted f (drop i tab) ≡ none
-  unread e = either O (λ p. p.1 f ∙ e) (λ p. p.1 f ∙ ended-none (after dquote) _ e)
+  unread e = either O (λ p. p.1 f ∙ e) (λ p. p.1 f ∙ ended_none (after dquote) _ e)
 
 content-start-requires : tie.Need-content-start-requires
 content-start-requires c κs = search rules
@@ -50,7 +50,7 @@ returns c =
     let b = c.before.before in
     let x = (start_of b).args in
     sym (unread x.tab.now x.at b.before.content-start.result (opened b) (bare x.header x.c)
-    (sym b.bare-at.ensures ∙ ap (tokenIn x.tab.now) c.enum_told.given.1))
+    (sym b.bare-at.ensures ∙ ap (token_in x.tab.now) c.enum_told.given.1))
 
 returns-2 : tie.Need-returns-2
 returns-2 c =
@@ -58,7 +58,7 @@ returns-2 c =
     let b = c.before.before.before.before in
     let x = (start_of b).args in
     sym (plain x.tab.now x.at b.before.content-start.result (opened b) (bare x.header x.c) c.if1.true
-    ∙ sym b.bare-at.ensures ∙ ap (tokenIn x.tab.now) v.1)
+    ∙ sym b.bare-at.ensures ∙ ap (token_in x.tab.now) v.1)
 
 after-byte-requires : tie.Need-after-byte-requires
 after-byte-requires c κs = search rules
@@ -76,8 +76,8 @@ returns-3 c =
     let b = a.before.before.before.before.before in
     let x = (start_of b).args in
     sym (marked x.tab.now x.at b.before.content-start.result (opened b) (bare x.header x.c) a.before.if1.false
-    ∙ ended-open (after dquote) _ v.0.0 (drop v.0.1.0 x.tab.now)
-    (sym b.bare-at.ensures ∙ ap (tokenIn x.tab.now) v.1)
+    ∙ ended_open (after dquote) _ v.0.0 (drop v.0.1.0 x.tab.now)
+    (sym b.bare-at.ensures ∙ ap (token_in x.tab.now) v.1)
     (sym a.after-byte.ensures ∙ ap (place_in x.tab.now) c.enum-told2.given.1))
 
 returns-4 : tie.Need-returns-4
@@ -88,8 +88,8 @@ returns-4 c =
     let b = a.before.before.before.before.before in
     let x = (start_of b).args in
     sym (marked x.tab.now x.at b.before.content-start.result (opened b) (bare x.header x.c) a.before.if1.false
-    ∙ ended-yes (after dquote) _ v.0.0 (drop v.0.1.0 x.tab.now)
-    (sym b.bare-at.ensures ∙ ap (tokenIn x.tab.now) v.1)
+    ∙ ended_yes (after dquote) _ v.0.0 (drop v.0.1.0 x.tab.now)
+    (sym b.bare-at.ensures ∙ ap (token_in x.tab.now) v.1)
     (drop e.0.0 x.tab.now) (sym a.after-byte.ensures ∙ ap (place_in x.tab.now) e.1))
 
 pub content-at-spec : {M : Type 1} → statement M

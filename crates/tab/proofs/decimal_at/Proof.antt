@@ -5,8 +5,8 @@ use Prim.Native.Nat.{◌+◌, ◌*◌, ◌-◌, ◌≤◌, ◌<◌}
 use borrow.Author.Rules.{rules}
 use lib.ListN.{length, drop}
 use Rattle.tab.specs.Reader.{digits, small, decimal}
-use Rattle.tab.specs.ReaderLaws.{stays-large, digits_more, digits_low, digits-high, digits-end}
-use Rattle.tab.specs.ReaderLaws.{decimal-end, decimal-low, decimal-high, decimal-some}
+use Rattle.tab.specs.ReaderLaws.{stays_large, digits_more, digits_low, digits_high, digits_end}
+use Rattle.tab.specs.ReaderLaws.{decimal_end, decimal_low, decimal_high, decimal_some}
 use Rattle.tab.proofs.decimal_at.Statement.{statement}
 use Rattle.tab.proofs.decimal_at.Tie as tie
 
@@ -17,13 +17,13 @@ abbrev decreases-loop : tie.decreases-loop
 decreases-loop tab at v₀ i₀ v i = length tab - i
 
 returns : tie.Need-returns invariant-loop decreases-loop
-returns c = let x = c.before.before.args in sym (decimal-end x.tab.now x.at (omega arith))
+returns c = let x = c.before.before.args in sym (decimal_end x.tab.now x.at (omega arith))
 
 shared-slice-read-if2 : tie.Need-shared-slice-read-if2 invariant-loop decreases-loop
 shared-slice-read-if2 c = search rules
 
 returns-2 : tie.Need-returns-2 invariant-loop decreases-loop
-returns-2 c = let x = c.before.before.before.before.args in sym (decimal-low x.tab.now x.at (omega arith) c.if2.true)
+returns-2 c = let x = c.before.before.before.before.args in sym (decimal_low x.tab.now x.at (omega arith) c.if2.true)
 
 shared-slice-read-if3 : tie.Need-shared-slice-read-if3 invariant-loop decreases-loop
 shared-slice-read-if3 c = search rules
@@ -31,12 +31,12 @@ shared-slice-read-if3 c = search rules
 returns-3 : tie.Need-returns-3 invariant-loop decreases-loop
 returns-3 c =
     let x = c.before.before.before.before.before.before.args in
-    sym (decimal-high x.tab.now x.at (omega arith) c.if3.true)
+    sym (decimal_high x.tab.now x.at (omega arith) c.if3.true)
 
 loop-holds : tie.Need-loop-init invariant-loop decreases-loop
 loop-holds c =
     let x = c.before.before.before.before.before.before.args in
-    (omega arith, omega arith, decimal-some x.tab.now x.at (omega arith) (omega arith) (omega arith))
+    (omega arith, omega arith, decimal_some x.tab.now x.at (omega arith) (omega arith) (omega arith))
 
 shared-slice-read-c : tie.Need-shared-slice-read-c invariant-loop decreases-loop
 shared-slice-read-c c = omega arith
@@ -59,7 +59,7 @@ returns-5 c =
     let l = c.before.before.before.before.before in
     let x = l.before.before.before.before.before.before.before.args in
     c.read-token2.ensures x.tab.now
-    ∙ sym (l.loop.invariant.2 ∙ ap small (digits-high x.tab.now l.loop.i l.loop.v (omega arith) c.before.if5.true))
+    ∙ sym (l.loop.invariant.2 ∙ ap small (digits_high x.tab.now l.loop.i l.loop.v (omega arith) c.before.if5.true))
 
 -- one digit more, whatever it is, is too many
 returns-6 : tie.Need-returns-6 invariant-loop decreases-loop
@@ -67,7 +67,7 @@ returns-6 c =
     let l = c.before.before.before.before.before in
     let x = l.before.before.before.before.before.before.before.args in
     let e = digits_more x.tab.now l.loop.i l.loop.v (omega arith) (omega arith) (omega arith) in
-    sym (l.loop.invariant.2 ∙ ap small e ∙ stays-large _ (drop (l.loop.i + 1) x.tab.now) (omega (arith, c.if6.true)))
+    sym (l.loop.invariant.2 ∙ ap small e ∙ stays_large _ (drop (l.loop.i + 1) x.tab.now) (omega (arith, c.if6.true)))
 
 mul-v : tie.Need-overflow-mul-v invariant-loop decreases-loop
 mul-v c = omega arith
@@ -99,7 +99,7 @@ returns-7 c =
     let l = c.before.before in
     let x = l.before.before.before.before.before.before.before.args in
     c.read-token3.ensures x.tab.now
-    ∙ sym (l.loop.invariant.2 ∙ ap small (digits-end x.tab.now l.loop.i l.loop.v (omega arith)))
+    ∙ sym (l.loop.invariant.2 ∙ ap small (digits_end x.tab.now l.loop.i l.loop.v (omega arith)))
 
 pub decimal-at-spec : {M : Type 1} → statement M
 decimal-at-spec =

@@ -28,7 +28,7 @@ returns-2 : tie.Need-returns-2
 returns-2 c = rw c.before.enum-told2.given.1 c.after-byte2.ensures
 
 returns-3 : tie.Need-returns-3
-returns-3 c = rw c.before.enum-told3.given.1 c.line-end.ensures
+returns-3 c = rw c.before.enum-told3.given.1 c.line_end_lem.ensures
 
 pub end-at-spec : {M : Type 1} → statement M
 end-at-spec =

@@ -3,8 +3,8 @@ use mathlib.Core.Path.{sym, ap, ◌∙◌}
 use borrow.Author.Rules.{rules}
 use lib.ListN.{drop}
 use Rattle.tab.specs.Reader.{bare, quoted, ends, field}
-use Rattle.tab.specs.Places.{tokenIn, place_in}
-use Rattle.tab.specs.ReaderLaws.{ended-none, ended-open, ended-yes}
+use Rattle.tab.specs.Places.{token_in, place_in}
+use Rattle.tab.specs.ReaderLaws.{ended_none, ended_open, ended_yes}
 use Rattle.tab.proofs.field_at.Statement.{statement}
 use Rattle.tab.proofs.field_at.Tie as tie
 
@@ -26,7 +26,7 @@ returns c =
     let b = c.before.before.before in
     let x = b.before.before.args in
     rw c.malformed.ensures
-    (sym (ended-none (ends x.c) _ (sym b.content-at.ensures ∙ ap (tokenIn x.tab.now) c.before.enum_told.given.1)))
+    (sym (ended_none (ends x.c) _ (sym b.content-at.ensures ∙ ap (token_in x.tab.now) c.before.enum_told.given.1)))
 
 end-at-requires : tie.Need-end-at-requires
 end-at-requires c κs = search rules
@@ -48,7 +48,7 @@ returns-2 c =
     let b = a.before.before.before.before in
     let x = b.before.before.args in
     rw c.malformed2.ensures
-    (sym (ended-open (ends x.c) _ v.0.0 (drop v.0.1.0 x.tab.now) (sym b.content-at.ensures ∙ ap (tokenIn x.tab.now) v.1)
+    (sym (ended_open (ends x.c) _ v.0.0 (drop v.0.1.0 x.tab.now) (sym b.content-at.ensures ∙ ap (token_in x.tab.now) v.1)
     (sym a.end-at.ensures ∙ ap (place_in x.tab.now) c.before.enum-told2.given.1)))
 
 returns-3 : tie.Need-returns-3
@@ -59,7 +59,7 @@ returns-3 c =
     let v = a.before.before.v.given in
     let b = a.before.before.before.before in
     let x = b.before.before.args in
-    sym (ended-yes (ends x.c) _ v.0.0 (drop v.0.1.0 x.tab.now) (sym b.content-at.ensures ∙ ap (tokenIn x.tab.now) v.1)
+    sym (ended_yes (ends x.c) _ v.0.0 (drop v.0.1.0 x.tab.now) (sym b.content-at.ensures ∙ ap (token_in x.tab.now) v.1)
     (drop e.0.0 x.tab.now) (sym a.end-at.ensures ∙ ap (place_in x.tab.now) e.1))
 
 pub field-at-spec : {M : Type 1} → statement M

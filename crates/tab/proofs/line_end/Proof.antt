@@ -2,12 +2,12 @@
 use native.Mathlib.Omega.{arith}
 use mathlib.Core.Path.{sym, ◌∙◌}
 use borrow.Author.Rules.{rules}
-use Rattle.tab.specs.ReaderLaws.{end-end, end-lf, end-cr, end-no}
+use Rattle.tab.specs.ReaderLaws.{end_end, end_lf, end_cr, end_no}
 use Rattle.tab.proofs.line_end.Statement.{statement}
 use Rattle.tab.proofs.line_end.Tie as tie
 
 returns : tie.Need-returns
-returns c = let x = c.before.before.args in sym (end-end x.tab.now x.at (omega arith))
+returns c = let x = c.before.before.args in sym (end_end x.tab.now x.at (omega arith))
 
 shared-slice-read-if2 : tie.Need-shared-slice-read-if2
 shared-slice-read-if2 c = search rules
@@ -16,7 +16,7 @@ add-t7 : tie.Need-overflow-add-t7
 add-t7 c = search rules
 
 returns-2 : tie.Need-returns-2
-returns-2 c = let x = c.before.before.before.before.args in sym (end-lf x.tab.now x.at (omega arith) c.if2.true)
+returns-2 c = let x = c.before.before.before.before.args in sym (end_lf x.tab.now x.at (omega arith) c.if2.true)
 
 shared-slice-read-if3 : tie.Need-shared-slice-read-if3
 shared-slice-read-if3 c = search rules
@@ -31,13 +31,13 @@ returns-3 : tie.Need-returns-3
 returns-3 c =
     let b = c.before.before.before in
     let x = b.before.before.before.before.args in
-    c.after-byte.ensures ∙ sym (end-cr x.tab.now x.at (omega arith) b.if2.false c.before.if3.true)
+    c.after-byte.ensures ∙ sym (end_cr x.tab.now x.at (omega arith) b.if2.false c.before.if3.true)
 
 returns-4 : tie.Need-returns-4
 returns-4 c =
     let b = c.before.before in
     let x = b.before.before.before.before.args in
-    sym (end-no x.tab.now x.at (omega arith) b.if2.false c.if3.false)
+    sym (end_no x.tab.now x.at (omega arith) b.if2.false c.if3.false)
 
 pub line-end-spec : {M : Type 1} → statement M
 line-end-spec =

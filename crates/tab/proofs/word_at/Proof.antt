@@ -4,7 +4,7 @@ use mathlib.Core.Path.{◌≡◌, refl, sym, ◌∙◌}
 use Prim.Native.Nat.{◌-◌, ◌≤◌}
 use lib.ListN.{length, drop}
 use Rattle.tab.specs.Reader.{word}
-use Rattle.tab.specs.ReaderLaws.{word-done, word-short, word-other, word_more}
+use Rattle.tab.specs.ReaderLaws.{word_done, word_short, word_other, word_more}
 use Rattle.tab.proofs.word_at.Statement.{statement}
 use Rattle.tab.proofs.word_at.Tie as tie
 
@@ -21,7 +21,7 @@ returns : tie.Need-returns invariant-loop decreases-loop
 returns c =
     let l = c.before.before in
     let x = l.before.args in
-    sym (l.loop.invariant.1 ∙ word-short x.tab.now l.loop.next x.name.now l.loop.i (omega arith) (omega arith))
+    sym (l.loop.invariant.1 ∙ word_short x.tab.now l.loop.next x.name.now l.loop.i (omega arith) (omega arith))
 
 shared-slice-read-if2 : tie.Need-shared-slice-read-if2 invariant-loop decreases-loop
 shared-slice-read-if2 c = omega arith
@@ -33,7 +33,7 @@ returns-2 : tie.Need-returns-2 invariant-loop decreases-loop
 returns-2 c =
     let l = c.before.before.before.before.before in
     let x = l.before.args in
-    sym (l.loop.invariant.1 ∙ word-other x.tab.now l.loop.next x.name.now l.loop.i (omega arith) (omega arith) c.if2.true)
+    sym (l.loop.invariant.1 ∙ word_other x.tab.now l.loop.next x.name.now l.loop.i (omega arith) (omega arith) c.if2.true)
 
 add-i : tie.Need-overflow-add-i invariant-loop decreases-loop
 add-i c = omega arith
@@ -56,7 +56,7 @@ returns-3 : tie.Need-returns-3 invariant-loop decreases-loop
 returns-3 c =
     let l = c.before in
     let x = l.before.args in
-    sym (l.loop.invariant.1 ∙ word-done x.tab.now l.loop.next x.name.now l.loop.i (omega arith))
+    sym (l.loop.invariant.1 ∙ word_done x.tab.now l.loop.next x.name.now l.loop.i (omega arith))
 
 pub word-at-spec : {M : Type 1} → statement M
 word-at-spec =

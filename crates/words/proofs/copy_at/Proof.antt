@@ -3,7 +3,7 @@ use mathlib.Core.List.{List}
 use Prim.Native.Nat.{ℕ, ◌+◌}
 use native.Mathlib.Omega.{arith}
 use lib.ListN.{length}
-use Rattle.memory.specs.Lists.{write, part-back}
+use Rattle.memory.specs.Lists.{write, part_back}
 use borrow.Author.Rules.{rules}
 use Rattle.words.proofs.copy_at.Statement.{statement}
 use Rattle.words.proofs.copy_at.Tie as tie
@@ -31,7 +31,7 @@ returns c =
     let b = c.before.before.before.before.before.before in
     let k = c.before.before.copy in
     let x = b.args in
-    part-back x.dst.now x.at (x.at + length x.src.now) k.new.0 (omega arith) b.requires (omega (arith, ap length k.ensures))
+    part_back x.dst.now x.at (x.at + length x.src.now) k.new.0 (omega arith) b.requires (omega (arith, ap length k.ensures))
     ∙ ap (λ (ys : List ℕ). write x.dst.now x.at ys) k.ensures
 
 pub copy-at-spec : {M : Type 1} → statement M

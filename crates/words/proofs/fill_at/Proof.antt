@@ -3,7 +3,7 @@ use mathlib.Core.List.{List}
 use Prim.Native.Nat.{ℕ, ◌+◌}
 use native.Mathlib.Omega.{arith}
 use lib.ListN.{length, replicate, length-replicate}
-use Rattle.memory.specs.Lists.{write, length_part, part-back}
+use Rattle.memory.specs.Lists.{write, length_part, part_back}
 use borrow.Author.Rules.{rules}
 use Rattle.words.proofs.fill_at.Statement.{statement}
 use Rattle.words.proofs.fill_at.Tie as tie
@@ -33,7 +33,7 @@ returns c =
     let k = c.before.before.fill in
     let l : k.new.0 ≡ replicate x.n x.v =
     k.ensures ∙ rw (length_part x.dst.now x.at x.n b.requires) in
-    part-back x.dst.now x.at (x.at + x.n) k.new.0 (omega arith) b.requires (omega (arith, ap length l, length-replicate {A = ℕ} x.n x.v))
+    part_back x.dst.now x.at (x.at + x.n) k.new.0 (omega arith) b.requires (omega (arith, ap length l, length-replicate {A = ℕ} x.n x.v))
     ∙ ap (λ (ys : List ℕ). write x.dst.now x.at ys) l
 
 pub fill-at-spec : {M : Type 1} → statement M

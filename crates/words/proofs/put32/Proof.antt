@@ -2,7 +2,7 @@ use native.Mathlib.Omega.{arith}
 use mathlib.Core.List.{[], ◌∷◌}
 use Prim.Native.Nat.{◌/◌, ◌%◌}
 use lib.ListN.{length-set}
-use Rattle.words.proofs.Laws.{put-bytes}
+use Rattle.words.proofs.Laws.{put_bytes}
 use borrow.Author.Rules.{rules}
 use Rattle.words.proofs.put32.Statement.{statement}
 use Rattle.words.proofs.put32.Tie as tie
@@ -46,7 +46,7 @@ same_length c = search rules
 returns : tie.Need-returns
 returns c =
     let x = c.args in
-    put-bytes x.s.now x.at (x.x % 256) ((x.x / 256 % 256) ∷ (x.x / 256 / 256 % 256) ∷ (x.x / 256 / 256 / 256 % 256) ∷ []) c.requires
+    put_bytes x.s.now x.at (x.x % 256) ((x.x / 256 % 256) ∷ (x.x / 256 / 256 % 256) ∷ (x.x / 256 / 256 / 256 % 256) ∷ []) c.requires
 
 pub put32-spec : {M : Type 1} → statement M
 put32-spec =

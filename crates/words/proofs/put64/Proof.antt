@@ -2,7 +2,7 @@ use native.Mathlib.Omega.{arith}
 use mathlib.Core.List.{[], ◌∷◌}
 use Prim.Native.Nat.{◌/◌, ◌%◌}
 use lib.ListN.{length-set}
-use Rattle.words.proofs.Laws.{put-bytes}
+use Rattle.words.proofs.Laws.{put_bytes}
 use borrow.Author.Rules.{rules}
 use Rattle.words.proofs.put64.Statement.{statement}
 use Rattle.words.proofs.put64.Tie as tie
@@ -82,7 +82,7 @@ same_length c = simp length-set (omega arith)
 returns : tie.Need-returns
 returns c =
     let x = c.args in
-    put-bytes x.s.now x.at (x.x % 256)
+    put_bytes x.s.now x.at (x.x % 256)
     ((x.x / 256 % 256) ∷ (x.x / 256 / 256 % 256) ∷ (x.x / 256 / 256 / 256 % 256) ∷ (x.x / 256 / 256 / 256 / 256 % 256)
     ∷ (x.x / 256 / 256 / 256 / 256 / 256 % 256) ∷ (x.x / 256 / 256 / 256 / 256 / 256 / 256 % 256)
     ∷ (x.x / 256 / 256 / 256 / 256 / 256 / 256 / 256 % 256) ∷ []) c.requires

@@ -6,14 +6,14 @@ use mathlib.Core.Path.{sym}
 use mathlib.Core.List.{[], ◌∷◌}
 use lib.ListN.{length}
 use Rattle.script.specs.AnswerLaws.{write_byte}
-use Rattle.console.specs.BufferLaws.{write-past}
+use Rattle.console.specs.BufferLaws.{write_past}
 use Rattle.console.proofs.stream.add_byte.Statement.{statement}
 use Rattle.console.proofs.stream.add_byte.Tie as tie
 
 returns : tie.Need-returns
 returns c =
     let x = c.before.args in
-    ((rw (le-ltb x.fill (length x.line.now) c.if1.true), sym (write-past x.line.now x.fill (x.c ∷ []) c.if1.true)), omega arith)
+    ((rw (le-ltb x.fill (length x.line.now) c.if1.true), sym (write_past x.line.now x.fill (x.c ∷ []) c.if1.true)), omega arith)
 
 slice-write-line : tie.Need-slice-write-line
 slice-write-line c = search rules

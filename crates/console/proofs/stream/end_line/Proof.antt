@@ -5,9 +5,9 @@ use mathlib.Core.Path.{refl}
 use Prim.Native.Nat.{◌+◌, ◌-◌, ◌≤◌}
 use lib.ListN.{take, drop}
 use Rattle.state.specs.Contract.{volume}
-use Rattle.lines.specs.Contract.{AfterLine, afterLine}
-use Rattle.console.specs.Contract.{buffersOf}
-use Rattle.console.proofs.stream.Laws.{line-short, line-ends}
+use Rattle.lines.specs.Contract.{AfterLine, after_line}
+use Rattle.console.specs.Contract.{buffers_of}
+use Rattle.console.proofs.stream.Laws.{line_short, line_ends}
 use Rattle.console.proofs.stream.end_line.Statement.{statement}
 use Rattle.console.proofs.stream.end_line.Tie as tie
 
@@ -37,13 +37,13 @@ answer-next-requires c κs = search rules
 
 -- what the line leaves, as its contract compares it
 abbrev left : tie.After-answer-next → AfterLine
-left b = let k = b.answer-next in afterLine k.result k.new.1.1.0 k.new.1.1.1.0 k.new.1.1.1.1.0 k.new.1.1.1.1.1.0
+left b = let k = b.answer-next in after_line k.result k.new.1.1.0 k.new.1.1.1.0 k.new.1.1.1.1.0 k.new.1.1.1.1.1.0
 
 short : (b : tie.After-answer-next) → b.answer-next.result.length ≤ 32
 short b =
     let x = b.before.before.before.before.before.before.before.before.before.before.before.before.args in
     let at = x.p.printed in
-    line-short (volume x.p.state x.main.now x.spare.now x.ram.now) (take (x.p.fill - 0) x.line.now) (take (at + 32 - at) (drop at x.out.now))
+    line_short (volume x.p.state x.main.now x.spare.now x.ram.now) (take (x.p.fill - 0) x.line.now) (take (at + 32 - at) (drop at x.out.now))
     (left b) b.answer-next.ensures
 
 add-t14 : tie.Need-overflow-add-t14
@@ -67,7 +67,7 @@ returns : tie.Need-returns
 returns c =
     let b = c.before.before.before.before.before.before.before.before.before.before in
     let x = b.before.before.before.before.before.before.before.before.before.before.before.before.args in
-    (line-ends (buffersOf x.p x.line.now x.main.now x.spare.now x.ram.now x.out.now) (left b) b.answer-next.ensures, (refl, omega (arith, short b)))
+    (line_ends (buffers_of x.p x.line.now x.main.now x.spare.now x.ram.now x.out.now) (left b) b.answer-next.ensures, (refl, omega (arith, short b)))
 
 pub end-line-spec : {M : Type 1} → statement M
 end-line-spec =

@@ -4,8 +4,8 @@ use mathlib.Core.Path.{◌≡◌, refl, sym, ◌∙◌}
 use Prim.Native.Nat.{◌+◌, ◌*◌, ◌-◌, ◌≤◌}
 use lib.ListN.{length, drop}
 use Rattle.console.specs.Buffers.{feed}
-use Rattle.console.specs.Contract.{buffersOf}
-use Rattle.console.proofs.stream.Laws.{feed-more, feed-end}
+use Rattle.console.specs.Contract.{buffers_of}
+use Rattle.console.proofs.stream.Laws.{feed_more, feed_end}
 use Rattle.console.proofs.stream.feed.Statement.{statement}
 use Rattle.console.proofs.stream.feed.Tie as tie
 
@@ -13,7 +13,7 @@ abbrev invariant-loop : tie.invariant-loop
 invariant-loop chunk line₀ main₀ spare₀ ram₀ out₀ q₀ i₀ line main spare ram out q i =
     (i ≤ length chunk) × (length line ≡ length line₀) × (length main ≡ length main₀) × (length spare ≡ length spare₀) × (length ram ≡ length ram₀) × (length out ≡ length out₀)
     × (q.fill ≤ length line) × (q.printed + (length chunk - i) * 32 ≤ length out)
-    × (feed (buffersOf q₀ line₀ main₀ spare₀ ram₀ out₀) chunk ≡ feed (buffersOf q line main spare ram out) (drop i chunk))
+    × (feed (buffers_of q₀ line₀ main₀ spare₀ ram₀ out₀) chunk ≡ feed (buffers_of q line main spare ram out) (drop i chunk))
 
 abbrev decreases-loop : tie.decreases-loop
 decreases-loop chunk line₀ main₀ spare₀ ram₀ out₀ q₀ i₀ line main spare ram out q i = length chunk - i
@@ -38,7 +38,7 @@ loop-again c =
     let n = c.before.before.before.before.before.before.before.before.before.before in
     let l = n.before.before.before.before.before.before.before.before in
     let x = l.before.before.before.before.before.before.before.args in
-    let k = buffersOf l.loop.q l.loop.line l.loop.main l.loop.spare l.loop.ram l.loop.out in (
+    let k = buffers_of l.loop.q l.loop.line l.loop.main l.loop.spare l.loop.ram l.loop.out in (
       omega arith,
       omega arith,
       omega arith,
@@ -47,8 +47,8 @@ loop-again c =
       omega arith,
       omega (arith, n.next-byte.ensures.1),
       omega (arith, n.next-byte.ensures.1),
-      feed-more (feed (buffersOf x.p x.line.now x.main.now x.spare.now x.ram.now x.out.now) x.chunk.now) k
-          (buffersOf n.next-byte.result n.next-byte.new.1.1.0 n.next-byte.new.1.1.1.0 n.next-byte.new.1.1.1.1.0 n.next-byte.new.1.1.1.1.1.0 n.next-byte.new.1.1.1.1.1.1.0)
+      feed_more (feed (buffers_of x.p x.line.now x.main.now x.spare.now x.ram.now x.out.now) x.chunk.now) k
+          (buffers_of n.next-byte.result n.next-byte.new.1.1.0 n.next-byte.new.1.1.1.0 n.next-byte.new.1.1.1.1.0 n.next-byte.new.1.1.1.1.1.0 n.next-byte.new.1.1.1.1.1.1.0)
           x.chunk.now l.loop.i (omega arith) l.loop.invariant.8 n.next-byte.ensures.0,
     )
 
@@ -71,8 +71,8 @@ returns : tie.Need-returns invariant-loop decreases-loop
 returns c =
     let l = c.before in
     let x = l.before.before.before.before.before.before.before.args in
-    let k = buffersOf l.loop.q l.loop.line l.loop.main l.loop.spare l.loop.ram l.loop.out in
-    (sym (l.loop.invariant.8 ∙ feed-end k x.chunk.now l.loop.i (omega arith)), (omega arith, omega arith))
+    let k = buffers_of l.loop.q l.loop.line l.loop.main l.loop.spare l.loop.ram l.loop.out in
+    (sym (l.loop.invariant.8 ∙ feed_end k x.chunk.now l.loop.i (omega arith)), (omega arith, omega arith))
 
 pub feed-spec : {M : Type 1} → statement M
 feed-spec =

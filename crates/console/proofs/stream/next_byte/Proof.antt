@@ -2,9 +2,9 @@
 use borrow.Author.Rules.{rules}
 use borrow.Author.Tests.{eq-eqb}
 use native.Mathlib.Omega.{arith}
-use Rattle.console.specs.Buffers.{nextByte}
-use Rattle.console.specs.Contract.{buffersOf}
-use Rattle.console.proofs.stream.Laws.{add-byte}
+use Rattle.console.specs.Buffers.{next_byte}
+use Rattle.console.specs.Contract.{buffers_of}
+use Rattle.console.proofs.stream.Laws.{add_byte_lem}
 use Rattle.console.proofs.stream.next_byte.Statement.{statement}
 use Rattle.console.proofs.stream.next_byte.Tie as tie
 
@@ -27,7 +27,7 @@ same-length-5 : tie.Need-same-length-5
 same-length-5 c = search rules
 
 returns : tie.Need-returns
-unfolding nextByte
+unfolding next_byte
 returns c =
     let e = c.before.before.before.before.before.before.before.before in
     let b = e.before.before.before.before.before.before in
@@ -45,8 +45,8 @@ returns-2 c =
     let a = c.before.before in
     let b = a.before.before.before in
     let x = b.before.before.before.before.before.before.args in
-    let k = buffersOf x.p x.line.now x.main.now x.spare.now x.ram.now x.out.now in
-    (add-byte k x.c a.add-byte.result a.add-byte.new.1.1.0 b.if1.false a.add-byte.ensures.0.0 a.add-byte.ensures.0.1, (a.add-byte.ensures.1, omega arith))
+    let k = buffers_of x.p x.line.now x.main.now x.spare.now x.ram.now x.out.now in
+    (add_byte_lem k x.c a.add_byte_lem.result a.add_byte_lem.new.1.1.0 b.if1.false a.add_byte_lem.ensures.0.0 a.add_byte_lem.ensures.0.1, (a.add_byte_lem.ensures.1, omega arith))
 
 pub next-byte-spec : {M : Type 1} → statement M
 next-byte-spec =

@@ -6,8 +6,8 @@ use lib.ListN.{get_or, take}
 use Rattle.memory.specs.Numbers.{euclid}
 use Rattle.geometry.specs.Indexes.{index_of}
 use Rattle.laws.specs.Units.{UnitIs}
-use Rattle.filter.proofs.Levels.{LevelAt, exponent-is, in-sets}
-use Rattle.filter.proofs.Recent.{rounds-are, recent-in, recent-at}
+use Rattle.filter.proofs.Levels.{LevelAt, exponent_is, in_sets}
+use Rattle.filter.proofs.Recent.{rounds_are, recent_in, recent_at}
 use Rattle.filter.proofs.Rows.{block_at}
 use Rattle.filter.proofs.groups.block_below.Statement.{statement}
 use Rattle.filter.proofs.groups.block_below.Tie as tie
@@ -17,7 +17,7 @@ unit-of : (c : tie.After-exponent) → UnitIs c.before.before.before.before.args
 unit-of c =
     let b = c.before.before.before.before in
     let x = b.args in
-    exponent-is x.fs.chip.unit c.exponent.result b.requires.0.0.2.unit c.exponent.ensures.0
+    exponent_is x.fs.chip.unit c.exponent.result b.requires.0.0.2.unit c.exponent.ensures.0
 
 exponent-requires : tie.Need-exponent-requires
 exponent-requires c κs = search rules
@@ -49,7 +49,7 @@ recent-block-requires c κs =
       q.0,
       q.1,
       rw (c.before.before.l1-level.ensures, c.ska-level.ensures)
-          (recent-in x.fs.chip.unit o.exponent.result x.fs.count p.0.0.0 (index_of x.fs.index) x.main.now x.ram.now (unit-of o) p.0.0.2
+          (recent_in x.fs.chip.unit o.exponent.result x.fs.count p.0.0.0 (index_of x.fs.index) x.main.now x.ram.now (unit-of o) p.0.0.2
           x.below x.count x.ps p.0.3 t.if1.true q.2),
     )
 
@@ -61,7 +61,7 @@ returns c =
     let b = o.before.before.before.before in
     let x = b.args in
     let p = b.requires in
-    recent-at x.fs.chip.unit o.exponent.result x.fs.count p.0.0.0 (index_of x.fs.index) x.main.now x.ram.now (unit-of o) p.0.0.2
+    recent_at x.fs.chip.unit o.exponent.result x.fs.count p.0.0.0 (index_of x.fs.index) x.main.now x.ram.now (unit-of o) p.0.0.2
     x.below (take x.count x.ps) c.recent-block.result p.0.3
     (rw (s.before.before.l1-level.ensures, s.ska-level.ensures) at c.recent-block.ensures)
 
@@ -80,8 +80,8 @@ level-of c =
     let p = b.requires.0 in
     let U = unit-of o in
     rw (c.level-in-sets.ensures, s.stage-of.ensures)
-    (in-sets x.fs.chip.unit o.exponent.result x.fs.count x.below p.0.0 (index_of x.fs.index) x.main.now x.ram.now
-    U p.0.2 p.0.1 p.2 p.3 (omega (arith, t.if1.false)) (rw (rounds-are x.fs.chip.unit x.fs.count U.some) t.if1.false))
+    (in_sets x.fs.chip.unit o.exponent.result x.fs.count x.below p.0.0 (index_of x.fs.index) x.main.now x.ram.now
+    U p.0.2 p.0.1 p.2 p.3 (omega (arith, t.if1.false)) (rw (rounds_are x.fs.chip.unit x.fs.count U.some) t.if1.false))
 
 stage-of-requires : tie.Need-stage-of-requires
 stage-of-requires c κs = (unit-of c.before.before, c.before.before.before.before.before.before.requires.0.1)
@@ -96,7 +96,7 @@ level-in-sets-requires c κs =
     let U = unit-of o in
     let E = euclid (x.fs.count / 8 / 16) (4 * x.fs.chip.unit) (omega (arith, U.some)) in (
       (U, p.0.2.near, rw c.stage-of.ensures E.small),
-      (rw c.stage-of.ensures (rw (rounds-are x.fs.chip.unit x.fs.count U.some) t.if1.false), p.2, omega (arith, p.1, p.3)),
+      (rw c.stage-of.ensures (rw (rounds_are x.fs.chip.unit x.fs.count U.some) t.if1.false), p.2, omega (arith, p.1, p.3)),
     )
 
 block-by-eights-requires : tie.Need-block-by-eights-requires
@@ -106,7 +106,7 @@ block-by-eights-requires c κs =
     let x = b.args in
     let q = b.requires.1 in
     let L = level-of v in
-    ((q.0, q.1, L.start-lt), λ i h. record { some = omega (arith, c.if2.true); few = L.narrow; reach = L.eights (get_or x.ps i 0) (q.2 i h) })
+    ((q.0, q.1, L.start_lt), λ i h. record { some = omega (arith, c.if2.true); few = L.narrow; reach = L.eights (get_or x.ps i 0) (q.2 i h) })
 
 returns-2 : tie.Need-returns-2
 returns-2 c =
@@ -122,7 +122,7 @@ block-by-words-requires c κs =
     let x = b.args in
     let q = b.requires.1 in
     let L = level-of v in
-    ((q.0, q.1, omega (arith, c.if2.false), L.start-lt), λ i h. record { reach = L.blocks (get_or x.ps i 0) (q.2 i h); small = L.small })
+    ((q.0, q.1, omega (arith, c.if2.false), L.start_lt), λ i h. record { reach = L.blocks (get_or x.ps i 0) (q.2 i h); small = L.small })
 
 returns-3 : tie.Need-returns-3
 returns-3 c =

@@ -6,7 +6,7 @@ use Prim.Native.Nat.{ℕ, ◌+◌, ◌*◌, ◌-◌, ◌/◌, ◌<◌}
 use lib.ListN.{length, take, get_or}
 use Rattle.filter.specs.Blocks.{EightsIn}
 use Rattle.filter.specs.declared.groups.Level.{Level}
-use Rattle.filter.proofs.Rows.{word-block}
+use Rattle.filter.proofs.Rows.{word_block}
 use Rattle.filter.proofs.groups.block_by_eights.Statement.{statement}
 use Rattle.filter.proofs.groups.block_by_eights.Tie as tie
 
@@ -53,7 +53,7 @@ returns c =
     let x = b.args in
     let p = b.requires in
     let all : ℕ = x.below - x.l.start in
-    word-block x.l x.bytes.now x.below (take x.count x.ps) (first all) (all - first all) ((all - first all + 7) / 8 * 8) c.before.before.eights.result c.lowest.result
+    word_block x.l x.bytes.now x.below (take x.count x.ps) (first all) (all - first all) ((all - first all + 7) / 8 * 8) c.before.before.eights.result c.lowest.result
     (omega (arith, p.0.2)) p.0.2 (omega (arith, p.0.2)) (omega (arith, p.0.2)) (omega arith) (omega arith) c.before.before.eights.ensures c.lowest.ensures
 
 pub block-by-eights-spec : {M : Type 1} → statement M

@@ -5,11 +5,11 @@ use native.Mathlib.Omega.{arith}
 use mathlib.Core.Path.{◌≡◌, refl, sym}
 use Prim.Native.Nat.{ℕ, ◌+◌, ◌*◌, ◌-◌, ◌/◌, ◌%◌, ◌^◌, ◌≤◌}
 use lib.ListN.{length, get_or, length-set, take}
-use Rattle.memory.specs.Bits.{bitIn}
+use Rattle.memory.specs.Bits.{bit_in}
 use Rattle.memory.specs.Lists.{done_more}
-use Rattle.kernels.specs.Rows.{allIn}
+use Rattle.kernels.specs.Rows.{all_in}
 use Rattle.filter.specs.Groups.{row_at}
-use Rattle.filter.proofs.Rows.{Filled, all-rows, words-block}
+use Rattle.filter.proofs.Rows.{Filled, all_rows, words_block}
 use Rattle.filter.proofs.groups.block_by_words.Statement.{statement}
 use Rattle.filter.proofs.groups.block_by_words.Tie as tie
 
@@ -123,8 +123,8 @@ block-requires c κs =
         firsts = omega (arith, l.invariant.1.0, b.requires.0.1);
         lows = omega (arith, l.invariant.2.0, b.requires.0.1);
         power = (x.l.exponent, b.requires.0.2, P.ensures.0);
-        low-lt = λ k h. rw (l.invariant.2.1 k (omega arith)) (mod-lt (get_or x.t3 k 0) P.ensures.1);
-        blocks-in = λ k h. rw (l.invariant.1.1 k (omega arith), e, P.ensures.0) (b.requires.1 k h).reach;
+        low_lt = λ k h. rw (l.invariant.2.1 k (omega arith)) (mod-lt (get_or x.t3 k 0) P.ensures.1);
+        blocks_in = λ k h. rw (l.invariant.1.1 k (omega arith), e, P.ensures.0) (b.requires.1 k h).reach;
         small = rw (e, P.ensures.0) (b.requires.1 0 (omega (arith, b.requires.0.0))).small;
       },
     )
@@ -137,10 +137,10 @@ returns c =
     let P = c.before.before.before.before.before.before.before.power in
     let n : ℕ = x.below - x.l.start in
     let i : l.i ≡ x.count = omega arith in
-    words-block x.l x.bytes.now x.below (take x.count x.t3) (allIn x.bytes.now l.at l.low P.result x.count) ((n - 1) / 512 * 512) (n - (n - 1) / 512 * 512) c.block.result
+    words_block x.l x.bytes.now x.below (take x.count x.t3) (all_in x.bytes.now l.at l.low P.result x.count) ((n - 1) / 512 * 512) (n - (n - 1) / 512 * 512) c.block.result
     (omega arith) b.requires.0.3 (omega (arith, b.requires.0.3)) (omega arith) (omega arith)
     (λ g h.
-    sym (all-rows x.bytes.now l.at l.low P.result g (λ y. bitIn x.bytes.now (row_at x.l y) (g * 2 ^ x.l.exponent + y % 2 ^ x.l.exponent)) x.t3 x.count (omega (arith, eight b, b.requires.0.1))
+    sym (all_rows x.bytes.now l.at l.low P.result g (λ y. bit_in x.bytes.now (row_at x.l y) (g * 2 ^ x.l.exponent + y % 2 ^ x.l.exponent)) x.t3 x.count (omega (arith, eight b, b.requires.0.1))
     (λ k t. rw (l.invariant.1.1 k (omega arith), l.invariant.2.1 k (omega arith), P.ensures.0))))
     c.block.ensures
 

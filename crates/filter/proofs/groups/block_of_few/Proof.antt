@@ -7,24 +7,24 @@ use mathlib.Core.List.{List}
 use Prim.Native.Nat.{ℕ, ◌+◌, ◌*◌, ◌-◌, ◌%◌, ◌^◌, ◌≤◌, ◌<◌}
 use lib.Bits.{and_le_l}
 use lib.ListN.{length, take, get_or}
-use Rattle.memory.specs.Bits.{bit, bitIn}
+use Rattle.memory.specs.Bits.{bit, bit_in}
 use Rattle.kernels.specs.Blocks.{Shows}
-use Rattle.filter.specs.Groups.{row_at, levelHas}
+use Rattle.filter.specs.Groups.{row_at, level_has}
 use Rattle.filter.specs.declared.groups.Level.{Level}
-use Rattle.filter.proofs.Rows.{tested-one, tested-more, few-block}
+use Rattle.filter.proofs.Rows.{tested_one, tested_more, few_block}
 use Rattle.filter.proofs.groups.block_of_few.Statement.{statement}
 use Rattle.filter.proofs.groups.block_of_few.Tie as tie
 
 -- has filter g position x
 abbrev has : Level → List ℕ → ℕ → ℕ → Bool
-has l bytes x g = bitIn bytes (row_at l x) (g * 2 ^ l.exponent + x % 2 ^ l.exponent)
+has l bytes x g = bit_in bytes (row_at l x) (g * 2 ^ l.exponent + x % 2 ^ l.exponent)
 
 -- counted from filter 0
 from-0 : (F : ℕ → Bool) (n y : ℕ) → ((i : ℕ) → i < n → bit y i ≡ F i) → (i : ℕ) → i < n → bit y i ≡ F (0 + i)
 from-0 F n y h i l = let z : 0 + i ≡ i = omega arith in rw z (h i l)
 
 abbrev invariant-loop : tie.invariant-loop
-invariant-loop l below count bytes ps n r₀ i₀ r i = (0 < i) × (i ≤ count) × (r < 2 ^ n) × Shows (levelHas l bytes (take i ps)) 0 n r
+invariant-loop l below count bytes ps n r₀ i₀ r i = (0 < i) × (i ≤ count) × (r < 2 ^ n) × Shows (level_has l bytes (take i ps)) 0 n r
 
 abbrev decreases-loop : tie.decreases-loop
 decreases-loop l below count bytes ps n r₀ i₀ r i = count - i
@@ -52,7 +52,7 @@ loop-holds c =
       omega arith,
       b.requires.0.0,
       c.few-bits.ensures.0,
-      tested-one F x.t3 0 n (omega (arith, eight b)) c.few-bits.result (from-0 (F (get_or x.t3 0 0)) n c.few-bits.result c.few-bits.ensures.1),
+      tested_one F x.t3 0 n (omega (arith, eight b)) c.few-bits.result (from-0 (F (get_or x.t3 0 0)) n c.few-bits.result c.few-bits.ensures.1),
     )
 
 mul-few-bits : tie.Need-overflow-mul-few-bits invariant-loop decreases-loop
@@ -82,7 +82,7 @@ loop-again c =
       omega arith,
       omega arith,
       omega (arith, l.invariant.2, and_le_l l.r c.few-bits2.result),
-      tested-more F x.t3 0 n l.i (omega (arith, eight b, b.requires.0.1)) l.r c.few-bits2.result l.invariant.3
+      tested_more F x.t3 0 n l.i (omega (arith, eight b, b.requires.0.1)) l.r c.few-bits2.result l.invariant.3
           (from-0 (F (get_or x.t3 l.i 0)) n c.few-bits2.result c.few-bits2.ensures.1),
     )
 
@@ -92,7 +92,7 @@ returns c =
     let x = b.args in
     let l = c.before.loop in
     let e : l.i ≡ x.count = omega arith in
-    few-block x.l x.bytes.now x.below (take x.count x.t3) (x.below - x.l.start) l.r (omega arith) b.requires.0.2 (omega (arith, b.requires.0.3))
+    few_block x.l x.bytes.now x.below (take x.count x.t3) (x.below - x.l.start) l.r (omega arith) b.requires.0.2 (omega (arith, b.requires.0.3))
     l.invariant.2 (rw e at l.invariant.3)
 
 pub block-of-few-spec : {M : Type 1} → statement M

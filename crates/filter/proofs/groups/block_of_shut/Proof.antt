@@ -1,7 +1,7 @@
 -- Two words, or one.
 use borrow.Author.Rules.{rules}
 use mathlib.Core.Path.{refl}
-use Rattle.filter.proofs.RecentShut.{shut-two, shut_one}
+use Rattle.filter.proofs.RecentShut.{shut_two, shut_one}
 use Rattle.filter.proofs.groups.block_of_shut.Statement.{statement}
 use Rattle.filter.proofs.groups.block_of_shut.Tie as tie
 
@@ -18,7 +18,7 @@ returns : tie.Need-returns
 returns c =
     let b = c.before.before.before in
     let x = b.args in
-    (refl, shut-two x.n x.a x.b c.before.having.result c.having2.result c.before.before.if1.true b.requires.1 c.before.having.ensures c.having2.ensures)
+    (refl, shut_two x.n x.a x.b c.before.having.result c.having2.result c.before.before.if1.true b.requires.1 c.before.having.ensures c.having2.ensures)
 
 having-requires-3 : tie.Need-having-requires-3
 having-requires-3 c κs = search rules

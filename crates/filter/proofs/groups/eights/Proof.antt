@@ -6,20 +6,20 @@ use mathlib.Core.Bool.{Bool}
 use mathlib.Core.List.{List}
 use Prim.Native.Nat.{ℕ, ◌+◌, ◌*◌, ◌-◌, ◌%◌, ◌^◌, ◌≤◌}
 use lib.ListN.{length, take}
-use Rattle.memory.specs.Bits.{bitIn}
+use Rattle.memory.specs.Bits.{bit_in}
 use Rattle.kernels.specs.Blocks.{Shows}
-use Rattle.filter.specs.Groups.{row_at, levelHas}
+use Rattle.filter.specs.Groups.{row_at, level_has}
 use Rattle.filter.specs.declared.groups.Level.{Level}
-use Rattle.filter.proofs.Rows.{tested-none, tested-more}
+use Rattle.filter.proofs.Rows.{tested_none, tested_more}
 use Rattle.filter.proofs.groups.eights.Statement.{statement}
 use Rattle.filter.proofs.groups.eights.Tie as tie
 
 -- has filter g position x
 abbrev has : Level → List ℕ → ℕ → ℕ → Bool
-has l bytes x g = bitIn bytes (row_at l x) (g * 2 ^ l.exponent + x % 2 ^ l.exponent)
+has l bytes x g = bit_in bytes (row_at l x) (g * 2 ^ l.exponent + x % 2 ^ l.exponent)
 
 abbrev invariant-loop : tie.invariant-loop
-invariant-loop l count first n bytes ps r₀ i₀ r i = (i ≤ count) × Shows (levelHas l bytes (take i ps)) first (n * 8) r
+invariant-loop l count first n bytes ps r₀ i₀ r i = (i ≤ count) × Shows (level_has l bytes (take i ps)) first (n * 8) r
 
 abbrev decreases-loop : tie.decreases-loop
 decreases-loop l count first n bytes ps r₀ i₀ r i = count - i
@@ -31,7 +31,7 @@ loop-holds : tie.Need-loop-init invariant-loop decreases-loop
 loop-holds c =
     let b = c.before in
     let x = b.args in
-    (omega arith, tested-none (has x.l x.bytes.now) x.t2 x.first (x.n * 8) (omega (arith, b.requires.2)))
+    (omega arith, tested_none (has x.l x.bytes.now) x.t2 x.first (x.n * 8) (omega (arith, b.requires.2)))
 
 mul-position-bits : tie.Need-overflow-mul-position-bits invariant-loop decreases-loop
 mul-position-bits c = omega (arith, c.before.before.before.requires.1)
@@ -54,7 +54,7 @@ loop-again c =
     let x = b.args in
     let l = c.before.before.loop in (
       omega arith,
-      tested-more (has x.l x.bytes.now) x.t2 x.first (x.n * 8) l.i (omega (arith, eight b, b.requires.1)) l.r c.position-bits.result l.invariant.1 c.position-bits.ensures,
+      tested_more (has x.l x.bytes.now) x.t2 x.first (x.n * 8) l.i (omega (arith, eight b, b.requires.1)) l.r c.position-bits.result l.invariant.1 c.position-bits.ensures,
     )
 
 returns : tie.Need-returns invariant-loop decreases-loop

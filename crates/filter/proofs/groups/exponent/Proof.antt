@@ -1,7 +1,7 @@
 -- A number of at most 2 ^ 7 has an exponent of at most 7.
 use borrow.Author.Rules.{rules}
 use native.Mathlib.Omega.{arith}
-use Rattle.memory.specs.Power.{log2up-least}
+use Rattle.memory.specs.Power.{log2up_least}
 use Rattle.filter.proofs.groups.exponent.Statement.{statement}
 use Rattle.filter.proofs.groups.exponent.Tie as tie
 
@@ -17,7 +17,7 @@ cast-result c = search rules
 returns : tie.Need-returns
 returns c =
     let b = c.before in
-    (c.partition-exponent.ensures, omega (arith, c.partition-exponent.ensures, log2up-least b.args.x 7 (omega (arith, b.requires))))
+    (c.partition-exponent.ensures, omega (arith, c.partition-exponent.ensures, log2up_least b.args.x 7 (omega (arith, b.requires))))
 
 pub exponent-spec : {M : Type 1} → statement M
 exponent-spec =

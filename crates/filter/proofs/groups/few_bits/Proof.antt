@@ -4,7 +4,7 @@ use native.Mathlib.Omega.{arith}
 use Prim.Native.Nat.{◌/◌, ◌%◌, ◌≤◌}
 use lib.ListN.{length}
 use lib.Pow.{pow_mono}
-use Rattle.filter.proofs.Bytes.{eighth, few-in, few-fits, few-bit}
+use Rattle.filter.proofs.Bytes.{eighth, few_in, few_fits, few_bit}
 use borrow.Author.Rules.{rules}
 use Rattle.filter.proofs.groups.few_bits.Statement.{statement}
 use Rattle.filter.proofs.groups.few_bits.Tie as tie
@@ -44,8 +44,8 @@ byte-bits-requires c κs =
     let low = mod-lt W.result P.ensures.1 in (
       b.requires.0,
       omega (arith, e, P.ensures.1),
-      few-fits R.result P.result (P.result / 8) x.n (W.result % P.result) (length x.bytes.now) e s low m (omega arith),
-      few-in R.result P.result (P.result / 8) x.n (W.result % P.result) (length x.bytes.now) e s low,
+      few_fits R.result P.result (P.result / 8) x.n (W.result % P.result) (length x.bytes.now) e s low m (omega arith),
+      few_in R.result P.result (P.result / 8) x.n (W.result % P.result) (length x.bytes.now) e s low,
     )
 
 returns : tie.Need-returns
@@ -56,9 +56,9 @@ returns c =
     let W = c.before.before.usize-of-u32 in
     let P = c.before.before.before.power in
     let e = eighth x.l.exponent P.result P.ensures.0 b.requires.1.some in (
-      c.byte-bits.ensures.0,
+      c.byte_bits.ensures.0,
       λ i h. rw (e, R.ensures, P.ensures.0, W.ensures) at
-          (few-bit x.bytes.now R.result (W.result % P.result) (P.result / 8) i c.byte-bits.result (c.byte-bits.ensures.1 i h)),
+          (few_bit x.bytes.now R.result (W.result % P.result) (P.result / 8) i c.byte_bits.result (c.byte_bits.ensures.1 i h)),
     )
 
 pub few-bits-spec : {M : Type 1} → statement M

@@ -3,8 +3,8 @@ use borrow.Author.Rules.{rules}
 use borrow.Author.Tests.{lt-ltb, le-ltb}
 use native.Mathlib.Omega.{arith}
 use Prim.Native.Nat.{◌+◌, ◌*◌, ◌-◌, ◌/◌, ◌^◌, ◌<◌}
-use Rattle.memory.specs.Numbers.{div-lt}
-use Rattle.filter.proofs.Levels.{power-9, exponent-le}
+use Rattle.memory.specs.Numbers.{div_lt}
+use Rattle.filter.proofs.Levels.{power_9, exponent_le}
 use Rattle.filter.proofs.groups.level_in_sets.Statement.{statement}
 use Rattle.filter.proofs.groups.level_in_sets.Tie as tie
 
@@ -13,7 +13,7 @@ set-level-requires c κs =
     let b = c.before.before in
     let x = b.args in
     let p = b.requires in
-    (p.0.0.most, p.0.0.small, p.0.1, omega (arith, p.1.0), omega (arith, p.0.2, p.0.0.most), exponent-le x.chip.unit x.e p.0.0 x.st.rounds p.0.2)
+    (p.0.0.most, p.0.0.small, p.0.1, omega (arith, p.1.0), omega (arith, p.0.2, p.0.0.most), exponent_le x.chip.unit x.e p.0.0 x.st.rounds p.0.2)
 
 returns : tie.Need-returns
 returns c = rw (lt-ltb _ _ c.before.if1.true) c.set-level.ensures
@@ -32,8 +32,8 @@ full-level-requires c κs =
     let b = c.before.before.before in
     let x = b.args in
     let p = b.requires in
-    let k : (x.below - 1) / 2 ^ (x.e + 9) < 2049 = rw (power-9 x.chip.unit x.e p.0.0)
-    (div-lt (x.below - 1) (128 * (4 * x.chip.unit)) 2049 (omega (arith, p.0.0.some)) (omega (arith, p.0.0.some))) in
+    let k : (x.below - 1) / 2 ^ (x.e + 9) < 2049 = rw (power_9 x.chip.unit x.e p.0.0)
+    (div_lt (x.below - 1) (128 * (4 * x.chip.unit)) 2049 (omega (arith, p.0.0.some)) (omega (arith, p.0.0.some))) in
     (p.0.0.most, p.0.1, omega (arith, c.shifted.ensures))
 
 returns-2 : tie.Need-returns-2

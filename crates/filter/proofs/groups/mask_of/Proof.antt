@@ -9,7 +9,7 @@ use lib.Bits.{or_lt}
 use lib.ListN.{get_or, length}
 use lib.Pow.{pow_pos, pow-lt, pow_mono}
 use Rattle.filter.specs.Recent.{MaskOf, OneRow}
-use Rattle.filter.proofs.Masks.{mask-none, mask-more, row_more}
+use Rattle.filter.proofs.Masks.{mask_none, mask_more, row_more}
 use Rattle.filter.proofs.groups.mask_of.Statement.{statement}
 use Rattle.filter.proofs.groups.mask_of.Tie as tie
 
@@ -31,7 +31,7 @@ array-read-first : tie.Need-array-read-first invariant-loop decreases-loop
 array-read-first c = search rules
 
 loop-holds : tie.Need-loop-init invariant-loop decreases-loop
-loop-holds c = let x = c.before.args in (omega arith, pow_pos (2 ^ x.e), mask-none x.t2 (2 ^ x.e), λ z j h. absurd (omega arith))
+loop-holds c = let x = c.before.args in (omega arith, pow_pos (2 ^ x.e), mask_none x.t2 (2 ^ x.e), λ z j h. absurd (omega arith))
 
 mul-p : tie.Need-overflow-mul-p invariant-loop decreases-loop
 mul-p c = search rules
@@ -67,7 +67,7 @@ loop-again c =
     let k : c.before.usize-of-u32.result % P.result < 2 ^ x.e = rw (← P.ensures.0) (mod-lt c.before.usize-of-u32.result P.ensures.1) in (
       omega arith,
       or_lt (2 ^ x.e) l.bits c.single.result l.invariant.1 (rw c.single.ensures.0 (pow-lt k)),
-      mask-more x.t2 l.i (2 ^ x.e) l.bits c.single.result l.invariant.2 (λ y h. rw p at (c.single.ensures.1 y h)),
+      mask_more x.t2 l.i (2 ^ x.e) l.bits c.single.result l.invariant.2 (λ y h. rw p at (c.single.ensures.1 y h)),
       row_more x.t2 l.i x.e l.differ l.invariant.3,
     )
 

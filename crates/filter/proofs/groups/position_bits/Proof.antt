@@ -3,7 +3,7 @@ use native.Mathlib.Nat.{mod-lt}
 use native.Mathlib.Omega.{arith}
 use Prim.Native.Nat.{◌/◌, ◌%◌}
 use lib.ListN.{length}
-use Rattle.filter.proofs.Bytes.{eighth, first-in, byte-in, step-bit}
+use Rattle.filter.proofs.Bytes.{eighth, first_in, byte_in, step_bit}
 use borrow.Author.Rules.{rules}
 use Rattle.filter.proofs.groups.position_bits.Statement.{statement}
 use Rattle.filter.proofs.groups.position_bits.Tie as tie
@@ -30,7 +30,7 @@ mul-row-bits c =
     let P = c.before.before.power in
     let e = eighth x.l.exponent P.result P.ensures.0 b.requires.1.some in
     let s = rw (← R.ensures, ← P.ensures.0) at b.requires.1.reach in
-    omega (arith, first-in R.result P.result (P.result / 8) x.first x.n (length x.bytes.now) e s)
+    omega (arith, first_in R.result P.result (P.result / 8) x.first x.n (length x.bytes.now) e s)
 
 add-row-bits : tie.Need-overflow-add-row-bits
 add-row-bits c =
@@ -40,7 +40,7 @@ add-row-bits c =
     let P = c.before.before.power in
     let e = eighth x.l.exponent P.result P.ensures.0 b.requires.1.some in
     let s = rw (← R.ensures, ← P.ensures.0) at b.requires.1.reach in
-    omega (arith, first-in R.result P.result (P.result / 8) x.first x.n (length x.bytes.now) e s)
+    omega (arith, first_in R.result P.result (P.result / 8) x.first x.n (length x.bytes.now) e s)
 
 add-row-bits-2 : tie.Need-overflow-add-row-bits-2
 add-row-bits-2 c =
@@ -51,7 +51,7 @@ add-row-bits-2 c =
     let P = c.before.before.power in
     let e = eighth x.l.exponent P.result P.ensures.0 b.requires.1.some in
     let s = rw (← R.ensures, ← P.ensures.0) at b.requires.1.reach in
-    omega (arith, first-in R.result P.result (P.result / 8) x.first x.n (length x.bytes.now) e s, mod-lt W.result P.ensures.1)
+    omega (arith, first_in R.result P.result (P.result / 8) x.first x.n (length x.bytes.now) e s, mod-lt W.result P.ensures.1)
 
 row-bits-requires : tie.Need-row-bits-requires
 row-bits-requires c κs =
@@ -62,7 +62,7 @@ row-bits-requires c κs =
     let P = c.before.before.power in
     let e = eighth x.l.exponent P.result P.ensures.0 b.requires.1.some in
     let s = rw (← R.ensures, ← P.ensures.0) at b.requires.1.reach in
-    (b.requires.0, λ i h. byte-in R.result P.result (P.result / 8) x.first x.n (length x.bytes.now) e s (W.result % P.result) i (mod-lt W.result P.ensures.1) h)
+    (b.requires.0, λ i h. byte_in R.result P.result (P.result / 8) x.first x.n (length x.bytes.now) e s (W.result % P.result) i (mod-lt W.result P.ensures.1) h)
 
 returns : tie.Need-returns
 returns c i h =
@@ -72,7 +72,7 @@ returns c i h =
     let W = c.before.before.usize-of-u32 in
     let P = c.before.before.before.power in
     let e = eighth x.l.exponent P.result P.ensures.0 b.requires.1.some in
-    rw (e, R.ensures, P.ensures.0, W.ensures) at (step-bit x.bytes.now R.result (W.result % P.result) x.first (P.result / 8) i c.row-bits.result (c.row-bits.ensures.0 i h))
+    rw (e, R.ensures, P.ensures.0, W.ensures) at (step_bit x.bytes.now R.result (W.result % P.result) x.first (P.result / 8) i c.row-bits.result (c.row-bits.ensures.0 i h))
 
 pub position-bits-spec : {M : Type 1} → statement M
 position-bits-spec =

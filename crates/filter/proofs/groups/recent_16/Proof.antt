@@ -4,15 +4,15 @@ use native.Mathlib.Omega.{arith}
 use mathlib.Core.Path.{◌≡◌, refl}
 use Prim.Native.Nat.{ℕ, ◌+◌, ◌*◌, ◌-◌, ◌/◌, ◌^◌, ◌≤◌, ◌<◌, min}
 use lib.ListN.{length}
-use Rattle.filter.proofs.RecentShut.{few-more, few_words, on-flash-256, in-ram-16, size, gate, shut-few, shut-many, recent-shown}
+use Rattle.filter.proofs.RecentShut.{few_more, few_words, on_flash_256, in_ram_16, size, gate, shut_few, shut_many, recent_shown}
 use Rattle.filter.proofs.groups.recent_16.Statement.{statement}
 use Rattle.filter.proofs.groups.recent_16.Tie as tie
 
 eight : (c : tie.Start) → length c.args.t3 ≡ 8
 eight c = search rules
 
-first-in : (row less words len : ℕ) → less ≡ min words 16 → row + 256 ≤ len → row + less * 8 ≤ len
-first-in row less words len e h = omega arith
+first_in : (row less words len : ℕ) → less ≡ min words 16 → row + 256 ≤ len → row + less * 8 ≤ len
+first_in row less words len e h = omega arith
 
 second-in : (row less words len : ℕ) → less ≡ min words 16 → words ≤ 31 → row + 256 ≤ len → row + 128 + (words - less) * 8 ≤ len
 second-in row less words len e l h = omega arith
@@ -45,19 +45,19 @@ row-of-requires : tie.Need-row-of-requires
 row-of-requires c κs =
     let b = c.before.before.before.before in
     let x = b.args in
-    let r = on-flash-256 x.rs x.count x.t3 (length x.main.now) (length x.ram.now) b.requires.0.3 b.requires.0.1 b.requires.0.0 in
+    let r = on_flash_256 x.rs x.count x.t3 (length x.main.now) (length x.ram.now) b.requires.0.3 b.requires.0.1 b.requires.0.0 in
     (b.requires.0.3.narrow, omega (arith, r, main-lt b))
 
 lacking-requires : tie.Need-lacking-requires
 lacking-requires c κs =
     let b = c.before.before.before.before.before in
     let x = b.args in
-    let r = on-flash-256 x.rs x.count x.t3 (length x.main.now) (length x.ram.now) b.requires.0.3 b.requires.0.1 b.requires.0.0 in
+    let r = on_flash_256 x.rs x.count x.t3 (length x.main.now) (length x.ram.now) b.requires.0.3 b.requires.0.1 b.requires.0.0 in
     let row = c.row_of in
     let l = c.before.lesser2 in
     let words : ℕ = (c.before.before.lesser.result - x.rs.l1.start + 3) / 4 in (
       b.requires.1.2,
-      first-in row.result l.result words (length x.main.now) l.ensures (rw (← row.ensures) at r),
+      first_in row.result l.result words (length x.main.now) l.ensures (rw (← row.ensures) at r),
     )
 
 add-lacking : tie.Need-overflow-add-lacking
@@ -65,7 +65,7 @@ add-lacking c =
     let o = c.before in
     let b = o.before.before.before.before.before in
     let x = b.args in
-    let r = on-flash-256 x.rs x.count x.t3 (length x.main.now) (length x.ram.now) b.requires.0.3 b.requires.0.1 b.requires.0.0 in
+    let r = on_flash_256 x.rs x.count x.t3 (length x.main.now) (length x.ram.now) b.requires.0.3 b.requires.0.1 b.requires.0.0 in
     omega (arith, rw (← o.row_of.ensures) at r, main-lt b)
 
 sub-lacking : tie.Need-overflow-sub-lacking
@@ -75,7 +75,7 @@ lacking-requires-2 : tie.Need-lacking-requires-2
 lacking-requires-2 c κs =
     let b = c.before.before.before.before.before.before in
     let x = b.args in
-    let r = on-flash-256 x.rs x.count x.t3 (length x.main.now) (length x.ram.now) b.requires.0.3 b.requires.0.1 b.requires.0.0 in
+    let r = on_flash_256 x.rs x.count x.t3 (length x.main.now) (length x.ram.now) b.requires.0.3 b.requires.0.1 b.requires.0.0 in
     let row = c.before.row_of in
     let l = c.before.before.lesser2 in
     let top = c.before.before.before.lesser in
@@ -100,25 +100,25 @@ row-of-requires-2 c κs =
     let b = c.before.before.before.before.before.before.before.before in
     let x = b.args in
     let R = b.requires.0.3 in
-    let r = in-ram-16 x.rs x.count x.t3 (length x.main.now) (length x.ram.now) R b.requires.0.1 b.requires.0.0 in
+    let r = in_ram_16 x.rs x.count x.t3 (length x.main.now) (length x.ram.now) R b.requires.0.1 b.requires.0.0 in
     (omega (arith, R.same, R.narrow), omega (arith, r, ram-lt b))
 
 lacking-requires-3 : tie.Need-lacking-requires-3
 lacking-requires-3 c κs =
     let b = c.before.before.before.before.before.before.before.before.before.before in
     let x = b.args in
-    let r = in-ram-16 x.rs x.count x.t3 (length x.main.now) (length x.ram.now) b.requires.0.3 b.requires.0.1 b.requires.0.0 in
+    let r = in_ram_16 x.rs x.count x.t3 (length x.main.now) (length x.ram.now) b.requires.0.3 b.requires.0.1 b.requires.0.0 in
     let row = c.before.row-of2 in
     let top = c.before.before.before.before.before.before.before.lesser in
     let words : ℕ = (top.result - x.rs.l1.start + 3) / 4 in (
       b.requires.1.2,
       more-in row.result ((x.rs.below - top.result + 3) / 4) (length x.ram.now)
-          (few-more x.rs x.count x.t3 (length x.main.now) (length x.ram.now) b.requires.0.3 top.result words top.ensures refl)
+          (few_more x.rs x.count x.t3 (length x.main.now) (length x.ram.now) b.requires.0.3 top.result words top.ensures refl)
           (rw (← row.ensures) at r),
     )
 
 sub-block-of-shut : tie.Need-overflow-sub-block-of-shut
-sub-block-of-shut c = omega (arith, c.before.before.before.before.before.before.before.before.before.before.before.before.requires.0.3.start-lt)
+sub-block-of-shut c = omega (arith, c.before.before.before.before.before.before.before.before.before.before.before.before.requires.0.3.start_lt)
 
 block-of-shut-requires : tie.Need-block-of-shut-requires
 block-of-shut-requires c κs =
@@ -140,10 +140,10 @@ returns c =
     let u = c.before.before.before.before.before.before.before.lacking in
     let v = c.before.before.before.before.before.before.lacking2 in
     let w = c.before.before.lacking3 in
-    let S = shut-few x.rs x.count x.t3 x.main.now x.ram.now p.0.3 p.0.0 few x.mask p.1.1 p.1.0
+    let S = shut_few x.rs x.count x.t3 x.main.now x.ram.now p.0.3 p.0.0 few x.mask p.1.1 p.1.0
     top.result words l.result row.result at.result u.result v.result top.ensures refl l.ensures row.ensures at.ensures u.ensures v.ensures
     w.result c.before.before.before.if1.true w.ensures in
-    recent-shown x.rs x.count x.t3 x.main.now x.ram.now p.0.3 p.0.0 few x.mask p.1.1 p.1.0
+    recent_shown x.rs x.count x.t3 x.main.now x.ram.now p.0.3 p.0.0 few x.mask p.1.1 p.1.0
     c.block-of-shut.result c.block-of-shut.ensures.0
     (c.block-of-shut.ensures.1 (gate x.rs x.count x.t3 x.main.now x.ram.now p.0.3 p.0.0 few x.mask p.1.1 p.1.0) S.0 S.1)
 
@@ -151,13 +151,13 @@ lacking-requires-4 : tie.Need-lacking-requires-4
 lacking-requires-4 c κs =
     let b = c.before.before.before.before.before.before.before.before.before.before in
     let x = b.args in
-    let r = in-ram-16 x.rs x.count x.t3 (length x.main.now) (length x.ram.now) b.requires.0.3 b.requires.0.1 b.requires.0.0 in
+    let r = in_ram_16 x.rs x.count x.t3 (length x.main.now) (length x.ram.now) b.requires.0.3 b.requires.0.1 b.requires.0.0 in
     let row = c.before.row-of2 in
     let top = c.before.before.before.before.before.before.before.lesser in
     let words : ℕ = (top.result - x.rs.l1.start + 3) / 4 in (
       b.requires.1.2,
       more-in row.result ((x.rs.below - top.result + 3) / 4) (length x.ram.now)
-          (few-more x.rs x.count x.t3 (length x.main.now) (length x.ram.now) b.requires.0.3 top.result words top.ensures refl)
+          (few_more x.rs x.count x.t3 (length x.main.now) (length x.ram.now) b.requires.0.3 top.result words top.ensures refl)
           (rw (← row.ensures) at r),
     )
 
@@ -184,10 +184,10 @@ returns-2 c =
     let u = c.before.before.before.before.before.before.before.lacking in
     let v = c.before.before.before.before.before.before.lacking2 in
     let w = c.before.before.lacking4 in
-    let S = shut-many x.rs x.count x.t3 x.main.now x.ram.now p.0.3 p.0.0 few x.mask p.1.1 p.1.0
+    let S = shut_many x.rs x.count x.t3 x.main.now x.ram.now p.0.3 p.0.0 few x.mask p.1.1 p.1.0
     top.result words l.result row.result at.result u.result v.result top.ensures refl l.ensures row.ensures at.ensures u.ensures v.ensures
     w.result c.before.before.before.if1.false w.ensures in
-    recent-shown x.rs x.count x.t3 x.main.now x.ram.now p.0.3 p.0.0 few x.mask p.1.1 p.1.0
+    recent_shown x.rs x.count x.t3 x.main.now x.ram.now p.0.3 p.0.0 few x.mask p.1.1 p.1.0
     c.block-of-shut2.result c.block-of-shut2.ensures.0
     (c.block-of-shut2.ensures.1 (gate x.rs x.count x.t3 x.main.now x.ram.now p.0.3 p.0.0 few x.mask p.1.1 p.1.0) S.0 S.1)
 

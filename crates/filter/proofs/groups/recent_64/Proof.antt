@@ -5,7 +5,7 @@ use mathlib.Core.Path.{◌≡◌, ap}
 use Prim.Native.Nat.{ℕ, ◌+◌, ◌-◌, ◌*◌, ◌%◌, ◌^◌, ◌≤◌, ◌<◌, min}
 use lib.ListN.{get_or, length}
 use Rattle.filter.specs.Groups.{row_at}
-use Rattle.filter.proofs.RecentWords.{words-low, words-high}
+use Rattle.filter.proofs.RecentWords.{words_low, words_high}
 use Rattle.filter.proofs.groups.recent_64.Statement.{statement}
 use Rattle.filter.proofs.groups.recent_64.Tie as tie
 
@@ -40,12 +40,12 @@ ram-lt b = omega arith
 flash-row : (b : tie.Start) → row_at b.args.rs.l1 (get_or b.args.t3 0 0) + 1024 ≤ length b.args.main.now
 flash-row b =
     let x = b.args in
-    flash x.rs.l1.exponent (row_at x.rs.l1 (get_or x.t3 0 0)) (length x.main.now) b.requires.0.0 (b.requires.0.3.on-flash 0 b.requires.0.1)
+    flash x.rs.l1.exponent (row_at x.rs.l1 (get_or x.t3 0 0)) (length x.main.now) b.requires.0.0 (b.requires.0.3.on_flash_lem 0 b.requires.0.1)
 
 ram-row : (b : tie.Start) → row_at b.args.rs.ska (get_or b.args.t3 0 0) + 64 ≤ length b.args.ram.now
 ram-row b =
     let x = b.args in
-    page x.rs.l1.exponent (row_at x.rs.ska (get_or x.t3 0 0)) (length x.ram.now) b.requires.0.0 (b.requires.0.3.in-ram 0 b.requires.0.1)
+    page x.rs.l1.exponent (row_at x.rs.ska (get_or x.t3 0 0)) (length x.ram.now) b.requires.0.0 (b.requires.0.3.in_ram_lem 0 b.requires.0.1)
 
 lesser-requires : tie.Need-lesser-requires
 lesser-requires c κs = search rules
@@ -109,7 +109,7 @@ words-with-requires-3 c κs =
     let b = l.before.before.before in
     let x = b.args in
     let r = rw (← o.row-of2.ensures) at (ram-row b) in
-    let k : x.rs.below - l.lesser.result ≤ 8 = rw l.lesser.ensures (behind x.rs.ska.start x.rs.below b.requires.0.3.below-le) in
+    let k : x.rs.below - l.lesser.result ≤ 8 = rw l.lesser.ensures (behind x.rs.ska.start x.rs.below b.requires.0.3.below_le) in
     (omega (arith, k), omega (arith, k, r))
 
 shl-t26 : tie.Need-overflow-shl-t26
@@ -127,7 +127,7 @@ returns c =
     let b = l.before.before.before in
     let x = b.args in
     let p = b.requires in
-    words-low x.rs x.count x.t3 x.main.now x.ram.now x.mask (l.lesser.result - x.rs.l1.start) l2.lesser2.result (x.rs.below - l.lesser.result)
+    words_low x.rs x.count x.t3 x.main.now x.ram.now x.mask (l.lesser.result - x.rs.l1.start) l2.lesser2.result (x.rs.below - l.lesser.result)
     w1.words-with.result w2.words-with2.result w3.words-with3.result p.0.3 (omega (arith, eight b, p.0.2)) p.0.0 p.1.0 p.1.1
     (rw l.lesser.ensures) l2.lesser2.ensures (rw l.lesser.ensures)
     (rw o.row_of.ensures at w1.words-with.ensures) (rw o.row_of.ensures at w2.words-with2.ensures) (rw o2.row-of2.ensures at w3.words-with3.ensures) c.if1.true
@@ -147,7 +147,7 @@ returns-2 c =
     let b = l.before.before.before in
     let x = b.args in
     let p = b.requires in
-    words-high x.rs x.count x.t3 x.main.now x.ram.now x.mask (l.lesser.result - x.rs.l1.start) l2.lesser2.result (x.rs.below - l.lesser.result)
+    words_high x.rs x.count x.t3 x.main.now x.ram.now x.mask (l.lesser.result - x.rs.l1.start) l2.lesser2.result (x.rs.below - l.lesser.result)
     w1.words-with.result w2.words-with2.result w3.words-with3.result p.0.3 (omega (arith, eight b, p.0.2)) p.0.0 p.1.0 p.1.1
     (rw l.lesser.ensures) l2.lesser2.ensures (rw l.lesser.ensures)
     (rw o.row_of.ensures at w1.words-with.ensures) (rw o.row_of.ensures at w2.words-with2.ensures) (rw o2.row-of2.ensures at w3.words-with3.ensures) c.if1.false

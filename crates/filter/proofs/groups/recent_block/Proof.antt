@@ -10,18 +10,18 @@ use Rattle.filter.specs.Blocks.{EightsIn}
 use Rattle.filter.specs.Groups.{row_at}
 use Rattle.filter.specs.Recent.{RecentIn}
 use Rattle.filter.specs.declared.groups.Recent.{Recent}
-use Rattle.filter.proofs.Recent.{recent-few}
+use Rattle.filter.proofs.Recent.{recent_few}
 use Rattle.filter.proofs.groups.recent_block.Statement.{statement}
 use Rattle.filter.proofs.groups.recent_block.Tie as tie
 
 -- the row of each position in the SKA page
-few-in : (rs : Recent) (count : ℕ) (ps : List ℕ) (main ram i : ℕ) → RecentIn rs count ps main ram → i < count → rs.ska.start ≡ rs.l1.start
+few_in : (rs : Recent) (count : ℕ) (ps : List ℕ) (main ram i : ℕ) → RecentIn rs count ps main ram → i < count → rs.ska.start ≡ rs.l1.start
     → EightsIn rs.ska (get_or ps i 0) (rs.below - rs.ska.start) ram
-few-in rs count ps main ram i R h e =
+few_in rs count ps main ram i R h e =
     let s = R.same in
     let w : 2 ^ rs.ska.exponent ≡ 2 ^ rs.l1.exponent = ap (λ (z : ℕ). 2 ^ z) s in
-    let n : (rs.below - rs.ska.start + 7) / 8 ≤ 1 = omega (arith, R.below-le) in
-    let t : row_at rs.ska (get_or ps i 0) + 2 ^ rs.ska.exponent ≤ ram = omega (arith, R.in-ram i h, w) in
+    let n : (rs.below - rs.ska.start + 7) / 8 ≤ 1 = omega (arith, R.below_le) in
+    let t : row_at rs.ska (get_or ps i 0) + 2 ^ rs.ska.exponent ≤ ram = omega (arith, R.in_ram_lem i h, w) in
     record {
       some = omega (arith, R.some, s);
       few = omega (arith, R.narrow, s);
@@ -45,14 +45,14 @@ block-of-few-requires c κs =
     let b = c.before.before.before.before.before.before.before.before in
     let x = b.args in
     let R = b.requires.2 in (
-      (b.requires.0, b.requires.1, omega (arith, R.start-lt, c.if3.true), R.below-le),
-      λ i h. few-in x.rs x.count x.ps (length x.main.now) (length x.ram.now) i R h c.if3.true,
+      (b.requires.0, b.requires.1, omega (arith, R.start_lt, c.if3.true), R.below_le),
+      λ i h. few_in x.rs x.count x.ps (length x.main.now) (length x.ram.now) i R h c.if3.true,
     )
 
 returns-3 : tie.Need-returns-3
 returns-3 c =
     let x = c.before.before.before.before.before.before.before.before.before.args in
-    recent-few x.rs x.main.now x.ram.now (take x.count x.ps) c.block-of-few.result c.before.if3.true c.block-of-few.ensures
+    recent_few x.rs x.main.now x.ram.now (take x.count x.ps) c.block-of-few.result c.before.if3.true c.block-of-few.ensures
 
 recent-by-bytes-requires : tie.Need-recent-by-bytes-requires
 recent-by-bytes-requires c κs = search rules

@@ -4,7 +4,7 @@ use native.Mathlib.Omega.{arith}
 use mathlib.Core.Logic.{inl, inr}
 use mathlib.Core.Path.{refl}
 use lib.ListN.{length, take}
-use Rattle.filter.proofs.RecentBytes.{bytes-two, bytes_one}
+use Rattle.filter.proofs.RecentBytes.{bytes_two, bytes_one}
 use Rattle.filter.proofs.groups.recent_by_bytes.Statement.{statement}
 use Rattle.filter.proofs.groups.recent_by_bytes.Tie as tie
 
@@ -14,7 +14,7 @@ sub-n c = search rules
 recent-word-requires : tie.Need-recent-word-requires
 recent-word-requires c κs =
     let p = c.before.before.before.requires in
-    (inl refl, omega (arith, p.1.start-lt), p.0, p.1)
+    (inl refl, omega (arith, p.1.start_lt), p.0, p.1)
 
 recent-word-requires-2 : tie.Need-recent-word-requires-2
 recent-word-requires-2 c κs =
@@ -31,7 +31,7 @@ returns : tie.Need-returns
 returns c =
     let b = c.before.before.before.before.before.before.before in
     let x = b.args in
-    bytes-two x.rs x.count x.ps (length x.main.now) (length x.ram.now) b.requires.1 x.main.now x.ram.now (take x.count x.ps)
+    bytes_two x.rs x.count x.ps (length x.main.now) (length x.ram.now) b.requires.1 x.main.now x.ram.now (take x.count x.ps)
     c.before.before.before.recent-word.result c.before.recent-word2.result c.lowest.result
     c.before.before.if1.true c.before.before.before.recent-word.ensures c.before.recent-word2.ensures c.lowest.ensures
 

@@ -3,7 +3,7 @@ use native.Mathlib.Omega.{arith}
 use Prim.Native.Nat.{ℕ, ◌*◌, ◌-◌, ◌/◌, ◌%◌}
 use mathlib.Core.Path.{◌≡◌, ap, ◌∙◌}
 use Rattle.memory.specs.Numbers.{Euclid, euclid}
-use Rattle.filter.proofs.Levels.{power-2}
+use Rattle.filter.proofs.Levels.{power_2}
 use borrow.Author.Rules.{rules}
 use Rattle.filter.proofs.groups.stage_of.Statement.{statement}
 use Rattle.filter.proofs.groups.stage_of.Tie as tie
@@ -27,7 +27,7 @@ side c = 4 * c.before.before.args.chip.unit
 quotient : (c : tie.After-shifted) → c.shifted.result ≡ all c / side c
 quotient c =
     let x = c.before.before.args in
-    c.shifted.ensures ∙ ap (λ (w : ℕ). all c / w) (power-2 x.chip.unit x.e c.before.before.requires.0)
+    c.shifted.ensures ∙ ap (λ (w : ℕ). all c / w) (power_2 x.chip.unit x.e c.before.before.requires.0)
 
 parts : (c : tie.After-shifted) → Euclid (all c) (side c)
 parts c = euclid (all c) (side c) (omega (arith, c.before.before.requires.0.some))

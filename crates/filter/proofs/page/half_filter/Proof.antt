@@ -1,8 +1,8 @@
 use borrow.Author.Rules.{rules}
 use native.Mathlib.Omega.{arith}
 use mathlib.Core.Path.{refl, sym, ◌∙◌}
-use Rattle.filter.specs.Filter.{arrayBit, withKey}
-use Rattle.filter.proofs.Pairs.{put-ext}
+use Rattle.filter.specs.Filter.{array_bit, with_key}
+use Rattle.filter.proofs.Pairs.{put_ext}
 use Rattle.fnv.specs.Hashed.{bytes_of}
 use Rattle.filter.proofs.page.half_filter.Statement.{statement}
 use Rattle.filter.proofs.page.half_filter.Tie as tie
@@ -32,8 +32,8 @@ returns c =
     let n = c.before.before.before.before.before.before in
     let s = n.before.before.before.before in
     let x = s.args in
-    put-ext x.chip.unit x.f (arrayBit n.new-filter.new.1.1.1.1.1.1.0)
-    (withKey x.chip.unit x.count x.at 4 (bytes_of x.last) x.ram.now) x.out.now _
+    put_ext x.chip.unit x.f (array_bit n.new-filter.new.1.1.1.1.1.1.0)
+    (with_key x.chip.unit x.count x.at 4 (bytes_of x.last) x.ram.now) x.out.now _
     (λ y h. n.new-filter.ensures y (omega (arith, h, s.requires.0.0.1.most))) c.before.before.put-fourths.ensures
 
 pub half-filter-spec : {M : Type 1} → statement M

@@ -5,15 +5,15 @@ use mathlib.Core.Path.{◌≡◌, ap, sym, ◌∙◌}
 use mathlib.Core.List.{List}
 use lib.ListN.{length}
 use Rattle.memory.specs.Ranges.{any}
-use Rattle.filter.specs.Filter.{arrayBit, keyBit, itemBytes}
-use Rattle.filter.proofs.Setting.{none-set, any-more, word_in}
+use Rattle.filter.specs.Filter.{array_bit, key_bit, item_bytes}
+use Rattle.filter.proofs.Setting.{none_set, any_more, word_in}
 use Rattle.filter.proofs.page.new_filter.Statement.{statement}
 use Rattle.filter.proofs.page.new_filter.Tie as tie
 
 abbrev invariant-loop : tie.invariant-loop
 invariant-loop chip count at step key ram bits₀ last i₀ bits i =
     (i ≤ last) × (length bits ≡ 256)
-    × ((x : ℕ) → x < 2048 → arrayBit bits x ≡ any (λ j. keyBit chip.unit count (itemBytes ram (at + j * step)) x) i)
+    × ((x : ℕ) → x < 2048 → array_bit bits x ≡ any (λ j. key_bit chip.unit count (item_bytes ram (at + j * step)) x) i)
 
 abbrev decreases-loop : tie.decreases-loop
 decreases-loop chip count at step key ram bits₀ last i₀ bits i = last - i
@@ -29,7 +29,7 @@ unfolding any
 loop-holds c = (
   omega arith,
   ap length c.before.before.before.requires.1,
-  λ x h. ap (λ (l : List ℕ). arrayBit l x) c.before.before.before.requires.1 ∙ none-set 256 x (omega arith),
+  λ x h. ap (λ (l : List ℕ). array_bit l x) c.before.before.before.requires.1 ∙ none_set 256 x (omega arith),
 )
 
 mul-hashed-at : tie.Need-overflow-mul-hashed-at invariant-loop decreases-loop
@@ -79,7 +79,7 @@ loop-again c =
       λ y h.
           s.set_key.ensures y h
           ∙ rw (l.invariant.2 y h, g.hashed-at.ensures)
-          (any-more (λ j. keyBit x.chip.unit x.count (itemBytes x.ram.now (x.at + j * x.step)) y) l.i),
+          (any_more (λ j. key_bit x.chip.unit x.count (item_bytes x.ram.now (x.at + j * x.step)) y) l.i),
     )
 
 set-key-requires-2 : tie.Need-set-key-requires-2 invariant-loop decreases-loop

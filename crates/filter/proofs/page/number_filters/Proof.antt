@@ -1,6 +1,6 @@
 use borrow.Author.Rules.{rules}
 use native.Mathlib.Omega.{arith}
-use Rattle.filter.proofs.Pairs.{halves-put}
+use Rattle.filter.proofs.Pairs.{halves_put}
 use Rattle.filter.proofs.page.number_filters.Statement.{statement}
 use Rattle.filter.proofs.page.number_filters.Tie as tie
 
@@ -47,7 +47,7 @@ returns c =
     let n = h.before in
     let s = n.before.before.before in
     let x = s.args in
-    halves-put x.chip.unit x.count x.at x.number _ _ _ x.ram.now x.out.now _ _
+    halves_put x.chip.unit x.count x.at x.number _ _ _ x.ram.now x.out.now _ _
     s.requires.0.0.1.some n.deletions-per-filter.ensures h.hashed-at.ensures a.before.of_number.ensures
     first.half-filter.ensures second.half-filter2.ensures
 

@@ -3,13 +3,13 @@ use native.Mathlib.Omega.{arith}
 use Prim.Native.Nat.{◌+◌, ◌-◌, ◌*◌, ◌≤◌}
 use mathlib.Core.Path.{◌≡◌, sym, ◌∙◌}
 use Rattle.memory.specs.Lists.{length_part}
-use Rattle.filter.specs.Filter.{arrayBit}
-use Rattle.filter.proofs.Pairs.{Putting, none-put, in-filter, in_both, one-turn, all-put}
+use Rattle.filter.specs.Filter.{array_bit}
+use Rattle.filter.proofs.Pairs.{Putting, none_put, in_filter, in_both, one_turn, all_put}
 use Rattle.filter.proofs.page.put_fourths.Statement.{statement}
 use Rattle.filter.proofs.page.put_fourths.Tie as tie
 
 abbrev invariant-loop : tie.invariant-loop
-invariant-loop f bits out₀ piece i₀ out i = (i ≤ 4) × Putting piece i f (arrayBit bits) out₀ out
+invariant-loop f bits out₀ piece i₀ out i = (i ≤ 4) × Putting piece i f (array_bit bits) out₀ out
 
 abbrev decreases-loop : tie.decreases-loop
 decreases-loop f bits out₀ piece i₀ out i = 4 - i
@@ -18,7 +18,7 @@ fourth-size-requires : tie.Need-fourth-size-requires invariant-loop decreases-lo
 fourth-size-requires c κs = search rules
 
 loop-holds : tie.Need-loop-init invariant-loop decreases-loop
-loop-holds c = (omega arith, none-put _ _ _ _ c.before.before.before.requires.4)
+loop-holds c = (omega arith, none_put _ _ _ _ c.before.before.before.requires.4)
 
 mul-lo : tie.Need-overflow-mul-lo invariant-loop decreases-loop
 mul-lo c =
@@ -71,7 +71,7 @@ part-copy-at-end c =
     let b1 = c.before.before in
     let z = b1.before.fourth-size in
     let s = b1.before.before.before.before in
-    let k = in-filter s.args.chip.unit z.result b1.loop.i z.ensures c.before.loop-test.true s.requires.1 in
+    let k = in_filter s.args.chip.unit z.result b1.loop.i z.ensures c.before.loop-test.true s.requires.1 in
     omega (arith, k, s.requires.3)
 
 copy-at-requires : tie.Need-copy-at-requires invariant-loop decreases-loop
@@ -80,7 +80,7 @@ copy-at-requires c κs =
     let z = b1.before.fourth-size in
     let s = b1.before.before.before.before in
     let k = in_both s.args.chip.unit z.result b1.loop.i s.args.f z.ensures c.before.before.loop-test.true s.requires.2 s.requires.1 in
-    let m = in-filter s.args.chip.unit z.result b1.loop.i z.ensures c.before.before.loop-test.true s.requires.1 in
+    let m = in_filter s.args.chip.unit z.result b1.loop.i z.ensures c.before.before.loop-test.true s.requires.1 in
     let part = length_part s.args.bits.now (b1.loop.i * z.result) z.result (omega (arith, m, s.requires.3)) in
     omega (arith, k, part, b1.loop.invariant.1.size)
 
@@ -97,7 +97,7 @@ loop-again c =
     let z = b1.before.fourth-size in
     let s = b1.before.before.before.before in (
       omega arith,
-      one-turn s.args.chip.unit z.result z.ensures s.requires.1 b1.loop.i s.args.f s.args.bits.now s.args.out.now
+      one_turn s.args.chip.unit z.result z.ensures s.requires.1 b1.loop.i s.args.f s.args.bits.now s.args.out.now
           b1.loop.out _ b3.loop-test.true s.requires.2 s.requires.3
           (λ k. omega (arith, b1.before.before.before.shared-slice-known.given k)) b1.loop.invariant.1 c.before.before.copy_at.ensures,
     )
@@ -110,7 +110,7 @@ returns c =
     let b1 = c.before in
     let z = b1.before.fourth-size in
     let s = b1.before.before.before.before in
-    all-put s.args.chip.unit z.result b1.loop.i s.args.f (arrayBit s.args.bits.now) s.args.out.now b1.loop.out
+    all_put s.args.chip.unit z.result b1.loop.i s.args.f (array_bit s.args.bits.now) s.args.out.now b1.loop.out
     z.ensures (omega arith) b1.loop.invariant.1
 
 pub put-fourths-spec : {M : Type 1} → statement M

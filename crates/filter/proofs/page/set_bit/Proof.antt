@@ -1,6 +1,6 @@
 -- One bit is set.
 use borrow.Author.Rules.{rules}
-use Rattle.filter.proofs.Setting.{set-one}
+use Rattle.filter.proofs.Setting.{set_one}
 use Rattle.filter.proofs.page.set_bit.Statement.{statement}
 use Rattle.filter.proofs.page.set_bit.Tie as tie
 
@@ -25,7 +25,7 @@ same_length c = search rules
 returns : tie.Need-returns
 returns c =
     let b = c.before.before.before in
-    rw c.bit-place.ensures.0 (λ x h. set-one b.args.bits.now b.args.p x b.requires.0 b.requires.1)
+    rw c.bit-place.ensures.0 (λ x h. set_one b.args.bits.now b.args.p x b.requires.0 b.requires.1)
 
 pub set-bit-spec : {M : Type 1} → statement M
 set-bit-spec =

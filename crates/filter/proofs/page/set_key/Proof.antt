@@ -8,15 +8,15 @@ use lib.Dec.{eqb}
 use lib.ListN.{length, get_or}
 use Rattle.memory.specs.Ranges.{any}
 use Rattle.fnv.specs.Hashed.{bytes_of}
-use Rattle.filter.specs.Filter.{arrayBit}
-use Rattle.filter.proofs.Setting.{set_next, any-position}
+use Rattle.filter.specs.Filter.{array_bit}
+use Rattle.filter.proofs.Setting.{set_next, any_position}
 use Rattle.filter.proofs.page.set_key.Statement.{statement}
 use Rattle.filter.proofs.page.set_key.Tie as tie
 
 abbrev invariant-loop : tie.invariant-loop
 invariant-loop count bits₀ ps i₀ bits i =
     (i ≤ count) × (length bits ≡ length bits₀)
-    × ((x : ℕ) → x < 2048 → arrayBit bits x ≡ (any (λ j. eqb (get_or ps j 0) x) i || arrayBit bits₀ x))
+    × ((x : ℕ) → x < 2048 → array_bit bits x ≡ (any (λ j. eqb (get_or ps j 0) x) i || array_bit bits₀ x))
 
 abbrev decreases-loop : tie.decreases-loop
 decreases-loop count bits₀ ps i₀ bits i = count - i
@@ -66,9 +66,9 @@ returns c =
     let a = c.before.before.before.before.args in
     let done : l.i ≡ a.count = omega arith in
     λ x h. l.invariant.2 x h
-    ∙ ap (λ (n : ℕ). any (λ j. eqb (get_or p.result j 0) x) n || arrayBit a.bits.now x) done
-    ∙ ap (λ (t : Bool). t || arrayBit a.bits.now x)
-    (any-position a.chip.unit a.count (bytes_of a.key) x p.result p.ensures.0)
+    ∙ ap (λ (n : ℕ). any (λ j. eqb (get_or p.result j 0) x) n || array_bit a.bits.now x) done
+    ∙ ap (λ (t : Bool). t || array_bit a.bits.now x)
+    (any_position a.chip.unit a.count (bytes_of a.key) x p.result p.ensures.0)
 
 pub set-key-spec : {M : Type 1} → statement M
 set-key-spec =

@@ -1,5 +1,5 @@
 use native.Mathlib.Omega.{arith}
-use Rattle.geometry.specs.Bounds.{index-le, full-le, deletion-index-le}
+use Rattle.geometry.specs.Bounds.{index_le, full_le, deletion_index_le}
 use borrow.Author.Rules.{rules}
 use Rattle.geometry.proofs.Geometry.deletion_index_block.Statement.{statement}
 use Rattle.geometry.proofs.Geometry.deletion_index_block.Tie as tie
@@ -13,13 +13,13 @@ index-block-requires c κs = search rules
 index-blocks-requires : tie.Need-index-blocks-requires
 index-blocks-requires c κs =
     let x = c.before.before in
-    (x.requires.unit.1.most, rw c.before.full-sets.ensures (omega (arith, full-le x.args.self x.requires)))
+    (x.requires.unit.1.most, rw c.before.full-sets.ensures (omega (arith, full_le x.args.self x.requires)))
 
 add-result : tie.Need-overflow-add-result
 add-result c =
     let x = c.before.before.before in
     rw (c.index-blocks.ensures, c.before.index-block.ensures, c.before.before.full-sets.ensures)
-    (omega (arith, deletion-index-le x.args.self x.requires))
+    (omega (arith, deletion_index_le x.args.self x.requires))
 
 returns : tie.Need-returns
 returns c = rw (c.index-blocks.ensures, c.before.index-block.ensures, c.before.before.full-sets.ensures)

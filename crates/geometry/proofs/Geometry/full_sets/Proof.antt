@@ -9,7 +9,7 @@ div-result : tie.Need-nonzero-div-result
 div-result c = search rules
 
 returns : tie.Need-returns
-returns c = rw c.before.filter-bits.ensures
+returns c = rw c.before.filter_bits_lem.ensures
 
 pub full-sets-spec : {M : Type 1} → statement M
 full-sets-spec = tie.close (tie.spec filter-bits-requires div-result returns)

@@ -1,5 +1,5 @@
 use native.Mathlib.Omega.{arith}
-use Rattle.geometry.specs.Bounds.{blocks-le}
+use Rattle.geometry.specs.Bounds.{blocks_le}
 use borrow.Author.Rules.{rules}
 use Rattle.geometry.proofs.Geometry.spare_size.Statement.{statement}
 use Rattle.geometry.proofs.Geometry.spare_size.Tie as tie
@@ -9,7 +9,7 @@ blocks-requires c κs = search rules
 
 first-sector-requires : tie.Need-first-sector-requires
 first-sector-requires c κs =
-    rw c.blocks2.ensures (omega (arith, blocks-le c.before.args.self c.before.requires))
+    rw c.blocks2.ensures (omega (arith, blocks_le c.before.args.self c.before.requires))
 
 returns : tie.Need-returns
 returns c = search rules

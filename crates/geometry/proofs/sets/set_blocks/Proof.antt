@@ -3,7 +3,7 @@ use mathlib.Core.Path.{◌≡◌, refl}
 use mathlib.Core.Logic.{◌≢◌}
 use Prim.Native.Nat.{ℕ, zero, suc, ◌/◌}
 use native.Mathlib.Omega.{arith}
-use Rattle.layout.specs.Index.{setPages, setBlocks}
+use Rattle.layout.specs.Index.{set_pages, set_blocks}
 use borrow.Author.Rules.{rules}
 use Rattle.geometry.proofs.sets.set_blocks.Statement.{statement}
 use Rattle.geometry.proofs.sets.set_blocks.Tie as tie
@@ -14,7 +14,7 @@ returns c = search rules
 set-pages-requires : tie.Need-set-pages-requires
 set-pages-requires c κs = search rules
 
-blocks-of : (c P : ℕ) → c ≢ 0 → P ≡ setPages c → P / 16 ≡ setBlocks c
+blocks-of : (c P : ℕ) → c ≢ 0 → P ≡ set_pages c → P / 16 ≡ set_blocks c
 blocks-of zero P h e = absurd (h refl)
 blocks-of (suc c) P h e = omega (arith, e)
 

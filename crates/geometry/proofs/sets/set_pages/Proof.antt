@@ -4,7 +4,7 @@ use native.Mathlib.Omega.{arith}
 use Prim.Native.Nat.{ℕ, ◌*◌, ◌%◌, ◌^◌, ◌≤◌}
 use mathlib.Core.Path.{◌≡◌, refl, ap, ◌∙◌}
 use lib.Pow.{pow_mono, pow_pos}
-use Rattle.memory.specs.Power.{log2up, log2up-least}
+use Rattle.memory.specs.Power.{log2up, log2up_least}
 use Rattle.geometry.proofs.sets.set_pages.Statement.{statement}
 use Rattle.geometry.proofs.sets.set_pages.Tie as tie
 
@@ -23,7 +23,7 @@ cast-power c = search rules
 
 -- the exponent of at most 128 rounds
 small : (c r : ℕ) → r ≡ log2up c → c ≤ 128 → r ≤ 7
-small c r e h = omega (arith, log2up-least c 7 (omega arith))
+small c r e h = omega (arith, log2up_least c 7 (omega arith))
 
 shl-power : tie.Need-overflow-shl-power
 shl-power c =

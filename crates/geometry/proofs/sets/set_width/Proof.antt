@@ -12,7 +12,7 @@ div-result : tie.Need-nonzero-div-result
 div-result c = search rules
 
 returns : tie.Need-returns
-returns c = rw (c.before.filter-bits.ensures, c.set-pages.ensures.0)
+returns c = rw (c.before.filter_bits_lem.ensures, c.set-pages.ensures.0)
 
 pub set-width-spec : {M : Type 1} → statement M
 set-width-spec = tie.close (tie.spec filter-bits-requires set-pages-requires div-result returns)

@@ -4,7 +4,7 @@ use Prim.Native.Nat.{◌+◌, ◌/◌, ◌^◌, ◌≤◌, ◌<◌}
 use mathlib.Core.Path.{◌≡◌, ap}
 use lib.ListN.{length, length-append}
 use Rattle.script.specs.Answers.{decimal}
-use Rattle.script.specs.AnswerLaws.{decimal-one, decimal-more, decimal-length, decimal-there}
+use Rattle.script.specs.AnswerLaws.{decimal_one, decimal_more, decimal_length, decimal_there}
 use Rattle.script.proofs.answers.digits_of.Statement.{statement}
 use Rattle.script.proofs.answers.digits_of.Tie as tie
 
@@ -26,11 +26,11 @@ loop-less c = omega arith
 loop-again : tie.Need-loop-preserved invariant-loop decreases-loop
 loop-again c =
     let l = c.before.loop in
-    let e = simp length-append at (ap length (decimal-more l.left (omega arith) (omega arith))) in
-    omega (arith, e, decimal-length c.before.before.args.n, decimal-there (l.left / 10))
+    let e = simp length-append at (ap length (decimal_more l.left (omega arith) (omega arith))) in
+    omega (arith, e, decimal_length c.before.before.args.n, decimal_there (l.left / 10))
 
 returns : tie.Need-returns invariant-loop decreases-loop
-returns c = omega (arith, ap length (decimal-one c.before.loop.left (omega arith)))
+returns c = omega (arith, ap length (decimal_one c.before.loop.left (omega arith)))
 
 pub digits-of-spec : {M : Type 1} → statement M
 digits-of-spec = tie.close (tie.spec invariant-loop decreases-loop loop-holds add-k loop-less loop-again returns)

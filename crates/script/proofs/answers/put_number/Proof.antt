@@ -4,7 +4,7 @@ use native.Mathlib.Omega.{arith}
 use mathlib.Core.List.{[], ◌∷◌}
 use lib.ListN.{length-append}
 use Rattle.script.specs.Answers.{decimal}
-use Rattle.script.specs.AnswerLaws.{write_byte, write_then, decimal-length}
+use Rattle.script.specs.AnswerLaws.{write_byte, write_then, decimal_length}
 use Rattle.script.proofs.answers.put_number.Statement.{statement}
 use Rattle.script.proofs.answers.put_number.Tie as tie
 
@@ -12,10 +12,10 @@ put-decimal-requires : tie.Need-put-decimal-requires
 put-decimal-requires c κs = search rules
 
 slice-write-out : tie.Need-slice-write-out
-slice-write-out c = omega (arith, decimal-length c.before.before.before.before.before.args.n)
+slice-write-out c = omega (arith, decimal_length c.before.before.before.before.before.args.n)
 
 add-result : tie.Need-overflow-add-result
-add-result c = omega (arith, decimal-length c.before.before.before.before.before.args.n)
+add-result c = omega (arith, decimal_length c.before.before.before.before.before.args.n)
 
 same_length : tie.Need-same-length
 same_length c = search rules
@@ -24,7 +24,7 @@ returns : tie.Need-returns
 returns c =
     let x = c.before.before.before.before.before.args in
     let k = c.before.before.put-decimal in (
-      simp length-append (omega (arith, decimal-length x.n)),
+      simp length-append (omega (arith, decimal_length x.n)),
       write_then x.out.now k.new.1.1.0 _ x.at k.result (decimal x.n) (x.terminator ∷ []) k.ensures.1 k.ensures.0
           (write_byte k.new.1.1.0 k.result x.terminator),
     )

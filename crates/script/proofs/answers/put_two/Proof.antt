@@ -3,7 +3,7 @@ use borrow.Author.Rules.{rules}
 use native.Mathlib.Omega.{arith}
 use mathlib.Core.List.{[], ◌∷◌, ◌++◌}
 use Rattle.script.specs.Answers.{decimal}
-use Rattle.script.specs.AnswerLaws.{write-three}
+use Rattle.script.specs.AnswerLaws.{write_three}
 use Rattle.script.proofs.answers.put_two.Statement.{statement}
 use Rattle.script.proofs.answers.put_two.Tie as tie
 
@@ -26,7 +26,7 @@ returns c =
     let x = a.before.before.before.before.args in
     let k = c.before.before.put-number2 in
     let e =
-    write-three x.out.now a.copy_at.new.0 b.put-number.new.1.1.1.0 k.new.1.1.1.0 x.word.now (decimal x.n) (decimal x.m ++ (10 ∷ []))
+    write_three x.out.now a.copy_at.new.0 b.put-number.new.1.1.1.0 k.new.1.1.1.0 x.word.now (decimal x.n) (decimal x.m ++ (10 ∷ []))
     b.put-number.result k.result a.copy_at.ensures b.put-number.ensures.0.0 b.put-number.ensures.1 k.ensures.0.0 k.ensures.1 in
     ((e.0, omega arith), e.1)
 

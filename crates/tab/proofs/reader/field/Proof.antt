@@ -179,13 +179,13 @@ module _ {M : Type 1} {𝓤 : Ura M} (𝓛 : Logic 𝓤) (at_mem : Memory → SP
 
   module _ (C : Calls 𝓤 H) (Λ : Loops 𝓤 H) (fm : FmC 𝓤 H 𝓛.laws C) (known : Triple 𝓤 (C #g) (At 𝓛 at_mem run)) where
     walk : Is K.the_row c (k ∷ []) → ent 𝓤 (on_entry 𝓛 f.signature (κ, (κ', tt)) (q, (q', tt)) a vals) (WpFn 𝓤 H C Λ code.function (vptr b o ∷ k ∷ vbool t ∷ []) Post)
-    walk k-is =
+    walk k_is =
         qed 𝓛 ((‵ (flft κ q) ⊛ ‵ (flft κ' q') ⊛ ‵ ftrue) ∷ ‵ (owns (MutRef (named 0) κ (B κ') ∷ K.the_row ∷ bool ∷ []) a vals) ∷ []) ∵
         split ! $ move ! (1 ∷ []) $ split ! $ move ! (3 ∷ []) $ fsplit ! $ fsplit3 ! $ drop ! $ keep ! (0 ∷ 1 ∷ 5 ∷ 3 ∷ []) $
         -- [obs; the borrow; 's token; 'a's token]
         enter ! C Λ code.function (vptr b o ∷ k ∷ vbool t ∷ []) _ $
         alloc1 ! (λ l₀. alloc1 ! (λ l₁. alloc1 ! (λ l₂. alloc1 ! (λ l₃. alloc1 ! (λ l₄. alloc1 ! (λ l₅. alloc1 ! (λ l₆. alloc0 ! $ params1 ! $
-        pass1 ! (init ! 10 refl (tt, tt)) $ pass1 ! (init ! 8 refl ((EL.lawful K.the_type K'.the_laws 𝓛 tt).typed c _ k-is).0) $ pass1 ! (init ! 6 refl (tt, tt)) $ pass0 ! $
+        pass1 ! (init ! 10 refl (tt, tt)) $ pass1 ! (init ! 8 refl ((EL.lawful K.the_type K'.the_laws 𝓛 tt).typed c _ k_is).0) $ pass1 ! (init ! 6 refl (tt, tt)) $ pass0 ! $
         -- the reader's borrow is opened
         move ! (14 ∷ 15 ∷ 16 ∷ []) $ opens ! tt (B κ') {h = h} b o (λ vs. spelt ! (B κ') (Is (B κ')) (shows 𝓛 (B κ')) (LL.vals D L) (LL.tells D L) full_share h vs b o $
         move ! (1 ∷ []) $ peeks ! (B κ') (Is (B κ')) (shows 𝓛 (B κ')) h (mach ∷ []) (λ was.
@@ -194,7 +194,7 @@ module _ {M : Type 1} {𝓤 : Ura M} (𝓛 : Logic 𝓤) (at_mem : Memory → SP
         -- [the reader's cell; what the tab owns; what the reader owns; the open borrow; obs; auth; _6; …; _i at 6 + 2 · (6 − i); …; _0 at 18; …; 'a's token at 20]
         assigns ! (of_opd ! (load ! (from ! (hop ! (look ! 16 refl) (fld ! refl (stop !)))) (look_in ! 0 (sub ! 0 refl (whole !))))) (from ! (stop !)) (init ! 8 refl (tt, wt.1.0)) $
         assigns ! (of_opd ! (load ! (from ! (hop ! (look ! 16 refl) (fld ! refl (stop !)))) (look_in ! 0 (sub ! 1 refl (whole !))))) (from ! (stop !)) (init ! 6 refl (tt, wt.1.1.0)) $
-        move ! (20 ∷ 1 ∷ []) $ use2 𝓛 (raw ((At 𝓛 at_mem run).pre to)) (goes wt.1.1.0.fits k-is) $
+        move ! (20 ∷ 1 ∷ []) $ use2 𝓛 (raw ((At 𝓛 at_mem run).pre to)) (goes wt.1.1.0.fits k_is) $
         -- [what `field_at` asks; the reader's cell; what it owns; the open borrow; obs; auth; _6; …]
         calls_at ! fm (At 𝓛 at_mem run) known to (and_then ! (load ! (from ! (stop !)) (look ! 8 refl)) (and_then ! (load ! (from ! (stop !)) (look ! 6 refl))
         (and_then ! (load ! (from ! (stop !)) (look ! 14 refl)) (and_then ! (load ! (from ! (stop !)) (look ! 12 refl)) (no_more !))))) (λ w.

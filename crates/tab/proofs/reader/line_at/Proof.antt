@@ -2,7 +2,7 @@
 use mathlib.Core.Path.{◌≡◌, sym, ap, ◌∙◌}
 use mathlib.Core.Bool.{Bool, not, not-not}
 use borrow.Author.Rules.{rules}
-use Rattle.tab.specs.LineLaws.{level-bad, moves-bad, goal-bad, all-good}
+use Rattle.tab.specs.LineLaws.{level_bad, moves_bad, goal_bad, all_good}
 use Rattle.tab.proofs.reader.line_at.Statement.{statement}
 use Rattle.tab.proofs.reader.line_at.Tie as tie
 
@@ -16,14 +16,14 @@ returns : tie.Need-returns
 returns c =
     let b = c.before.before.before.before.before in
     let x = b.before.before.args in
-    sym (level-bad x.tab.now x.header x.at b.fields.result b.fields.ensures (opposite _ _ c.if1.true))
+    sym (level_bad x.tab.now x.header x.at b.fields.result b.fields.ensures (opposite _ _ c.if1.true))
 
 returns-2 : tie.Need-returns-2
 returns-2 c =
     let b = c.before.before.before.before.before.before.before in
     let x = b.before.before.args in
     let i = opposite _ _ c.before.before.if1.false in
-    sym (moves-bad x.tab.now x.header x.at b.fields.result b.fields.ensures i (opposite _ _ c.if2.true))
+    sym (moves_bad x.tab.now x.header x.at b.fields.result b.fields.ensures i (opposite _ _ c.if2.true))
 
 returns-3 : tie.Need-returns-3
 returns-3 c =
@@ -31,7 +31,7 @@ returns-3 c =
     let x = b.before.before.args in
     let i = opposite _ _ c.before.before.before.before.if1.false in
     let j = opposite _ _ c.before.before.if2.false in
-    sym (goal-bad x.tab.now x.header x.at b.fields.result b.fields.ensures i j (opposite _ _ c.if3.true))
+    sym (goal_bad x.tab.now x.header x.at b.fields.result b.fields.ensures i j (opposite _ _ c.if3.true))
 
 returns-4 : tie.Need-returns-4
 returns-4 c =
@@ -39,7 +39,7 @@ returns-4 c =
     let x = b.before.before.args in
     let i = opposite _ _ c.before.before.before.before.if1.false in
     let j = opposite _ _ c.before.before.if2.false in
-    sym (all-good x.tab.now x.header x.at b.fields.result b.fields.ensures i j (opposite _ _ c.if3.false))
+    sym (all_good x.tab.now x.header x.at b.fields.result b.fields.ensures i j (opposite _ _ c.if3.false))
 
 pub line-at-spec : {M : Type 1} → statement M
 line-at-spec = tie.close (tie.spec fields-requires returns returns-2 returns-3 returns-4)
