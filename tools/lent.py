@@ -25,8 +25,7 @@ def clause(text, kinds, after):
     old = lambda x: x + (".old" if kinds[x.strip("«»")] else ".now")
 
     def new(x):
-        assert kinds[x.strip("«»")], x
-        return x + ".new"
+        return x + (".new" if kinds[x.strip("«»")] else ".now")  # what a `&` points at stays
 
     known = lambda *xs: all(x.strip("«»") in kinds for x in xs)
 
@@ -38,7 +37,7 @@ def clause(text, kinds, after):
     n = 3
     several(rf"\bgiven ({FIRST})" + three, lambda m, x: f"volume {m.group(1)} {' '.join(x)}", old)
     several(rf"\beffect_by ({FIRST})" + three, lambda m, x: f"change_effect {m.group(1)} {' '.join(x)}", new)
-    several(rf"\bcut_by ({FIRST}|\([^{{}}]*?\))" + three, lambda m, x: f"cut_by {m.group(1)} {' '.join(x)}", new)
+    several(rf"\bcut_by ({FIRST})" + three, lambda m, x: f"cut_by {m.group(1)} {' '.join(x)}", new)
     several(rf"\bloaded_by ({FIRST})" + three, lambda m, x: f"loaded_by {m.group(1)} {' '.join(x)}", new)
     several(r"\bmemory_before" + three, lambda m, x: f"memory_of {' '.join(x)}", old)
     several(r"\bmemory_after" + three, lambda m, x: f"memory_of {' '.join(x)}", new)
@@ -99,9 +98,71 @@ def source(text):
     return imports("".join(out) + text[at:])
 
 
+# the definitions that took lent slices, now of their lists; what was one of two moments of the same is said once
+SPECS = {
+    "crates/state/specs/Contract.antt": [
+        ("use Rattle.memory.specs.Lent.{Lent, before, after}\n", ""),
+        ("use Rattle.laws.specs.LentFlash.{flash_before, flash_after}\n", ""),
+        (
+            "-- the same of the slices lent to a call\nabbrev pub given : State → Lent → Lent → Lent → Volume\n"
+            "given s main spare ram = volume s (before main) (before spare) (before ram)\n\n",
+            "",
+        ),
+        (
+            "abbrev pub effect_by : Change → Lent → Lent → Lent → Effect\n"
+            "effect_by c main spare ram = change_effect c (after main) (after spare) (after ram)\n\n",
+            "",
+        ),
+        ("abbrev pub cut_by : Cut → Lent → Lent → Lent → CutEffect", "abbrev pub cut_by : Cut → List ℕ → List ℕ → List ℕ → CutEffect"),
+        ("      left = volume c.state (after main) (after spare) (after ram);\n", "      left = volume c.state main spare ram;\n"),
+        (
+            "-- the chip and the RAM, lent to a run of steps\nabbrev pub memory_before : Lent → Lent → Lent → Memory\n"
+            "memory_before main spare ram = memory (flash_before main spare) (before ram)\n\n"
+            "abbrev pub memory_after : Lent → Lent → Lent → Memory\n"
+            "memory_after main spare ram = memory (flash_after main spare) (after ram)\n",
+            "-- the chip and the RAM, lent to a run of steps\nabbrev pub memory_of : List ℕ → List ℕ → List ℕ → Memory\n"
+            "memory_of main spare ram = memory (flash_of main spare) ram\n",
+        ),
+    ],
+    "crates/load/specs/Contract.antt": [
+        ("use Rattle.std.specs.Prelude.{◌≡◌}\n", "use Rattle.std.specs.Prelude.{◌≡◌, List, ℕ}\n"),
+        ("use Rattle.memory.specs.Lent.{Lent, after}\n", ""),
+        ("abbrev pub loaded_by : Loaded → Lent → Lent → Lent → Several", "abbrev pub loaded_by : Loaded → List ℕ → List ℕ → List ℕ → Several"),
+        (
+            "    record { outcome = outcome_of r.refusal; done = r.rows; volume = volume r.state (after main) (after spare) (after ram) }\n",
+            "    record { outcome = outcome_of r.refusal; done = r.rows; volume = volume r.state main spare ram }\n",
+        ),
+    ],
+    "crates/console/specs/Contract.antt": [
+        ("use Rattle.memory.specs.Lent.{Lent, before, after}\n", ""),
+        (
+            "\n-- of the slices lent to a function, when it is entered and when it returns\n"
+            "abbrev pub buffers_before : Fill → Lent → Lent → Lent → Lent → Lent → Buffers\n"
+            "buffers_before p line main spare ram out = buffers_of p (before line) (before main) (before spare) (before ram) (before out)\n\n"
+            "abbrev pub buffers_after : Fill → Lent → Lent → Lent → Lent → Lent → Buffers\n"
+            "buffers_after p line main spare ram out = buffers_of p (after line) (after main) (after spare) (after ram) (after out)\n",
+            "",
+        ),
+    ],
+    "crates/memory/specs/Lib.antt": [("pub mod Lent\n", "")],
+    "crates/laws/specs/Lib.antt": [("pub mod LentFlash\n", "")],
+}
+GONE = ["crates/memory/specs/Lent.antt", "crates/laws/specs/LentFlash.antt"]
+
+
 def main():
     os.chdir(TOP)
     changed = 0
+    for path, pairs in SPECS.items():
+        with open(path, encoding="utf-8") as f:
+            text = f.read()
+        for old, new in pairs:
+            assert text.count(old) == 1, (path, old)
+            text = text.replace(old, new)
+        with open(path, "w", encoding="utf-8") as f:
+            f.write(text)
+    for path in GONE:
+        os.remove(path)
     for folder, dirs, files in os.walk("crates"):
         dirs[:] = sorted(d for d in dirs if d != "out")
         for name in sorted(files):

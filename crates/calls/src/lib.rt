@@ -1,7 +1,6 @@
 // The changing calls insert, update and delete, by one way: 1, 2, 10, 8, then 3 or 4 by whether the key is live, then 5, 6, 7 or the change
 // in steps; and the same of a pending call by a restart. Document 01, "Calls"; document 02, request 8.
 ghost use Rattle.std.specs.Prelude.{◌≡◌, false, ◌≤◌, length};
-ghost use Rattle.memory.specs.Lent.{before};
 ghost use Rattle.layout.specs.Hash.{fnv_family};
 ghost use Rattle.layout.specs.Calls as layout;
 ghost use Rattle.layout.specs.Calls.{key_of};
@@ -9,7 +8,7 @@ ghost use Rattle.layout.specs.Header.{header_size, pages, on_pages, changing, pe
 ghost use Rattle.layout.specs.Budgets.{last_steps, call_cut, call_whole, restart_cut};
 ghost use Rattle.geometry.specs.Shape.{shape};
 ghost use Rattle.keys.specs.Key.{key_is};
-ghost use Rattle.state.specs.Contract.{record_is, call_of, volume, given, effect_of, effect_by, cut_of, cut_by, memory_before, memory_after, Ran};
+ghost use Rattle.state.specs.Contract.{record_is, call_of, volume, effect_of, change_effect, cut_of, cut_by, memory_of, Ran};
 ghost use Rattle.state.specs.Judge.{VolumeFits, GoodFits};
 ghost use Rattle.state.specs.declared.Judgement.{Judgement};
 ghost use Rattle.planning.specs.Edits.{programs_in};
@@ -45,8 +44,8 @@ pub fn resolve_judged(
     ram: &[u8],
 ) -> Resolved
     requires { GoodFits (on_pages (volume s main.now spare.now ram.now)) j }
-    ensures equal { result ≡ resolved_by j (on_pages (given s main spare ram)) (key_is key) }
-    ensures fits { ResolvedFits (on_pages (given s main spare ram)) result }
+    ensures equal { result ≡ resolved_by j (on_pages (volume s main.now spare.now ram.now)) (key_is key) }
+    ensures fits { ResolvedFits (on_pages (volume s main.now spare.now ram.now)) result }
 {
     match j {
         Judgement::Refused(i) => {
@@ -74,8 +73,8 @@ pub fn resolve_judged(
 
 // Refusals 1, 2, 10 and 8, then whether the key is live.
 pub fn resolve(s: State, key: Key, main: &[u8], spare: &[u8], ram: &[u8]) -> Resolved
-    ensures equal { result ≡ resolved_of (given s main spare ram) (key_is key) }
-    ensures fits { ResolvedFits (on_pages (given s main spare ram)) result }
+    ensures equal { result ≡ resolved_of (volume s main.now spare.now ram.now) (key_is key) }
+    ensures fits { ResolvedFits (on_pages (volume s main.now spare.now ram.now)) result }
 {
     let j = header::judge(s, main, spare, ram);
     resolve_judged(j, s, key, main, spare, ram)
@@ -156,8 +155,8 @@ fn finish(
 ) -> Finished
     requires header_size_in_bounds { (header_size ≤ length ram.old) × VolumeFits (task_on t main.old spare.old (pages ram.old)) t.g }
     requires prepared { Prepared t p × (from ≤ length (task_plan t main.old spare.old (pages ram.old))) }
-    ensures ran { Ran t.g.chip.unit (last_steps (task_result t (before main) (before spare) (pages (before ram)) from)) budget
-        (memory_before main spare ram) (memory_after main spare ram) result.progress }
+    ensures ran { Ran t.g.chip.unit (last_steps (task_result t main.old spare.old (pages ram.old) from)) budget
+        (memory_of main.old spare.old ram.old) (memory_of main.new spare.new ram.new) result.progress }
     ensures state { result.state ≡ counted_state t.state t.edit }
 {
     let edit = t.edit;
@@ -191,7 +190,7 @@ fn perform_planned(
     ram: &mut [u8],
 ) -> Cut
     requires { Decided t q (task_on t main.old spare.old ram.old) × HasRoom t }
-    ensures { cut_by result main spare ram ≡ cut_of (call_cut fnv_family budget (given t.state main spare ram) (call_of q)) }
+    ensures { cut_by result main.new spare.new ram.new ≡ cut_of (call_cut fnv_family budget (volume t.state main.old spare.old ram.old) (call_of q)) }
 {
     let p = changes::plan_of(t);
     let i = changes::fresh_refusal(t, p, spare);
@@ -224,7 +223,7 @@ fn append_change(
     ram: &mut [u8],
 ) -> Cut
     requires { Decided t q (task_on t main.now spare.now ram.old) × HasRoom t × (programs_in (shape t.g) (task_slots t) ≡ false) }
-    ensures { cut_by result main spare ram ≡ cut_of (call_cut fnv_family budget (given t.state main spare ram) (call_of q)) }
+    ensures { cut_by result main.now spare.now ram.new ≡ cut_of (call_cut fnv_family budget (volume t.state main.now spare.now ram.old) (call_of q)) }
 {
     let s = t.state;
     let edit = t.edit;
@@ -269,7 +268,7 @@ pub fn perform_resolved(
 ) -> Cut
     requires { (r ≡ resolved_of (volume s main.old spare.old ram.old) (key_of (call_of q)))
         × ResolvedFits (on_pages (volume s main.old spare.old ram.old)) r }
-    ensures { cut_by result main spare ram ≡ cut_of (call_cut fnv_family budget (given s main spare ram) (call_of q)) }
+    ensures { cut_by result main.new spare.new ram.new ≡ cut_of (call_cut fnv_family budget (volume s main.old spare.old ram.old) (call_of q)) }
 {
     match decide(q, r) {
         Decision::Refused(i) => {
@@ -298,7 +297,7 @@ pub fn perform_for(
     spare: &mut [u8],
     ram: &mut [u8],
 ) -> Cut
-    ensures { cut_by result main spare ram ≡ cut_of (call_cut fnv_family budget (given s main spare ram) (call_of q)) }
+    ensures { cut_by result main.new spare.new ram.new ≡ cut_of (call_cut fnv_family budget (volume s main.old spare.old ram.old) (call_of q)) }
 {
     let r = resolve(s, key_of(q), main, spare, ram);
     perform_resolved(budget, s, q, r, main, spare, ram)
@@ -315,7 +314,7 @@ pub fn restart_change(
     ram: &mut [u8],
 ) -> Cut
     requires { (header_size ≤ length ram.old) × (pending_in ram.old ≡ changing (call_of q)) }
-    ensures { cut_by result main spare ram ≡ cut_of (restart_cut fnv_family budget (given s main spare ram)) }
+    ensures { cut_by result main.new spare.new ram.new ≡ cut_of (restart_cut fnv_family budget (volume s main.old spare.old ram.old)) }
 {
     let old = header::state_in(ram);
     let j = state::judge(old, main, spare, ram);
@@ -347,24 +346,24 @@ pub fn restart_change(
 
 // A new level.
 pub fn insert(s: State, record: Record, main: &mut [u8], spare: &mut [u8], ram: &mut [u8]) -> Change
-    ensures { effect_by result main spare ram
-        ≡ effect_of (call_whole fnv_family (given s main spare ram) (layout.insert (record_is «record»))) }
+    ensures { change_effect result main.new spare.new ram.new
+        ≡ effect_of (call_whole fnv_family (volume s main.old spare.old ram.old) (layout.insert (record_is «record»))) }
 {
     state::uncut(perform_for(state::ENOUGH, s, Request::Insert(record), main, spare, ram))
 }
 
 // A level's values, whether it is there or not: its record, if there is one, is deleted, and another inserted.
 pub fn update(s: State, record: Record, main: &mut [u8], spare: &mut [u8], ram: &mut [u8]) -> Change
-    ensures { effect_by result main spare ram
-        ≡ effect_of (call_whole fnv_family (given s main spare ram) (layout.update (record_is «record»))) }
+    ensures { change_effect result main.new spare.new ram.new
+        ≡ effect_of (call_whole fnv_family (volume s main.old spare.old ram.old) (layout.update (record_is «record»))) }
 {
     state::uncut(perform_for(state::ENOUGH, s, Request::Update(record), main, spare, ram))
 }
 
 // Takes a level out.
 pub fn delete(s: State, key: Key, main: &mut [u8], spare: &mut [u8], ram: &mut [u8]) -> Change
-    ensures { effect_by result main spare ram
-        ≡ effect_of (call_whole fnv_family (given s main spare ram) (layout.delete (key_is key))) }
+    ensures { change_effect result main.new spare.new ram.new
+        ≡ effect_of (call_whole fnv_family (volume s main.old spare.old ram.old) (layout.delete (key_is key))) }
 {
     state::uncut(perform_for(state::ENOUGH, s, Request::Delete(key), main, spare, ram))
 }

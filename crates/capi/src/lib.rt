@@ -4,13 +4,12 @@
 // `bool` and narrow results. Which number is which, specs/Numbers.antt says. A number of 64 bits has a reference of its own, so that no
 // halves are put together.
 ghost use Rattle.std.specs.Prelude.{◌≡◌};
-ghost use Rattle.memory.specs.Lent.{before, after};
 ghost use Rattle.layout.specs.Geometry.{sizes_of};
 ghost use Rattle.layout.specs.Hash.{fnv_family};
 ghost use Rattle.layout.specs.Items.{record_of};
 ghost use Rattle.layout.specs.Calls.{insert, update, delete, lookup};
 ghost use Rattle.layout.specs.Budgets.{format_cut, format_whole, call_cut, call_whole, restart_cut, restart_whole};
-ghost use Rattle.state.specs.Contract.{effect_of, given, effect_by, cut_of, cut_by};
+ghost use Rattle.state.specs.Contract.{effect_of, volume, change_effect, cut_of, cut_by};
 ghost use Rattle.load.specs.Load.{load_whole};
 ghost use Rattle.load.specs.Contract.{loaded_by};
 ghost use Rattle.lookup.specs.Results.{lookup_of};
@@ -34,8 +33,8 @@ pub extern "C" fn level_store_format_numbers(
     spare: &mut [u8],
     ram: &mut [u8],
 )
-    ensures { effect_by (numbers.change_of (after answer)) «data» spare ram
-        ≡ effect_of (format_whole (given (numbers.state_of (before old)) «data» spare ram)
+    ensures { change_effect (numbers.change_of answer.new) «data».new spare.new ram.new
+        ≡ effect_of (format_whole (volume (numbers.state_of old.now) «data».old spare.old ram.old)
         (sizes_of sector_size ra_blocks da_blocks hash_count)) }
 {
     let sizes = Sizes {
@@ -81,8 +80,8 @@ pub extern "C" fn level_store_insert_numbers(
     spare: &mut [u8],
     ram: &mut [u8],
 )
-    ensures { effect_by (numbers.change_of (after answer)) «data» spare ram
-        ≡ effect_of (call_whole fnv_family (given (numbers.state_of (before state)) «data» spare ram)
+    ensures { change_effect (numbers.change_of answer.new) «data».new spare.new ram.new
+        ≡ effect_of (call_whole fnv_family (volume (numbers.state_of state.now) «data».old spare.old ram.old)
         (insert (record_of key moves goal word))) }
 {
     let sizes = Sizes {
@@ -129,8 +128,8 @@ pub extern "C" fn level_store_update_numbers(
     spare: &mut [u8],
     ram: &mut [u8],
 )
-    ensures { effect_by (numbers.change_of (after answer)) «data» spare ram
-        ≡ effect_of (call_whole fnv_family (given (numbers.state_of (before state)) «data» spare ram)
+    ensures { change_effect (numbers.change_of answer.new) «data».new spare.new ram.new
+        ≡ effect_of (call_whole fnv_family (volume (numbers.state_of state.now) «data».old spare.old ram.old)
         (update (record_of key moves goal word))) }
 {
     let sizes = Sizes {
@@ -174,8 +173,8 @@ pub extern "C" fn level_store_delete_numbers(
     spare: &mut [u8],
     ram: &mut [u8],
 )
-    ensures { effect_by (numbers.change_of (after answer)) «data» spare ram
-        ≡ effect_of (call_whole fnv_family (given (numbers.state_of (before state)) «data» spare ram) (delete key)) }
+    ensures { change_effect (numbers.change_of answer.new) «data».new spare.new ram.new
+        ≡ effect_of (call_whole fnv_family (volume (numbers.state_of state.now) «data».old spare.old ram.old) (delete key)) }
 {
     let sizes = Sizes {
         sector_size: state[0],
@@ -213,8 +212,8 @@ pub extern "C" fn level_store_lookup_numbers(
     spare: &[u8],
     ram: &[u8],
 )
-    ensures { numbers.lookup_result_of (after answer) deletion_count.new
-        ≡ lookup_of (call_whole fnv_family (given (numbers.state_of (before state)) «data» spare ram) (lookup key)) }
+    ensures { numbers.lookup_result_of answer.new deletion_count.new
+        ≡ lookup_of (call_whole fnv_family (volume (numbers.state_of state.now) «data».now spare.now ram.now) (lookup key)) }
 {
     let sizes = Sizes {
         sector_size: state[0],
@@ -248,8 +247,8 @@ pub extern "C" fn level_store_load_numbers(
     spare: &mut [u8],
     ram: &mut [u8],
 )
-    ensures { loaded_by (numbers.loaded_of (after answer)) «data» spare ram
-        ≡ load_whole fnv_family (given (numbers.state_of (before state)) «data» spare ram) (before tab) }
+    ensures { loaded_by (numbers.loaded_of answer.new) «data».new spare.new ram.new
+        ≡ load_whole fnv_family (volume (numbers.state_of state.now) «data».old spare.old ram.old) tab.now }
 {
     let sizes = Sizes {
         sector_size: state[0],
@@ -286,8 +285,8 @@ pub extern "C" fn level_store_restart_numbers(
     spare: &mut [u8],
     ram: &mut [u8],
 )
-    ensures { effect_by (numbers.change_of (after answer)) «data» spare ram
-        ≡ effect_of (restart_whole fnv_family (given (numbers.state_of (before state)) «data» spare ram)) }
+    ensures { change_effect (numbers.change_of answer.new) «data».new spare.new ram.new
+        ≡ effect_of (restart_whole fnv_family (volume (numbers.state_of state.now) «data».old spare.old ram.old)) }
 {
     let sizes = Sizes {
         sector_size: state[0],
@@ -330,8 +329,8 @@ pub extern "C" fn level_store_format_cut_numbers(
     spare: &mut [u8],
     ram: &mut [u8],
 )
-    ensures { cut_by (numbers.cut_of (after answer) steps.new) «data» spare ram
-        ≡ cut_of (format_cut budget (given (numbers.state_of (before old)) «data» spare ram)
+    ensures { cut_by (numbers.cut_of answer.new steps.new) «data».new spare.new ram.new
+        ≡ cut_of (format_cut budget (volume (numbers.state_of old.now) «data».old spare.old ram.old)
         (sizes_of sector_size ra_blocks da_blocks hash_count)) }
 {
     let sizes = Sizes {
@@ -381,8 +380,8 @@ pub extern "C" fn level_store_insert_cut_numbers(
     spare: &mut [u8],
     ram: &mut [u8],
 )
-    ensures { cut_by (numbers.cut_of (after answer) steps.new) «data» spare ram
-        ≡ cut_of (call_cut fnv_family budget (given (numbers.state_of (before state)) «data» spare ram)
+    ensures { cut_by (numbers.cut_of answer.new steps.new) «data».new spare.new ram.new
+        ≡ cut_of (call_cut fnv_family budget (volume (numbers.state_of state.now) «data».old spare.old ram.old)
         (insert (record_of key moves goal word))) }
 {
     let sizes = Sizes {
@@ -440,8 +439,8 @@ pub extern "C" fn level_store_update_cut_numbers(
     spare: &mut [u8],
     ram: &mut [u8],
 )
-    ensures { cut_by (numbers.cut_of (after answer) steps.new) «data» spare ram
-        ≡ cut_of (call_cut fnv_family budget (given (numbers.state_of (before state)) «data» spare ram)
+    ensures { cut_by (numbers.cut_of answer.new steps.new) «data».new spare.new ram.new
+        ≡ cut_of (call_cut fnv_family budget (volume (numbers.state_of state.now) «data».old spare.old ram.old)
         (update (record_of key moves goal word))) }
 {
     let sizes = Sizes {
@@ -496,8 +495,8 @@ pub extern "C" fn level_store_delete_cut_numbers(
     spare: &mut [u8],
     ram: &mut [u8],
 )
-    ensures { cut_by (numbers.cut_of (after answer) steps.new) «data» spare ram
-        ≡ cut_of (call_cut fnv_family budget (given (numbers.state_of (before state)) «data» spare ram) (delete key)) }
+    ensures { cut_by (numbers.cut_of answer.new steps.new) «data».new spare.new ram.new
+        ≡ cut_of (call_cut fnv_family budget (volume (numbers.state_of state.now) «data».old spare.old ram.old) (delete key)) }
 {
     let sizes = Sizes {
         sector_size: state[0],
@@ -544,8 +543,8 @@ pub extern "C" fn level_store_restart_cut_numbers(
     spare: &mut [u8],
     ram: &mut [u8],
 )
-    ensures { cut_by (numbers.cut_of (after answer) steps.new) «data» spare ram
-        ≡ cut_of (restart_cut fnv_family budget (given (numbers.state_of (before state)) «data» spare ram)) }
+    ensures { cut_by (numbers.cut_of answer.new steps.new) «data».new spare.new ram.new
+        ≡ cut_of (restart_cut fnv_family budget (volume (numbers.state_of state.now) «data».old spare.old ram.old)) }
 {
     let sizes = Sizes {
         sector_size: state[0],

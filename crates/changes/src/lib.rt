@@ -1,9 +1,7 @@
 // A change of a volume: 5, 6, 7, else its operations and then its RAM, by a budget of steps. Document 01, "Calls"; document 02, request 8.
 ghost use Rattle.std.specs.Prelude.{◌≡◌, false, List, ℕ, ◌<◌, ◌≤◌, length, replicate};
-ghost use Rattle.memory.specs.Lent.{before, after};
 ghost use Rattle.layout.specs.Geometry.{record_capacity, deletion_capacity, spare_size, ram_size};
 ghost use Rattle.laws.specs.Done.{done_count};
-ghost use Rattle.laws.specs.LentFlash.{flash_before, flash_after};
 ghost use Rattle.geometry.specs.Shape.{shape, Sound};
 ghost use Rattle.keys.specs.Key.{key_is};
 ghost use Rattle.state.specs.Contract.{record_is};
@@ -14,6 +12,7 @@ ghost use Rattle.changes.specs.Edits.{edit_is, slots_of, old_number, new_record,
 ghost use Rattle.changes.specs.Edits.{full_at, deletions_full_at, room_refusal};
 ghost use Rattle.changes.specs.Filters.{DeletionFilters, EntryFilter, FiltersOf};
 ghost use Rattle.changes.specs.Tasks.{change_refusal, Carried, HasRoom, Prepared, task_on, task_slots, task_plan, task_result};
+ghost use Rattle.layout.specs.Flash.{flash_of};
 
 use geometry::{Geometry, areas};
 use keys::Key;
@@ -160,7 +159,7 @@ fn new_bytes(old: u32, record: Record, n: u32) -> [u8; plan::NEW_SIZE]
 // `out` becomes the filters of the page that deletion d, of record `old`, fills, by their fourths.
 fn put_deletion_filters(g: Geometry, d: usize, old: u32, ram: &[u8], out: &mut [u8])
     requires { Sound g × (ram_size (shape g) ≤ length ram.now) × (length out.old ≡ 512) }
-    ensures { DeletionFilters (shape g) d old (before ram) (after out) }
+    ensures { DeletionFilters (shape g) d old ram.now out.new }
 {
     if !geometry::deletion_area(g).fills(d) {
         return;
@@ -171,7 +170,7 @@ fn put_deletion_filters(g: Geometry, d: usize, old: u32, ram: &[u8], out: &mut [
 // `out`, which is all 0, becomes the filter of the page that entry n, with the key, fills.
 fn put_entry_filter(g: Geometry, n: usize, key: Key, ram: &[u8], out: &mut [u8])
     requires { Sound g × (ram_size (shape g) ≤ length ram.now) × (out.old ≡ replicate 256 0) }
-    ensures { EntryFilter (shape g) n (key_is key) (before ram) (after out) }
+    ensures { EntryFilter (shape g) n (key_is key) ram.now out.new }
 {
     if !geometry::entry_area(g).fills(n) {
         return;
@@ -190,7 +189,7 @@ fn put_entry_filter(g: Geometry, n: usize, key: Key, ram: &[u8], out: &mut [u8])
 // `filters`, which are all 0, become the new filters of a change, by their fourths: those of its deletion, then that of its entry.
 fn new_filters(g: Geometry, e: Slots, old: u32, key: Key, ram: &[u8], filters: &mut [u8])
     requires { Sound g × (ram_size (shape g) ≤ length ram.now) × (filters.old ≡ replicate 768 0) }
-    ensures { FiltersOf (shape g) old (key_is key) (before ram) (after filters) e }
+    ensures { FiltersOf (shape g) old (key_is key) ram.now filters.new e }
 {
     match e {
         Slots::Delete(d) => {
@@ -244,7 +243,7 @@ pub fn plan_of(t: Task) -> Plan
 pub fn fresh_refusal(t: Task, p: Plan, spare: &[u8]) -> u32
     requires { Sound t.g × Prepared t p × (spare_size (shape t.g) ≤ length spare.now) }
     ensures { (main ram : List ℕ) → ram_size (shape t.g) ≤ length ram
-        → result ≡ change_refusal (shape t.g) (task_on t main (before spare) ram) (edit_is t.edit) }
+        → result ≡ change_refusal (shape t.g) (task_on t main spare.now ram) (edit_is t.edit) }
 {
     if !plan::fresh(p, spare) {
         return state::NOT_FRESH;
@@ -256,7 +255,7 @@ pub fn fresh_refusal(t: Task, p: Plan, spare: &[u8]) -> u32
 pub fn done(t: Task, p: Plan, spare: &[u8]) -> usize
     requires { Sound t.g × Prepared t p × (spare_size (shape t.g) ≤ length spare.now) }
     ensures { (main ram : List ℕ) → ram_size (shape t.g) ≤ length ram
-        → result ≡ done_count (before spare) (task_plan t main (before spare) ram) }
+        → result ≡ done_count spare.now (task_plan t main spare.now ram) }
 {
     plan::done(p, spare)
 }
@@ -273,8 +272,8 @@ pub fn carry_on(
 ) -> Progress
     requires volume_fits { VolumeFits (task_on t main.old spare.old ram.old) t.g × Prepared t p }
     requires from_in_bounds { from ≤ length (task_plan t main.old spare.old ram.old) }
-    ensures { Carried t.g.chip.unit (task_result t (before main) (before spare) (before ram) from) budget
-        (flash_before main spare) (before ram) result (flash_after main spare) (after ram) }
+    ensures { Carried t.g.chip.unit (task_result t main.old spare.old ram.old from) budget
+        (flash_of main.old spare.old) ram.old result (flash_of main.new spare.new) ram.new }
 {
     let g = t.g;
     let edit = t.edit;
@@ -305,7 +304,7 @@ pub fn carry_on(
 pub fn append(t: Task, ram: &mut [u8])
     requires sound { Sound t.g × HasRoom t × (ram_size (shape t.g) ≤ length ram.old) }
     requires t_value { programs_in (shape t.g) (task_slots t) ≡ false }
-    ensures { (main spare : List ℕ) → after ram ≡ (task_result t main spare (before ram) 0).volume.ram }
+    ensures { (main spare : List ℕ) → ram.new ≡ (task_result t main spare ram.old 0).volume.ram }
 {
     let g = t.g;
     let edit = t.edit;

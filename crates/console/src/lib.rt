@@ -3,12 +3,11 @@
 mod stream;
 
 ghost use Rattle.std.specs.Prelude.{◌≡◌, true, false, cond, List, ℕ, ◌*◌, ◌-◌, ◌≤◌, ◌<◌, length};
-ghost use Rattle.memory.specs.Lent.{before, after};
-ghost use Rattle.laws.specs.LentFlash.{flash_after};
 ghost use Rattle.console.specs.Buffers.{feed, close};
-ghost use Rattle.console.specs.Contract.{buffers_before, buffers_after};
+ghost use Rattle.console.specs.Contract.{buffers_of};
 ghost use Rattle.console.specs.Stream.{leaves};
 ghost use Rattle.console.specs.Chunks.{after_chunk, FeedsPrefix, no_state, unformatted, initial, feed_all, close_if, Short, Leaves};
+ghost use Rattle.layout.specs.Flash.{flash_of};
 
 use geometry::Sizes;
 use libc::{STDERR_FILENO, STDIN_FILENO, STDOUT_FILENO};
@@ -118,9 +117,9 @@ fn answer_chunk(
     out: &mut [u8],
 ) -> ChunkResult
     requires { (p.fill ≤ length line.old) × (p.printed ≡ 0) × (length chunk.now * 32 ≤ length out.old) }
-    ensures within { (result.progress.fill ≤ length (before line)) × (result.progress.printed ≡ 0) }
-    ensures buffers { buffers_after result.progress line main spare ram out
-        ≡ after_chunk result.continues (feed (buffers_before p line main spare ram out) (before chunk)) }
+    ensures within { (result.progress.fill ≤ length line.old) × (result.progress.printed ≡ 0) }
+    ensures buffers { buffers_of result.progress line.new main.new spare.new ram.new out.new
+        ≡ after_chunk result.continues (feed (buffers_of p line.old main.old spare.old ram.old out.old) chunk.now) }
     ensures answered { result.ok ≡ result.continues }
 {
     let q = stream::feed(p, chunk, line, main, spare, ram, out);
@@ -138,9 +137,9 @@ fn next_chunk(
     out: &mut [u8],
 ) -> ChunkResult
     requires { (p.fill ≤ length line.old) × (p.printed ≡ 0) × (length chunk.old * 32 ≤ length out.old) }
-    ensures within { (result.progress.fill ≤ length (before line)) × (result.progress.printed ≡ 0) }
-    ensures prefix { FeedsPrefix result (buffers_before p line main spare ram out) (after chunk)
-        (buffers_after result.progress line main spare ram out) }
+    ensures within { (result.progress.fill ≤ length line.old) × (result.progress.printed ≡ 0) }
+    ensures prefix { FeedsPrefix result (buffers_of p line.old main.old spare.old ram.old out.old) chunk.new
+        (buffers_of result.progress line.new main.new spare.new ram.new out.new) }
 {
     let got = libc::read(STDIN_FILENO, chunk);
     let state = p.state;
@@ -157,9 +156,9 @@ fn next_chunk(
 // The input's end.
 fn finish(p: Fill, line: &[u8], main: &mut [u8], spare: &mut [u8], ram: &mut [u8], out: &mut [u8])
     requires { (p.fill ≤ length line.now) × (p.printed ≡ 0) × (32 ≤ length out.old) }
-    ensures { (flash_after main spare ≡ (close (buffers_before p line main spare ram out)).volume.flash)
-        × (after ram ≡ (close (buffers_before p line main spare ram out)).volume.ram)
-        × (after out ≡ (close (buffers_before p line main spare ram out)).out) }
+    ensures { (flash_of main.new spare.new ≡ (close (buffers_of p line.now main.old spare.old ram.old out.old)).volume.flash)
+        × (ram.new ≡ (close (buffers_of p line.now main.old spare.old ram.old out.old)).volume.ram)
+        × (out.new ≡ (close (buffers_of p line.now main.old spare.old ram.old out.old)).out) }
 {
     let q = stream::close(p, line, main, spare, ram, out);
     write_answers(q, out);
@@ -176,12 +175,12 @@ pub fn run(
     out: &mut [u8],
 ) -> bool
     requires { (length chunk.old * 32 ≤ length out.old) × (32 ≤ length out.old) }
-    ensures chunks { (chunks : List (List ℕ)) × Short (length (before chunk)) chunks
-        × Leaves (close_if result (feed_all (initial (before line) (before main) (before spare) (before ram) (before out)) chunks))
-        (after line) (after main) (after spare) (after ram) (after out) }
-    ensures input { length (before line) ≡ 64 → ((input : List ℕ)
-        × (flash_after main spare ≡ (leaves result (unformatted (before main) (before spare) (before ram)) input).flash)
-        × (after ram ≡ (leaves result (unformatted (before main) (before spare) (before ram)) input).ram)) }
+    ensures chunks { (chunks : List (List ℕ)) × Short (length chunk.old) chunks
+        × Leaves (close_if result (feed_all (initial line.old main.old spare.old ram.old out.old) chunks))
+        line.new main.new spare.new ram.new out.new }
+    ensures input { length line.old ≡ 64 → ((input : List ℕ)
+        × (flash_of main.new spare.new ≡ (leaves result (unformatted main.old spare.old ram.old) input).flash)
+        × (ram.new ≡ (leaves result (unformatted main.old spare.old ram.old) input).ram)) }
 {
     let mut p = begin();
     let mut left = u64::MAX;

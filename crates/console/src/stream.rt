@@ -2,9 +2,8 @@
 // "Replay program".
 ghost use Rattle.std.specs.Prelude.{◌≡◌, [], ◌∷◌, cond, ◌+◌, ◌*◌, ◌≤◌, ltb, length};
 ghost use Rattle.memory.specs.Lists.{write};
-ghost use Rattle.memory.specs.Lent.{before, after};
 ghost use Rattle.console.specs.Buffers.{end_line, next_byte, feed, close};
-ghost use Rattle.console.specs.Contract.{buffers_before, buffers_after};
+ghost use Rattle.console.specs.Contract.{buffers_of};
 
 use state::State;
 
@@ -19,9 +18,9 @@ pub struct Fill {
 // A byte of a line is kept as long as the buffer has room.
 fn add_byte(c: u8, fill: usize, line: &mut [u8]) -> usize
     requires { fill ≤ length line.old }
-    ensures equal { (result ≡ cond (ltb fill (length (before line))) (fill + 1) fill)
-        × (after line ≡ write (before line) fill (c ∷ [])) }
-    ensures within { result ≤ length (before line) }
+    ensures equal { (result ≡ cond (ltb fill (length line.old)) (fill + 1) fill)
+        × (line.new ≡ write line.old fill (c ∷ [])) }
+    ensures within { result ≤ length line.old }
 {
     if fill >= line.len() {
         return fill;
@@ -40,7 +39,7 @@ fn end_line(
     out: &mut [u8],
 ) -> Fill
     requires { (p.fill ≤ length line.now) × (p.printed + 32 ≤ length out.old) }
-    ensures equal { buffers_after result line main spare ram out ≡ end_line (buffers_before p line main spare ram out) }
+    ensures equal { buffers_of result line.now main.new spare.new ram.new out.new ≡ end_line (buffers_of p line.now main.old spare.old ram.old out.old) }
     ensures within { (result.fill ≡ 0) × (result.printed ≤ p.printed + 32) }
 {
     let state = p.state;
@@ -67,8 +66,8 @@ fn next_byte(
     out: &mut [u8],
 ) -> Fill
     requires { (p.fill ≤ length line.old) × (p.printed + 32 ≤ length out.old) }
-    ensures equal { buffers_after result line main spare ram out ≡ next_byte (buffers_before p line main spare ram out) c }
-    ensures within { (result.fill ≤ length (before line)) × (result.printed ≤ p.printed + 32) }
+    ensures equal { buffers_of result line.new main.new spare.new ram.new out.new ≡ next_byte (buffers_of p line.old main.old spare.old ram.old out.old) c }
+    ensures within { (result.fill ≤ length line.old) × (result.printed ≤ p.printed + 32) }
 {
     if c == b'\n' {
         return end_line(p, line, main, spare, ram, out);
@@ -93,8 +92,8 @@ pub fn feed(
     out: &mut [u8],
 ) -> Fill
     requires { (p.fill ≤ length line.old) × (p.printed + length chunk.now * 32 ≤ length out.old) }
-    ensures equal { buffers_after result line main spare ram out ≡ feed (buffers_before p line main spare ram out) (before chunk) }
-    ensures within { (result.fill ≤ length (before line)) × (result.printed ≤ length (before out)) }
+    ensures equal { buffers_of result line.new main.new spare.new ram.new out.new ≡ feed (buffers_of p line.old main.old spare.old ram.old out.old) chunk.now }
+    ensures within { (result.fill ≤ length line.old) × (result.printed ≤ length out.old) }
 {
     let mut q = p;
     let mut i = 0;
@@ -115,8 +114,8 @@ pub fn close(
     out: &mut [u8],
 ) -> Fill
     requires { (p.fill ≤ length line.now) × (p.printed + 32 ≤ length out.old) }
-    ensures equal { buffers_after result line main spare ram out ≡ close (buffers_before p line main spare ram out) }
-    ensures within { result.printed ≤ length (before out) }
+    ensures equal { buffers_of result line.now main.new spare.new ram.new out.new ≡ close (buffers_of p line.now main.old spare.old ram.old out.old) }
+    ensures within { result.printed ≤ length out.old }
 {
     if p.fill == 0 {
         return p;

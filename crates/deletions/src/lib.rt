@@ -1,7 +1,6 @@
 // The test of a record number: is it among the deletions. The numbers past the last full page come first, then full pages, newest first, a
 // page being opened only if one of its two filters has all bits of the number's positions. Document 02, §5.
 ghost use Rattle.std.specs.Prelude.{◌≡◌, ◌/◌, ◌≤◌, ◌<◌, take};
-ghost use Rattle.memory.specs.Lent.{before};
 ghost use Rattle.layout.specs.Geometry.{deletions_per_page};
 ghost use Rattle.layout.specs.Hash.{fnv_family};
 ghost use Rattle.layout.specs.Search.{search_pages};
@@ -35,7 +34,7 @@ pub struct Tested {
 // Those of the page that d0 deletions do not fill: in RAM, unless it has been filled since.
 fn in_open(t: Deletions, j: u32, main: &[u8], ram: &[u8]) -> bool
     requires { DeletionsFit t main.now ram.now }
-    ensures { test_stop j result ≡ past_pages t (before main) (before ram) j }
+    ensures { test_stop j result ≡ past_pages t main.now ram.now j }
 {
     let per_page = t.g.deletions_per_page();
     let count = areas::slot(per_page, t.d0);
@@ -76,7 +75,7 @@ struct BlockTest {
 fn in_word(chip: Chip, start: usize, bits: u64, j: u32, main: &[u8]) -> Tested
     requires { UnitSound chip.unit × WordPagesIn chip.unit start bits main.now }
     ensures { tested_of j result
-        ≡ search_pages (either_bit bits) (try_word (before main) start j) (deletions_per_page chip.unit) 32 }
+        ≡ search_pages (either_bit bits) (try_word main.now start j) (deletions_per_page chip.unit) 32 }
 {
     let mut left = kernels::pairs(bits);
     let mut opened: u32 = 0;
@@ -105,8 +104,8 @@ fn in_block(
     requires deletions_fit { DeletionsFit t main.now ram.now × Low t.g.chip.unit count ps }
     requires below_nonzero { (0 < below) × (below ≤ t.d0 / deletions_per_page t.g.chip.unit) }
     ensures start { result.start < below }
-    ensures found { test_below t (before main) (before ram) j (take count ps) below
-        ≡ onward (test_stop j result.met) result.opened (test_below t (before main) (before ram) j (take count ps) result.start) }
+    ensures found { test_below t main.now ram.now j (take count ps) below
+        ≡ onward (test_stop j result.met) result.opened (test_below t main.now ram.now j (take count ps) result.start) }
 {
     let b = filter::block_below(filters(t), 2 * below, ps, count, main, ram);
     let first = b.start / 2;
@@ -137,7 +136,7 @@ fn in_block(
 fn in_pages(t: Deletions, j: u32, ps: [u32; 8], count: usize, main: &[u8], ram: &[u8]) -> Tested
     requires { DeletionsFit t main.now ram.now × Low t.g.chip.unit count ps }
     ensures { tested_of j result
-        ≡ test_below t (before main) (before ram) j (take count ps) (t.d0 / deletions_per_page t.g.chip.unit) }
+        ≡ test_below t main.now ram.now j (take count ps) (t.d0 / deletions_per_page t.g.chip.unit) }
 {
     let mut opened: u32 = 0;
     let mut below = t.d0 / t.g.deletions_per_page();
@@ -157,7 +156,7 @@ fn in_pages(t: Deletions, j: u32, ps: [u32; 8], count: usize, main: &[u8], ram: 
 // Is record number j among the first d0 deletions.
 pub fn test(t: Deletions, j: u32, main: &[u8], ram: &[u8]) -> Tested
     requires { DeletionsFit t main.now ram.now }
-    ensures { tested_of j result ≡ test_deletion fnv_family (shape t.g) (held t (before main) (before ram)) t.d0 j }
+    ensures { tested_of j result ≡ test_deletion fnv_family (shape t.g) (held t main.now ram.now) t.d0 j }
 {
     if in_open(t, j, main, ram) {
         return Tested {

@@ -1,7 +1,6 @@
 // Fields of bits taken out of a row of bytes, one after another, a run of bytes at a time.
 ghost use Rattle.std.specs.Prelude.{◌≡◌, ℕ, ◌+◌, ◌*◌, ◌^◌, ◌<◌, ◌≤◌, length};
 ghost use Rattle.memory.specs.Lists.{tabulate};
-ghost use Rattle.memory.specs.Lent.{before, after};
 ghost use Rattle.fields.specs.Sources.{field_byte, run_byte, Aligned, Near, Whole, Size, Reaches, Run, Runs};
 ghost use Rattle.fields.specs.Halves.{Narrow, Half};
 ghost use Rattle.fields.specs.Columns.{Column, Split, column_byte};
@@ -20,7 +19,7 @@ pub struct Source {
 
 fn copy_run(bytes: &[u8], s: Source, w: usize, y: usize, out: &mut [u8])
     requires { Aligned s w × (s.step ≡ w) × (0 < length out.old) × Run (length bytes.now) s w y (length out.old) }
-    ensures { after out ≡ tabulate (length (before out)) (λ (i : ℕ). field_byte (before bytes) s w (y + i)) }
+    ensures { out.new ≡ tabulate (length out.old) (λ (i : ℕ). field_byte bytes.now s w (y + i)) }
 {
     let a = s.at + y;
     let b = a + out.len();
@@ -34,7 +33,7 @@ fn whole_runs(bytes: &[u8], at: usize, stride: usize, n: usize, y: usize, out: &
     requires n_nonzero { (0 < n) × (stride < 2 ^ 61) × (0 < length out.old)
         × Runs (length bytes.now) at stride n y (length out.old) }
     requires whole { Whole n y × Whole n (length out.old) }
-    ensures { after out ≡ tabulate (length (before out)) (λ (i : ℕ). run_byte (before bytes) at stride n (y + i)) }
+    ensures { out.new ≡ tabulate (length out.old) (λ (i : ℕ). run_byte bytes.now at stride n (y + i)) }
 {
     let mut a = at + y / n * stride;
     let mut i = 0;
@@ -51,7 +50,7 @@ fn whole_runs(bytes: &[u8], at: usize, stride: usize, n: usize, y: usize, out: &
 fn copy_runs(bytes: &[u8], at: usize, stride: usize, n: usize, y: usize, out: &mut [u8])
     requires size { Size n × (stride < 2 ^ 61) × (0 < length out.old) × Runs (length bytes.now) at stride n y (length out.old) }
     requires whole { Whole n y × Whole n (length out.old) }
-    ensures { after out ≡ tabulate (length (before out)) (λ (i : ℕ). run_byte (before bytes) at stride n (y + i)) }
+    ensures { out.new ≡ tabulate (length out.old) (λ (i : ℕ). run_byte bytes.now at stride n (y + i)) }
 {
     if n == 1 {
         whole_runs(bytes, at, stride, 1, y, out);
@@ -75,7 +74,7 @@ fn copy_runs(bytes: &[u8], at: usize, stride: usize, n: usize, y: usize, out: &m
 fn wide_run(bytes: &[u8], s: Source, w: usize, y: usize, out: &mut [u8])
     requires aligned { Aligned s w × (8 ≤ w) × (0 < length out.old) × Run (length bytes.now) s w y (length out.old) }
     requires whole { Whole w (8 * y) × Whole w (8 * length out.old) }
-    ensures { after out ≡ tabulate (length (before out)) (λ (i : ℕ). field_byte (before bytes) s w (y + i)) }
+    ensures { out.new ≡ tabulate (length out.old) (λ (i : ℕ). field_byte bytes.now s w (y + i)) }
 {
     let at = s.at + s.low / 8;
     copy_runs(bytes, at, s.step / 8, w / 8, y, out);
@@ -103,7 +102,7 @@ fn even_fields(x: u8, w: usize) -> u8
 // Both bytes are read as one number: the compiler then takes eight pairs at a time.
 fn halved_byte(bytes: &[u8], s: Source, w: usize, y: usize) -> u8
     requires { Aligned s w × Reaches (length bytes.now) s w y × (w < 8) × (s.step ≡ 2 * w) }
-    ensures { result ≡ field_byte (before bytes) s w y }
+    ensures { result ≡ field_byte bytes.now s w y }
 {
     let a = s.at + 2 * y;
     let low = s.low;
@@ -116,7 +115,7 @@ fn halved_byte(bytes: &[u8], s: Source, w: usize, y: usize) -> u8
 // The compiler makes of it a loop for each width, so that no turn tests it.
 fn halve_run(bytes: &[u8], s: Source, w: usize, y: usize, out: &mut [u8])
     requires { Aligned s w × (w < 8) × (s.step ≡ 2 * w) × Run (length bytes.now) s w y (length out.old) }
-    ensures { after out ≡ tabulate (length (before out)) (λ (i : ℕ). field_byte (before bytes) s w (y + i)) }
+    ensures { out.new ≡ tabulate (length out.old) (λ (i : ℕ). field_byte bytes.now s w (y + i)) }
 {
     let mut i = 0;
     while i < out.len() {
@@ -130,7 +129,7 @@ fn halve_run(bytes: &[u8], s: Source, w: usize, y: usize, out: &mut [u8])
 // A byte of each of eight rows `stride` bytes apart.
 fn column(bytes: &[u8], a: usize, stride: usize) -> u64
     requires { a + 7 * stride < length bytes.now }
-    ensures { Column (before bytes) a stride result }
+    ensures { Column bytes.now a stride result }
 {
     let b = numbers::u64_of_byte(bytes[a]);
     let c = numbers::u64_of_byte(bytes[a + stride]);
@@ -169,7 +168,7 @@ fn split(x: u64, w: usize) -> u64
 // Of a byte of each of 128 rows, the first from byte `at` on, `stride` bytes apart: eight rows at a time, split by w bits.
 pub fn columns(bytes: &[u8], at: usize, stride: usize, w: usize, out: &mut [u8])
     requires { Narrow w × (stride < 2 ^ 32) × (at + 127 * stride < length bytes.now) × (length out.old ≡ 128) }
-    ensures { after out ≡ tabulate 128 (column_byte (before bytes) at stride w) }
+    ensures { out.new ≡ tabulate 128 (column_byte bytes.now at stride w) }
 {
     let mut a = at;
     let mut i = 0;
@@ -188,7 +187,7 @@ pub fn columns(bytes: &[u8], at: usize, stride: usize, w: usize, out: &mut [u8])
 pub fn field_run(bytes: &[u8], s: Source, w: usize, y: usize, out: &mut [u8])
     requires aligned { Aligned s w × Near s w × Run (length bytes.now) s w y (length out.old) }
     requires whole { Whole w (8 * y) × Whole w (8 * length out.old) }
-    ensures { after out ≡ tabulate (length (before out)) (λ (i : ℕ). field_byte (before bytes) s w (y + i)) }
+    ensures { out.new ≡ tabulate (length out.old) (λ (i : ℕ). field_byte bytes.now s w (y + i)) }
 {
     if out.len() == 0 {
         return;

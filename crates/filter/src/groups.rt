@@ -4,7 +4,6 @@
 ghost use Rattle.std.specs.Prelude.{◌≡◌, Bool, true, ◌⊎◌, ℕ, ◌+◌, ◌-◌, ◌*◌, ◌/◌, ◌%◌, ◌^◌, ◌<◌, ◌≤◌, min, length, get_or, take};
 ghost use Rattle.memory.specs.Bits.{bit, bit_in};
 ghost use Rattle.memory.specs.Power.{log2up};
-ghost use Rattle.memory.specs.Lent.{before};
 ghost use Rattle.layout.specs.Geometry.{filter_bits, side_blocks};
 ghost use Rattle.layout.specs.Index.{filters_per_round, in_full};
 ghost use Rattle.laws.specs.Units.{UnitIs};
@@ -181,7 +180,7 @@ fn row_of(l: Level, p: u32) -> usize
 fn few_bits(l: Level, p: u32, n: usize, bytes: &[u8]) -> u64
     requires { (n ≤ 8) × EightsIn l p n (length bytes.now) }
     ensures { (result < 2 ^ n)
-        × ((i : ℕ) → i < n → bit result i ≡ bit_in (before bytes) (row_at l p) (i * 2 ^ l.exponent + p % 2 ^ l.exponent)) }
+        × ((i : ℕ) → i < n → bit result i ≡ bit_in bytes.now (row_at l p) (i * 2 ^ l.exponent + p % 2 ^ l.exponent)) }
 {
     let w = power(l.exponent);
     let low = numbers::usize_of_u32(p) % w;
@@ -192,7 +191,7 @@ fn few_bits(l: Level, p: u32, n: usize, bytes: &[u8]) -> u64
 fn block_of_few(l: Level, below: usize, ps: [u32; 8], count: usize, bytes: &[u8]) -> Block
     requires le_count { (1 ≤ count) × (count ≤ 8) × (l.start < below) × (below ≤ l.start + 8) }
     requires by_index { (i : ℕ) → i < count → EightsIn l (get_or ps i 0) (below - l.start) (length bytes.now) }
-    ensures { BlockOf l (before bytes) below (take count ps) result }
+    ensures { BlockOf l bytes.now below (take count ps) result }
 {
     let n = below - l.start;
     let mut r = few_bits(l, ps[0], n, bytes);
@@ -214,7 +213,7 @@ fn block_of_few(l: Level, below: usize, ps: [u32; 8], count: usize, bytes: &[u8]
 fn position_bits(l: Level, p: u32, first: usize, n: usize, bytes: &[u8]) -> u64
     requires { (n ≤ 8) × EightsIn l p (first + n * 8) (length bytes.now) }
     ensures { (i : ℕ) → i < n * 8
-        → bit result i ≡ bit_in (before bytes) (row_at l p) ((first + i) * 2 ^ l.exponent + p % 2 ^ l.exponent) }
+        → bit result i ≡ bit_in bytes.now (row_at l p) ((first + i) * 2 ^ l.exponent + p % 2 ^ l.exponent) }
 {
     let w = power(l.exponent);
     let step = w / 8;
@@ -233,7 +232,7 @@ fn position_bits(l: Level, p: u32, first: usize, n: usize, bytes: &[u8]) -> u64
 fn eights(l: Level, ps: [u32; 8], count: usize, first: usize, n: usize, bytes: &[u8]) -> u64
     requires { (1 ≤ count) × (count ≤ 8) × (n ≤ 8)
         × ((i : ℕ) → i < count → EightsIn l (get_or ps i 0) (first + n * 8) (length bytes.now)) }
-    ensures { Shows (level_has l (before bytes) (take count ps)) first (n * 8) result }
+    ensures { Shows (level_has l bytes.now (take count ps)) first (n * 8) result }
 {
     let mut r: u64 = 0xffff_ffff_ffff_ffff;
     let mut i = 0;
@@ -249,7 +248,7 @@ fn eights(l: Level, ps: [u32; 8], count: usize, first: usize, n: usize, bytes: &
 fn block_by_eights(l: Level, below: usize, ps: [u32; 8], count: usize, bytes: &[u8]) -> Block
     requires le_count { (1 ≤ count) × (count ≤ 8) × (l.start < below) }
     requires by_index { (i : ℕ) → i < count → EightsIn l (get_or ps i 0) (below - l.start) (length bytes.now) }
-    ensures { BlockOf l (before bytes) below (take count ps) result }
+    ensures { BlockOf l bytes.now below (take count ps) result }
 {
     let all = below - l.start;
     let first = (all - 1) / 64 * 64;
@@ -267,7 +266,7 @@ fn block_by_eights(l: Level, below: usize, ps: [u32; 8], count: usize, bytes: &[
 fn block_by_words(l: Level, below: usize, ps: [u32; 8], count: usize, bytes: &[u8]) -> Block
     requires le_count { (1 ≤ count) × (count ≤ 8) × (l.exponent < 7) × (l.start < below) }
     requires by_index { (i : ℕ) → i < count → BlocksIn l (get_or ps i 0) (below - l.start) (length bytes.now) }
-    ensures { BlockOf l (before bytes) below (take count ps) result }
+    ensures { BlockOf l bytes.now below (take count ps) result }
 {
     let base = l.base;
     let stride = l.stride;
@@ -325,7 +324,7 @@ fn mask_of(e: usize, ps: [u32; 8], count: usize) -> Mask
 fn recent_64(rs: Recent, mask: u64, ps: [u32; 8], count: usize, main: &[u8], ram: &[u8]) -> Block
     requires exponent_value { (rs.l1.exponent ≡ 6) × (1 ≤ count) × (count ≤ 8) × RecentIn rs count ps (length main.now) (length ram.now) }
     requires one_row { OneRow ps count 6 × MaskOf ps count 64 mask }
-    ensures { RecentOf rs (before main) (before ram) (take count ps) result }
+    ensures { RecentOf rs main.now ram.now (take count ps) result }
 {
     let top = numbers::lesser(rs.below, rs.ska.start);
     let start = rs.l1.start;
@@ -380,7 +379,7 @@ fn block_of_shut(start: usize, n: usize, a: u64, b: u64) -> Block
 fn recent_16(rs: Recent, mask: u64, ps: [u32; 8], count: usize, main: &[u8], ram: &[u8]) -> Block
     requires exponent_value { (rs.l1.exponent ≡ 4) × (1 ≤ count) × (count ≤ 8) × RecentIn rs count ps (length main.now) (length ram.now) }
     requires one_row { OneRow ps count 4 × MaskOf ps count 16 mask × (mask < 65536) }
-    ensures { RecentOf rs (before main) (before ram) (take count ps) result }
+    ensures { RecentOf rs main.now ram.now (take count ps) result }
 {
     let top = numbers::lesser(rs.below, rs.ska.start);
     let start = rs.l1.start;
@@ -403,7 +402,7 @@ fn recent_16(rs: Recent, mask: u64, ps: [u32; 8], count: usize, main: &[u8], ram
 fn recent_word(rs: Recent, first: usize, ps: [u32; 8], count: usize, main: &[u8], ram: &[u8]) -> u64
     requires { ((first ≡ 0) ⊎ (first ≡ 64)) × (rs.l1.start + first < rs.below) × (count ≤ 8)
         × RecentIn rs count ps (length main.now) (length ram.now) }
-    ensures { Shows (λ g. recent_has rs (before main) (before ram) (take count ps) (rs.l1.start + g))
+    ensures { Shows (λ g. recent_has rs main.now ram.now (take count ps) (rs.l1.start + g))
         first (min (rs.below - rs.l1.start - first) 64) result }
 {
     let w = power(rs.l1.exponent);
@@ -429,7 +428,7 @@ fn recent_word(rs: Recent, first: usize, ps: [u32; 8], count: usize, main: &[u8]
 // The same as a block, in one word or two.
 fn recent_by_bytes(rs: Recent, ps: [u32; 8], count: usize, main: &[u8], ram: &[u8]) -> Block
     requires { (count ≤ 8) × RecentIn rs count ps (length main.now) (length ram.now) }
-    ensures { RecentOf rs (before main) (before ram) (take count ps) result }
+    ensures { RecentOf rs main.now ram.now (take count ps) result }
 {
     let start = rs.l1.start;
     let n = rs.below - start;
@@ -450,7 +449,7 @@ fn recent_by_bytes(rs: Recent, ps: [u32; 8], count: usize, main: &[u8], ram: &[u
 // At S = 16 by a mask, if the positions lie in one row.
 fn recent_at_16(rs: Recent, ps: [u32; 8], count: usize, main: &[u8], ram: &[u8]) -> Block
     requires { (rs.l1.exponent ≡ 4) × (1 ≤ count) × (count ≤ 8) × RecentIn rs count ps (length main.now) (length ram.now) }
-    ensures { RecentOf rs (before main) (before ram) (take count ps) result }
+    ensures { RecentOf rs main.now ram.now (take count ps) result }
 {
     let m = mask_of(4, ps, count);
     if m.one_row {
@@ -462,7 +461,7 @@ fn recent_at_16(rs: Recent, ps: [u32; 8], count: usize, main: &[u8], ram: &[u8])
 // At S = 64 by a mask, if the positions lie in one row.
 fn recent_at_64(rs: Recent, ps: [u32; 8], count: usize, main: &[u8], ram: &[u8]) -> Block
     requires { (rs.l1.exponent ≡ 6) × (1 ≤ count) × (count ≤ 8) × RecentIn rs count ps (length main.now) (length ram.now) }
-    ensures { RecentOf rs (before main) (before ram) (take count ps) result }
+    ensures { RecentOf rs main.now ram.now (take count ps) result }
 {
     let m = mask_of(6, ps, count);
     if m.one_row {
@@ -475,7 +474,7 @@ fn recent_at_64(rs: Recent, ps: [u32; 8], count: usize, main: &[u8], ram: &[u8])
 // no filter yet those of the SKA page alone.
 fn recent_block(rs: Recent, ps: [u32; 8], count: usize, main: &[u8], ram: &[u8]) -> Block
     requires { (1 ≤ count) × (count ≤ 8) × RecentIn rs count ps (length main.now) (length ram.now) }
-    ensures { RecentOf rs (before main) (before ram) (take count ps) result }
+    ensures { RecentOf rs main.now ram.now (take count ps) result }
 {
     if rs.l1.exponent == 4 {
         return recent_at_16(rs, ps, count, main, ram);
@@ -504,7 +503,7 @@ pub fn block_below(
         × IndexFits fs.chip.unit (index_of fs.index) Z main.now ram.now)
         × (fs.count ≤ 2 ^ 20) × (0 < below) × (below ≤ fs.count) }
     requires le_count { (1 ≤ count) × (count ≤ 8) × ((i : ℕ) → i < count → get_or ps i 0 < filter_bits fs.chip.unit) }
-    ensures { BlockAt fs.chip.unit (index_of fs.index) (before main) (before ram) fs.count below (take count ps) result }
+    ensures { BlockAt fs.chip.unit (index_of fs.index) main.now ram.now fs.count below (take count ps) result }
 {
     let chip = fs.chip;
     let e = exponent(chip.unit);

@@ -1,6 +1,5 @@
 // A page's bloom filter. Document 01, "Filters".
 ghost use Rattle.std.specs.Prelude.{◌≡◌, ◌||◌, ℕ, ◌+◌, ◌-◌, ◌*◌, ◌%◌, ◌<◌, ◌≤◌, eqb, length, replicate};
-ghost use Rattle.memory.specs.Lent.{before, after};
 ghost use Rattle.layout.specs.Geometry.{page, entries_per_page};
 ghost use Rattle.layout.specs.Items.{deletion_size};
 ghost use Rattle.laws.specs.Units.{UnitSound};
@@ -15,7 +14,7 @@ use words::numbers;
 // Sets bit p.
 fn set_bit(p: u32, bits: &mut [u8])
     requires { (length bits.old ≡ 256) × (p < 2048) }
-    ensures { (x : ℕ) → x < 2048 → array_bit (after bits) x ≡ (eqb p x || array_bit (before bits) x) }
+    ensures { (x : ℕ) → x < 2048 → array_bit bits.new x ≡ (eqb p x || array_bit bits.old x) }
 {
     let x = p as usize;
     let i = x / 8;
@@ -26,7 +25,7 @@ fn set_bit(p: u32, bits: &mut [u8])
 fn set_key(chip: Chip, count: usize, key: Hashed, bits: &mut [u8])
     requires { UnitSound chip.unit × (count ≤ 8) × (length bits.old ≡ 256) }
     ensures { (x : ℕ) → x < 2048
-        → array_bit (after bits) x ≡ (key_bit chip.unit count (bytes_of key) x || array_bit (before bits) x) }
+        → array_bit bits.new x ≡ (key_bit chip.unit count (bytes_of key) x || array_bit bits.old x) }
 {
     let ps = fnv::positions(chip, count, key);
     let mut i = 0;
@@ -39,7 +38,7 @@ fn set_key(chip: Chip, count: usize, key: Hashed, bits: &mut [u8])
 // What is hashed of the item from byte `at` on, its first word: an entry's key or a deletion's number.
 fn hashed_at(at: usize, ram: &[u8]) -> Hashed
     requires { at + 4 ≤ length ram.now }
-    ensures { bytes_of result ≡ item_bytes (before ram) at }
+    ensures { bytes_of result ≡ item_bytes ram.now at }
 {
     fnv::of_number(words::get32(ram, at))
 }
@@ -58,7 +57,7 @@ pub fn new_filter(
     requires unit_sound { UnitSound chip.unit × (count ≤ 8) × (4 ≤ step)
         × (at + (entries_per_page chip.unit - 1) * step ≤ length ram.now) }
     requires bits_value { bits.old ≡ replicate 256 0 }
-    ensures { (x : ℕ) → x < 2048 → array_bit (after bits) x ≡ with_key chip.unit count at step (bytes_of key) (before ram) x }
+    ensures { (x : ℕ) → x < 2048 → array_bit bits.new x ≡ with_key chip.unit count at step (bytes_of key) ram.now x }
 {
     let last = chip.entries_per_page() - 1;
     let mut i = 0;
@@ -73,7 +72,7 @@ pub fn new_filter(
 // The fourths of filter f of two go to their places in `out`: there the fourths of a sector lie one after the other.
 fn put_fourths(chip: Chip, f: usize, bits: &[u8], out: &mut [u8])
     requires { (0 < chip.unit) × (chip.unit ≤ 32) × (f < 2) × (length bits.now ≡ 256) × (length out.old ≡ 512) }
-    ensures { FilterPut chip.unit f (array_bit (before bits)) (before out) (after out) }
+    ensures { FilterPut chip.unit f (array_bit bits.now) out.old out.new }
 {
     let piece = chip.fourth_size();
     let mut i = 0;
@@ -98,8 +97,8 @@ fn half_filter(
 )
     requires unit_sound { UnitSound chip.unit × (count ≤ 8) × (at + (entries_per_page chip.unit - 1) * deletion_size ≤ length ram.now) }
     requires f_bound { (f < 2) × (length out.old ≡ 512) }
-    ensures { FilterPut chip.unit f (with_key chip.unit count at deletion_size (bytes_of last) (before ram))
-        (before out) (after out) }
+    ensures { FilterPut chip.unit f (with_key chip.unit count at deletion_size (bytes_of last) ram.now)
+        out.old out.new }
 {
     let mut bits = [0u8; 256];
     new_filter(chip, count, at, areas::DELETION_SIZE, last, ram, &mut bits);
@@ -111,7 +110,7 @@ fn half_filter(
 pub fn number_filters(chip: Chip, count: usize, at: usize, number: u32, ram: &[u8], out: &mut [u8])
     requires unit_sound { UnitSound chip.unit × (count ≤ 8) × (at + page chip.unit ≤ length ram.now) }
     requires out_len { length out.old ≡ 512 }
-    ensures { FourthsOf chip.unit 2 (half_bits chip.unit count at number (before ram)) (after out) }
+    ensures { FourthsOf chip.unit 2 (half_bits chip.unit count at number ram.now) out.new }
 {
     let step = areas::DELETION_SIZE;
     let middle = at + chip.deletions_per_filter() * step;

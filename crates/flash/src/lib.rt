@@ -1,10 +1,8 @@
 // Operations of the flash chip on two slices, the main area and the spare area with one byte a sector: programming sectors, erasing
 // blocks and looking whether sectors are fresh. Document 01, "The chip and the desk".
 ghost use Rattle.std.specs.Prelude.{◌≡◌, ◌++◌, ◌+◌, ◌*◌, ◌≤◌, ◌<◌, length};
-ghost use Rattle.memory.specs.Lent.{before};
 ghost use Rattle.layout.specs.Geometry.{sectors_per_block, sector, block};
-ghost use Rattle.layout.specs.Flash.{program, erase, fresh, apply, apply_all, erases};
-ghost use Rattle.laws.specs.LentFlash.{flash_before, flash_after};
+ghost use Rattle.layout.specs.Flash.{program, erase, fresh, apply, apply_all, erases, flash_of};
 ghost use Rattle.flash.specs.Fresh.{fresh_run, last_programmed};
 ghost use Rattle.flash.specs.Sectors.{programmed_row};
 
@@ -30,7 +28,7 @@ fn is_fresh(byte: u8) -> bool
 pub fn program_sector(chip: Chip, s: usize, src: &[u8], main: &mut [u8], spare: &mut [u8])
     requires unit_bound { (chip.unit ≤ 32) × (length src.now ≡ sector chip.unit) }
     requires unit_in_bounds { (s * sector chip.unit + sector chip.unit ≤ length main.old) × (s < length spare.old) }
-    ensures { flash_after main spare ≡ apply chip.unit (program s (before src)) (flash_before main spare) }
+    ensures { flash_of main.new spare.new ≡ apply chip.unit (program s src.now) (flash_of main.old spare.old) }
 {
     words::copy_at(main, chip.sector_address(s), src);
     spare[s] = PROGRAMMED;
@@ -47,7 +45,7 @@ pub fn program_sectors(
 )
     requires unit_bound { (chip.unit ≤ 32) × (length src.now ≡ k * sector chip.unit) }
     requires unit_in_bounds { ((s + k) * sector chip.unit ≤ length main.old) × (s + k ≤ length spare.old) }
-    ensures { flash_after main spare ≡ programmed_row chip.unit s k (before src) (flash_before main spare) }
+    ensures { flash_of main.new spare.new ≡ programmed_row chip.unit s k src.now (flash_of main.old spare.old) }
 {
     words::copy_at(main, chip.sector_address(s), src);
     words::fill_at(spare, s, k, PROGRAMMED);
@@ -57,8 +55,8 @@ pub fn program_sectors(
 pub fn program_joined(chip: Chip, s: usize, a: &[u8], b: &[u8], main: &mut [u8], spare: &mut [u8])
     requires unit_bound { (chip.unit ≤ 32) × (length a.now + length b.now ≡ sector chip.unit) }
     requires unit_in_bounds { (s * sector chip.unit + sector chip.unit ≤ length main.old) × (s < length spare.old) }
-    ensures { flash_after main spare
-        ≡ apply chip.unit (program s (before a ++ before b)) (flash_before main spare) }
+    ensures { flash_of main.new spare.new
+        ≡ apply chip.unit (program s (a.now ++ b.now)) (flash_of main.old spare.old) }
 {
     let at = chip.sector_address(s);
     words::copy_at(main, at, a);
@@ -70,7 +68,7 @@ pub fn program_joined(chip: Chip, s: usize, a: &[u8], b: &[u8], main: &mut [u8],
 fn erase_block(chip: Chip, b: usize, main: &mut [u8], spare: &mut [u8])
     requires unit_bound { (chip.unit ≤ 32) × (b * block chip.unit + block chip.unit ≤ length main.old) }
     requires sectors_per_block_in_bounds { b * sectors_per_block + sectors_per_block ≤ length spare.old }
-    ensures { flash_after main spare ≡ apply chip.unit (erase b) (flash_before main spare) }
+    ensures { flash_of main.new spare.new ≡ apply chip.unit (erase b) (flash_of main.old spare.old) }
 {
     let at = chip.block_address(b);
     words::fill_at(main, at, chip.block_size(), ERASED);
@@ -82,7 +80,7 @@ fn erase_block(chip: Chip, b: usize, main: &mut [u8], spare: &mut [u8])
 pub fn erase_blocks(chip: Chip, b: usize, k: usize, main: &mut [u8], spare: &mut [u8])
     requires unit_bound { (chip.unit ≤ 32) × ((b + k) * block chip.unit ≤ length main.old) }
     requires sectors_per_block_in_bounds { (b + k) * sectors_per_block ≤ length spare.old }
-    ensures { flash_after main spare ≡ apply_all chip.unit (erases b k) (flash_before main spare) }
+    ensures { flash_of main.new spare.new ≡ apply_all chip.unit (erases b k) (flash_of main.old spare.old) }
 {
     let mut i = 0;
     while i < k {
@@ -94,7 +92,7 @@ pub fn erase_blocks(chip: Chip, b: usize, k: usize, main: &mut [u8], spare: &mut
 // Are sectors s, s + stride, .. fresh, k of them. Each spare byte is tested by itself, and all are, so that many are counted at once.
 pub fn all_fresh(s: usize, stride: usize, k: usize, spare: &[u8]) -> bool
     requires { s + k * stride < length spare.now + stride }
-    ensures { result ≡ fresh_run (before spare) stride s k }
+    ensures { result ≡ fresh_run spare.now stride s k }
 {
     let mut all = true;
     let mut i = 0;
@@ -109,7 +107,7 @@ pub fn all_fresh(s: usize, stride: usize, k: usize, spare: &[u8]) -> bool
 // fresh.
 pub fn last_programmed(first: usize, step: usize, count: usize, spare: &[u8]) -> usize
     requires { first + count * step < length spare.now + step }
-    ensures { result ≡ last_programmed (before spare) step first count }
+    ensures { result ≡ last_programmed spare.now step first count }
 {
     let mut k = count;
     while 0 < k {

@@ -6,7 +6,7 @@ ghost use Rattle.layout.specs.Calls.{formatted};
 ghost use Rattle.layout.specs.Header.{header_size, pages, on_pages, formatting, pending_in};
 ghost use Rattle.layout.specs.Budgets.{last_steps, format_cut, format_whole, restart_cut};
 ghost use Rattle.geometry.specs.Shape.{sizes_is};
-ghost use Rattle.state.specs.Contract.{effect_of, effect_by, given, cut_of, cut_by, memory_before, memory_after, Ran};
+ghost use Rattle.state.specs.Contract.{effect_of, change_effect, volume, cut_of, cut_by, memory_of, Ran};
 ghost use Rattle.state.specs.Judge.{FormatFits};
 
 use geometry::{Geometry, Sizes};
@@ -34,8 +34,8 @@ fn finish(
 ) -> Progress
     requires { (header_size ≤ length ram.old)
         × FormatFits (sizes_is sizes) (flash_of main.old spare.old) (pages ram.old) g }
-    ensures { (s : State) → Ran g.chip.unit (last_steps (formatted (on_pages (given s main spare ram)) (sizes_is sizes))) budget
-        (memory_before main spare ram) (memory_after main spare ram) result }
+    ensures { (s : State) → Ran g.chip.unit (last_steps (formatted (on_pages (volume s main.old spare.old ram.old)) (sizes_is sizes))) budget
+        (memory_of main.old spare.old ram.old) (memory_of main.new spare.new ram.new) result }
 {
     let blocks = g.blocks();
     if budget <= blocks {
@@ -63,7 +63,7 @@ pub fn format_for(
     spare: &mut [u8],
     ram: &mut [u8],
 ) -> Cut
-    ensures { cut_by result main spare ram ≡ cut_of (format_cut budget (given old main spare ram) (sizes_is sizes)) }
+    ensures { cut_by result main.new spare.new ram.new ≡ cut_of (format_cut budget (volume old main.old spare.old ram.old) (sizes_is sizes)) }
 {
     match state::judge_new(sizes, main, spare, ram) {
         Judgement::Refused(i) => {
@@ -98,7 +98,7 @@ pub fn restart_format(
     ram: &mut [u8],
 ) -> Cut
     requires { (header_size ≤ length ram.old) × (pending_in ram.old ≡ formatting (sizes_is sizes)) }
-    ensures { cut_by result main spare ram ≡ cut_of (restart_cut fnv_family budget (given s main spare ram)) }
+    ensures { cut_by result main.new spare.new ram.new ≡ cut_of (restart_cut fnv_family budget (volume s main.old spare.old ram.old)) }
 {
     match state::judge_new(sizes, main, spare, ram) {
         Judgement::Refused(i) => {
@@ -113,7 +113,7 @@ pub fn restart_format(
 
 // A new volume of the given sizes.
 pub fn format(old: State, sizes: Sizes, main: &mut [u8], spare: &mut [u8], ram: &mut [u8]) -> Change
-    ensures { effect_by result main spare ram ≡ effect_of (format_whole (given old main spare ram) (sizes_is sizes)) }
+    ensures { change_effect result main.new spare.new ram.new ≡ effect_of (format_whole (volume old main.old spare.old ram.old) (sizes_is sizes)) }
 {
     state::uncut(format_for(state::ENOUGH, old, sizes, main, spare, ram))
 }

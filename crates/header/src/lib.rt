@@ -1,11 +1,10 @@
 // The header of the RAM: the state and the pending call. Document 02, request 8.
 ghost use Rattle.std.specs.Prelude.{◌≡◌, ◌++◌, ◌-◌, ◌≤◌, ◌<◌, length, take};
-ghost use Rattle.memory.specs.Lent.{before, after};
 ghost use Rattle.memory.specs.Words.{words_bytes};
 ghost use Rattle.layout.specs.Header.{header_size, state_size, pages, header, on_pages, header_word, state_in, pending_in};
 ghost use Rattle.layout.specs.Header.{state_words, header_bytes, intent_words, format_words, no_intent};
 ghost use Rattle.geometry.specs.Shape.{sizes_is};
-ghost use Rattle.state.specs.Contract.{state_is, call_of, given};
+ghost use Rattle.state.specs.Contract.{state_is, call_of, volume};
 ghost use Rattle.state.specs.Judge.{GoodFits};
 ghost use Rattle.header.specs.Header.{idle_judgement, pending_is, call_words};
 
@@ -48,7 +47,7 @@ pub enum Pending {
 // Where the header lies: at the end, however long the RAM is.
 fn header_at(ram: &[u8]) -> usize
     requires { header_size ≤ length ram.now }
-    ensures { result ≡ length (before ram) - header_size }
+    ensures { result ≡ length ram.now - header_size }
 {
     ram.len() - state::HEADER_SIZE
 }
@@ -56,7 +55,7 @@ fn header_at(ram: &[u8]) -> usize
 // Word i of the header.
 fn word(ram: &[u8], i: usize) -> u32
     requires { (header_size ≤ length ram.now) × (i < 16) }
-    ensures { result ≡ header_word (before ram) i }
+    ensures { result ≡ header_word ram.now i }
 {
     words::get32(ram, header_at(ram) + i * areas::WORD_SIZE)
 }
@@ -64,7 +63,7 @@ fn word(ram: &[u8], i: usize) -> u32
 // The state.
 pub fn state_in(ram: &[u8]) -> State
     requires { header_size ≤ length ram.now }
-    ensures { state_is result ≡ state_in (before ram) }
+    ensures { state_is result ≡ state_in ram.now }
 {
     let sizes = Sizes {
         sector_size: word(ram, 0),
@@ -82,7 +81,7 @@ pub fn state_in(ram: &[u8]) -> State
 // The pending call; words behind its arguments are not looked at.
 pub fn pending_in(ram: &[u8]) -> Pending
     requires { header_size ≤ length ram.now }
-    ensures { pending_is result ≡ pending_in (before ram) }
+    ensures { pending_is result ≡ pending_in ram.now }
 {
     let kind = word(ram, KIND);
     let a = word(ram, ARGUMENTS);
@@ -122,8 +121,8 @@ pub fn pending_in(ram: &[u8]) -> Pending
 
 // Judges a state that is handed in: refusals 1 and 2, then 10 where a call is pending.
 pub fn judge(s: State, main: &[u8], spare: &[u8], ram: &[u8]) -> Judgement
-    ensures equal { result ≡ idle_judgement (given s main spare ram) }
-    ensures fits { GoodFits (on_pages (given s main spare ram)) result }
+    ensures equal { result ≡ idle_judgement (volume s main.now spare.now ram.now) }
+    ensures fits { GoodFits (on_pages (volume s main.now spare.now ram.now)) result }
 {
     match state::judge(s, main, spare, ram) {
         Judgement::Refused(i) => {
@@ -181,7 +180,7 @@ fn request_bytes(q: Request) -> [u8; INTENT_SIZE]
 // The words of the state and those of the intent.
 fn put_header(s: State, intent: &[u8], ram: &mut [u8])
     requires { (header_size ≤ length ram.old) × (length intent.now ≡ 40) }
-    ensures { after ram ≡ pages (before ram) ++ (words_bytes (state_words (state_is s)) ++ before intent) }
+    ensures { ram.new ≡ pages ram.old ++ (words_bytes (state_words (state_is s)) ++ intent.now) }
 {
     let at = header_at(ram);
     let b = state_bytes(s);
@@ -192,7 +191,7 @@ fn put_header(s: State, intent: &[u8], ram: &mut [u8])
 // The intent of a changing call, and the state handed over.
 pub fn intend(s: State, q: Request, ram: &mut [u8])
     requires { header_size ≤ length ram.old }
-    ensures { after ram ≡ pages (before ram) ++ header_bytes (state_is s) (intent_words (call_of q)) }
+    ensures { ram.new ≡ pages ram.old ++ header_bytes (state_is s) (intent_words (call_of q)) }
 {
     let intent = request_bytes(q);
     put_header(s, &intent, ram);
@@ -201,8 +200,8 @@ pub fn intend(s: State, q: Request, ram: &mut [u8])
 // The intent of a format; the state's words stay.
 pub fn intend_format(sizes: Sizes, ram: &mut [u8])
     requires { header_size ≤ length ram.old }
-    ensures { after ram
-        ≡ pages (before ram) ++ (take state_size (header (before ram)) ++ words_bytes (format_words (sizes_is sizes))) }
+    ensures { ram.new
+        ≡ pages ram.old ++ (take state_size (header ram.old) ++ words_bytes (format_words (sizes_is sizes))) }
 {
     let intent = intent_bytes(
         FORMAT,
@@ -218,7 +217,7 @@ pub fn intend_format(sizes: Sizes, ram: &mut [u8])
 // The new state, and no intent.
 pub fn clear(s: State, ram: &mut [u8])
     requires { header_size ≤ length ram.old }
-    ensures { after ram ≡ pages (before ram) ++ header_bytes (state_is s) no_intent }
+    ensures { ram.new ≡ pages ram.old ++ header_bytes (state_is s) no_intent }
 {
     let intent = [0u8; INTENT_SIZE];
     put_header(s, &intent, ram);

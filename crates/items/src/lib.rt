@@ -1,6 +1,5 @@
 // Words and entries in a row of bytes: is a number among the words, which entry has a key. Document 01, "Calls".
 ghost use Rattle.std.specs.Prelude.{◌≡◌, false, ◌≢◌, ◌+◌, ◌*◌, ◌≤◌, ◌<◌, length};
-ghost use Rattle.memory.specs.Lent.{before};
 ghost use Rattle.layout.specs.Keys.{word_size, same_key, key_at};
 ghost use Rattle.layout.specs.Geometry.{page, entries_per_page};
 ghost use Rattle.layout.specs.Items.{entry_size};
@@ -32,7 +31,7 @@ const RUN: usize = 64;
 // constant, so that no loop is left.
 fn few_have(at: usize, j: u32, s: &[u8]) -> bool
     requires { at + 16 * word_size ≤ length s.now }
-    ensures { result ≡ has_word (before s) at 16 j }
+    ensures { result ≡ has_word s.now at 16 j }
 {
     let mut found = false;
     let mut i = 0;
@@ -48,7 +47,7 @@ fn few_have(at: usize, j: u32, s: &[u8]) -> bool
 // The same of 64 words.
 fn many_have(at: usize, j: u32, s: &[u8]) -> bool
     requires { at + 64 * word_size ≤ length s.now }
-    ensures { result ≡ has_word (before s) at 64 j }
+    ensures { result ≡ has_word s.now at 64 j }
 {
     let mut found = false;
     let mut i = 0;
@@ -64,7 +63,7 @@ fn many_have(at: usize, j: u32, s: &[u8]) -> bool
 // Those behind the first m of n words, a word at a time.
 fn rest_have(at: usize, m: usize, n: usize, j: u32, s: &[u8]) -> bool
     requires { (m ≤ n) × (at + n * word_size ≤ length s.now) × (has_word s.now at m j ≡ false) }
-    ensures { result ≡ has_word (before s) at n j }
+    ensures { result ≡ has_word s.now at n j }
 {
     let mut found = false;
     let mut i = m;
@@ -80,7 +79,7 @@ fn rest_have(at: usize, m: usize, n: usize, j: u32, s: &[u8]) -> bool
 // Is one of the n words from byte `at` on the number j.
 pub fn has_word(at: usize, n: usize, j: u32, s: &[u8]) -> bool
     requires { at + n * word_size ≤ length s.now }
-    ensures { result ≡ has_word (before s) at n j }
+    ensures { result ≡ has_word s.now at n j }
 {
     let blocks = n / MANY;
     let mut b = 0;
@@ -98,7 +97,7 @@ pub fn has_word(at: usize, n: usize, j: u32, s: &[u8]) -> bool
 // Has the entry from byte `at` on the key.
 fn is_key(at: usize, key: Key, s: &[u8]) -> bool
     requires { at + entry_size ≤ length s.now }
-    ensures { result ≡ same_key (key_at (before s) at) (key_is key) }
+    ensures { result ≡ same_key (key_at s.now at) (key_is key) }
 {
     let first = words::get32(s, at);
     let second = words::get32(s, at + areas::WORD_SIZE);
@@ -108,7 +107,7 @@ fn is_key(at: usize, key: Key, s: &[u8]) -> bool
 // The newest of the n entries with the key, plus one, an entry at a time; 0 if there is none.
 fn last_key(at: usize, n: usize, key: Key, s: &[u8]) -> usize
     requires { at + n * entry_size ≤ length s.now }
-    ensures { result ≡ last_entry (before s) at n (key_is key) }
+    ensures { result ≡ last_entry s.now at n (key_is key) }
 {
     let mut k = n;
     while k > 0 {
@@ -125,7 +124,7 @@ fn last_key(at: usize, n: usize, key: Key, s: &[u8]) -> usize
 // and nearly always it finds none.
 fn find_few(at: usize, count: usize, key: Key, s: &[u8]) -> usize
     requires { at + count * entry_size ≤ length s.now }
-    ensures { result ≡ last_entry (before s) at count (key_is key) }
+    ensures { result ≡ last_entry s.now at count (key_is key) }
 {
     if !has_word(at, count * 2, key.level, s) {
         return 0;
@@ -137,7 +136,7 @@ fn find_few(at: usize, count: usize, key: Key, s: &[u8]) -> usize
 // run with the key is not read.
 pub fn find_entry(at: usize, count: usize, key: Key, s: &[u8]) -> usize
     requires { at + count * entry_size ≤ length s.now }
-    ensures { result ≡ last_entry (before s) at count (key_is key) }
+    ensures { result ≡ last_entry s.now at count (key_is key) }
 {
     let mut k = count;
     while k > RUN {
@@ -156,7 +155,7 @@ pub fn find_entry(at: usize, count: usize, key: Key, s: &[u8]) -> usize
 // Is one of the words of a page of up to four units the number j.
 fn small_has(chip: Chip, at: usize, j: u32, s: &[u8]) -> bool
     requires { (0 < chip.unit) × (chip.unit < 5) × (chip.unit ≢ 3) × (at + page chip.unit ≤ length s.now) }
-    ensures { result ≡ has_word (before s) at (words_per_page chip.unit) j }
+    ensures { result ≡ has_word s.now at (words_per_page chip.unit) j }
 {
     if chip.unit == 4 {
         return many_have(at, j, s);
@@ -173,7 +172,7 @@ fn small_has(chip: Chip, at: usize, j: u32, s: &[u8]) -> bool
 // Is one of the words of a full page the number j.
 pub fn page_has(chip: Chip, at: usize, j: u32, s: &[u8]) -> bool
     requires { UnitSound chip.unit × (at + page chip.unit ≤ length s.now) }
-    ensures { result ≡ has_word (before s) at (words_per_page chip.unit) j }
+    ensures { result ≡ has_word s.now at (words_per_page chip.unit) j }
 {
     if chip.unit < 5 {
         return small_has(chip, at, j, s);
@@ -185,7 +184,7 @@ pub fn page_has(chip: Chip, at: usize, j: u32, s: &[u8]) -> bool
 // newest 64 words on that have the key.
 pub fn find_in_page(chip: Chip, at: usize, key: Key, s: &[u8]) -> usize
     requires { UnitSound chip.unit × (at + page chip.unit ≤ length s.now) }
-    ensures { result ≡ last_entry (before s) at (entries_per_page chip.unit) (key_is key) }
+    ensures { result ≡ last_entry s.now at (entries_per_page chip.unit) (key_is key) }
 {
     if chip.unit < 5 {
         if small_has(chip, at, key.level, s) {

@@ -1,6 +1,5 @@
 // The RAM after a change: written once, after the chip. Nothing here touches the flash.
 ghost use Rattle.std.specs.Prelude.{◌≡◌, ◌+◌, ◌*◌, ◌%◌, ◌≤◌, length};
-ghost use Rattle.memory.specs.Lent.{before, after};
 ghost use Rattle.layout.specs.Geometry.{sector, page, fourth_size, ram_size, work_ram};
 ghost use Rattle.layout.specs.Items.{put, item_ram, zero_page};
 ghost use Rattle.layout.specs.Index.{filters_per_flush, in_ska};
@@ -19,7 +18,7 @@ use planning::Slots;
 fn keep_item(chip: Chip, a: Area, n: usize, item: &[u8], ram: &mut [u8])
     requires area_sound { AreaSound a × (chip.unit ≤ 32) × (a.per_page * a.size ≡ page chip.unit) }
     requires item_len { (length item.now ≡ a.size) × (a.ram + page chip.unit ≤ length ram.old) }
-    ensures { after ram ≡ item_ram chip.unit (area a) n (before item) (before ram) }
+    ensures { ram.new ≡ item_ram chip.unit (area a) n item.now ram.old }
 {
     let i = areas::slot(a.per_page, n);
     words::copy_at(ram, a.ram + i * a.size, item);
@@ -33,7 +32,7 @@ fn keep_item(chip: Chip, a: Area, n: usize, item: &[u8], ram: &mut [u8])
 fn put_fourths(chip: Chip, at: usize, piece: usize, fourths: &[u8], ram: &mut [u8])
     requires unit_bound { (chip.unit ≤ 32) × (4 * piece ≤ length fourths.now) × (piece ≤ sector chip.unit) }
     requires piece_in_bounds { at + 3 * sector chip.unit + piece ≤ length ram.old }
-    ensures { after ram ≡ with_fourths chip.unit piece at (before fourths) (before ram) }
+    ensures { ram.new ≡ with_fourths chip.unit piece at fourths.now ram.old }
 {
     let mut i = 0;
     while i < Chip::SECTORS_PER_PAGE {
@@ -48,7 +47,7 @@ fn put_fourths(chip: Chip, at: usize, piece: usize, fourths: &[u8], ram: &mut [u
 fn keep_filters(chip: Chip, ix: Index, first: usize, n: usize, fourths: &[u8], ram: &mut [u8])
     requires unit_bound { (chip.unit ≤ 32) × (1 ≤ n) × (n ≤ 2) × (in_ska first + n ≤ filters_per_flush) }
     requires unit_in_bounds { (4 * (n * fourth_size chip.unit) ≤ length fourths.now) × (ix.ska + page chip.unit ≤ length ram.old) }
-    ensures { after ram ≡ filters_kept chip.unit (index_of ix) first n (before fourths) (before ram) }
+    ensures { ram.new ≡ filters_kept chip.unit (index_of ix) first n fourths.now ram.old }
 {
     let slot = first % sets::FILTERS_PER_FLUSH;
     let fourth = chip.fourth_size();
@@ -65,7 +64,7 @@ fn keep_filters(chip: Chip, ix: Index, first: usize, n: usize, fourths: &[u8], r
 fn keep_deletion(g: Geometry, d: usize, new: &[u8], filters: &[u8], ram: &mut [u8])
     requires { Sound g × (length new.now ≡ new_length) × (length filters.now ≡ filters_length)
         × (ram_size (shape g) ≤ length ram.old) }
-    ensures { after ram ≡ deletion_kept (shape g) d (before new) (before filters) (before ram) }
+    ensures { ram.new ≡ deletion_kept (shape g) d new.now filters.now ram.old }
 {
     let deletions = geometry::deletion_area(g);
     keep_item(g.chip, deletions, d, &new[0..plan::RECORD_AT], ram);
@@ -86,7 +85,7 @@ fn keep_deletion(g: Geometry, d: usize, new: &[u8], filters: &[u8], ram: &mut [u
 fn keep_record(g: Geometry, n: usize, new: &[u8], filters: &[u8], ram: &mut [u8])
     requires { Sound g × (length new.now ≡ new_length) × (length filters.now ≡ filters_length)
         × (ram_size (shape g) ≤ length ram.old) }
-    ensures { after ram ≡ record_kept (shape g) n (before new) (before filters) (before ram) }
+    ensures { ram.new ≡ record_kept (shape g) n new.now filters.now ram.old }
 {
     let entries = geometry::entry_area(g);
     keep_item(
@@ -121,7 +120,7 @@ fn keep_record(g: Geometry, n: usize, new: &[u8], filters: &[u8], ram: &mut [u8]
 // dst becomes src, a word at a time: the compiler makes four bytes one.
 fn copy_words(dst: &mut [u8], src: &[u8])
     requires { (length dst.old ≡ length src.now) × (length src.now % 4 ≡ 0) }
-    ensures { after dst ≡ before src }
+    ensures { dst.new ≡ src.now }
 {
     let mut i = 0;
     while i < src.len() {
@@ -141,7 +140,7 @@ fn copy_words(dst: &mut [u8], src: &[u8])
 fn append_item(a: Area, n: usize, item: &[u8], ram: &mut [u8])
     requires { AreaSound a × (length item.now ≡ a.size) × (a.size % 4 ≡ 0)
         × (a.ram + a.per_page * a.size ≤ length ram.old) }
-    ensures { after ram ≡ put (area a) n (before item) (before ram) }
+    ensures { ram.new ≡ put (area a) n item.now ram.old }
 {
     let at = a.ram + areas::slot(a.per_page, n) * a.size;
     let end = at + item.len();
@@ -151,7 +150,7 @@ fn append_item(a: Area, n: usize, item: &[u8], ram: &mut [u8])
 // Deletion d.
 fn append_deletion(g: Geometry, d: usize, new: &[u8], ram: &mut [u8])
     requires { Sound g × (length new.now ≡ new_length) × (ram_size (shape g) ≤ length ram.old) }
-    ensures { after ram ≡ deletion_appended (shape g) d (before new) (before ram) }
+    ensures { ram.new ≡ deletion_appended (shape g) d new.now ram.old }
 {
     append_item(geometry::deletion_area(g), d, &new[0..plan::RECORD_AT], ram);
 }
@@ -159,7 +158,7 @@ fn append_deletion(g: Geometry, d: usize, new: &[u8], ram: &mut [u8])
 // Record n, then its entry.
 fn append_record(g: Geometry, n: usize, new: &[u8], ram: &mut [u8])
     requires { Sound g × (length new.now ≡ new_length) × (ram_size (shape g) ≤ length ram.old) }
-    ensures { after ram ≡ record_appended (shape g) n (before new) (before ram) }
+    ensures { ram.new ≡ record_appended (shape g) n new.now ram.old }
 {
     let records = geometry::record_area(g);
     let entries = geometry::entry_area(g);
@@ -172,7 +171,7 @@ fn append_record(g: Geometry, n: usize, new: &[u8], ram: &mut [u8])
 // The work page is zeroed.
 fn clear_work(g: Geometry, ram: &mut [u8])
     requires { Sound g × (ram_size (shape g) ≤ length ram.old) }
-    ensures { after ram ≡ zero_page g.chip.unit (work_ram g.chip.unit) (before ram) }
+    ensures { ram.new ≡ zero_page g.chip.unit (work_ram g.chip.unit) ram.old }
 {
     words::fill_at(ram, g.work_ram(), g.chip.page_size(), 0);
 }
@@ -181,8 +180,8 @@ fn clear_work(g: Geometry, ram: &mut [u8])
 pub fn finish(g: Geometry, e: Slots, new: &[u8], filters: &[u8], ram: &mut [u8])
     requires { Sound g × (length new.now ≡ new_length) × (length filters.now ≡ filters_length)
         × (ram_size (shape g) ≤ length ram.old) }
-    ensures { after ram
-        ≡ zero_page g.chip.unit (work_ram g.chip.unit) (kept (shape g) (before new) (before filters) (before ram) e) }
+    ensures { ram.new
+        ≡ zero_page g.chip.unit (work_ram g.chip.unit) (kept (shape g) new.now filters.now ram.old e) }
 {
     match e {
         Slots::Delete(d) => {
@@ -204,8 +203,8 @@ pub fn finish(g: Geometry, e: Slots, new: &[u8], filters: &[u8], ram: &mut [u8])
 // The RAM after a change that fills no page.
 pub fn append(g: Geometry, e: Slots, new: &[u8], ram: &mut [u8])
     requires { Sound g × (length new.now ≡ new_length) × (ram_size (shape g) ≤ length ram.old) }
-    ensures { after ram
-        ≡ zero_page g.chip.unit (work_ram g.chip.unit) (appended (shape g) (before new) (before ram) e) }
+    ensures { ram.new
+        ≡ zero_page g.chip.unit (work_ram g.chip.unit) (appended (shape g) new.now ram.old e) }
 {
     match e {
         Slots::Delete(d) => {

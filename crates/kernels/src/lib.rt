@@ -3,7 +3,6 @@ ghost use Rattle.std.specs.Prelude.{◌≡◌, true, false, ◌&&◌, ◌||◌, 
 ghost use Rattle.std.specs.Int.Bits.{bit_and, bit_or};
 ghost use Rattle.std.specs.Int.Count.{count_leading_zeros};
 ghost use Rattle.memory.specs.Bits.{bit, bit_in};
-ghost use Rattle.memory.specs.Lent.{before};
 ghost use Rattle.memory.specs.Ranges.{any};
 ghost use Rattle.kernels.specs.Rows.{all_in, Words};
 ghost use Rattle.kernels.specs.Blocks.{Shows, Open, Upto, OpenBlock, Squeezed, BlockIn, GroupIn};
@@ -88,7 +87,7 @@ pub fn having(x: u64, n: usize) -> u64
 // The bit of a byte that the mask has, in its place.
 fn masked(at: usize, mask: u64, bytes: &[u8]) -> u64
     requires { at < length bytes.now }
-    ensures { (result ≡ bit_and (get_or (before bytes) at 0) mask) × (result < 256) }
+    ensures { (result ≡ bit_and (get_or bytes.now at 0) mask) × (result < 256) }
 {
     bytes[at] as u64 & mask
 }
@@ -97,7 +96,7 @@ fn masked(at: usize, mask: u64, bytes: &[u8]) -> u64
 pub fn byte_bits(at: usize, low: usize, step: usize, n: usize, bytes: &[u8]) -> u64
     requires { (n ≤ 8) × (0 < step) × (at + n * step < 2 ^ 64)
         × ((i : ℕ) → i < n → at + i * step < length bytes.now) }
-    ensures { (result < 2 ^ n) × ((i : ℕ) → i < n → bit result i ≡ bit (get_or (before bytes) (at + i * step) 0) (low % 8)) }
+    ensures { (result < 2 ^ n) × ((i : ℕ) → i < n → bit result i ≡ bit (get_or bytes.now (at + i * step) 0) (low % 8)) }
 {
     let s = numbers::bit_place(low);
     let mask: u64 = 1 << s;
@@ -114,7 +113,7 @@ pub fn byte_bits(at: usize, low: usize, step: usize, n: usize, bytes: &[u8]) -> 
 // Bit `low` of a byte out of each of eight, `step` bytes from one to the next.
 fn eight_bits(at: usize, low: usize, step: usize, bytes: &[u8]) -> u64
     requires { at + 7 * step < length bytes.now }
-    ensures { (result < 256) × ((i : ℕ) → i < 8 → bit result i ≡ bit (get_or (before bytes) (at + i * step) 0) (low % 8)) }
+    ensures { (result < 256) × ((i : ℕ) → i < 8 → bit result i ≡ bit (get_or bytes.now (at + i * step) 0) (low % 8)) }
 {
     let s = numbers::bit_place(low);
     let mask: u64 = 1 << s;
@@ -132,7 +131,7 @@ fn eight_bits(at: usize, low: usize, step: usize, bytes: &[u8]) -> u64
 // The same of n times eight bytes, below the bits of `above`.
 pub fn row_bits(above: u64, at: usize, low: usize, step: usize, n: usize, bytes: &[u8]) -> u64
     requires { (n ≤ 8) × ((i : ℕ) → i < n * 8 → at + i * step < length bytes.now) }
-    ensures { ((i : ℕ) → i < n * 8 → bit result i ≡ bit (get_or (before bytes) (at + i * step) 0) (low % 8))
+    ensures { ((i : ℕ) → i < n * 8 → bit result i ≡ bit (get_or bytes.now (at + i * step) 0) (low % 8))
         × ((i : ℕ) → n * 8 + i < 64 → bit result (n * 8 + i) ≡ bit above i) }
 {
     let mut r = above;
@@ -213,7 +212,7 @@ pub fn pairs(bits: u64) -> u64
 // A row's word, moved down by `low`.
 fn field_at(at: usize, low: usize, bytes: &[u8]) -> u64
     requires { (at + 8 ≤ length bytes.now) × (low < 64) }
-    ensures { (i : ℕ) → low + i < 64 → bit result i ≡ bit_in (before bytes) at (low + i) }
+    ensures { (i : ℕ) → low + i < 64 → bit result i ≡ bit_in bytes.now at (low + i) }
 {
     words::get64(bytes, at) >> low
 }
@@ -222,7 +221,7 @@ fn field_at(at: usize, low: usize, bytes: &[u8]) -> u64
 fn row_block(at: usize, low: usize, bytes: &[u8]) -> [u64; 8]
     requires { (at + 64 ≤ length bytes.now) × (low < 64) }
     ensures { (length result ≡ 8)
-        × ((j : ℕ) → j < 8 → (i : ℕ) → low + i < 64 → bit (get_or result j 0) i ≡ bit_in (before bytes) (at + j * 8) (low + i)) }
+        × ((j : ℕ) → j < 8 → (i : ℕ) → low + i < 64 → bit (get_or result j 0) i ≡ bit_in bytes.now (at + j * 8) (low + i)) }
 {
     let a = field_at(at, low, bytes);
     let b = field_at(at + 8, low, bytes);
@@ -253,7 +252,7 @@ fn and_eight(x: [u64; 8], y: [u64; 8]) -> [u64; 8]
 // Words q to q + 7 of all rows, each moved down by its `low`. The loop over the rows is the outer one, so that the words stay in registers.
 fn field_block(q: usize, count: usize, at: &[usize], low: &[usize], bytes: &[u8]) -> [u64; 8]
     requires { BlockIn at.now low.now count q (length bytes.now) }
-    ensures { (j : ℕ) → j < 8 → Words (before bytes) (before at) (before low) count (q + j) (get_or result j 0) }
+    ensures { (j : ℕ) → j < 8 → Words bytes.now at.now low.now count (q + j) (get_or result j 0) }
 {
     let o = q * 8;
     let mut r = row_block(at[0] + o, low[0], bytes);
@@ -281,7 +280,7 @@ fn more_words(
         × (n * 8 * (64 / w) ≤ 64) × (n ≤ 8) × (q < 2 ^ 60) }
     requires by_index_2 { ((b : ℕ) → b < n → BlockIn at.now low.now count (q + b * 8) (length bytes.now))
         × ((i : ℕ) → i < count → get_or low.now i 0 < w) }
-    ensures { Shows (all_in (before bytes) (before at) (before low) w count) (q * (64 / w)) (n * 8 * (64 / w)) result }
+    ensures { Shows (all_in bytes.now at.now low.now w count) (q * (64 / w)) (n * 8 * (64 / w)) result }
 {
     let per = 64 / w;
     let mut r: u64 = 0;
@@ -311,7 +310,7 @@ fn passed(
 ) -> u64
     requires { (7 < w) × (0 < m) × (m ≤ 64) × (from % 64 ≡ 0)
         × GroupIn at.now low.now count w (from + m) (length bytes.now) }
-    ensures { Open (all_in (before bytes) (before at) (before low) w count) from m result }
+    ensures { Open (all_in bytes.now at.now low.now w count) from m result }
 {
     let n = (m * w + 511) / 512;
     let a = more_words(w, from / 64 * w, n, count, at, low, bytes);
@@ -329,7 +328,7 @@ fn wide_block(
     bytes: &[u8],
 ) -> [u64; 8]
     requires { (7 < w) × (n ≤ 512) × (first % 64 ≡ 0) × GroupIn at.now low.now count w (first + n) (length bytes.now) }
-    ensures { OpenBlock (all_in (before bytes) (before at) (before low) w count) first n result }
+    ensures { OpenBlock (all_in bytes.now at.now low.now w count) first n result }
 {
     let mut r = [0u64; 8];
     let mut j = 0;
@@ -368,7 +367,7 @@ fn two_block(
     bytes: &[u8],
 ) -> [u64; 8]
     requires { (n ≤ 512) × (first % 512 ≡ 0) × GroupIn at.now low.now count 2 (first + n) (length bytes.now) }
-    ensures { OpenBlock (all_in (before bytes) (before at) (before low) 2 count) first n result }
+    ensures { OpenBlock (all_in bytes.now at.now low.now 2 count) first n result }
 {
     let mut r = [0u64; 8];
     let mut j = 0;
@@ -397,7 +396,7 @@ fn four_block(
     bytes: &[u8],
 ) -> [u64; 8]
     requires { (n ≤ 512) × (first % 512 ≡ 0) × GroupIn at.now low.now count 4 (first + n) (length bytes.now) }
-    ensures { OpenBlock (all_in (before bytes) (before at) (before low) 4 count) first n result }
+    ensures { OpenBlock (all_in bytes.now at.now low.now 4 count) first n result }
 {
     let mut r = [0u64; 8];
     let mut j = 0;
@@ -424,7 +423,7 @@ fn few_block(
 ) -> [u64; 8]
     requires { (1 < w) × (w < 8) × (n ≤ 512) × (first % 512 ≡ 0)
         × GroupIn at.now low.now count w (first + n) (length bytes.now) }
-    ensures { OpenBlock (all_in (before bytes) (before at) (before low) w count) first n result }
+    ensures { OpenBlock (all_in bytes.now at.now low.now w count) first n result }
 {
     if w == 4 {
         return four_block(first, n, count, at, low, bytes);
@@ -445,7 +444,7 @@ pub fn block(
 ) -> [u64; 8]
     requires { (0 < n) × (n ≤ 512) × (first % 512 ≡ 0)
         × GroupIn at.now low.now count w (first + n) (length bytes.now) }
-    ensures { OpenBlock (all_in (before bytes) (before at) (before low) w count) first n result }
+    ensures { OpenBlock (all_in bytes.now at.now low.now w count) first n result }
 {
     if w > 7 {
         return wide_block(w, first, n, count, at, low, bytes);
@@ -488,7 +487,7 @@ fn four_times(m: u64) -> u64
 // Which filters of 16 bits, four to a word, lack a bit of the mask: those of n words, after the ones of `start`.
 pub fn lacking(start: u64, m: u64, at: usize, n: usize, bytes: &[u8]) -> u64
     requires { (m < 65536) × (at + n * 8 ≤ length bytes.now) }
-    ensures { Lacked start m at n (before bytes) result }
+    ensures { Lacked start m at n bytes.now result }
 {
     let mask = four_times(m);
     let mut r = start;
@@ -515,7 +514,7 @@ fn has_mask(x: u64, m: u64) -> u64
 // Which of the n words from byte `at` on have all bits of a mask.
 pub fn words_with(m: u64, at: usize, n: usize, bytes: &[u8]) -> u64
     requires { (n ≤ 64) × (at + n * 8 ≤ length bytes.now) }
-    ensures { Open (has_mask (before bytes) at 64 m) 0 n result }
+    ensures { Open (has_mask bytes.now at 64 m) 0 n result }
 {
     let mut r: u64 = 0;
     let mut k = n;

@@ -8,7 +8,6 @@ pub mod TopBits
 pub mod Units
 pub mod Sound
 pub mod Lengths
-pub mod LentFlash
 pub mod Positions
 pub mod FreshLaws
 pub mod Done

@@ -1,11 +1,10 @@
 // What a line of a script does to a volume: its command is performed and answered, and the volume is passed on to the next line.
 // Document 01, "Replay program".
 ghost use Rattle.std.specs.Prelude.{◌≡◌, ◌≤◌, length};
-ghost use Rattle.memory.specs.Lent.{before, after};
 ghost use Rattle.layout.specs.Items.{record_of};
 ghost use Rattle.layout.specs.Calls.{lookup};
 ghost use Rattle.keys.specs.Key.{key_is};
-ghost use Rattle.state.specs.Contract.{record_is, volume, given};
+ghost use Rattle.state.specs.Contract.{record_is, volume};
 ghost use Rattle.script.specs.Lines.{line_key, call};
 ghost use Rattle.script.specs.Values.{command_of, answer_of};
 ghost use Rattle.script.specs.Script.{perform};
@@ -45,7 +44,7 @@ fn after_change(c: Change) -> Performed
 
 // The answer to a lookup; a hit's moves are its record's second word.
 fn lookup<'a>(s: State, key: Key, main: &'a [u8], spare: &[u8], ram: &'a [u8]) -> Answer
-    ensures { answer_of result ≡ (perform (given s main spare ram) (call (lookup (key_is key)))).answer }
+    ensures { answer_of result ≡ (perform (volume s main.now spare.now ram.now) (call (lookup (key_is key)))).answer }
 {
     let mut numbers = [0u64; 4];
     let bytes = lookup::lookup(s, key, main, spare, ram, &mut numbers);
@@ -76,7 +75,7 @@ fn level(number: u32, moves: u32) -> Record
 
 // A command on a volume.
 pub fn perform(s: State, q: Command, main: &mut [u8], spare: &mut [u8], ram: &mut [u8]) -> Performed
-    ensures { performed_of result (after main) (after spare) (after ram) ≡ perform (given s main spare ram) (command_of q) }
+    ensures { performed_of result main.new spare.new ram.new ≡ perform (volume s main.old spare.old ram.old) (command_of q) }
 {
     match q {
         Command::Format(sector_size, ra_blocks, da_blocks) => {
@@ -135,8 +134,8 @@ pub fn answer_line(
     out: &mut [u8],
 ) -> LineReply
     requires { 32 ≤ length out.old }
-    ensures { after_line result (after main) (after spare) (after ram) (after out)
-        ≡ answer_line (given s main spare ram) (before line) (before out) }
+    ensures { after_line result main.new spare.new ram.new out.new
+        ≡ answer_line (volume s main.old spare.old ram.old) line.now out.old }
 {
     let q = script::parse_line(line);
     let p = perform(s, q, main, spare, ram);
@@ -167,8 +166,8 @@ pub fn answer_on(
     out: &mut [u8],
 ) -> usize
     requires { 32 ≤ length out.old }
-    ensures { record { length = result; volume = volume v.new.state (after main) (after spare) (after ram); out = after out }
-        ≡ answer_line (given v.old.state main spare ram) (before line) (before out) }
+    ensures { record { length = result; volume = volume v.new.state main.new spare.new ram.new; out = out.new }
+        ≡ answer_line (volume v.old.state main.old spare.old ram.old) line.now out.old }
 {
     let c = answer_line(v.state, line, main, spare, ram, out);
     v.state = c.state;
@@ -185,8 +184,8 @@ pub fn answer_next(
     out: &mut [u8],
 ) -> LineReply
     requires { 32 ≤ length out.old }
-    ensures { after_line result (after main) (after spare) (after ram) (after out)
-        ≡ answer_line (given s main spare ram) (before line) (before out) }
+    ensures { after_line result main.new spare.new ram.new out.new
+        ≡ answer_line (volume s main.old spare.old ram.old) line.now out.old }
 {
     let mut v = Held { state: s };
     let n = answer_on(&mut v, line, main, spare, ram, out);

@@ -1,6 +1,5 @@
 -- A row's request, a volume that rows are loaded into, and the answer of a load as the layout's.
-use Rattle.std.specs.Prelude.{◌≡◌}
-use Rattle.memory.specs.Lent.{Lent, after}
+use Rattle.std.specs.Prelude.{◌≡◌, List, ℕ}
 use Rattle.layout.specs.Calls.{Volume}
 use Rattle.layout.specs.Header.{on_pages}
 use Rattle.layout.specs.Several.{Several}
@@ -27,6 +26,6 @@ abbrev pub Judged : Geometry → Volume → Type 0
 Judged g v = (idle_judgement v ≡ Good g) × VolumeFits (on_pages v) g
 
 -- what a load answers and leaves
-abbrev pub loaded_by : Loaded → Lent → Lent → Lent → Several
+abbrev pub loaded_by : Loaded → List ℕ → List ℕ → List ℕ → Several
 loaded_by r main spare ram =
-    record { outcome = outcome_of r.refusal; done = r.rows; volume = volume r.state (after main) (after spare) (after ram) }
+    record { outcome = outcome_of r.refusal; done = r.rows; volume = volume r.state main spare ram }

@@ -1,11 +1,10 @@
 // Loading a tab: its rows in turn, up to the first that is malformed or refused. Document 02, requests 1, 6 and 8.
 ghost use Rattle.std.specs.Prelude.{◌≡◌, drop};
-ghost use Rattle.memory.specs.Lent.{before};
 ghost use Rattle.layout.specs.Hash.{fnv_family};
 ghost use Rattle.layout.specs.Header.{on_pages};
 ghost use Rattle.layout.specs.Several.{put_call};
 ghost use Rattle.layout.specs.Budgets.{call_cut};
-ghost use Rattle.state.specs.Contract.{record_is, volume, given, cut_of, cut_by};
+ghost use Rattle.state.specs.Contract.{record_is, volume, cut_of, cut_by};
 ghost use Rattle.tab.specs.Reader.{rows_of};
 ghost use Rattle.load.specs.Load.{load_read_by, row_whole, load_whole};
 ghost use Rattle.load.specs.Contract.{row_request, loaded_by, Judged};
@@ -48,8 +47,8 @@ fn load_row(
     ram: &mut [u8],
 ) -> Cut
     requires { Judged g (volume s main.old spare.old ram.old) }
-    ensures { cut_by result main spare ram ≡ cut_of (call_cut fnv_family budget (given s main spare ram)
-        (put_call fnv_family (on_pages (given s main spare ram)) (record_is «record»))) }
+    ensures { cut_by result main.new spare.new ram.new ≡ cut_of (call_cut fnv_family budget (volume s main.old spare.old ram.old)
+        (put_call fnv_family (on_pages (volume s main.old spare.old ram.old)) (record_is «record»))) }
 {
     let j = Judgement::Good(g);
     let r = calls::resolve_judged(j, s, record.key, main, spare, ram);
@@ -69,8 +68,8 @@ fn load_rows(
     ram: &mut [u8],
 ) -> Loaded
     requires { Judged g (volume s main.old spare.old ram.old) }
-    ensures { loaded_by result main spare ram
-        ≡ load_read_by (row_whole fnv_family) (given s main spare ram) (rows_of (drop at (before tab))) }
+    ensures { loaded_by result main.new spare.new ram.new
+        ≡ load_read_by (row_whole fnv_family) (volume s main.old spare.old ram.old) (rows_of (drop at tab.now)) }
 {
     let mut state = s;
     let mut place = at;
@@ -115,7 +114,7 @@ fn load_rows(
 
 // Loads a tab: refusals 1, 2 and 10, then its header, then its rows; a tab of no bytes has neither.
 pub fn load(s: State, tab: &[u8], main: &mut [u8], spare: &mut [u8], ram: &mut [u8]) -> Loaded
-    ensures { loaded_by result main spare ram ≡ load_whole fnv_family (given s main spare ram) (before tab) }
+    ensures { loaded_by result main.new spare.new ram.new ≡ load_whole fnv_family (volume s main.old spare.old ram.old) tab.now }
 {
     match header::judge(s, main, spare, ram) {
         Judgement::Refused(i) => {

@@ -1,12 +1,11 @@
 // Lookup: where a level's record lies. Document 01, "Calls"; document 02, request 8: 10.
 ghost use Rattle.std.specs.Prelude.{◌≡◌};
-ghost use Rattle.memory.specs.Lent.{after};
 ghost use Rattle.layout.specs.Hash.{fnv_family};
 ghost use Rattle.layout.specs.Calls.{lookup, answer};
 ghost use Rattle.layout.specs.Budgets.{call_whole};
 ghost use Rattle.geometry.specs.Shape.{shape};
 ghost use Rattle.keys.specs.Key.{key_is};
-ghost use Rattle.state.specs.Contract.{volume, given};
+ghost use Rattle.state.specs.Contract.{volume};
 ghost use Rattle.state.specs.Judge.{VolumeFits};
 ghost use Rattle.lookup.specs.Results.{lookup_of, answer_numbers, part_of, where_of};
 
@@ -43,7 +42,7 @@ fn refuse_lookup(i: u32) -> LookupResult
 
 fn find_in(g: Geometry, s: State, key: Key, main: &[u8], spare: &[u8], ram: &[u8]) -> LookupResult
     requires { VolumeFits (volume s main.now spare.now ram.now) g }
-    ensures { result ≡ lookup_of (answer fnv_family (shape g) (given s main spare ram) (lookup (key_is key))) }
+    ensures { result ≡ lookup_of (answer fnv_family (shape g) (volume s main.now spare.now ram.now) (lookup (key_is key))) }
 {
     let n = s.records as usize;
     let f = search::search(search::all(g, n, s.deletions as usize), key, main, ram);
@@ -92,7 +91,7 @@ fn find_in(g: Geometry, s: State, key: Key, main: &[u8], spare: &[u8], ram: &[u8
 
 // Where a level's record lies, in numbers.
 pub fn find(s: State, key: Key, main: &[u8], spare: &[u8], ram: &[u8]) -> LookupResult
-    ensures { result ≡ lookup_of (call_whole fnv_family (given s main spare ram) (lookup (key_is key))) }
+    ensures { result ≡ lookup_of (call_whole fnv_family (volume s main.now spare.now ram.now) (lookup (key_is key))) }
 {
     match header::judge(s, main, spare, ram) {
         Judgement::Refused(i) => {
@@ -115,11 +114,11 @@ pub fn lookup<'a>(
     ram: &'a [u8],
     numbers: &mut [u64; 4],
 ) -> &'a [u8]
-    ensures part { (result.now ≡ part_of (call_whole fnv_family (given s main spare ram) (lookup (key_is key))).outcome)
+    ensures part { (result.now ≡ part_of (call_whole fnv_family (volume s main.now spare.now ram.now) (lookup (key_is key))).outcome)
         × (result.ref_ptr ≡ where_of main.entry.ptr ram.entry.ptr
-        (call_whole fnv_family (given s main spare ram) (lookup (key_is key))).outcome) }
-    ensures numbers { after numbers
-        ≡ answer_numbers (lookup_of (call_whole fnv_family (given s main spare ram) (lookup (key_is key)))) }
+        (call_whole fnv_family (volume s main.now spare.now ram.now) (lookup (key_is key))).outcome) }
+    ensures numbers { numbers.new
+        ≡ answer_numbers (lookup_of (call_whole fnv_family (volume s main.now spare.now ram.now) (lookup (key_is key)))) }
 {
     let f = find(s, key, main, spare, ram);
     *numbers = [

@@ -6,5 +6,4 @@ pub mod Numbers
 pub mod Power
 pub mod Words
 pub mod Ranges
-pub mod Lent
 pub mod Candidate

@@ -1,6 +1,5 @@
 // Partition sets: the sectors of the next set out of L1 and the set before it. Document 01, "Filters".
 ghost use Rattle.std.specs.Prelude.{◌≡◌, ℕ, ◌+◌, ◌-◌, ◌*◌, ◌/◌, ◌<◌, ◌≤◌, min, length};
-ghost use Rattle.memory.specs.Lent.{before, after};
 ghost use Rattle.memory.specs.Lists.{tabulate};
 ghost use Rattle.layout.specs.Geometry.{sectors_per_page, sector, block, side_blocks};
 ghost use Rattle.layout.specs.Index.{set_pages, set_width, full_block};
@@ -97,8 +96,8 @@ pub fn shared_bytes(chip: Chip, set: Set, p: usize, main: &[u8], out: &mut [u8])
     requires p_bound { p < set_pages (set.rounds + 1) }
     requires unit_in_bounds { full_block chip.unit (index_of set.index) 0 * block chip.unit ≤ length main.now }
     requires out_len { length out.old ≡ 128 }
-    ensures { after out
-        ≡ shared_bytes (before main) (page_source chip.unit (index_of set.index) set.rounds p) (before out) }
+    ensures { out.new
+        ≡ shared_bytes main.now (page_source chip.unit (index_of set.index) set.rounds p) out.old }
 {
     let r = page_source(chip, set, p);
     let w = r.w;
@@ -113,7 +112,7 @@ fn l1_bytes(r: PageSource, y: usize, main: &[u8], shared: &[u8], out: &mut [u8])
     requires source_fits { SourceFits (length main.now) r × Shares main.now r shared.now }
     requires whole { Whole r.w y × Whole r.w (length out.old) }
     requires by_index { (i : ℕ) → i < length out.old → y + i < round_bytes * r.w }
-    ensures { after out ≡ tabulate (length (before out)) (λ (i : ℕ). field_byte (before main) r.l1 r.w (y + i)) }
+    ensures { out.new ≡ tabulate (length out.old) (λ (i : ℕ). field_byte main.now r.l1 r.w (y + i)) }
 {
     let w = r.w;
     let s = r.l1;
@@ -135,7 +134,7 @@ fn l1_bytes(r: PageSource, y: usize, main: &[u8], shared: &[u8], out: &mut [u8])
 fn page_bytes(r: PageSource, y: usize, main: &[u8], shared: &[u8], out: &mut [u8])
     requires source_fits { SourceFits (length main.now) r × Shares main.now r shared.now }
     requires whole { Whole r.w y × Whole r.w (length out.old) }
-    ensures { after out ≡ tabulate (length (before out)) (λ (i : ℕ). page_byte (before main) r (y + i)) }
+    ensures { out.new ≡ tabulate (length out.old) (λ (i : ℕ). page_byte main.now r (y + i)) }
 {
     let w = r.w;
     let old = r.old;
@@ -155,8 +154,8 @@ pub fn set_sectors(chip: Chip, set: Set, j: usize, main: &[u8], shared: &[u8], o
     requires unit_in_bounds { full_block chip.unit (index_of set.index) 0 * block chip.unit ≤ length main.now }
     requires shares { Shares main.now (page_source chip.unit (index_of set.index) set.rounds (j / sectors_per_page)) shared.now }
     requires in_page { InPage (sector chip.unit) j (length out.old) }
-    ensures { after out ≡ tabulate (length (before out))
-        (set_bytes chip.unit (index_of set.index) (before main) set.full_sets set.rounds j) }
+    ensures { out.new ≡ tabulate (length out.old)
+        (set_bytes chip.unit (index_of set.index) main.now set.full_sets set.rounds j) }
 {
     let r = page_source(chip, set, j / Chip::SECTORS_PER_PAGE);
     let y = chip.sector_address(j % Chip::SECTORS_PER_PAGE);

@@ -1,15 +1,13 @@
 // The chip operations of a change as numbers, a run of them, whether their sectors are fresh, and how many count as done. The RAM is only
 // read.
 ghost use Rattle.std.specs.Prelude.{◌≡◌, List, ℕ, ◌+◌, ◌*◌, ◌/◌, ◌^◌, ◌<◌, ◌≤◌, length};
-ghost use Rattle.memory.specs.Lent.{before};
 ghost use Rattle.layout.specs.Geometry.{sectors_per_page, sector};
 ghost use Rattle.layout.specs.Index.{set_width};
-ghost use Rattle.layout.specs.Flash.{Flash, plan_ops, all_fresh};
+ghost use Rattle.layout.specs.Flash.{Flash, plan_ops, all_fresh, flash_of};
 ghost use Rattle.laws.specs.Units.{UnitSound};
 ghost use Rattle.geometry.specs.Indexes.{index_of};
 ghost use Rattle.partition.specs.Sources.{page_source};
 ghost use Rattle.partition.specs.Shared.{together, Shares};
-ghost use Rattle.laws.specs.LentFlash.{flash_before, flash_after};
 ghost use Rattle.plan.specs.Runs.{done_one, done};
 ghost use Rattle.plan.specs.Spans.{span, among, behind, run_of};
 ghost use Rattle.plan.specs.Segments.{filled_page, flushed, next_set, wiped};
@@ -134,8 +132,8 @@ fn page_step(
 )
     requires page_fits { PageFits chip.unit page (length main.old) (length spare.old) (length ram.now) }
     requires j_lt_sectors_per_page { (j < sectors_per_page) × (length item.now ≤ sector chip.unit) }
-    ensures { flash_after main spare
-        ≡ done_one chip.unit (filled_page chip.unit page (before item) (before ram) j) (flash_before main spare) }
+    ensures { flash_of main.new spare.new
+        ≡ done_one chip.unit (filled_page chip.unit page item.now ram.now j) (flash_of main.old spare.old) }
 {
     let size = chip.sector_size();
     let s = page.sector + j;
@@ -161,8 +159,8 @@ fn page_run(
 )
     requires page_fits { PageFits chip.unit page (length main.old) (length spare.old) (length ram.now) }
     requires to_le_sectors_per_page { (part.to ≤ sectors_per_page) × (length item.now ≤ sector chip.unit) }
-    ensures { flash_after main spare
-        ≡ run_of chip.unit (filled_page chip.unit page (before item) (before ram)) part (flash_before main spare) }
+    ensures { flash_of main.new spare.new
+        ≡ run_of chip.unit (filled_page chip.unit page item.now ram.now) part (flash_of main.old spare.old) }
 {
     let mut j = part.from;
     while j < part.to {
@@ -183,8 +181,8 @@ fn flush_step(
 )
     requires flush_fits { FlushFits chip.unit f (length fourths.now) (length main.old) (length spare.old) (length ram.now) }
     requires j_lt_sectors_per_page { j < sectors_per_page }
-    ensures { flash_after main spare
-        ≡ done_one chip.unit (flushed chip.unit f (before fourths) (before ram) j) (flash_before main spare) }
+    ensures { flash_of main.new spare.new
+        ≡ done_one chip.unit (flushed chip.unit f fourths.now ram.now j) (flash_of main.old spare.old) }
 {
     let size = chip.sector_size();
     let piece = f.piece;
@@ -214,8 +212,8 @@ fn flush_run(
 )
     requires flush_fits { FlushFits chip.unit f (length fourths.now) (length main.old) (length spare.old) (length ram.now) }
     requires to_le_sectors_per_page { part.to ≤ sectors_per_page }
-    ensures { flash_after main spare
-        ≡ run_of chip.unit (flushed chip.unit f (before fourths) (before ram)) part (flash_before main spare) }
+    ensures { flash_of main.new spare.new
+        ≡ run_of chip.unit (flushed chip.unit f fourths.now ram.now) part (flash_of main.old spare.old) }
 {
     let mut j = part.from;
     while j < part.to {
@@ -262,7 +260,7 @@ fn page_part(
     requires of_page { OfPage chip.unit part }
     requires shares { Shares main.old (page_source chip.unit (index_of set.index) set.rounds (part.from / sectors_per_page))
         shared.now }
-    ensures { flash_after main spare ≡ run_of chip.unit (next_set chip.unit set s) part (flash_before main spare) }
+    ensures { flash_of main.new spare.new ≡ run_of chip.unit (next_set chip.unit set s) part (flash_of main.old spare.old) }
 {
     let mut buf = [0u8; BUFFER_SIZE];
     let k = part.to - part.from;
@@ -275,7 +273,7 @@ fn page_part(
 fn group_run(chip: Chip, set: Set, s: usize, part: Span, main: &mut [u8], spare: &mut [u8])
     requires next_fits { NextFits chip.unit set s part.to (length main.old) (length spare.old) × (part.from < part.to) }
     requires beside { Beside (together (set_width chip.unit (set.rounds + 1))) part }
-    ensures { flash_after main spare ≡ run_of chip.unit (next_set chip.unit set s) part (flash_before main spare) }
+    ensures { flash_of main.new spare.new ≡ run_of chip.unit (next_set chip.unit set s) part (flash_of main.old spare.old) }
 {
     let mut shared = [0u8; sets::FILTERS_PER_ROUND];
     let n = at_once(chip);
@@ -297,7 +295,7 @@ fn group_run(chip: Chip, set: Set, s: usize, part: Span, main: &mut [u8], spare:
 // Sectors of a set from sector s on.
 fn set_run(chip: Chip, set: Set, s: usize, part: Span, main: &mut [u8], spare: &mut [u8])
     requires { NextFits chip.unit set s part.to (length main.old) (length spare.old) }
-    ensures { flash_after main spare ≡ run_of chip.unit (next_set chip.unit set s) part (flash_before main spare) }
+    ensures { flash_of main.new spare.new ≡ run_of chip.unit (next_set chip.unit set s) part (flash_of main.old spare.old) }
 {
     let n = partition::pages_together(chip, set) * Chip::SECTORS_PER_PAGE;
     let mut j = part.from;
@@ -311,7 +309,7 @@ fn set_run(chip: Chip, set: Set, s: usize, part: Span, main: &mut [u8], spare: &
 // A span of the blocks of a segment is erased.
 fn wipe_run(chip: Chip, blocks: Segment, part: Span, main: &mut [u8], spare: &mut [u8])
     requires { WipeFits chip.unit blocks (length main.old) (length spare.old) × (part.to ≤ blocks.count) }
-    ensures { flash_after main spare ≡ run_of chip.unit (wiped blocks.first) part (flash_before main spare) }
+    ensures { flash_of main.new spare.new ≡ run_of chip.unit (wiped blocks.first) part (flash_of main.old spare.old) }
 {
     if part.to <= part.from {
         return;
@@ -330,7 +328,7 @@ fn wipe_run(chip: Chip, blocks: Segment, part: Span, main: &mut [u8], spare: &mu
 // Operations of the next set and of the erases.
 fn build(chip: Chip, s: Summary, part: Span, main: &mut [u8], spare: &mut [u8])
     requires { BuildFits chip.unit s (length main.old) (length spare.old) }
-    ensures { flash_after main spare ≡ done chip.unit (span (build_of chip.unit s) part) (flash_before main spare) }
+    ensures { flash_of main.new spare.new ≡ done chip.unit (span (build_of chip.unit s) part) (flash_of main.old spare.old) }
 {
     let second = part.behind(s.set.count);
     let third = second.behind(s.l1.count);
@@ -365,8 +363,8 @@ fn index_run(
     ram: &[u8],
 )
     requires { SummaryFits chip.unit s (length fourths.now) (length main.old) (length spare.old) (length ram.now) }
-    ensures { flash_after main spare
-        ≡ done chip.unit (span (summary_of chip.unit s (before fourths) (before ram)) part) (flash_before main spare) }
+    ensures { flash_of main.new spare.new
+        ≡ done chip.unit (span (summary_of chip.unit s fourths.now ram.now) part) (flash_of main.old spare.old) }
 {
     if part.to == 0 {
         return;
@@ -406,8 +404,8 @@ fn deletion_run(
 )
     requires plan_fits { PlanFits p (length main.old) (length spare.old) (length ram.now) }
     requires len { (length new.now ≡ new_length) × (length filters.now ≡ filters_length) }
-    ensures { flash_after main spare
-        ≡ done p.chip.unit (span (deletion_of p (before new) (before filters) (before ram)) part) (flash_before main spare) }
+    ensures { flash_of main.new spare.new
+        ≡ done p.chip.unit (span (deletion_of p new.now filters.now ram.now) part) (flash_of main.old spare.old) }
 {
     if part.to == 0 {
         return;
@@ -450,8 +448,8 @@ fn record_run(
 )
     requires plan_fits { PlanFits p (length main.old) (length spare.old) (length ram.now) }
     requires len { (length new.now ≡ new_length) × (length filters.now ≡ filters_length) }
-    ensures { flash_after main spare
-        ≡ done p.chip.unit (span (record_of p (before new) (before filters) (before ram)) part) (flash_before main spare) }
+    ensures { flash_of main.new spare.new
+        ≡ done p.chip.unit (span (record_of p new.now filters.now ram.now) part) (flash_of main.old spare.old) }
 {
     let chip = p.chip;
     let ra = Page {
@@ -526,9 +524,9 @@ pub fn run(
 )
     requires plan_fits { PlanFits p (length main.old) (length spare.old) (length ram.now) }
     requires len { (length new.now ≡ new_length) × (length filters.now ≡ filters_length) }
-    ensures { flash_after main spare
-        ≡ done p.chip.unit (span (planned p (before new) (before filters) (before ram)) part)
-        (flash_before main spare) }
+    ensures { flash_of main.new spare.new
+        ≡ done p.chip.unit (span (planned p new.now filters.now ram.now) part)
+        (flash_of main.old spare.old) }
 {
     let n = deletion_count(p);
     let second = part.behind(n);
@@ -539,7 +537,7 @@ pub fn run(
 // Are the sectors fresh that an index programs.
 fn index_fresh(s: Summary, spare: &[u8]) -> bool
     requires { IndexSpareFits s (length spare.now) }
-    ensures { result ≡ index_fresh s (before spare) }
+    ensures { result ≡ index_fresh s spare.now }
 {
     if !flash::all_fresh(s.flush.first, sets::FLUSHES_PER_ROUND, s.flush.count, spare) {
         return false;
@@ -551,7 +549,7 @@ fn index_fresh(s: Summary, spare: &[u8]) -> bool
 pub fn fresh(p: Plan, spare: &[u8]) -> bool
     requires { SpareFits p (length spare.now) }
     ensures { (new filters ram : List ℕ) (flash : Flash)
-        → result ≡ all_fresh (before spare) (plan_ops p.chip.unit (planned p new filters ram) flash) }
+        → result ≡ all_fresh spare.now (plan_ops p.chip.unit (planned p new filters ram) flash) }
 {
     if !flash::all_fresh(p.da.first, 1, p.da.count, spare) {
         return false;
@@ -571,7 +569,7 @@ pub fn fresh(p: Plan, spare: &[u8]) -> bool
 // How many operations of an index count as done: the erases behind the last programmed sector do not.
 fn index_done(s: Summary, spare: &[u8]) -> usize
     requires { IndexSpareFits s (length spare.now) × (summary_count s < 2 ^ 64) }
-    ensures { result ≡ index_done s (before spare) }
+    ensures { result ≡ index_done s spare.now }
 {
     let in_set = flash::last_programmed(s.set.first, 1, s.set.count, spare);
     if 0 < in_set {
@@ -583,7 +581,7 @@ fn index_done(s: Summary, spare: &[u8]) -> usize
 // Those of the deletion.
 fn deletion_done(p: Plan, spare: &[u8]) -> usize
     requires { SpareFits p (length spare.now) × (planned_count p < 2 ^ 64) }
-    ensures { result ≡ deletion_done (before spare) p }
+    ensures { result ≡ deletion_done spare.now p }
 {
     let in_index = index_done(p.da_index, spare);
     if 0 < in_index {
@@ -595,7 +593,7 @@ fn deletion_done(p: Plan, spare: &[u8]) -> usize
 // Those of the record and its entry.
 fn record_done(p: Plan, spare: &[u8]) -> usize
     requires { SpareFits p (length spare.now) × (planned_count p < 2 ^ 64) }
-    ensures { result ≡ record_done (before spare) p }
+    ensures { result ≡ record_done spare.now p }
 {
     let in_index = index_done(p.ka_index, spare);
     if 0 < in_index {
@@ -611,7 +609,7 @@ fn record_done(p: Plan, spare: &[u8]) -> usize
 // How many operations of a plan count as done: all up to the last programmed sector.
 pub fn done(p: Plan, spare: &[u8]) -> usize
     requires { SpareFits p (length spare.now) × (planned_count p < 2 ^ 64) }
-    ensures { (new filters ram : List ℕ) → result ≡ done_count (before spare) (planned p new filters ram) }
+    ensures { (new filters ram : List ℕ) → result ≡ done_count spare.now (planned p new filters ram) }
 {
     let of_record = record_done(p, spare);
     if 0 < of_record {

@@ -2,7 +2,7 @@
 ghost use Rattle.std.specs.Prelude.{◌≡◌};
 ghost use Rattle.layout.specs.Hash.{fnv_family};
 ghost use Rattle.layout.specs.Budgets.{restart_cut, restart_whole};
-ghost use Rattle.state.specs.Contract.{given, effect_of, effect_by, cut_of, cut_by};
+ghost use Rattle.state.specs.Contract.{volume, effect_of, change_effect, cut_of, cut_by};
 
 use header::Pending;
 use state::{Change, Cut, Judgement, Progress, State};
@@ -16,7 +16,7 @@ pub fn restart_for(
     spare: &mut [u8],
     ram: &mut [u8],
 ) -> Cut
-    ensures { cut_by result main spare ram ≡ cut_of (restart_cut fnv_family budget (given s main spare ram)) }
+    ensures { cut_by result main.new spare.new ram.new ≡ cut_of (restart_cut fnv_family budget (volume s main.old spare.old ram.old)) }
 {
     if ram.len() < state::HEADER_SIZE {
         return state::refuse_cut(s, state::TOO_SHORT);
@@ -51,7 +51,7 @@ pub fn restart_for(
 
 // With enough.
 pub fn restart(s: State, main: &mut [u8], spare: &mut [u8], ram: &mut [u8]) -> Change
-    ensures { effect_by result main spare ram ≡ effect_of (restart_whole fnv_family (given s main spare ram)) }
+    ensures { change_effect result main.new spare.new ram.new ≡ effect_of (restart_whole fnv_family (volume s main.old spare.old ram.old)) }
 {
     state::uncut(restart_for(state::ENOUGH, s, main, spare, ram))
 }

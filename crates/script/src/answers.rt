@@ -1,7 +1,6 @@
 // The writer of answers: an answer's line in decimal. Document 01, "Replay program".
 ghost use Rattle.std.specs.Prelude.{◌≡◌, [], ◌∷◌, ◌++◌, ◌+◌, ◌≤◌, length};
 ghost use Rattle.memory.specs.Lists.{write};
-ghost use Rattle.memory.specs.Lent.{before, after};
 ghost use Rattle.text.specs.Text.{ascii};
 ghost use Rattle.script.specs.Answers.{decimal, text};
 ghost use Rattle.script.specs.Values.{answer_of};
@@ -33,7 +32,7 @@ fn digits_of(n: u32) -> usize
 fn put_decimal(n: u32, at: usize, out: &mut [u8]) -> usize
     requires { at + 10 ≤ length out.old }
     ensures end { result ≡ at + length (decimal n) }
-    ensures bytes { after out ≡ write (before out) at (decimal n) }
+    ensures bytes { out.new ≡ write out.old at (decimal n) }
 {
     let end = at + digits_of(n);
     let mut left = n;
@@ -51,7 +50,7 @@ fn put_decimal(n: u32, at: usize, out: &mut [u8]) -> usize
 pub fn put_number(n: u32, terminator: u8, at: usize, out: &mut [u8]) -> usize
     requires { at + 11 ≤ length out.old }
     ensures end { (result ≡ at + length (decimal n ++ (terminator ∷ []))) × (result ≤ at + 11) }
-    ensures bytes { after out ≡ write (before out) at (decimal n ++ (terminator ∷ [])) }
+    ensures bytes { out.new ≡ write out.old at (decimal n ++ (terminator ∷ [])) }
 {
     let end = put_decimal(n, at, out);
     out[end] = terminator;
@@ -61,8 +60,8 @@ pub fn put_number(n: u32, terminator: u8, at: usize, out: &mut [u8]) -> usize
 // Writes a word and a number as a line.
 fn put_one(word: &[u8], n: u32, out: &mut [u8]) -> usize
     requires { length word.now + 11 ≤ length out.old }
-    ensures end { (result ≡ length (before word ++ (decimal n ++ ascii "\n"))) × (result ≤ length (before word) + 11) }
-    ensures bytes { after out ≡ write (before out) 0 (before word ++ (decimal n ++ ascii "\n")) }
+    ensures end { (result ≡ length (word.now ++ (decimal n ++ ascii "\n"))) × (result ≤ length word.now + 11) }
+    ensures bytes { out.new ≡ write out.old 0 (word.now ++ (decimal n ++ ascii "\n")) }
 {
     words::copy_at(out, 0, word);
     put_number(n, b'\n', word.len(), out)
@@ -71,10 +70,10 @@ fn put_one(word: &[u8], n: u32, out: &mut [u8]) -> usize
 // Writes a word and two numbers as a line.
 fn put_two(word: &[u8], n: u32, m: u32, out: &mut [u8]) -> usize
     requires { length word.now + 22 ≤ length out.old }
-    ensures end { (result ≡ length (before word ++ (decimal n ++ (ascii " " ++ (decimal m ++ ascii "\n")))))
-        × (result ≤ length (before word) + 22) }
-    ensures bytes { after out
-        ≡ write (before out) 0 (before word ++ (decimal n ++ (ascii " " ++ (decimal m ++ ascii "\n")))) }
+    ensures end { (result ≡ length (word.now ++ (decimal n ++ (ascii " " ++ (decimal m ++ ascii "\n")))))
+        × (result ≤ length word.now + 22) }
+    ensures bytes { out.new
+        ≡ write out.old 0 (word.now ++ (decimal n ++ (ascii " " ++ (decimal m ++ ascii "\n")))) }
 {
     words::copy_at(out, 0, word);
     let at = put_number(n, b' ', word.len(), out);
@@ -86,7 +85,7 @@ pub fn put_answer(a: Answer, out: &mut [u8]) -> usize
     requires { 32 ≤ length out.old }
     ensures size { result ≡ length (text (answer_of a)) }
     ensures short { result ≤ 32 }
-    ensures bytes { after out ≡ write (before out) 0 (text (answer_of a)) }
+    ensures bytes { out.new ≡ write out.old 0 (text (answer_of a)) }
 {
     match a {
         Answer::Ok(n, d) => put_two(b"ok ", n, d, out),

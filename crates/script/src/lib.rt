@@ -3,7 +3,6 @@
 pub mod answers;
 
 ghost use Rattle.std.specs.Prelude.{◌≡◌, ◌+◌, ◌≤◌, ◌<◌, length, take, drop};
-ghost use Rattle.memory.specs.Lent.{before};
 ghost use Rattle.text.specs.Text.{digits_from};
 ghost use Rattle.script.specs.Lines.{small, number, fields, one_number, two_numbers, three_numbers, letter_command, command};
 ghost use Rattle.script.specs.FirstWord.{word_length};
@@ -31,7 +30,7 @@ enum Number {
 
 // The value of a word of digits, if it is below 2^32. It stops at 2^32, so that no word is too long.
 fn read_digits(word: &[u8]) -> Number
-    ensures { number_of result ≡ small (digits_from 0 (before word)) }
+    ensures { number_of result ≡ small (digits_from 0 word.now) }
 {
     let mut v: u64 = 0;
     let mut i = 0;
@@ -54,7 +53,7 @@ fn read_digits(word: &[u8]) -> Number
 
 // A word as a number: digits, below 2^32, without leading zeros.
 fn read_number(word: &[u8]) -> Number
-    ensures { number_of result ≡ number (before word) }
+    ensures { number_of result ≡ number word.now }
 {
     if word.len() == 0 {
         return Number::No;
@@ -128,7 +127,7 @@ fn three_numbers(letter: u8, x: Number, y: Number, z: Number) -> Command
 
 // How many bytes stand before the first space.
 fn word_length(line: &[u8]) -> usize
-    ensures { (result ≡ word_length (before line)) × (result ≤ length (before line)) }
+    ensures { (result ≡ word_length line.now) × (result ≤ length line.now) }
 {
     let mut i = 0;
     while i < line.len() {
@@ -143,7 +142,7 @@ fn word_length(line: &[u8]) -> usize
 // The number in the first n bytes.
 fn number_in(line: &[u8], n: usize) -> Number
     requires { n ≤ length line.now }
-    ensures { number_of result ≡ number (take n (before line)) }
+    ensures { number_of result ≡ number (take n line.now) }
 {
     read_number(&line[0..n])
 }
@@ -151,7 +150,7 @@ fn number_in(line: &[u8], n: usize) -> Number
 // What follows n bytes and a space.
 fn after_space(line: &[u8], n: usize) -> &[u8]
     requires { n < length line.now }
-    ensures { result.now ≡ drop (n + 1) (before line) }
+    ensures { result.now ≡ drop (n + 1) line.now }
 {
     let from = n + 1;
     &line[from..]
@@ -159,7 +158,7 @@ fn after_space(line: &[u8], n: usize) -> &[u8]
 
 // What a letter asks for with the words after it.
 fn parse_words(letter: u8, words: &[u8]) -> Command
-    ensures { command_of result ≡ letter_command letter (fields (before words)) }
+    ensures { command_of result ≡ letter_command letter (fields words.now) }
 {
     let a = word_length(words);
     let x = number_in(words, a);
@@ -183,7 +182,7 @@ fn parse_words(letter: u8, words: &[u8]) -> Command
 
 // A letter and up to three numbers, between single spaces; any other line is bad.
 pub fn parse_line(line: &[u8]) -> Command
-    ensures { command_of result ≡ command (before line) }
+    ensures { command_of result ≡ command line.now }
 {
     let n = word_length(line);
     if n != 1 {

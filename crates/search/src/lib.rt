@@ -2,7 +2,6 @@
 // being opened only if its filter has all bits of the key's positions. Document 01, "Calls"; document 02, §5.
 ghost use Rattle.std.specs.Prelude.{◌≡◌, ◌+◌, ◌*◌, ◌/◌, ◌%◌, ◌≤◌, ◌<◌, length, take};
 ghost use Rattle.memory.specs.Words.{word};
-ghost use Rattle.memory.specs.Lent.{before};
 ghost use Rattle.layout.specs.Keys.{word_size, number_in};
 ghost use Rattle.layout.specs.Geometry.{entries_per_page};
 ghost use Rattle.layout.specs.Items.{entry_size};
@@ -67,7 +66,7 @@ pub struct Found {
 // The record number of entry k of those from byte `at` on.
 fn number_at(at: usize, k: usize, s: &[u8]) -> u32
     requires { at + k * entry_size + entry_size ≤ length s.now }
-    ensures { result ≡ number_in (word (before s) (at + k * entry_size + word_size)) }
+    ensures { result ≡ number_in (word s.now (at + k * entry_size + word_size)) }
 {
     keys::number_in(words::get32(s, at + k * areas::ENTRY_SIZE + areas::NUMBER_AT))
 }
@@ -104,9 +103,9 @@ fn in_page(
     ram: &[u8],
 ) -> Ended
     requires { ViewFits v main.now ram.now × (start + count * entry_size ≤ length page.now) × (count ≤ v.n0) }
-    ensures end_value { stop_of result.end ≡ scan (try_in v (before main) (before ram) (key_is key) (before page) start) 0 count }
-    ensures pages { result.da_pages ≡ scan_cost (try_in v (before main) (before ram) (key_is key) (before page) start)
-        (cost_in v (before main) (before ram) (key_is key) (before page) start) 0 count }
+    ensures end_value { stop_of result.end ≡ scan (try_in v main.now ram.now (key_is key) page.now start) 0 count }
+    ensures pages { result.da_pages ≡ scan_cost (try_in v main.now ram.now (key_is key) page.now start)
+        (cost_in v main.now ram.now (key_is key) page.now start) 0 count }
 {
     let mut da_pages: u64 = 0;
     let mut e = items::find_entry(start, count, key, page);
@@ -146,10 +145,10 @@ fn page_start(g: Geometry, p: usize) -> usize
 // Those of the page that n0 records do not fill: in RAM, unless it has been filled since.
 fn in_open(v: View, key: Key, main: &[u8], ram: &[u8]) -> Ended
     requires { ViewFits v main.now ram.now }
-    ensures end_value { stop_of result.end ≡ scan (try_of v (before main) (before ram) (key_is key))
+    ensures end_value { stop_of result.end ≡ scan (try_of v main.now ram.now (key_is key))
         (v.n0 / entries_per_page v.g.chip.unit * entries_per_page v.g.chip.unit) (v.n0 % entries_per_page v.g.chip.unit) }
     ensures pages { result.da_pages
-        ≡ scan_cost (try_of v (before main) (before ram) (key_is key)) (cost_of v (before main) (before ram) (key_is key))
+        ≡ scan_cost (try_of v main.now ram.now (key_is key)) (cost_of v main.now ram.now (key_is key))
         (v.n0 / entries_per_page v.g.chip.unit * entries_per_page v.g.chip.unit) (v.n0 % entries_per_page v.g.chip.unit) }
 {
     let per_page = v.g.entries_per_page();
@@ -203,7 +202,7 @@ struct Opened {
 // opened in vain. It is a function because its loop calls nothing that stays a call, and so keeps its values in registers.
 fn next_page(g: Geometry, key: Key, from: usize, bits: u64, main: &[u8]) -> Opened
     requires { Sound g × (from ≤ 32768) × PagesIn g from bits main.now }
-    ensures { OpenedAt g (key_is key) from bits (before main) result }
+    ensures { OpenedAt g (key_is key) from bits main.now result }
 {
     let mut left = bits;
     let mut opened: u32 = 0;
@@ -242,7 +241,7 @@ struct Tried {
 // The newest page with an entry of the key, by its first byte: that is made again here, since the loop would have to keep it for each page.
 fn next_with_key(g: Geometry, key: Key, from: usize, bits: u64, main: &[u8]) -> Tried
     requires { Sound g × (from ≤ 32768) × PagesIn g from bits main.now }
-    ensures { TriedAt g (key_is key) from bits (before main) result }
+    ensures { TriedAt g (key_is key) from bits main.now result }
 {
     let p = next_page(g, key, from, bits, main);
     let opened = p.opened;
@@ -279,10 +278,10 @@ fn in_block(
     requires view_fits { ViewFits v main.now ram.now × Low v.g.chip.unit count ps }
     requires below_nonzero { (0 < below) × (below ≤ v.n0 / entries_per_page v.g.chip.unit) }
     ensures start { result.start < below }
-    ensures found { pages_below v (before main) (before ram) (key_is key) (take count ps) below
-        ≡ onward (stop_of result.end) result.opened (pages_below v (before main) (before ram) (key_is key) (take count ps) result.start) }
-    ensures pages { cost_below v (before main) (before ram) (key_is key) (take count ps) below
-        ≡ result.da_pages + unless_ended (stop_of result.end) (cost_below v (before main) (before ram) (key_is key) (take count ps) result.start) }
+    ensures found { pages_below v main.now ram.now (key_is key) (take count ps) below
+        ≡ onward (stop_of result.end) result.opened (pages_below v main.now ram.now (key_is key) (take count ps) result.start) }
+    ensures pages { cost_below v main.now ram.now (key_is key) (take count ps) below
+        ≡ result.da_pages + unless_ended (stop_of result.end) (cost_below v main.now ram.now (key_is key) (take count ps) result.start) }
 {
     let b = filter::block_below(key_filters(v), below, ps, count, main, ram);
     let first = b.start;
@@ -329,9 +328,9 @@ fn in_block(
 fn in_pages(v: View, key: Key, ps: [u32; 8], count: usize, main: &[u8], ram: &[u8]) -> Found
     requires { ViewFits v main.now ram.now × Low v.g.chip.unit count ps }
     ensures result_value { found_of result
-        ≡ pages_below v (before main) (before ram) (key_is key) (take count ps) (v.n0 / entries_per_page v.g.chip.unit) }
+        ≡ pages_below v main.now ram.now (key_is key) (take count ps) (v.n0 / entries_per_page v.g.chip.unit) }
     ensures pages { result.da_pages
-        ≡ cost_below v (before main) (before ram) (key_is key) (take count ps) (v.n0 / entries_per_page v.g.chip.unit) }
+        ≡ cost_below v main.now ram.now (key_is key) (take count ps) (v.n0 / entries_per_page v.g.chip.unit) }
 {
     let mut opened: u32 = 0;
     let mut da_pages: u64 = 0;
@@ -372,9 +371,9 @@ fn in_pages(v: View, key: Key, ps: [u32; 8], count: usize, main: &[u8], ram: &[u
 pub fn search(v: View, key: Key, main: &[u8], ram: &[u8]) -> Found
     requires { ViewFits v main.now ram.now }
     ensures found { found_of result
-        ≡ search_at fnv_family (shape v.g) (viewed v (before main) (before ram)) v.n0 v.d0 (key_is key) }
+        ≡ search_at fnv_family (shape v.g) (viewed v main.now ram.now) v.n0 v.d0 (key_is key) }
     ensures pages { result.da_pages
-        ≡ da_pages_at fnv_family (shape v.g) (viewed v (before main) (before ram)) v.n0 v.d0 (key_is key) }
+        ≡ da_pages_at fnv_family (shape v.g) (viewed v main.now ram.now) v.n0 v.d0 (key_is key) }
 {
     let o = in_open(v, key, main, ram);
     let da_pages = o.da_pages;

@@ -1,14 +1,12 @@
 -- What the calls' contracts compare: the code's state, records and answers as the layout's.
 use Rattle.std.specs.Prelude.{◌≡◌, cond, List, ℕ, length, take, eqb, leb}
 use Rattle.memory.specs.Bits.{num}
-use Rattle.memory.specs.Lent.{Lent, before, after}
 use Rattle.layout.specs.Geometry as layout
 use Rattle.layout.specs.Flash.{flash_of}
 use Rattle.layout.specs.Items as items
 use Rattle.layout.specs.Calls.{Volume, Call, insert, update, delete, Outcome, accepted, refused, Result}
 use Rattle.layout.specs.Budgets as budgets
 use Rattle.layout.specs.Budgets.{Step, Memory, memory}
-use Rattle.laws.specs.LentFlash.{flash_before, flash_after}
 use Rattle.geometry.specs.Shape.{sizes_is}
 use Rattle.keys.specs.Key.{key_is}
 use Rattle.state.specs.declared.State.{State}
@@ -35,10 +33,6 @@ call_of (Delete key) = delete (key_is key)
 abbrev pub volume : State → List ℕ → List ℕ → List ℕ → Volume
 volume s main spare ram = record { state = state_is s; flash = flash_of main spare; ram = ram }
 
--- the same of the slices lent to a call
-abbrev pub given : State → Lent → Lent → Lent → Volume
-given s main spare ram = volume s (before main) (before spare) (before ram)
-
 -- all that a caller sees of a call: a layout's result but for its operations
 pub record Effect : Type 0 where
   pub outcome : Outcome
@@ -56,9 +50,6 @@ outcome_of i = cond (eqb i 0) accepted (refused i)
 abbrev pub change_effect : Change → List ℕ → List ℕ → List ℕ → Effect
 change_effect c main spare ram = record { outcome = outcome_of c.refusal; count = 0; left = volume c.state main spare ram }
 
-abbrev pub effect_by : Change → Lent → Lent → Lent → Effect
-effect_by c main spare ram = change_effect c (after main) (after spare) (after ram)
-
 -- ---- with a budget of steps
 
 -- all that a caller sees of a call that may be cut; `complete` is 1 if it did all steps
@@ -71,21 +62,18 @@ pub record CutEffect : Type 0 where
 abbrev pub cut_of : budgets.Cut → CutEffect
 cut_of c = record { outcome = c.result.outcome; complete = num c.complete; steps = c.steps; left = c.result.volume }
 
-abbrev pub cut_by : Cut → Lent → Lent → Lent → CutEffect
+abbrev pub cut_by : Cut → List ℕ → List ℕ → List ℕ → CutEffect
 cut_by c main spare ram =
     record {
       outcome = outcome_of c.refusal;
       complete = c.finished;
       steps = c.steps;
-      left = volume c.state (after main) (after spare) (after ram);
+      left = volume c.state main spare ram;
     }
 
 -- the chip and the RAM, lent to a run of steps
-abbrev pub memory_before : Lent → Lent → Lent → Memory
-memory_before main spare ram = memory (flash_before main spare) (before ram)
-
-abbrev pub memory_after : Lent → Lent → Lent → Memory
-memory_after main spare ram = memory (flash_after main spare) (after ram)
+abbrev pub memory_of : List ℕ → List ℕ → List ℕ → Memory
+memory_of main spare ram = memory (flash_of main spare) ram
 
 -- a run of b of these steps
 pub record Ran (u : ℕ) (ss : List Step) (b : ℕ) (m m' : Memory) (p : Progress) : Type 0 where

@@ -2,14 +2,13 @@
 // and 2. Document 01, "The chip and the desk" and "Calls"; document 02, request 8: answers of calls with a budget of steps.
 ghost use Rattle.std.specs.Prelude.{◌≡◌, ◌||◌, cond, ◌-◌, ◌≤◌, length, ltb};
 ghost use Rattle.memory.specs.Bits.{num};
-ghost use Rattle.memory.specs.Lent.{before};
 ghost use Rattle.layout.specs.Geometry.{record_capacity, deletion_capacity};
 ghost use Rattle.layout.specs.Calls.{too_short};
 ghost use Rattle.layout.specs.Header.{header_size, pages, on_pages};
-ghost use Rattle.laws.specs.LentFlash.{flash_before};
 ghost use Rattle.geometry.specs.Shape.{sizes_is, shape, Sound};
-ghost use Rattle.state.specs.Contract.{given};
+ghost use Rattle.state.specs.Contract.{volume};
 ghost use Rattle.state.specs.Judge.{judgement_of, judgement_of_new, GoodFits, NewFits};
+ghost use Rattle.layout.specs.Flash.{flash_of};
 
 use geometry::{Geometry, Shaped, Sizes};
 use keys::Key;
@@ -80,7 +79,7 @@ const TAIL_SIZE: usize = HEADER_SIZE;
 // Where the pages of the RAM end, by its own end, however long it is.
 pub fn pages_end(ram: &[u8]) -> usize
     requires { header_size ≤ length ram.now }
-    ensures { result ≡ length (before ram) - header_size }
+    ensures { result ≡ length ram.now - header_size }
 {
     ram.len() - TAIL_SIZE
 }
@@ -189,7 +188,7 @@ fn counts_bad(g: Geometry, n: u32, d: u32) -> bool
 // Are the lent bytes too few for the volume and the header?
 fn too_short(g: Geometry, main: &[u8], spare: &[u8], ram: &[u8]) -> bool
     requires { Sound g }
-    ensures { result ≡ too_short (shape g) (flash_before main spare) (pages (before ram)) }
+    ensures { result ≡ too_short (shape g) (flash_of main.now spare.now) (pages ram.now) }
 {
     if main.len() < g.main_size() {
         return true;
@@ -202,8 +201,8 @@ fn too_short(g: Geometry, main: &[u8], spare: &[u8], ram: &[u8]) -> bool
 
 // Judges a state that is handed in.
 pub fn judge(s: State, main: &[u8], spare: &[u8], ram: &[u8]) -> Judgement
-    ensures equal { result ≡ judgement_of (on_pages (given s main spare ram)) }
-    ensures fits { GoodFits (on_pages (given s main spare ram)) result }
+    ensures equal { result ≡ judgement_of (on_pages (volume s main.now spare.now ram.now)) }
+    ensures fits { GoodFits (on_pages (volume s main.now spare.now ram.now)) result }
 {
     match geometry::geometry_for(s.sizes) {
         Shaped::Bad => {
@@ -223,8 +222,8 @@ pub fn judge(s: State, main: &[u8], spare: &[u8], ram: &[u8]) -> Judgement
 
 // Judges the sizes of a format.
 pub fn judge_new(sizes: Sizes, main: &[u8], spare: &[u8], ram: &[u8]) -> Judgement
-    ensures equal { result ≡ judgement_of_new (sizes_is sizes) (flash_before main spare) (pages (before ram)) }
-    ensures fits { NewFits (sizes_is sizes) (flash_before main spare) (pages (before ram)) result }
+    ensures equal { result ≡ judgement_of_new (sizes_is sizes) (flash_of main.now spare.now) (pages ram.now) }
+    ensures fits { NewFits (sizes_is sizes) (flash_of main.now spare.now) (pages ram.now) result }
 {
     match geometry::geometry_for(sizes) {
         Shaped::Bad => {

@@ -3,7 +3,6 @@
 pub mod reader;
 
 ghost use Rattle.std.specs.Prelude.{◌≡◌, false, List, ℕ, drop};
-ghost use Rattle.memory.specs.Lent.{before};
 ghost use Rattle.tab.specs.Reader.{got, small, decimal, word, name_of, bare, quoted, after, line_end, ends, field};
 ghost use Rattle.tab.specs.Places.{place_in, Opened, token_in, field_in};
 
@@ -42,7 +41,7 @@ pub struct Field {
 
 // The place after one given byte.
 fn after_byte(tab: &[u8], at: usize, x: u8) -> Place
-    ensures { place_in (before tab) result ≡ after x (drop at (before tab)) }
+    ensures { place_in tab.now result ≡ after x (drop at tab.now) }
 {
     if at >= tab.len() {
         return Place::Nowhere;
@@ -55,7 +54,7 @@ fn after_byte(tab: &[u8], at: usize, x: u8) -> Place
 
 // The place after a line's end: LF, CRLF, or the end of the tab.
 fn line_end(tab: &[u8], at: usize) -> Place
-    ensures { place_in (before tab) result ≡ line_end (drop at (before tab)) }
+    ensures { place_in tab.now result ≡ line_end (drop at tab.now) }
 {
     if at >= tab.len() {
         return Place::At(at);
@@ -71,7 +70,7 @@ fn line_end(tab: &[u8], at: usize) -> Place
 
 // The place after what ends a field of a column.
 fn end_at(tab: &[u8], at: usize, c: Column) -> Place
-    ensures { place_in (before tab) result ≡ ends c (drop at (before tab)) }
+    ensures { place_in tab.now result ≡ ends c (drop at tab.now) }
 {
     match c {
         Column::Level => after_byte(tab, at, b','),
@@ -95,7 +94,7 @@ fn read_token(v: u64, next: usize) -> Token
 // A decimal number. It stops where one digit more would be too many, so that no number has too many digits: leading zeros are free. The
 // test is before the digit, with a number that the compiler compares with directly.
 fn decimal_at(tab: &[u8], at: usize) -> Token
-    ensures { token_in (before tab) result ≡ decimal (drop at (before tab)) }
+    ensures { token_in tab.now result ≡ decimal (drop at tab.now) }
 {
     if at >= tab.len() {
         return Token::Malformed;
@@ -127,7 +126,7 @@ fn decimal_at(tab: &[u8], at: usize) -> Token
 
 // The bytes of a word.
 fn word_at(tab: &[u8], at: usize, name: &[u8]) -> Token
-    ensures { token_in (before tab) result ≡ word (before name) (drop at (before tab)) }
+    ensures { token_in tab.now result ≡ word name.now (drop at tab.now) }
 {
     let mut i = 0;
     let mut next = at;
@@ -146,7 +145,7 @@ fn word_at(tab: &[u8], at: usize, name: &[u8]) -> Token
 
 // A column's name.
 fn name_at(tab: &[u8], at: usize, c: Column) -> Token
-    ensures { token_in (before tab) result ≡ word (name_of c) (drop at (before tab)) }
+    ensures { token_in tab.now result ≡ word (name_of c) (drop at tab.now) }
 {
     match c {
         Column::Level => word_at(tab, at, b"level"),
@@ -157,7 +156,7 @@ fn name_at(tab: &[u8], at: usize, c: Column) -> Token
 
 // A column's name in the header, a number in a row.
 fn bare_at(tab: &[u8], at: usize, c: Column, header: bool) -> Token
-    ensures { token_in (before tab) result ≡ bare header c (drop at (before tab)) }
+    ensures { token_in tab.now result ≡ bare header c (drop at tab.now) }
 {
     if header {
         return name_at(tab, at, c);
@@ -167,7 +166,7 @@ fn bare_at(tab: &[u8], at: usize, c: Column, header: bool) -> Token
 
 // Where what stands in a field begins: behind a quote, if there is one.
 fn content_start(tab: &[u8], at: usize) -> usize
-    ensures { Opened (before tab) at result }
+    ensures { Opened tab.now at result }
 {
     if at >= tab.len() {
         return at;
@@ -180,7 +179,7 @@ fn content_start(tab: &[u8], at: usize) -> usize
 
 // A name or a number, quoted or not. It is read at one place for both, so that the compiler makes one copy of it.
 fn content_at(tab: &[u8], at: usize, c: Column, header: bool) -> Token
-    ensures { token_in (before tab) result ≡ quoted (bare header c) (drop at (before tab)) }
+    ensures { token_in tab.now result ≡ quoted (bare header c) (drop at tab.now) }
 {
     let start = content_start(tab, at);
     let Token::Value(v, next) = bare_at(tab, start, c, header) else {
@@ -209,7 +208,7 @@ fn malformed(at: usize) -> Field
 
 // A field and what ends it.
 pub fn field_at(tab: &[u8], at: usize, c: Column, header: bool) -> Field
-    ensures { field_in (before tab) result ≡ field header c (drop at (before tab)) }
+    ensures { field_in tab.now result ≡ field header c (drop at tab.now) }
 {
     let Token::Value(v, end) = content_at(tab, at, c, header) else {
         return malformed(at);

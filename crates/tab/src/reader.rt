@@ -1,7 +1,6 @@
 // A reader of a tab of levels: over the lent bytes, it goes on from field to field. Document 02, request 1. The functions over it are
 // thin; they stand between a field's parser, crate `tab`, and the lines, whose functions have plain parameters.
 ghost use Rattle.std.specs.Prelude.{◌≡◌, drop};
-ghost use Rattle.memory.specs.Lent.{before};
 ghost use Rattle.tab.specs.Reader.{line, row, header};
 ghost use Rattle.tab.specs.Lines.{ReadOn, InOrder, line_in, header_in};
 
@@ -33,7 +32,7 @@ pub struct Line {
 
 // The fields of the line from a place on.
 fn fields(tab: &[u8], at: usize, header: bool) -> Line
-    ensures { InOrder (before tab) at header result }
+    ensures { InOrder tab.now at header result }
 {
     let mut r = Reader { tab, at };
     let level = field(&mut r, Column::Level, header);
@@ -53,7 +52,7 @@ pub enum Parsed {
 
 // The line from a place on: its three fields are well-formed.
 fn line_at(tab: &[u8], at: usize, header: bool) -> Parsed
-    ensures { line_in (before tab) result ≡ line header (drop at (before tab)) }
+    ensures { line_in tab.now result ≡ line header (drop at tab.now) }
 {
     let l = fields(tab, at, header);
     let level = l.level;
@@ -73,7 +72,7 @@ fn line_at(tab: &[u8], at: usize, header: bool) -> Parsed
 
 // The row from a place on.
 pub fn row_at(tab: &[u8], at: usize) -> Parsed
-    ensures { line_in (before tab) result ≡ row (drop at (before tab)) }
+    ensures { line_in tab.now result ≡ row (drop at tab.now) }
 {
     line_at(tab, at, false)
 }
@@ -87,7 +86,7 @@ pub enum AfterHeader {
 
 // The header of a tab.
 pub fn header_at(tab: &[u8]) -> AfterHeader
-    ensures { header_in (before tab) result ≡ header (before tab) }
+    ensures { header_in tab.now result ≡ header tab.now }
 {
     let Parsed::Numbers(level, moves, goal, next) = line_at(tab, 0, true) else {
         return AfterHeader::Missing;

@@ -2,7 +2,6 @@
 ghost use Rattle.std.specs.Prelude.{◌≡◌, ◌+◌, ◌*◌, ◌≤◌, ◌<◌, length, replicate};
 ghost use Rattle.memory.specs.Lists.{write};
 ghost use Rattle.memory.specs.Words.{bytes4, bytes8, word, words_bytes, Word64};
-ghost use Rattle.memory.specs.Lent.{before, after};
 
 pub mod bits;
 pub mod numbers;
@@ -10,7 +9,7 @@ pub mod numbers;
 // The number that four bytes from `at` on make, the lowest first.
 pub fn get32(s: &[u8], at: usize) -> u32
     requires { at + 4 ≤ length s.now }
-    ensures { result ≡ word (before s) at }
+    ensures { result ≡ word s.now at }
 {
     let a = numbers::u32_of_byte(s[at]);
     let b = numbers::u32_of_byte(s[at + 1]);
@@ -22,7 +21,7 @@ pub fn get32(s: &[u8], at: usize) -> u32
 // The four bytes of x from `at` on, the lowest first.
 pub fn put32(s: &mut [u8], at: usize, x: u32)
     requires { at + 4 ≤ length s.old }
-    ensures { after s ≡ write (before s) at (bytes4 x) }
+    ensures { s.new ≡ write s.old at (bytes4 x) }
 {
     let y = x / 256;
     let z = y / 256;
@@ -36,7 +35,7 @@ pub fn put32(s: &mut [u8], at: usize, x: u32)
 // The bytes of words from `at` on, one word after another.
 pub fn put_words(s: &mut [u8], at: usize, ws: &[u32])
     requires { at + length ws.now * 4 ≤ length s.old }
-    ensures { after s ≡ write (before s) at (words_bytes (before ws)) }
+    ensures { s.new ≡ write s.old at (words_bytes ws.now) }
 {
     let mut i = 0;
     while i < ws.len() {
@@ -48,7 +47,7 @@ pub fn put_words(s: &mut [u8], at: usize, ws: &[u32])
 // The eight bytes from `at` on, the lowest first: one load.
 pub fn get64(s: &[u8], at: usize) -> u64
     requires { at + 8 ≤ length s.now }
-    ensures { Word64 (before s) at result }
+    ensures { Word64 s.now at result }
 {
     numbers::u64_of_u32(get32(s, at)) + numbers::u64_of_u32(get32(s, at + 4)) * 4294967296
 }
@@ -56,7 +55,7 @@ pub fn get64(s: &[u8], at: usize) -> u64
 // The eight bytes of x from `at` on, the lowest first.
 pub fn put64(s: &mut [u8], at: usize, x: u64)
     requires { at + 8 ≤ length s.old }
-    ensures { after s ≡ write (before s) at (bytes8 x) }
+    ensures { s.new ≡ write s.old at (bytes8 x) }
 {
     let b = x / 256;
     let c = b / 256;
@@ -78,7 +77,7 @@ pub fn put64(s: &mut [u8], at: usize, x: u64)
 // dst becomes src.
 pub fn copy(dst: &mut [u8], src: &[u8])
     requires { length dst.old ≡ length src.now }
-    ensures { after dst ≡ before src }
+    ensures { dst.new ≡ src.now }
 {
     let mut i = 0;
     while i < src.len() {
@@ -89,7 +88,7 @@ pub fn copy(dst: &mut [u8], src: &[u8])
 
 // dst becomes all v.
 pub fn fill(dst: &mut [u8], v: u8)
-    ensures { after dst ≡ replicate (length (before dst)) v }
+    ensures { dst.new ≡ replicate (length dst.old) v }
 {
     let mut i = 0;
     while i < dst.len() {
@@ -101,7 +100,7 @@ pub fn fill(dst: &mut [u8], v: u8)
 // src is written into dst from `at` on.
 pub fn copy_at(dst: &mut [u8], at: usize, src: &[u8])
     requires { at + length src.now ≤ length dst.old }
-    ensures { after dst ≡ write (before dst) at (before src) }
+    ensures { dst.new ≡ write dst.old at src.now }
 {
     let e = at + src.len();
     copy(&mut dst[at..e], src);
@@ -110,7 +109,7 @@ pub fn copy_at(dst: &mut [u8], at: usize, src: &[u8])
 // n bytes of dst from `at` on become v.
 pub fn fill_at(dst: &mut [u8], at: usize, n: usize, v: u8)
     requires { at + n ≤ length dst.old }
-    ensures { after dst ≡ write (before dst) at (replicate n v) }
+    ensures { dst.new ≡ write dst.old at (replicate n v) }
 {
     let e = at + n;
     fill(&mut dst[at..e], v);
