@@ -3,6 +3,7 @@
 // A caller passes pointers and numbers of 32 and 64 bits, and nothing is returned: every processor passes these alike, but not structs,
 // `bool` and narrow results. Which number is which, specs/Numbers.antt says. A number of 64 bits has a reference of its own, so that no
 // halves are put together.
+#![tactic(auto)]
 ghost use Rattle.std.specs.Prelude.{◌≡◌};
 ghost use Rattle.layout.specs.Geometry.{sizes_of};
 ghost use Rattle.layout.specs.Hash.{fnv_family};

@@ -2,6 +2,7 @@
 // a published hash; a line that starts with `#` is a comment. Each vector is answered by a line with
 // its bytes and their FNV-1a: that is the line that was read, where the hash is as published.
 // A line that is longer than 600 bytes is cut.
+#![tactic(auto)]
 ghost use Rattle.std.specs.Prelude.{◌*◌, ◌<◌, ◌≤◌, length};
 
 use libc::{STDIN_FILENO, STDOUT_FILENO};

@@ -1,5 +1,6 @@
 // Loads a tab from standard input into a freshly formatted volume, and tells the rows that were loaded and the refusal. Document 02,
 // requests 1 and 6.
+#![tactic(auto)]
 ghost use Rattle.std.specs.Prelude.{◌≡◌, length};
 
 use geometry::Sizes;

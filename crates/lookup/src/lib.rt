@@ -1,4 +1,5 @@
 // Lookup: where a level's record lies. Document 01, "Calls"; document 02, request 8: 10.
+#![tactic(auto)]
 ghost use Rattle.std.specs.Prelude.{◌≡◌};
 ghost use Rattle.layout.specs.Hash.{fnv_family};
 ghost use Rattle.layout.specs.Calls.{lookup, answer};

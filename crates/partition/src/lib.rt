@@ -1,4 +1,5 @@
 // Partition sets: the sectors of the next set out of L1 and the set before it. Document 01, "Filters".
+#![tactic(auto)]
 ghost use Rattle.std.specs.Prelude.{◌≡◌, ℕ, ◌+◌, ◌-◌, ◌*◌, ◌/◌, ◌<◌, ◌≤◌, min, length};
 ghost use Rattle.memory.specs.Lists.{tabulate};
 ghost use Rattle.layout.specs.Geometry.{sectors_per_page, sector, block, side_blocks};
