@@ -28,7 +28,7 @@ use state::{Change, Cut, Judgement, Progress, Record, Request, State};
 // ---- a key
 
 // A refusal, or the volume's geometry and, of a live key, its record's number.
-#[derive(Drop)]
+#[derive(Clone, Copy)]
 pub enum Resolved {
     Refused(u32),
     Absent(Geometry),
@@ -84,7 +84,7 @@ pub fn resolve(s: State, key: Key, main: &[u8], spare: &[u8], ram: &[u8]) -> Res
 // ---- what a call does
 
 // A refusal, or what is to be changed.
-#[derive(Drop)]
+#[derive(Clone, Copy)]
 pub enum Decision {
     Refused(u32),
     Change(Geometry, Edit),
@@ -137,7 +137,7 @@ fn decide(q: Request, r: Resolved) -> Decision
 // ---- in steps
 
 // What the steps behind an intent came to: how far they went, and the state that they end with.
-#[derive(Drop)]
+#[derive(Clone, Copy)]
 struct Finished {
     progress: Progress,
     state: State,

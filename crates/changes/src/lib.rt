@@ -23,7 +23,7 @@ use state::{Progress, Record, State};
 use words::numbers;
 
 // What a change does: it inserts a record, deletes the record of a number, or both.
-#[derive(Drop)]
+#[derive(Clone, Copy)]
 pub enum Edit {
     Insert(Record),
     Delete(u32),
@@ -31,7 +31,7 @@ pub enum Edit {
 }
 
 // A change of a volume: the volume's geometry and state, and what is changed.
-#[derive(Drop)]
+#[derive(Clone, Copy)]
 pub struct Task {
     pub g: Geometry,
     pub state: State,

@@ -16,7 +16,7 @@ use filter::Filters;
 use geometry::{Chip, Geometry, areas, sets};
 
 // Of the d deletions of a volume the first d0. Where they lie goes by d.
-#[derive(Drop)]
+#[derive(Clone, Copy)]
 pub struct Deletions {
     pub g: Geometry,
     pub d: usize,
@@ -24,7 +24,7 @@ pub struct Deletions {
 }
 
 // Whether the number was met, and the pages opened.
-#[derive(Drop)]
+#[derive(Clone, Copy)]
 pub struct Tested {
     pub met: bool,
     pub opened: u32,
@@ -64,7 +64,7 @@ fn filters(t: Deletions) -> Filters
 }
 
 // What was found in a block of pages: whether the number was met in it, the pages opened, and the block's first page.
-#[derive(Drop)]
+#[derive(Clone, Copy)]
 struct BlockTest {
     met: bool,
     opened: u32,

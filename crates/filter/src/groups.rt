@@ -20,7 +20,7 @@ use geometry::{Chip, sets};
 use words::numbers;
 
 // The filters of an index on a chip: so many.
-#[derive(Drop)]
+#[derive(Clone, Copy)]
 pub struct Filters {
     pub chip: Chip,
     pub index: Index,
@@ -28,7 +28,7 @@ pub struct Filters {
 }
 
 // Up to 512 filters of an index: the first of them, and which of them have all bits of some positions, 64 to a word.
-#[derive(Drop)]
+#[derive(Clone, Copy)]
 pub struct Block {
     pub start: usize,
     pub words: [u64; 8],
@@ -36,7 +36,7 @@ pub struct Block {
 
 // Where a group lies: its first filter, the first byte of its first row, of the RAM for the SKA page and else of the flash; a filter has
 // 2 ^ exponent bits in a row, and the next ones in the row `stride` bytes further on.
-#[derive(Drop)]
+#[derive(Clone, Copy)]
 struct Level {
     start: usize,
     base: usize,
@@ -45,7 +45,7 @@ struct Level {
 }
 
 // The filters since the last round up to `below` - 1: L1's and, behind them, those of the SKA page.
-#[derive(Drop)]
+#[derive(Clone, Copy)]
 struct Recent {
     l1: Level,
     ska: Level,
@@ -53,7 +53,7 @@ struct Recent {
 }
 
 // How filters are shared out over sets: the rounds in the current one, and the filters in full ones.
-#[derive(Drop)]
+#[derive(Clone, Copy)]
 struct Stage {
     rounds: usize,
     full: usize,
@@ -292,7 +292,7 @@ fn block_by_words(l: Level, below: usize, ps: [u32; 8], count: usize, bytes: &[u
 // ---- filters since the last round
 
 // Positions as bits among the 2 ^ e that a filter has in a row, and whether they lie in one row.
-#[derive(Drop)]
+#[derive(Clone, Copy)]
 struct Mask {
     bits: u64,
     one_row: bool,

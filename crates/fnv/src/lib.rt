@@ -64,7 +64,7 @@ fn absorb_low(h: u32, x: u32) -> u32
 }
 
 // What is hashed behind j: the four bytes of a number.
-#[derive(Drop)]
+#[derive(Clone, Copy)]
 pub struct Hashed {
     pub number: u32,
 }

@@ -43,7 +43,7 @@ pub fn in_full_pages(per_page: usize, n: usize) -> usize
 // ---- areas
 
 // Items of `size` bytes, `per_page` to a page, from block `first` on; the page that is not full is in RAM from byte `ram` on.
-#[derive(Drop)]
+#[derive(Clone, Copy)]
 pub struct Area {
     pub size: usize,
     pub per_page: usize,
@@ -102,7 +102,7 @@ pub fn deletion_area(g: Geometry) -> Area
 }
 
 // A byte of the RAM or of the flash.
-#[derive(Drop)]
+#[derive(Clone, Copy)]
 pub struct Place {
     pub in_ram: bool,
     pub at: usize,

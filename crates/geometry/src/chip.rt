@@ -4,7 +4,7 @@ ghost use Rattle.layout.specs.Geometry.{sectors_per_page, sectors_per_block, sec
 ghost use Rattle.layout.specs.Geometry.{deletions_per_filter, filter_bits, fourth_size, side_blocks, index_blocks};
 
 // A chip by its unit, a sixteenth of the sector size.
-#[derive(Drop)]
+#[derive(Clone, Copy)]
 pub struct Chip {
     pub unit: usize,
 }

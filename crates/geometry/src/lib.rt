@@ -18,7 +18,7 @@ pub use table::SizeRow;
 
 // What a format names: the sector size in bytes, the blocks of records and of deletions, the hash functions beside the first.
 #[repr(C)]
-#[derive(Drop)]
+#[derive(Clone, Copy)]
 pub struct Sizes {
     pub sector_size: u32,
     pub ra_blocks: u32,
@@ -30,7 +30,7 @@ pub struct Sizes {
 pub const DEFAULT_HASH_COUNT: u32 = 3;
 
 // A volume's chip, its row of the table, the blocks of records and of deletions, and the positions of a key in a filter.
-#[derive(Drop)]
+#[derive(Clone, Copy)]
 pub struct Geometry {
     pub chip: Chip,
     pub row: SizeRow,
@@ -235,7 +235,7 @@ impl Geometry {
 
 // ---- the geometry that sizes make
 
-#[derive(Drop)]
+#[derive(Clone, Copy)]
 pub enum Shaped {
     Good(Geometry),
     Bad,

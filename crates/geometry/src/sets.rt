@@ -29,7 +29,7 @@ pub fn fills_ska(filters: usize) -> bool
 }
 
 // An index: its first block and its SKA page in RAM.
-#[derive(Drop)]
+#[derive(Clone, Copy)]
 pub struct Index {
     pub first: usize,
     pub ska: usize,
@@ -67,7 +67,7 @@ pub fn deletion_index(g: Geometry) -> Index
 }
 
 // The set that comes next in an index with so many full sets and rounds.
-#[derive(Drop)]
+#[derive(Clone, Copy)]
 pub struct Set {
     pub index: Index,
     pub full_sets: usize,

@@ -3,7 +3,7 @@ ghost use Rattle.std.specs.Prelude.{◌≡◌, ◌<◌};
 ghost use Rattle.geometry.specs.Rows.{row_of, Ruled};
 
 // A sector size in bytes, with the records and entries of a page and the bits of a filter; in one word, since a volume carries it.
-#[derive(Drop)]
+#[derive(Clone, Copy)]
 pub struct SizeRow {
     pub sector: u16,
     pub records: u16,

@@ -37,7 +37,7 @@ const FORMAT: u32 = 4;
 // ---- what is read
 
 // What the header says of a pending call.
-#[derive(Drop)]
+#[derive(Clone, Copy)]
 pub enum Pending {
     Nothing,
     Change(Request),

@@ -4,7 +4,7 @@ ghost use Rattle.std.specs.Prelude.{◌≡◌};
 ghost use Rattle.layout.specs.Keys.{same_key, key_in, number_in};
 ghost use Rattle.keys.specs.Key.{key_is};
 
-#[derive(Drop)]
+#[derive(Clone, Copy)]
 pub struct Key {
     pub level: u32,
 }

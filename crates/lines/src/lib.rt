@@ -20,7 +20,7 @@ use state::{Change, Record, State};
 // ---- commands
 
 // The state after a command, and its answer.
-#[derive(Drop)]
+#[derive(Clone, Copy)]
 pub struct Performed {
     pub state: State,
     pub answer: Answer,
@@ -119,7 +119,7 @@ pub fn perform(s: State, q: Command, main: &mut [u8], spare: &mut [u8], ram: &mu
 // ---- lines
 
 // The state after a line, and the length of its answer.
-#[derive(Drop)]
+#[derive(Clone, Copy)]
 pub struct LineReply {
     pub state: State,
     pub length: usize,
@@ -152,7 +152,7 @@ pub fn answer_line(
 // ---- the volume between lines
 
 // A volume between two lines: its state. The bytes are lent beside it.
-#[derive(Drop)]
+#[derive(Clone, Copy)]
 pub struct Held {
     pub state: State,
 }

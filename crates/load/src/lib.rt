@@ -19,7 +19,7 @@ use tab::reader::{AfterHeader, Parsed};
 
 // The answer of a load: a refusal's number or `ACCEPTED`, the rows that were loaded, and the state after them.
 #[repr(C)]
-#[derive(Drop)]
+#[derive(Clone, Copy)]
 pub struct Loaded {
     pub refusal: u32,
     pub rows: u32,

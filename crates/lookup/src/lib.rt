@@ -18,7 +18,7 @@ use state::{Judgement, State};
 // The answer of a lookup. found 1: the record's 16 bytes start at `offset` of the RAM (in_ram 1) or of the
 // main area (in_ram 0). count and deletion_count are the pages of entries and of deletions opened.
 #[repr(C)]
-#[derive(Drop)]
+#[derive(Clone, Copy)]
 pub struct LookupResult {
     pub refusal: u32,
     pub found: u32,

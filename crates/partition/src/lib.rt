@@ -20,7 +20,7 @@ use words::numbers;
 const ROUND_BYTES: usize = sets::FILTERS_PER_ROUND / 8;
 
 // What a page of the next set is made of: w bits of each filter, below byte `split` of the old set, from there to `end` of L1.
-#[derive(Drop)]
+#[derive(Clone, Copy)]
 pub struct PageSource {
     pub w: usize,
     pub split: usize,

@@ -27,7 +27,7 @@ use words::numbers;
 // ---- a plan
 
 // Sectors or blocks in a row: the first of them, and how many there are.
-#[derive(Drop)]
+#[derive(Clone, Copy)]
 pub struct Segment {
     pub first: usize,
     pub count: usize,
@@ -35,7 +35,7 @@ pub struct Segment {
 
 // How filters leave the SKA page of an index: the flush, of whose sectors `piece` bytes are new, the next set, the erases of L1 and of the
 // set before. What is not done has a count of 0.
-#[derive(Drop)]
+#[derive(Clone, Copy)]
 pub struct Summary {
     pub piece: usize,
     pub flush: Segment,
@@ -47,7 +47,7 @@ pub struct Summary {
 
 // The operations of a change, in order: the page that its deletion fills and the index over the deletions, the pages that its record and
 // its entry fill and the index over the entries.
-#[derive(Drop)]
+#[derive(Clone, Copy)]
 pub struct Plan {
     pub chip: Chip,
     pub da: Segment,
@@ -70,7 +70,7 @@ pub const ENTRY_FILTER_AT: usize = 512;
 pub const FILTERS_SIZE: usize = 768;
 
 // Operations `from` to `to` - 1 of a list.
-#[derive(Drop)]
+#[derive(Clone, Copy)]
 pub struct Span {
     pub from: usize,
     pub to: usize,
@@ -107,14 +107,14 @@ impl Span {
 const BUFFER_SIZE: usize = 512;
 
 // Where four sectors begin, and the RAM page whose bytes they get.
-#[derive(Drop)]
+#[derive(Clone, Copy)]
 pub struct Page {
     pub sector: usize,
     pub at: usize,
 }
 
 // Where the sectors of a flush begin, the SKA page whose bytes they get, and how many bytes at the end of each are new.
-#[derive(Drop)]
+#[derive(Clone, Copy)]
 pub struct Flush {
     pub sector: usize,
     pub at: usize,

@@ -229,7 +229,7 @@ fn update(g: Geometry, d: usize, n: usize) -> Plan
 // ---- the three changes
 
 // A change by the counts that it finds: deletion d; record n; deletion d, then record n.
-#[derive(Drop)]
+#[derive(Clone, Copy)]
 pub enum Slots {
     Delete(usize),
     Insert(usize),

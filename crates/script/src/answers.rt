@@ -6,7 +6,7 @@ ghost use Rattle.script.specs.Answers.{decimal, text};
 ghost use Rattle.script.specs.Values.{answer_of};
 
 // The answer to a line: n and d, a hit's moves and count, a miss's count, or a refusal's number.
-#[derive(Drop)]
+#[derive(Clone, Copy)]
 pub enum Answer {
     Ok(u32, u32),
     Hit(u32, u32),

@@ -10,7 +10,7 @@ ghost use Rattle.script.specs.FirstWord.{word_length};
 ghost use Rattle.script.specs.Values.{number_of, command_of};
 
 // What a line asks for.
-#[derive(Drop)]
+#[derive(Clone, Copy)]
 pub enum Command {
     Bad,
     Format(u32, u32, u32),
@@ -23,7 +23,7 @@ pub enum Command {
 // ---- numbers
 
 // The number that a word is, or none.
-#[derive(Drop)]
+#[derive(Clone, Copy)]
 enum Number {
     No,
     Value(u32),

@@ -24,7 +24,7 @@ use words::numbers;
 
 // What is searched: of the n records and d deletions of a volume the first n0 and the first d0. Where they lie goes
 // by n and d.
-#[derive(Drop)]
+#[derive(Clone, Copy)]
 pub struct View {
     pub g: Geometry,
     pub n: usize,
@@ -47,7 +47,7 @@ pub fn all(g: Geometry, n: usize, d: usize) -> View
 }
 
 // Where a search ends: nowhere, at a live entry, with its record number, or at a number that is no record's.
-#[derive(Drop)]
+#[derive(Clone, Copy)]
 pub enum End {
     Nothing,
     Live(u32),
@@ -55,7 +55,7 @@ pub enum End {
 }
 
 // Where it ended, the pages of entries opened, and the pages of deletions opened.
-#[derive(Drop)]
+#[derive(Clone, Copy)]
 pub struct Found {
     pub end: End,
     pub opened: u32,
@@ -87,7 +87,7 @@ fn deletions_of(v: View) -> Deletions
 // ---- entries past the last full page
 
 // Where the search of entries in a row ended, and the pages of deletions opened.
-#[derive(Drop)]
+#[derive(Clone, Copy)]
 struct Ended {
     end: End,
     da_pages: u64,
@@ -181,7 +181,7 @@ fn key_filters(v: View) -> Filters
 
 // What was found in a block of pages: where the search ended in it, the pages of entries and of deletions opened, and the block's
 // first page.
-#[derive(Drop)]
+#[derive(Clone, Copy)]
 struct BlockFound {
     end: End,
     opened: u32,
@@ -191,7 +191,7 @@ struct BlockFound {
 
 // What came of the pages of a word: the bits of those left, the pages opened, and the number and the newest entry with the key, plus one,
 // of the page that has one; 0 and 0 if none has.
-#[derive(Drop)]
+#[derive(Clone, Copy)]
 struct Opened {
     bits: u64,
     opened: u32,
@@ -231,7 +231,7 @@ fn next_page(g: Geometry, key: Key, from: usize, bits: u64, main: &[u8]) -> Open
 }
 
 // The same with the first byte of that page in place of its number.
-#[derive(Drop)]
+#[derive(Clone, Copy)]
 struct Tried {
     bits: u64,
     opened: u32,

@@ -18,7 +18,7 @@ use keys::Key;
 
 // S, R, D and k of the format, n and d: records and deletions accepted.
 #[repr(C)]
-#[derive(Drop)]
+#[derive(Clone, Copy)]
 pub struct State {
     pub sizes: Sizes,
     pub records: u32,
@@ -26,7 +26,7 @@ pub struct State {
 }
 
 // A level's key, moves, goal and free word.
-#[derive(Drop)]
+#[derive(Clone, Copy)]
 pub struct Record {
     pub key: Key,
     pub moves: u32,
@@ -35,7 +35,7 @@ pub struct Record {
 }
 
 // A changing call and its arguments other than state and lent bytes.
-#[derive(Drop)]
+#[derive(Clone, Copy)]
 pub enum Request {
     Insert(Record),
     Update(Record),
@@ -44,7 +44,7 @@ pub enum Request {
 
 // The answer of a changing call: a refusal's number or `ACCEPTED`, and the state after it.
 #[repr(C)]
-#[derive(Drop)]
+#[derive(Clone, Copy)]
 pub struct Change {
     pub refusal: u32,
     pub state: State,
@@ -53,7 +53,7 @@ pub struct Change {
 // The answer of a call that is cut: a refusal's number or `ACCEPTED`, whether it did all of its steps, how many it did, and the state:
 // the new one if it did all, else the one handed in.
 #[repr(C)]
-#[derive(Drop)]
+#[derive(Clone, Copy)]
 pub struct Cut {
     pub refusal: u32,
     pub finished: u32,
@@ -62,7 +62,7 @@ pub struct Cut {
 }
 
 // How far a run of steps got: how many it did, and whether these were all.
-#[derive(Drop)]
+#[derive(Clone, Copy)]
 pub struct Progress {
     pub steps: usize,
     pub finished: bool,
@@ -166,7 +166,7 @@ pub fn uncut(c: Cut) -> Change
 // ---- refusals 1 and 2
 
 // The volume's geometry, or the number of the refusal.
-#[derive(Drop)]
+#[derive(Clone, Copy)]
 pub enum Judgement {
     Good(Geometry),
     Refused(u32),

@@ -8,7 +8,7 @@ ghost use Rattle.tab.specs.Reader.{got, small, decimal, word, name_of, bare, quo
 ghost use Rattle.tab.specs.Places.{place_in, Opened, token_in, field_in};
 
 // A column of a tab.
-#[derive(Drop)]
+#[derive(Clone, Copy)]
 pub enum Column {
     Level,
     Moves,
@@ -16,14 +16,14 @@ pub enum Column {
 }
 
 // The place after something, if it is there.
-#[derive(Drop)]
+#[derive(Clone, Copy)]
 enum Place {
     Nowhere,
     At(usize),
 }
 
 // A number, 0 for a name, and the place after it.
-#[derive(Drop)]
+#[derive(Clone, Copy)]
 enum Token {
     Malformed,
     Value(u32, usize),
@@ -31,7 +31,7 @@ enum Token {
 
 // A field: whether it is well-formed, its number, and the place of the next one. Of a malformed field nothing but that
 // is told.
-#[derive(Drop)]
+#[derive(Clone, Copy)]
 pub struct Field {
     pub good: bool,
     pub value: u32,

@@ -23,7 +23,7 @@ fn field<'s, 'a>(r: &'s mut Reader<'a>, c: Column, header: bool) -> Field
 }
 
 // The fields of a line, in the order of the columns.
-#[derive(Drop)]
+#[derive(Clone, Copy)]
 pub struct Line {
     pub level: Field,
     pub moves: Field,
@@ -44,7 +44,7 @@ fn fields(tab: &[u8], at: usize, header: bool) -> Line
 // ---- lines
 
 // The numbers of a line, 0 in the header, and the place of the next line.
-#[derive(Drop)]
+#[derive(Clone, Copy)]
 pub enum Parsed {
     Malformed,
     Numbers(u32, u32, u32, usize),
@@ -78,7 +78,7 @@ pub fn row_at(tab: &[u8], at: usize) -> Parsed
 }
 
 // The place of the lines after the header.
-#[derive(Drop)]
+#[derive(Clone, Copy)]
 pub enum AfterHeader {
     Missing,
     Lines(usize),
