@@ -1,0 +1,29 @@
+use native.Mathlib.Omega.{arith}
+use Prim.Native.Nat.{ℕ, ◌+◌, ◌*◌}
+use mathlib.Core.Path.{◌≡◌, refl}
+use Rattle.memory.specs.Cases.{either}
+use lib.ListN.{length}
+use Rattle.fields.specs.Sources.{field_byte}
+use Rattle.memory.specs.Lists.{is_tabulate}
+use Rattle.fields.proofs.field_run.Goals as goal
+
+pub returns-then-out-eq0 : goal.returns-then-out-eq0
+returns-then-out-eq0 c =
+    let x = c.before.before.before.args in
+    is_tabulate x.out.now (length x.out.now) (λ (i : ℕ). field_byte x.bytes.now x.s x.w (x.y + i)) refl (λ i h. absurd (omega arith))
+
+pub copy_run-requires : goal.copy_run-requires
+copy_run-requires c =
+    let x = c.before.before.before.before.before.before in
+    (x.requires.aligned.0, omega arith, omega arith, x.requires.aligned.2)
+
+pub wide_run-requires : goal.wide_run-requires
+wide_run-requires c =
+    let x = c.before.before.before.before.before.before.before in
+    ((x.requires.aligned.0, omega arith, omega arith, x.requires.aligned.2), x.requires.whole)
+
+pub halve_run-requires : goal.halve_run-requires
+halve_run-requires c =
+    let x = c.before.before.before.before.before.before.before in
+    let half : x.args.s.step ≡ 2 * x.args.w = either x.requires.aligned.1 (λ a. absurd (omega arith)) (λ a. either a (λ e. absurd (omega arith)) (λ e. e)) in
+    (x.requires.aligned.0, omega arith, half, x.requires.aligned.2)

@@ -1,0 +1,27 @@
+use borrow.Author.Rules.{rules}
+use native.Mathlib.Omega.{arith}
+use mathlib.Core.Path.{refl}
+use Rattle.filter.specs.Filter.{array_bit, with_key}
+use Rattle.filter.proofs.Pairs.{put_ext}
+use Rattle.fnv.specs.Hashed.{bytes_of}
+use Rattle.filter.proofs.page.half_filter.Goals as goal
+
+pub new_filter-requires : goal.new_filter-requires
+new_filter-requires c =
+    let P = c.before.before.before.requires.unit_sound in
+    ((P.0, P.1, omega arith, P.2), refl)
+
+pub put_fourths-requires : goal.put_fourths-requires
+put_fourths-requires c =
+    let s = c.before.before.before.before.before.before.before in
+    let U = s.requires.unit_sound.0.1 in
+    (U.some, U.most, s.requires.f_bound.0, search rules, search rules)
+
+pub returns : goal.returns
+returns c =
+    let n = c.before.before.before.before.before.before in
+    let s = n.before.before.before.before in
+    let x = s.args in
+    put_ext x.chip.unit x.f (array_bit n.new_filter.new.1.1.1.1.1.1.0)
+    (with_key x.chip.unit x.count x.at 4 (bytes_of x.last) x.ram.now) x.out.now _
+    (λ y h. n.new_filter.ensures y (omega (arith, h, s.requires.unit_sound.0.1.most))) c.before.before.put_fourths.ensures
