@@ -265,7 +265,7 @@ returns-then-r c =
     let b = start_of G in
     let j = b.args.j in
     let e = ap (test_stop j) c.if-r.true in
-    (block_lt G, (part_ended (left i (gate_at b) (shows G)) (part W (gate_at b) (shows G)) (found j) e).0)
+    record { start = block_lt G; found = (part_ended (left i (gate_at b) (shows G)) (part W (gate_at b) (shows G)) (found j) e).0 }
 
 pub loop-w-smaller : goal.loop-w-smaller
 loop-w-smaller c = let i = visit c.before.before in omega (arith, i.loop-w-test.true)
@@ -286,4 +286,4 @@ pub returns : goal.returns
 returns c =
     let l = c.before in
     let G = told l.before in
-    (block_lt G, (words_end l.loop-w.invariant (gate_at (start_of G)) (shows G) (omega arith) (block_lt G)).found)
+    record { start = block_lt G; found = (words_end l.loop-w.invariant (gate_at (start_of G)) (shows G) (omega arith) (block_lt G)).found }

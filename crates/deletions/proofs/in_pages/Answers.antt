@@ -47,7 +47,7 @@ loop-below-init c =
 pub in_block-w-requires : goal.in_block-w-requires
 in_block-w-requires c =
     let l = c.before in
-    ((start_of l).requires, (omega arith, l.loop-below.invariant.low))
+    record { deletions_fit = (start_of l).requires; below_nonzero = (omega arith, l.loop-below.invariant.low) }
 
 -- ---- after a block
 

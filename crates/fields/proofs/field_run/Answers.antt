@@ -20,7 +20,7 @@ copy_run-requires c =
 pub wide_run-requires : goal.wide_run-requires
 wide_run-requires c =
     let x = c.before.before.before.before.before.before.before in
-    ((x.requires.aligned.0, omega arith, omega arith, x.requires.aligned.2), x.requires.whole)
+    record { aligned = (x.requires.aligned.0, omega arith, omega arith, x.requires.aligned.2); whole = x.requires.whole }
 
 pub halve_run-requires : goal.halve_run-requires
 halve_run-requires c =

@@ -17,7 +17,7 @@ erase_block-requires c =
     let l = c.before.before.before in
     let x = l.before.before.before.args in
     let h : x.b + l.loop-i.i + 1 ≤ x.b + x.k = omega arith in
-    ((omega arith, omega (arith, mul-le-mul_right (block x.chip.unit) h)), omega arith)
+    record { unit_bound = (omega arith, omega (arith, mul-le-mul_right (block x.chip.unit) h)); sectors_per_block_in_bounds = omega arith }
 
 pub loop-i-preserved : goal.loop-i-preserved
 loop-i-preserved c =

@@ -33,7 +33,4 @@ returns c =
     let q = fnv_family 0 (bytes_of x.x) % 4 in
     let size = 16 * x.chip.unit in
     let each : (j : ℕ) → j < x.count → get_or l.ps j 0 ≡ q * size + fnv_family (j + 1) (bytes_of x.x) % size
-    = λ j h. (l.invariant.2 j (omega arith)).0 ∙ ap (λ (z : ℕ). z + fnv_family (j + 1) (bytes_of x.x) % size) f.fourth_of-start.ensures.0 in (
-      filled fnv_family x.count x.chip.unit (bytes_of x.x) l.ps (omega arith) l.invariant.1 each (λ j h k. l.invariant.3 j (omega arith) k),
-      λ j h. (l.invariant.2 j (omega arith)).1,
-    )
+    = λ j h. (l.invariant.2 j (omega arith)).0 ∙ ap (λ (z : ℕ). z + fnv_family (j + 1) (bytes_of x.x) % size) f.fourth_of-start.ensures.0 in record { equal = filled fnv_family x.count x.chip.unit (bytes_of x.x) l.ps (omega arith) l.invariant.1 each (λ j h k. l.invariant.3 j (omega arith) k); below = λ j h. (l.invariant.2 j (omega arith)).1 }

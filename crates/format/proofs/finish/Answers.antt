@@ -22,10 +22,7 @@ erase_blocks-requires c =
     let s = c.before.before.before.before.before.before.before in
     let n = s.requires.1 in
     let u : ℕ = s.args.g.chip.unit in
-    let h : s.args.budget ≤ layout.blocks (shape s.args.g) = omega (arith, c.before.before.if-budget-blocks.true, c.before.before.before.blocks-blocks.ensures) in (
-      (n.sound.unit.1.most, omega (arith, mul-le-mul_right (layout.block u) h, n.long.read.main_fits)),
-      omega (arith, h, n.long.spare_fits),
-    )
+    let h : s.args.budget ≤ layout.blocks (shape s.args.g) = omega (arith, c.before.before.if-budget-blocks.true, c.before.before.before.blocks-blocks.ensures) in record { unit_bound = (n.sound.unit.1.most, omega (arith, mul-le-mul_right (layout.block u) h, n.long.read.main_fits)); sectors_per_block_in_bounds = omega (arith, h, n.long.spare_fits) }
 
 pub returns-then-budget-blocks : goal.returns-then-budget-blocks
 returns c s =

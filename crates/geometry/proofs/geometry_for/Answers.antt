@@ -18,7 +18,7 @@ row_sector c = ap (λ (r : SizeRow). r.sector) (sym c.before.row_at-row.ensures.
 pub with_blocks-requires : goal.with_blocks-requires
 with_blocks-requires c =
     let r = c.before.before.row_at-row in
-    row_is r.result _ r.ensures.1 c.if-row-size.true
+    row_is r.result _ r.ensures.ruled c.if-row-size.true
 
 pub returns-then-row-size : goal.returns-then-row-size
 returns-then-row-size c =
@@ -26,7 +26,7 @@ returns-then-row-size c =
     let s = sizes_is l.before.before.args.sizes in
     let hit : from_row s.sector_size 0 ≡ true = l.loop-i.invariant.1 ∙ from_hit s.sector_size l.loop-i.i (omega arith) (row_sector c.before.before ∙ c.before.if-row-size.true) in
     let e : c.with_blocks.result ≡ shaped_of s = c.with_blocks.ensures ∙ sym (shaped_hit s hit) in
-    (e, rw e (shaped_sound s))
+    record { equal = e; sound = rw e (shaped_sound s) }
 
 pub loop-i-preserved : goal.loop-i-preserved
 loop-i-preserved c =
@@ -37,4 +37,4 @@ loop-i-preserved c =
 pub returns : goal.returns
 returns c =
     let s = sizes_is c.before.before.before.args.sizes in
-    (sym (shaped_miss s (c.before.loop-i.invariant.1 ∙ from_end s.sector_size c.before.loop-i.i (omega arith))), tt)
+    record { equal = sym (shaped_miss s (c.before.loop-i.invariant.1 ∙ from_end s.sector_size c.before.loop-i.i (omega arith))); sound = tt }

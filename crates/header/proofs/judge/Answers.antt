@@ -23,7 +23,7 @@ pub returns-in-Refused : goal.returns-in-Refused
 returns-in-Refused c =
     let i = c.before in
     let j = i.before.before in
-    (idle_refused (handed j) i.i.given.0.0 (sym i.i.given.1 ∙ j.judge.ensures.equal), tt)
+    record { equal = idle_refused (handed j) i.i.given.0.0 (sym i.i.given.1 ∙ j.judge.ensures.equal); fits = tt }
 
 -- of a volume that is not refused by 1 and 2
 fits : (c : goal.In-Good-2) → VolumeFits (on_pages (handed c.before.before)) c.g.given.0.0
@@ -46,9 +46,9 @@ by_kind c =
 pub returns-then-word-ne-NONE : goal.returns-then-word-ne-NONE
 returns-then-word-ne-NONE c =
     let e = by_kind c.before in
-    (rw (ne_eqb _ _ c.if-word-ne-NONE.true) at e, tt)
+    record { equal = rw (ne_eqb _ _ c.if-word-ne-NONE.true) at e; fits = tt }
 
 pub returns-in-Good : goal.returns-in-Good
 returns-in-Good c =
     let e = by_kind c.before in
-    (rw (eq-eqb _ _ c.if-word-ne-NONE.false) at e, fits c.before.before.before)
+    record { equal = rw (eq-eqb _ _ c.if-word-ne-NONE.false) at e; fits = fits c.before.before.before }

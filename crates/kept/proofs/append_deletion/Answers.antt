@@ -12,7 +12,7 @@ append_item-requires c =
     let b = c.before.before.before.before.before in
     let x = b.args in
     let P = b.requires in
-    append_fits x.g P.0 a.result (DA (shape x.g)) a.ensures.0 a.ensures.1 _ _
+    append_fits x.g P.0 a.result (DA (shape x.g)) a.ensures.equal a.ensures.sound _ _
     (length_part x.new.now 0 4 (omega (arith, P.1))) refl (omega arith) (omega arith) P.2
 
 pub returns : goal.returns

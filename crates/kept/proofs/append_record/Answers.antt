@@ -12,7 +12,7 @@ append_item-requires c =
     let b = c.before.before.before.before.before.before in
     let x = b.args in
     let P = b.requires in
-    append_fits x.g P.0 a.result (Ra (shape x.g)) a.ensures.0 a.ensures.1 _ _
+    append_fits x.g P.0 a.result (Ra (shape x.g)) a.ensures.equal a.ensures.sound _ _
     (length_part x.new.now 4 16 (omega (arith, P.1))) refl (omega arith) (omega arith) P.2
 
 pub append_item-requires-2 : goal.append_item-requires-2
@@ -22,7 +22,7 @@ append_item-requires-2 c =
     let b = r.before.before.before.before.before.before.before.before.before in
     let x = b.args in
     let P = b.requires in
-    append_fits x.g P.0 a.result (KA (shape x.g)) a.ensures.0 a.ensures.1 _ _
+    append_fits x.g P.0 a.result (KA (shape x.g)) a.ensures.equal a.ensures.sound _ _
     (length_part x.new.now 20 8 (omega (arith, P.1))) refl (omega arith) (omega arith) (omega (arith, P.2, r.before.ram.given))
 
 pub returns : goal.returns

@@ -17,7 +17,7 @@ keep_item-requires c =
     let b = c.before.before.before.before.before.before in
     let x = b.args in
     let P = b.requires in
-    item_fits x.g P.0 a.result (DA (shape x.g)) a.ensures.0 a.ensures.1 _ _
+    item_fits x.g P.0 a.result (DA (shape x.g)) a.ensures.equal a.ensures.sound _ _
     (length_part x.new.now 0 4 (omega (arith, P.1))) (omega arith) (omega arith) P.3
 
 pub returns-then-not-fills : goal.returns-then-not-fills

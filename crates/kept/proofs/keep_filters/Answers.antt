@@ -37,14 +37,11 @@ put_fourths-requires c =
     let x = b.args in
     let P = b.requires in
     let z = c.before.before.fourth_size-fourth in
-    let u = x.chip.unit in (
-      (
+    let u = x.chip.unit in record { unit_bound = (
         P.0.0,
         fourths_fit u z.result z.ensures x.first x.n _ P.1.0,
         piece_fits u z.result z.ensures x.first x.n P.0.2,
-      ),
-      slots_fit u z.result z.ensures x.first x.n x.ix.ska _ P.0.3 P.1.1,
-    )
+      ); piece_in_bounds = slots_fit u z.result z.ensures x.first x.n x.ix.ska _ P.0.3 P.1.1 }
 
 pub overflow_add-first : goal.overflow_add-first
 overflow_add-first c =

@@ -20,7 +20,7 @@ keep_item-requires c =
     let x = b2.args in
     let P = b2.requires in
     let a = b1.record_area in
-    item_fits x.g P.0 a.result (Ra (shape x.g)) a.ensures.0 a.ensures.1
+    item_fits x.g P.0 a.result (Ra (shape x.g)) a.ensures.equal a.ensures.sound
     _ _ (length_part x.new.now 4 16 (omega (arith, P.1)))
     (omega arith) (omega arith) P.3
 
@@ -32,7 +32,7 @@ keep_item-requires-2 c =
     let x = b3.args in
     let P = b3.requires in
     let a = b1.entry_area-entries in
-    item_fits x.g P.0 a.result (KA (shape x.g)) a.ensures.0 a.ensures.1
+    item_fits x.g P.0 a.result (KA (shape x.g)) a.ensures.equal a.ensures.sound
     _ _ (length_part x.new.now 20 8 (omega (arith, P.1)))
     (omega arith) (omega arith) (omega (arith, P.3, b2.ram.given))
 

@@ -14,14 +14,11 @@ cuts c = record { a_is = c.before.before.below-a.ensures; b_is = c.before.below-
 pub field_run-requires : goal.field_run-requires
 field_run-requires c =
     let b = c.before in
-    let x = b.before.before.before.before.before.before.before in (
-      (
+    let x = b.before.before.before.before.before.before.before in record { aligned = (
         x.requires.source_fits.0.old_aligned,
         x.requires.source_fits.0.old_near,
         λ i h. old_run x.args.main.now x.args.r x.args.y (length x.args.out.now) b.before.before.below-a.result b.before.below-b.result b.less-from.result x.requires.source_fits.0 (cuts b) i (let t = take_lt x.args.out.now (b.before.before.below-a.result - 0) i h in omega arith),
-      ),
-      old_part x.args.main.now x.args.r x.args.y (length x.args.out.now) b.before.before.below-a.result b.before.below-b.result b.less-from.result x.requires.source_fits.0 (cuts b) x.requires.whole.0 x.requires.whole.1 x.args.out.now refl,
-    )
+      ); whole = old_part x.args.main.now x.args.r x.args.y (length x.args.out.now) b.before.before.below-a.result b.before.below-b.result b.less-from.result x.requires.source_fits.0 (cuts b) x.requires.whole.0 x.requires.whole.1 x.args.out.now refl }
 
 pub l1_bytes-requires : goal.l1_bytes-requires
 l1_bytes-requires c =

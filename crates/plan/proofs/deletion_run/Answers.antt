@@ -22,11 +22,8 @@ page_run-requires c =
     let x = s.args in
     let P = s.requires.plan_fits in
     let n = length x.ram.now in
-    let i = length_part x.new.now 0 4 (omega (arith, s.requires.len.0)) in (
-      at_numbers (λ a m s. PageFits x.p.chip.unit (record { sector = x.p.da.first; at = a }) m s n) _ _ _ _ _ _
-          a.page_address.ensures refl refl P.da,
-      (among_le _ _ _ 4 r.among.ensures P.da_count, omega (arith, i, P.some)),
-    )
+    let i = length_part x.new.now 0 4 (omega (arith, s.requires.len.0)) in record { page_fits = at_numbers (λ a m s. PageFits x.p.chip.unit (record { sector = x.p.da.first; at = a }) m s n) _ _ _ _ _ _
+          a.page_address.ensures refl refl P.da; to_le_sectors_per_page = (among_le _ _ _ 4 r.among.ensures P.da_count, omega (arith, i, P.some)) }
 
 pub slice_bounds-index_run-end : goal.slice_bounds-index_run-end
 slice_bounds-index_run-end c =

@@ -20,10 +20,7 @@ flush_step-requires c =
     let x = c.before.before.before.before.before.before.before.before.before.args in
     let P = c.before.before.before.before.before.before.before.before.before.requires in
     let k = length x.fourths.now in
-    let n = length x.ram.now in (
-      at_lengths (λ m s. FlushFits x.chip.unit x.f k m s n) _ _ _ _ l.invariant.2 l.invariant.3 P.0,
-      omega (arith, c.before.before.loop-j-test.true, P.1),
-    )
+    let n = length x.ram.now in record { flush_fits = at_lengths (λ m s. FlushFits x.chip.unit x.f k m s n) _ _ _ _ l.invariant.2 l.invariant.3 P.0; j_lt_sectors_per_page = omega (arith, c.before.before.loop-j-test.true, P.1) }
 
 pub loop-j-preserved : goal.loop-j-preserved
 loop-j-preserved c =

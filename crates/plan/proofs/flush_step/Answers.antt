@@ -67,10 +67,7 @@ program_joined-requires c =
     let e : z.sector_size-size.result ≡ sector x.chip.unit = z.sector_size-size.ensures in
     let n = length_part x.ram.now (x.f.at + a.sector_address.result) (z.sector_size-size.result - x.f.piece)
     (omega (arith, in_ram_lem a)) in
-    let k = length_part x.fourths.now (x.j * x.f.piece) x.f.piece (omega (arith, in_fourths a)) in (
-      (P.0.small, omega (arith, n, k, e, P.0.in_sector)),
-      (flush_on_flash x.chip.unit x.f _ _ _ _ P.0 x.j P.1, omega (arith, P.0.in_spare, P.1)),
-    )
+    let k = length_part x.fourths.now (x.j * x.f.piece) x.f.piece (omega (arith, in_fourths a)) in record { unit_bound = (P.0.small, omega (arith, n, k, e, P.0.in_sector)); unit_in_bounds = (flush_on_flash x.chip.unit x.f _ _ _ _ P.0 x.j P.1, omega (arith, P.0.in_spare, P.1)) }
 
 pub returns : goal.returns
 returns c =

@@ -22,7 +22,7 @@ pub shared_bytes-requires : goal.shared_bytes-requires
 shared_bytes-requires c =
     let x = c.before.before.before.before.before.before in
     let P = x.requires.next_fits.0 in
-    ((P.unit, P.rounds, P.near), (omega (arith, P.sectors, x.requires.next_fits.1), (P.sides, refl)))
+    record { unit_sound = (P.unit, P.rounds, P.near); p_bound = omega (arith, P.sectors, x.requires.next_fits.1); unit_in_bounds = P.sides; out_len = refl }
 
 pub loop-j-init : goal.loop-j-init
 loop-j-init c =
@@ -46,10 +46,10 @@ up_to-some-requires c =
     (f.0, f.1, omega (arith, l), omega arith)
 
 -- a turn goes on
-turn : (c : goal.After-up_to-some) → Turn c.before.before.before.loop-j.j c.before.before.before.before.before.before.before.before.before.before.before.before.args.part.to c.up_to_lem.result
+turn : (c : goal.After-up_to-some) → Turn c.before.before.before.loop-j.j c.before.before.before.before.before.before.before.before.before.before.before.before.args.part.to c.up_to-some.result
 turn c =
     let n = c.before.before.before.before.before.before.before.before.before.at_once-n in
-    turn_of c.before.before.before.loop-j.j n.result c.before.before.before.before.before.before.before.before.before.before.before.before.args.part.to c.up_to_lem.result (steps_few n.result n.ensures.1).0 (omega arith) c.up_to_lem.ensures
+    turn_of c.before.before.before.loop-j.j n.result c.before.before.before.before.before.before.before.before.before.before.before.before.args.part.to c.up_to-some.result (steps_few n.result n.ensures.1).0 (omega arith) c.up_to-some.ensures
 
 pub slice_bounds-page_part-end : goal.slice_bounds-page_part-end
 slice_bounds-page_part-end c = omega (arith, c.before.before.before.before.loop-j.invariant.5.size)
@@ -63,15 +63,9 @@ page_part-requires c =
     let T = turn d in
     let u = x.args.chip.unit in
     let F = x.requires.next_fits.0 in
-    let e = d.up_to_lem.ensures in
-    let h : l.j < x.args.part.to = omega arith in (
-      (next_part u x.args.set x.args.s x.args.part.to d.up_to_lem.result.to _ _ _ _ F T.most l.invariant.2 l.invariant.3, omega (arith, T.first, T.more)),
-      (
-        rw e (of_page u l.j n.result x.args.part.to n.ensures.1 n.ensures.2 h),
-        rw T.first (shared_at u x.args.set x.args.s x.args.part.to x.args.main.now x.args.spare.now l.main l.spare F x.args.part.from l.j _
-            l.invariant.0 h (x.requires.beside l.j l.invariant.0 h) l.invariant.4 l.invariant.5),
-      ),
-    )
+    let e = d.up_to-some.ensures in
+    let h : l.j < x.args.part.to = omega arith in record { next_fits = (next_part u x.args.set x.args.s x.args.part.to d.up_to-some.result.to _ _ _ _ F T.most l.invariant.2 l.invariant.3, omega (arith, T.first, T.more)); of_page = rw e (of_page u l.j n.result x.args.part.to n.ensures.1 n.ensures.2 h); shares = rw T.first (shared_at u x.args.set x.args.s x.args.part.to x.args.main.now x.args.spare.now l.main l.spare F x.args.part.from l.j _
+            l.invariant.0 h (x.requires.beside l.j l.invariant.0 h) l.invariant.4 l.invariant.5) }
 
 pub loop-j-smaller : goal.loop-j-smaller
 loop-j-smaller c =
@@ -89,7 +83,7 @@ loop-j-preserved c =
       T.most,
       omega arith,
       omega arith,
-      turn_span u (next_set u x.args.set x.args.s) x.args.part.from l.j d.up_to_lem.result (flash_of x.args.main.now x.args.spare.now)
+      turn_span u (next_set u x.args.set x.args.s) x.args.part.from l.j d.up_to-some.result (flash_of x.args.main.now x.args.spare.now)
           T.first l.invariant.0 (omega (arith, T.more)) l.invariant.4 c.before.before.before.before.page_part.ensures,
       l.invariant.5,
     )

@@ -15,7 +15,7 @@ pub flush_run-requires : goal.flush_run-requires
 flush_run-requires c =
     let r = c.before.before in
     let s = r.before.before.before.before.before.before.before.before in
-    (s.requires.flush, among_le _ _ _ 4 r.among.ensures s.requires.flush_count)
+    record { flush_fits = s.requires.flush; to_le_sectors_per_page = among_le _ _ _ 4 r.among.ensures s.requires.flush_count }
 
 pub returns-then-later-eq0 : goal.returns-then-later-eq0
 returns-then-later-eq0 c =

@@ -10,20 +10,14 @@ pub set_sectors-requires : goal.set_sectors-requires
 set_sectors-requires c =
     let x = c.before.before.before.before.before.before.before in
     let P = x.requires.next_fits.0 in
-    let n = c.before.before.sector_address-n in (
-      (P.unit, P.rounds, P.near),
-      (
-        omega (arith, P.sectors, x.requires.next_fits.1),
-        (P.sides, (x.requires.of_page.1, in_page x.args.chip.unit n.result _ x.args.part x.requires.of_page.0 n.ensures (made_size _ n.result (omega (arith, n.ensures, x.requires.of_page.0.small))))),
-      ),
-    )
+    let n = c.before.before.sector_address-n in record { unit_sound = (P.unit, P.rounds, P.near); j_bound = omega (arith, P.sectors, x.requires.next_fits.1); unit_in_bounds = P.sides; shares = x.requires.shares; in_page = in_page x.args.chip.unit n.result _ x.args.part x.requires.of_page n.ensures (made_size _ n.result (omega (arith, n.ensures, x.requires.of_page.small))) }
 
 -- so many bytes are made
 made : (d : goal.After-set_sectors) → length d.set_sectors.new.1.1.1.1.1.0 ≡ d.before.before.before.sector_address-n.result
 made d =
     let x = d.before.before.before.before.before.before.before.before in
     let n = d.before.before.before.sector_address-n in
-    ap length d.set_sectors.ensures ∙ (length_tabulate _ _ ∙ made_size _ n.result (omega (arith, n.ensures, x.requires.of_page.0.small)))
+    ap length d.set_sectors.ensures ∙ (length_tabulate _ _ ∙ made_size _ n.result (omega (arith, n.ensures, x.requires.of_page.small)))
 
 pub slice_bounds-program_sectors-end : goal.slice_bounds-program_sectors-end
 slice_bounds-program_sectors-end c =
@@ -36,10 +30,7 @@ program_sectors-requires c =
     let P = x.requires.next_fits.0 in
     let d = c.before.before.before.before.before.before in
     let n = d.before.before.before.sector_address-n in
-    let e : x.args.s + x.args.part.from + (x.args.part.to - x.args.part.from) ≡ x.args.s + x.args.part.to = omega (arith, x.requires.next_fits.1) in (
-      (P.unit.1.most, ap length (made_are d.set_sectors.new.1.1.1.1.1.0 _ n.result (made d)) ∙ (made d ∙ n.ensures)),
-      (rw e P.in_main, rw e P.in_spare),
-    )
+    let e : x.args.s + x.args.part.from + (x.args.part.to - x.args.part.from) ≡ x.args.s + x.args.part.to = omega (arith, x.requires.next_fits.1) in record { unit_bound = (P.unit.1.most, ap length (made_are d.set_sectors.new.1.1.1.1.1.0 _ n.result (made d)) ∙ (made d ∙ n.ensures)); unit_in_bounds = (rw e P.in_main, rw e P.in_spare) }
 
 pub returns : goal.returns
 returns c =

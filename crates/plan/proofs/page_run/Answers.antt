@@ -19,10 +19,7 @@ page_step-requires c =
     let l = c.before.before.before.before.loop-j in
     let x = c.before.before.before.before.before.before.before.before.before.args in
     let P = c.before.before.before.before.before.before.before.before.before.requires in
-    let n = length x.ram.now in (
-      at_lengths (λ m s. PageFits x.chip.unit x.page m s n) _ _ _ _ l.invariant.2 l.invariant.3 P.0,
-      (omega (arith, c.before.before.loop-j-test.true, P.1.0), P.1.1),
-    )
+    let n = length x.ram.now in record { page_fits = at_lengths (λ m s. PageFits x.chip.unit x.page m s n) _ _ _ _ l.invariant.2 l.invariant.3 P.0; j_lt_sectors_per_page = (omega (arith, c.before.before.loop-j-test.true, P.1.0), P.1.1) }
 
 pub loop-j-preserved : goal.loop-j-preserved
 loop-j-preserved c =

@@ -40,10 +40,7 @@ program_sector-requires c =
     let size = a.before.before.sector_size-size in
     let x = a.before.before.before.before.before.before.before.args in
     let P = a.before.before.before.before.before.before.before.requires in
-    let e : size.result ≡ sector x.chip.unit = size.ensures in (
-      (P.0.small, length_part x.ram.now (x.page.at + a.sector_address.result) size.result (in_ram_lem a) ∙ e),
-      (page_on_flash x.chip.unit x.page _ _ _ P.0 x.j P.1.0, omega (arith, P.0.in_spare, P.1.0)),
-    )
+    let e : size.result ≡ sector x.chip.unit = size.ensures in record { unit_bound = (P.0.small, length_part x.ram.now (x.page.at + a.sector_address.result) size.result (in_ram_lem a) ∙ e); unit_in_bounds = (page_on_flash x.chip.unit x.page _ _ _ P.0 x.j P.1.0, omega (arith, P.0.in_spare, P.1.0)) }
 
 pub returns-then-j-lt-SECTORS_PER_PAGE : goal.returns-then-j-lt-SECTORS_PER_PAGE
 returns-then-j-lt-SECTORS_PER_PAGE c =
@@ -74,10 +71,7 @@ program_joined-requires c =
     let P = a.before.before.before.before.before.before.before.requires in
     let e : size.result ≡ sector x.chip.unit = size.ensures in
     let n = length x.item.now in
-    let l = length_part x.ram.now (x.page.at + a.sector_address.result) (size.result - n) (omega (arith, in_ram_lem a)) in (
-      (P.0.small, omega (arith, l, e, P.1.1)),
-      (page_on_flash x.chip.unit x.page _ _ _ P.0 x.j P.1.0, omega (arith, P.0.in_spare, P.1.0)),
-    )
+    let l = length_part x.ram.now (x.page.at + a.sector_address.result) (size.result - n) (omega (arith, in_ram_lem a)) in record { unit_bound = (P.0.small, omega (arith, l, e, P.1.1)); unit_in_bounds = (page_on_flash x.chip.unit x.page _ _ _ P.0 x.j P.1.0, omega (arith, P.0.in_spare, P.1.0)) }
 
 pub returns : goal.returns
 returns c =

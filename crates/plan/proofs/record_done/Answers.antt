@@ -7,21 +7,21 @@ pub overflow_add-result : goal.overflow_add-result
 overflow_add-result c =
     let a = c.before.before in
     let x = a.before.before.args in
-    omega (arith, a.index_done_lem.ensures, index_done_le x.p.ka_index x.spare.now, a.before.before.requires.1)
+    omega (arith, a.index_done-in_index.ensures, index_done_le x.p.ka_index x.spare.now, a.before.before.requires.1)
 
 pub overflow_add-result-then-in_index-gt0 : goal.overflow_add-result-then-in_index-gt0
 overflow_add-result-then-in_index-gt0 c =
     let a = c.before.before.before in
     let x = a.before.before.args in
-    omega (arith, a.index_done_lem.ensures, index_done_le x.p.ka_index x.spare.now, a.before.before.requires.1)
+    omega (arith, a.index_done-in_index.ensures, index_done_le x.p.ka_index x.spare.now, a.before.before.requires.1)
 
 pub returns-then-in_index-gt0 : goal.returns-then-in_index-gt0
 returns-then-in_index-gt0 c =
     let t = c.before.before in
     let a = t.before in
-    let x = a.index_done_lem.result in
+    let x = a.index_done-in_index.result in
     let k = a.before.before.args.p.ka.count in
-    later (k + x) _ _ _ (later x k _ _ a.index_done_lem.ensures t.if-in_index-gt0.true) (omega (arith, t.if-in_index-gt0.true))
+    later (k + x) _ _ _ (later x k _ _ a.index_done-in_index.ensures t.if-in_index-gt0.true) (omega (arith, t.if-in_index-gt0.true))
 
 pub overflow_add-result-then-in_ka-gt0 : goal.overflow_add-result-then-in_ka-gt0
 overflow_add-result-then-in_ka-gt0 c =
@@ -37,7 +37,7 @@ returns-then-in_ka-gt0 c =
     let a = t.before in
     let y = b.last_programmed-in_ka.result in
     later y _ _ _
-    (earlier a.index_done_lem.result y _ _ _ a.index_done_lem.ensures (omega (arith, t.if-in_index-gt0.false)) b.last_programmed-in_ka.ensures)
+    (earlier a.index_done-in_index.result y _ _ _ a.index_done-in_index.ensures (omega (arith, t.if-in_index-gt0.false)) b.last_programmed-in_ka.ensures)
     c.before.if-in_ka-gt0.true
 
 pub returns : goal.returns
@@ -47,5 +47,5 @@ returns c =
     let a = t.before in
     let y = b.last_programmed-in_ka.result in
     earlier y c.last_programmed.result _ _ _
-    (earlier a.index_done_lem.result y _ _ _ a.index_done_lem.ensures (omega (arith, t.if-in_index-gt0.false)) b.last_programmed-in_ka.ensures)
+    (earlier a.index_done-in_index.result y _ _ _ a.index_done-in_index.ensures (omega (arith, t.if-in_index-gt0.false)) b.last_programmed-in_ka.ensures)
     (omega (arith, c.before.if-in_ka-gt0.false)) c.last_programmed.ensures

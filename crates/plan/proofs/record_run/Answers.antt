@@ -16,11 +16,8 @@ page_run-requires c =
     let x = s.args in
     let P = s.requires.plan_fits in
     let n = length x.ram.now in
-    let i = length_part x.new.now 4 16 (omega (arith, s.requires.len.0)) in (
-      at_numbers (λ a m s. PageFits x.p.chip.unit (record { sector = x.p.ra.first; at = a }) m s n) _ _ _ _ _ _
-          (omega (arith, a.page_address.ensures)) refl refl P.ra,
-      (among_le _ _ _ 4 r.among.ensures P.ra_count, omega (arith, i, P.some)),
-    )
+    let i = length_part x.new.now 4 16 (omega (arith, s.requires.len.0)) in record { page_fits = at_numbers (λ a m s. PageFits x.p.chip.unit (record { sector = x.p.ra.first; at = a }) m s n) _ _ _ _ _ _
+          (omega (arith, a.page_address.ensures)) refl refl P.ra; to_le_sectors_per_page = (among_le _ _ _ 4 r.among.ensures P.ra_count, omega (arith, i, P.some)) }
 
 pub slice_bounds-page_run-end-2 : goal.slice_bounds-page_run-end-2
 slice_bounds-page_run-end-2 c =
@@ -38,11 +35,8 @@ page_run-requires-2 c =
     let x = s.args in
     let P = s.requires.plan_fits in
     let n = length x.ram.now in
-    let i = length_part x.new.now 20 8 (omega (arith, s.requires.len.0)) in (
-      at_numbers (λ a m s. PageFits x.p.chip.unit (record { sector = x.p.ka.first; at = a }) m s n) _ _ _ _ _ _
-          (omega (arith, a.page_address-2.ensures)) (omega (arith, m.main.given)) (omega (arith, k.spare.given)) P.ka,
-      (among_le _ _ _ 4 r.among-2.ensures P.ka_count, omega (arith, i, P.some)),
-    )
+    let i = length_part x.new.now 20 8 (omega (arith, s.requires.len.0)) in record { page_fits = at_numbers (λ a m s. PageFits x.p.chip.unit (record { sector = x.p.ka.first; at = a }) m s n) _ _ _ _ _ _
+          (omega (arith, a.page_address-2.ensures)) (omega (arith, m.main.given)) (omega (arith, k.spare.given)) P.ka; to_le_sectors_per_page = (among_le _ _ _ 4 r.among-2.ensures P.ka_count, omega (arith, i, P.some)) }
 
 pub slice_bounds-index_run-end : goal.slice_bounds-index_run-end
 slice_bounds-index_run-end c =

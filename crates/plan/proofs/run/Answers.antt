@@ -16,10 +16,7 @@ record_run-requires c =
     let m = n.before.before in
     let s = m.before.before.before.before.before.before.before.before.before.before.before.before in
     let x = s.args in
-    let k = length x.ram.now in (
-      at_lengths (λ m s. PlanFits x.p m s k) _ _ _ _ (omega (arith, m.main.given)) (omega (arith, n.spare.given)) s.requires.plan_fits,
-      s.requires.len,
-    )
+    let k = length x.ram.now in record { plan_fits = at_lengths (λ m s. PlanFits x.p m s k) _ _ _ _ (omega (arith, m.main.given)) (omega (arith, n.spare.given)) s.requires.plan_fits; len = s.requires.len }
 
 pub returns : goal.returns
 returns c =
@@ -30,6 +27,6 @@ returns c =
     let n = b.before in
     let s = n.before.before.before.before.before.before in
     let x = s.args in
-    let e = n.deletion_count_lem.ensures in
+    let e = n.deletion_count-n.ensures in
     whole_run x.p x.new.now x.filters.now x.ram.now x.part b.behind-second.result (flash_of x.main.now x.spare.now)
     r.among.result (rw e at b.behind-second.ensures) (rw e at r.among.ensures) w.deletion_run.ensures d.record_run.ensures

@@ -28,10 +28,10 @@ up_to-some-requires c =
     (omega (arith, p.ensures.1), omega (arith, p.ensures.2), omega (arith, l), omega arith)
 
 -- a turn goes on
-turn : (c : goal.After-up_to-some) → Turn c.before.before.before.loop-j.j c.before.before.before.before.before.before.before.args.part.to c.up_to_lem.result
+turn : (c : goal.After-up_to-some) → Turn c.before.before.before.loop-j.j c.before.before.before.before.before.before.before.args.part.to c.up_to-some.result
 turn c =
     let p = c.before.before.before.before.pages_together-n in
-    turn_of c.before.before.before.loop-j.j (p.result * 4) c.before.before.before.before.before.before.before.args.part.to c.up_to_lem.result (omega (arith, p.ensures.1)) (omega arith) c.up_to_lem.ensures
+    turn_of c.before.before.before.loop-j.j (p.result * 4) c.before.before.before.before.before.before.before.args.part.to c.up_to-some.result (omega (arith, p.ensures.1)) (omega arith) c.up_to-some.ensures
 
 pub group_run-requires : goal.group_run-requires
 group_run-requires c =
@@ -39,13 +39,10 @@ group_run-requires c =
     let l = c.before.before.before.before.before.loop-j in
     let x = c.before.before.before.before.before.before.before.before.before in
     let p = d.before.before.before.before.pages_together-n in
-    let T = turn d in (
-      (
-        next_part x.args.chip.unit x.args.set x.args.s x.args.part.to d.up_to_lem.result.to _ _ _ _ x.requires T.most l.invariant.2 l.invariant.3,
+    let T = turn d in record { next_fits = (
+        next_part x.args.chip.unit x.args.set x.args.s x.args.part.to d.up_to-some.result.to _ _ _ _ x.requires T.most l.invariant.2 l.invariant.3,
         omega (arith, T.first, T.more),
-      ),
-      rw (d.up_to_lem.ensures, ← p.ensures.0) (beside l.j p.result x.args.part.to p.ensures.1 (omega arith)),
-    )
+      ); beside = rw (d.up_to-some.ensures, ← p.ensures.0) (beside l.j p.result x.args.part.to p.ensures.1 (omega arith)) }
 
 pub loop-j-smaller : goal.loop-j-smaller
 loop-j-smaller c =
@@ -63,7 +60,7 @@ loop-j-preserved c =
       omega (arith, T.most),
       omega arith,
       omega arith,
-      turn_span u (next_set u x.args.set x.args.s) x.args.part.from l.j d.up_to_lem.result (flash_of x.args.main.now x.args.spare.now)
+      turn_span u (next_set u x.args.set x.args.s) x.args.part.from l.j d.up_to-some.result (flash_of x.args.main.now x.args.spare.now)
           T.first l.invariant.0 (omega (arith, T.more)) l.invariant.4 c.before.before.before.before.group_run.ensures,
     )
 

@@ -19,7 +19,7 @@ set_block-requires c =
     let x = side.before.args in
     let z-le : x.filters / 8 / 16 / side.side_blocks-side.result ≤ 1024 = rw side.side_blocks-side.ensures P.2 in
     let c_lt : slot.slot-c.result < side_blocks x.chip.unit = rw (← side.side_blocks-side.ensures) slot.slot-c.ensures.1 in
-    ((P.0.1.most, P.1), (z-le, c_lt))
+    record { unit_bound = (P.0.1.most, P.1); full_sets_bound = (z-le, c_lt) }
 
 pub returns : goal.returns
 returns c =

@@ -275,7 +275,7 @@ entry_is N h = let S = N.next_with_key-t.ensures.some (reached N h) in rw S.0 S.
 pub entries-init : goal.entries-init
 entries-init c =
     let N = c.before in (
-      λ h. left_first (same_at N) N.before.before.bits.da_pages_lem N.next_with_key-t.result.entry (entry_is N h),
+      λ h. left_first (same_at N) N.before.before.bits.da_pages N.next_with_key-t.result.entry (entry_is N h),
       omega arith,
       N.before.before.bits.invariant.1,
       λ z. refl,
@@ -344,7 +344,7 @@ told_opened D =
 
 -- what was paid before the page and for it is part of the cost of all
 page_most : (N : Tries) → 0 < N.next_with_key-t.result.entry → let c = N.before in let b = start_of (known c) in let q = per_page b.args.v in
-    c.before.bits.da_pages_lem + scan_cost (try_in N) (cost_in N) 0 q ≤ pages_cost (gate_at b) (try_at b) (cost_at b) q b.args.below
+    c.before.bits.da_pages + scan_cost (try_in N) (cost_in N) 0 q ≤ pages_cost (gate_at b) (try_at b) (cost_at b) q b.args.below
 page_most N h =
     let c = N.before in
     let B = c.before in
@@ -415,7 +415,7 @@ bits-smaller c =
 vain_at : (E : AtEntry) → E.entries.e ≤ 0 → let N = E.before.before in let b = start_of (known N.before) in let q = per_page b.args.v in
     0 < newest_of N.before
     → (scan (try_at b) (page_of N.before * q) q ≡ none)
-    × (E.entries.da_pages_lem ≡ N.before.before.bits.da_pages_lem + scan_cost (try_at b) (cost_at b) (page_of N.before * q) q)
+    × (E.entries.da_pages ≡ N.before.before.bits.da_pages + scan_cost (try_at b) (cost_at b) (page_of N.before * q) q)
 vain_at E z h =
     let N = E.before.before in
     let p = told_some N h in
@@ -423,7 +423,7 @@ vain_at E z h =
     (sym (scan_at N p).0 ∙ e.0, omega (arith, e.1, (scan_at N p).1))
 
 -- none was tried where no page has an entry
-free_at : (E : AtEntry) → let N = E.before.before in newest_of N.before ≡ 0 → E.entries.da_pages_lem ≡ N.before.before.bits.da_pages_lem
+free_at : (E : AtEntry) → let N = E.before.before in newest_of N.before ≡ 0 → E.entries.da_pages ≡ N.before.before.bits.da_pages
 free_at E z = let N = E.before.before in E.entries.invariant.3 (N.next_with_key-t.ensures.none z).2
 
 pub bits-preserved : goal.bits-preserved
@@ -434,7 +434,7 @@ bits-preserved c =
     let B = Y.before in
     let left = c.entries-test.false in
     let z = word_next B.bits.invariant.0 (entry_at Y) (other Y) N.next_with_key-t.result.bits N.next_with_key-t.ensures.pages.false
-    (λ h. (vain_at E left h).0) E.entries.da_pages_lem (λ h. (vain_at E left h).1) (free_at E) in
+    (λ h. (vain_at E left h).0) E.entries.da_pages (λ h. (vain_at E left h).1) (free_at E) in
     (rw N.next_with_key-t.ensures.pages.opened z, E.entries.invariant.2)
 
 -- ---- the three ways out
@@ -445,11 +445,11 @@ returns-after-filters c =
     let G = l.before in
     let b = start_of G in
     let e = words_end l.filters.invariant.0 (gate_at b) (shows G) (omega arith) (block_at G).start-lt in
-    ((block_at G).start-lt, (rw l.filters.invariant.1 e.found, rw l.filters.invariant.1 e.price))
+    record { start = (block_at G).start-lt; found = rw l.filters.invariant.1 e.found; pages = rw l.filters.invariant.1 e.price }
 
 -- the page's scan ended
 ended : (N : Tries) (r : Stop) (sum : ℕ) → let c = N.before in let b = start_of (known c) in let x = b.args in let q = per_page x.v in
-    0 < N.next_with_key-t.result.entry → scan (try_in N) 0 q ≡ some r → sum ≡ c.before.bits.da_pages_lem + scan_cost (try_in N) (cost_in N) 0 q
+    0 < N.next_with_key-t.result.entry → scan (try_in N) 0 q ≡ some r → sum ≡ c.before.bits.da_pages + scan_cost (try_in N) (cost_in N) 0 q
     → (search_pages (gate_at b) (try_at b) q x.below ≡ reply (some r) (c.before.bits.opened + N.next_with_key-t.result.opened))
     × (pages_cost (gate_at b) (try_at b) (cost_at b) q x.below ≡ sum + 0)
 ended N r sum h e d =
@@ -471,7 +471,7 @@ returns-then-usize_of_u32-v c =
     let p = J.before.entries-test.true in
     let h = some_left E p in
     let e = left_corrupt (same_at N) (E.entries.invariant.0 h) p J.number_at-j.ensures (omega (arith, W.usize_of_u32.ensures)) in
-    ((block_at G).start-lt, ended N corrupt E.entries.da_pages_lem h e.0 e.1)
+    ((block_at G).start-lt, ended N corrupt E.entries.da_pages h e.0 e.1)
 
 pub returns-then-not-seen : goal.returns-then-not-seen
 returns-then-not-seen c =
@@ -483,4 +483,4 @@ returns-then-not-seen c =
     let h = some_left E (one_left D) in
     let e = left_found (same_at N) (E.entries.invariant.0 h) (one_left D) J.number_at-j.ensures (number_lt D)
     D.test-seen.result.met D.test-seen.result.opened (told_met D) (told_opened D) (not-true D.test-seen.result.met c.if-not-seen.true) in
-    ((block_at G).start-lt, ended N (found J.number_at-j.result) (E.entries.da_pages_lem + D.test-seen.result.opened) h e.0 e.1)
+    ((block_at G).start-lt, ended N (found J.number_at-j.result) (E.entries.da_pages + D.test-seen.result.opened) h e.0 e.1)

@@ -50,12 +50,9 @@ returns-then-p-v c =
     let S = c.before in
     let E = S.before.before.before.before.before.before.before in
     let b = start_of E in
-    let x = b.args in (
-      open_on_flash b.requires E.entries_per_page-per_page.result E.entries_per_page-per_page.ensures S.before.if-p-v.true S.page_start.result S.page_start.ensures
-          (key_is x.key) (stop_of c.in_page.result.end) c.in_page.ensures.end_value,
-      cost_on_flash b.requires E.entries_per_page-per_page.result E.entries_per_page-per_page.ensures S.before.if-p-v.true S.page_start.result S.page_start.ensures
-          (key_is x.key) c.in_page.result.da_pages c.in_page.ensures.pages,
-    )
+    let x = b.args in record { end_value = open_on_flash b.requires E.entries_per_page-per_page.result E.entries_per_page-per_page.ensures S.before.if-p-v.true S.page_start.result S.page_start.ensures
+          (key_is x.key) (stop_of c.in_page.result.end) c.in_page.ensures.end_value; pages = cost_on_flash b.requires E.entries_per_page-per_page.result E.entries_per_page-per_page.ensures S.before.if-p-v.true S.page_start.result S.page_start.ensures
+          (key_is x.key) c.in_page.result.da_pages c.in_page.ensures.pages }
 
 -- ---- in RAM
 
@@ -82,9 +79,6 @@ returns c =
     let K = c.before in
     let E = K.before.before.before.before in
     let b = start_of E in
-    let x = b.args in (
-      open_on_ram b.requires E.entries_per_page-per_page.result E.entries_per_page-per_page.ensures K.ka_ram.result K.ka_ram.ensures (none_filled K.before)
-          (key_is x.key) (stop_of c.in_page-2.result.end) c.in_page-2.ensures.end_value,
-      cost_on_ram b.requires E.entries_per_page-per_page.result E.entries_per_page-per_page.ensures K.ka_ram.result K.ka_ram.ensures (none_filled K.before)
-          (key_is x.key) c.in_page-2.result.da_pages c.in_page-2.ensures.pages,
-    )
+    let x = b.args in record { end_value = open_on_ram b.requires E.entries_per_page-per_page.result E.entries_per_page-per_page.ensures K.ka_ram.result K.ka_ram.ensures (none_filled K.before)
+          (key_is x.key) (stop_of c.in_page-2.result.end) c.in_page-2.ensures.end_value; pages = cost_on_ram b.requires E.entries_per_page-per_page.result E.entries_per_page-per_page.ensures K.ka_ram.result K.ka_ram.ensures (none_filled K.before)
+          (key_is x.key) c.in_page-2.result.da_pages c.in_page-2.ensures.pages }

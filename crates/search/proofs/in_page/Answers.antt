@@ -60,7 +60,7 @@ returns-then-usize_of_u32-v c =
     let b = start_of l in
     let e = left_corrupt (same_at b) l.loop-e.invariant (omega arith) N.number_at-j.ensures
     (omega (arith, c.before.before.usize_of_u32.ensures)) in
-    (sym e.0, omega (arith, e.1))
+    record { end_value = sym e.0; pages = omega (arith, e.1) }
 
 -- ---- the test of a number
 
@@ -124,7 +124,7 @@ returns-then-not-seen c =
     let b = start_of l in
     let e = left_found (same_at b) l.loop-e.invariant N.before.loop-e-test.true N.number_at-j.ensures (number_lt D)
     D.test-seen.result.met D.test-seen.result.opened (told_met D) (told_opened D) (not-true D.test-seen.result.met c.if-not-seen.true) in
-    (sym e.0, omega (arith, e.1))
+    record { end_value = sym e.0; pages = omega (arith, e.1) }
 
 pub find_entry-e-requires-in-loop-e : goal.find_entry-e-requires-in-loop-e
 find_entry-e-requires-in-loop-e c =
@@ -154,4 +154,4 @@ pub returns : goal.returns
 returns c =
     let l = c.before in
     let e = left_none l.loop-e.invariant (omega arith) in
-    (sym e.0, omega (arith, e.1))
+    record { end_value = sym e.0; pages = omega (arith, e.1) }

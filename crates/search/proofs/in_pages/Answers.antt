@@ -50,7 +50,7 @@ loop-below-init c =
 pub in_block-w-requires : goal.in_block-w-requires
 in_block-w-requires c =
     let l = c.before in
-    ((start_of l).requires, (omega arith, l.loop-below.invariant.low))
+    record { view_fits = (start_of l).requires; below_nonzero = (omega arith, l.loop-below.invariant.low) }
 
 -- ---- after a block
 
@@ -62,7 +62,7 @@ loop_of r = r.before.before
 
 part : (r : Walked) → let l = loop_of r in let b = start_of l in let w = r.in_block-w.result in
     Part (gate_at b) (try_at b) (cost_at b) (per_page b.args.v) l.loop-below.below w.start w.opened w.da_pages (stop_of w.end)
-part r = record { found = r.in_block-w.ensures.found.0; price = r.in_block-w.ensures.found.1 }
+part r = record { found = r.in_block-w.ensures.found; price = r.in_block-w.ensures.pages }
 
 pub overflow_add-opened : goal.overflow_add-opened
 overflow_add-opened c =
@@ -91,13 +91,13 @@ returns-in-Live c =
     let r = c.before.before.before.before.before in
     let e = c.before.end.given in
     let w = part_ended (loop_of r).loop-below.invariant (part r) (found e.0.0) (ap stop_of e.1) in
-    (sym w.0, omega (arith, w.1))
+    record { result_value = sym w.0; pages = omega (arith, w.1) }
 
 pub returns-in-Corrupt : goal.returns-in-Corrupt
 returns-in-Corrupt c =
     let r = c.before.before.before.before in
     let w = part_ended (loop_of r).loop-below.invariant (part r) corrupt (ap stop_of c.enum_told-in-Corrupt-1.given.1) in
-    (sym w.0, omega (arith, w.1))
+    record { result_value = sym w.0; pages = omega (arith, w.1) }
 
 pub loop-below-smaller : goal.loop-below-smaller
 loop-below-smaller c = c.before.before.before.before.in_block-w.ensures.start
@@ -110,4 +110,4 @@ loop-below-preserved c =
 pub returns : goal.returns
 returns c =
     let w = pages_none c.before.loop-below.invariant (omega arith) in
-    (sym w.0, w.1)
+    record { result_value = sym w.0; pages = w.1 }

@@ -24,10 +24,7 @@ returns-then-v-entries_per_page c =
     let x = s.args in
     let e = rw Q.before.enum_told.given.1 at O.in_open-o.ensures.end_value in
     let some_fit : 0 < per_page x.v = omega (arith, s.requires.sound.unit.1.some) in
-    let few = rw Q.entries_per_page.ensures at c.if-v-entries_per_page.true in (
-      search_open x.v x.main.now x.ram.now (key_is x.key) some_fit few e,
-      cost_open x.v x.main.now x.ram.now (key_is x.key) some_fit few e O.in_open-o.result.da_pages O.in_open-o.ensures.pages,
-    )
+    let few = rw Q.entries_per_page.ensures at c.if-v-entries_per_page.true in record { found = search_open x.v x.main.now x.ram.now (key_is x.key) some_fit few e; pages = cost_open x.v x.main.now x.ram.now (key_is x.key) some_fit few e O.in_open-o.result.da_pages O.in_open-o.ensures.pages }
 
 pub positions-ps-requires : goal.positions-ps-requires
 positions-ps-requires c =
@@ -62,11 +59,8 @@ returns-in-Nothing c =
     let e = rw Q.before.enum_told.given.1 at O.in_open-o.ensures.end_value in
     let positions = take_positions fnv_family x.v.g.hashes x.v.g.chip.unit (key_bytes (key_is x.key)) in
     let f = rw (P.positions-ps.ensures.equal, N.of_key.ensures, positions) at I.in_pages-f.ensures.result_value in
-    let d = rw (P.positions-ps.ensures.equal, N.of_key.ensures, positions) at I.in_pages-f.ensures.pages in (
-      f ∙ search_is x.v x.main.now x.ram.now (key_is x.key) none e,
-      ap (λ (k : ℕ). O.in_open-o.result.da_pages + k) d
-          ∙ search_cost x.v x.main.now x.ram.now (key_is x.key) none O.in_open-o.result.da_pages e O.in_open-o.ensures.pages,
-    )
+    let d = rw (P.positions-ps.ensures.equal, N.of_key.ensures, positions) at I.in_pages-f.ensures.pages in record { found = f ∙ search_is x.v x.main.now x.ram.now (key_is x.key) none e; pages = ap (λ (k : ℕ). O.in_open-o.result.da_pages + k) d
+          ∙ search_cost x.v x.main.now x.ram.now (key_is x.key) none O.in_open-o.result.da_pages e O.in_open-o.ensures.pages }
 
 -- it ended before the full pages
 ended : (O : goal.After-in_open-o) (r : Stop) → let x = O.before.before.before.args in

@@ -19,7 +19,7 @@ returns-in-Bad c =
     let G = c.before.before in
     let v = handed G in
     let bad = shaped_bad (allowed v.state.sizes) v.state.sizes G.geometry_for.result G.geometry_for.ensures.equal c.enum_told.given.1 in
-    (sym (judge_shape v bad), tt)
+    record { equal = sym (judge_shape v bad); fits = tt }
 
 -- the geometry of allowed sizes
 good : (c : goal.In-Good-2)
@@ -38,7 +38,7 @@ counts_bad-requires c = is_sound c.before
 pub returns-then-counts_bad : goal.returns-then-counts_bad
 returns-then-counts_bad c =
     let K = c.before.before.before in
-    (sym (judge_counts (handed K.before.before) K.g.given.0.0 (good K).0 (good K).1 (sym c.before.counts_bad.ensures ∙ c.if-counts_bad.true)), tt)
+    record { equal = sym (judge_counts (handed K.before.before) K.g.given.0.0 (good K).0 (good K).1 (sym c.before.counts_bad.ensures ∙ c.if-counts_bad.true)); fits = tt }
 
 pub too_short-requires : goal.too_short-requires
 too_short-requires c = is_sound c.before.before.before
@@ -47,7 +47,7 @@ pub returns-then-too_short : goal.returns-then-too_short
 returns-then-too_short c =
     let E = c.before.before in
     let K = E.before.before.before in
-    (sym (judge_short (handed K.before.before) K.g.given.0.0 (good K).0 (good K).1 (sym E.before.counts_bad.ensures ∙ E.if-counts_bad.false) (sym c.before.too_short.ensures ∙ c.if-too_short.true)), tt)
+    record { equal = sym (judge_short (handed K.before.before) K.g.given.0.0 (good K).0 (good K).1 (sym E.before.counts_bad.ensures ∙ E.if-counts_bad.false) (sym c.before.too_short.ensures ∙ c.if-too_short.true)); fits = tt }
 
 pub returns-in-Good : goal.returns-in-Good
 returns-in-Good c =
@@ -56,4 +56,4 @@ returns-in-Good c =
     let v = handed K.before.before in
     let counts = sym E.before.counts_bad.ensures ∙ E.if-counts_bad.false in
     let enough = sym c.before.too_short.ensures ∙ c.if-too_short.false in
-    (judge_good v K.g.given.0.0 (good K).0 (good K).1 counts enough, fits_of v K.g.given.0.0 (good K).0 (good K).1 (is_sound K) counts enough)
+    record { equal = judge_good v K.g.given.0.0 (good K).0 (good K).1 counts enough; fits = fits_of v K.g.given.0.0 (good K).0 (good K).1 (is_sound K) counts enough }

@@ -15,7 +15,7 @@ returns-in-Bad c =
     let G = c.before.before in
     let x = G.before.before.before.before.args in
     let bad = shaped_bad (allowed (named G)) (named G) G.geometry_for.result G.geometry_for.ensures.equal c.enum_told.given.1 in
-    (sym (new_shape (named G) (flash_of x.main.now x.spare.now) (pages x.ram.now) bad), tt)
+    record { equal = sym (new_shape (named G) (flash_of x.main.now x.spare.now) (pages x.ram.now) bad); fits = tt }
 
 -- the geometry of allowed sizes
 good : (c : goal.In-Good-2) → (allowed (named c.before.before) ≡ true) × (c.g.given.0.0 ≡ geometry_for (named c.before.before))
@@ -33,7 +33,7 @@ pub returns-then-too_short : goal.returns-then-too_short
 returns-then-too_short c =
     let K = c.before.before.before in
     let x = K.before.before.before.before.before.before.args in
-    (sym (new_short (named K.before.before) (flash_of x.main.now x.spare.now) (pages x.ram.now) K.g.given.0.0 (good K).0 (good K).1 (sym c.before.too_short.ensures ∙ c.if-too_short.true)), tt)
+    record { equal = sym (new_short (named K.before.before) (flash_of x.main.now x.spare.now) (pages x.ram.now) K.g.given.0.0 (good K).0 (good K).1 (sym c.before.too_short.ensures ∙ c.if-too_short.true)); fits = tt }
 
 pub returns-in-Good : goal.returns-in-Good
 returns-in-Good c =
@@ -42,4 +42,4 @@ returns-in-Good c =
     let sizes = named K.before.before in
     let flash = flash_of x.main.now x.spare.now in
     let enough = sym c.before.too_short.ensures ∙ c.if-too_short.false in
-    (new_good sizes flash (pages x.ram.now) K.g.given.0.0 (good K).0 (good K).1 enough, new_of sizes flash (pages x.ram.now) K.g.given.0.0 (good K).0 (good K).1 (is_sound K) enough)
+    record { equal = new_good sizes flash (pages x.ram.now) K.g.given.0.0 (good K).0 (good K).1 enough; fits = new_of sizes flash (pages x.ram.now) K.g.given.0.0 (good K).0 (good K).1 (is_sound K) enough }

@@ -84,10 +84,7 @@ level_in_sets-l-requires c =
     let x = b.args in
     let p = b.requires.by_index in
     let U = unit_of o in
-    let E = euclid (x.fs.count / 8 / 16) (4 * x.fs.chip.unit) (omega (arith, U.some)) in (
-      (U, p.0.2.near, rw c.stage_of.ensures E.small),
-      (rw c.stage_of.ensures (rw (rounds_are x.fs.chip.unit x.fs.count U.some) t.if-below-start.false), p.2, omega (arith, p.1, p.3)),
-    )
+    let E = euclid (x.fs.count / 8 / 16) (4 * x.fs.chip.unit) (omega (arith, U.some)) in record { unit_is = (U, p.0.2.near, rw c.stage_of.ensures E.small); below_bound = (rw c.stage_of.ensures (rw (rounds_are x.fs.chip.unit x.fs.count U.some) t.if-below-start.false), p.2, omega (arith, p.1, p.3)) }
 
 pub block_by_eights-requires : goal.block_by_eights-requires
 block_by_eights-requires c =
@@ -96,7 +93,7 @@ block_by_eights-requires c =
     let x = b.args in
     let q = b.requires.le_count in
     let L = level_of v in
-    ((q.0, q.1, L.start_lt), λ i h. record { some = omega (arith, c.if-l-gt5.true); few = L.narrow; reach = L.eights (get_or x.ps i 0) (q.2 i h) })
+    record { le_count = (q.0, q.1, L.start_lt); by_index = λ i h. record { some = omega (arith, c.if-l-gt5.true); few = L.narrow; reach = L.eights (get_or x.ps i 0) (q.2 i h) } }
 
 pub returns-then-l-gt5 : goal.returns-then-l-gt5
 returns-then-l-gt5 c =
@@ -112,7 +109,7 @@ block_by_words-requires c =
     let x = b.args in
     let q = b.requires.le_count in
     let L = level_of v in
-    ((q.0, q.1, omega (arith, c.if-l-gt5.false), L.start_lt), λ i h. record { reach = L.blocks (get_or x.ps i 0) (q.2 i h); small = L.small })
+    record { le_count = (q.0, q.1, omega (arith, c.if-l-gt5.false), L.start_lt); by_index = λ i h. record { reach = L.blocks (get_or x.ps i 0) (q.2 i h); small = L.small } }
 
 pub returns : goal.returns
 returns c =

@@ -42,7 +42,4 @@ pub returns : goal.returns
 returns c =
     let a = c.before.before in
     let l = a.before.loop-i in
-    let e : l.i ≡ a.before.before.before.args.count = omega arith in (
-      (l.invariant.1, rw e at l.invariant.2),
-      λ t. rw e at (l.invariant.3 (rw c.before.usize_of_u32-2.ensures at (sym c.shifted-one_row.ensures ∙ eqb-true c.shifted-one_row.result 0 t))),
-    )
+    let e : l.i ≡ a.before.before.before.args.count = omega arith in record { bits = (l.invariant.1, rw e at l.invariant.2); row = λ t. rw e at (l.invariant.3 (rw c.before.usize_of_u32-2.ensures at (sym c.shifted-one_row.ensures ∙ eqb-true c.shifted-one_row.result 0 t))) }

@@ -6,4 +6,4 @@ pub recent_64-requires : goal.recent_64-requires
 recent_64-requires c =
     let m = c.before.mask_of-m in
     let b = c.before.before.before.before in
-    (b.requires, (m.ensures.1 c.if-m.true, m.ensures.0.1))
+    record { exponent_value = b.requires; one_row = (m.ensures.row c.if-m.true, m.ensures.bits.1) }

@@ -31,10 +31,7 @@ pub block_of_few-requires : goal.block_of_few-requires
 block_of_few-requires c =
     let b = c.before.before.before.before.before.before.before.before in
     let x = b.args in
-    let R = b.requires.2 in (
-      (b.requires.0, b.requires.1, omega (arith, R.start_lt, c.if-rs.true), R.below_le),
-      λ i h. few_in x.rs x.count x.ps (length x.main.now) (length x.ram.now) i R h c.if-rs.true,
-    )
+    let R = b.requires.2 in record { le_count = (b.requires.0, b.requires.1, omega (arith, R.start_lt, c.if-rs.true), R.below_le); by_index = λ i h. few_in x.rs x.count x.ps (length x.main.now) (length x.ram.now) i R h c.if-rs.true }
 
 pub returns-then-rs : goal.returns-then-rs
 returns-then-rs c =

@@ -9,7 +9,7 @@ use Rattle.filter.proofs.page.half_filter.Goals as goal
 pub new_filter-requires : goal.new_filter-requires
 new_filter-requires c =
     let P = c.before.before.before.requires.unit_sound in
-    ((P.0, P.1, omega arith, P.2), refl)
+    record { unit_sound = (P.0, P.1, omega arith, P.2); bits_value = refl }
 
 pub put_fourths-requires : goal.put_fourths-requires
 put_fourths-requires c =

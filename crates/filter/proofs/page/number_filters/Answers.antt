@@ -7,14 +7,14 @@ pub half_filter-requires : goal.half_filter-requires
 half_filter-requires c =
     let s = c.before.before.before.before.before in
     let P = s.requires.unit_sound in
-    ((P.0, P.1, omega (arith, P.2)), (omega arith, s.requires.out_len))
+    record { unit_sound = (P.0, P.1, omega (arith, P.2)); f_bound = (omega arith, s.requires.out_len) }
 
 pub half_filter-requires-2 : goal.half_filter-requires-2
 half_filter-requires-2 c =
     let n = c.before.before.before.before.before.before.before in
     let s = n.before.before.before in
     let P = s.requires.unit_sound in
-    ((P.0, P.1, omega (arith, P.2, n.deletions_per_filter.ensures)), (omega arith, search (rules, s.requires.out_len)))
+    record { unit_sound = (P.0, P.1, omega (arith, P.2, n.deletions_per_filter.ensures)); f_bound = (omega arith, search (rules, s.requires.out_len)) }
 
 pub returns : goal.returns
 returns c =

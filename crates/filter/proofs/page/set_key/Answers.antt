@@ -44,4 +44,4 @@ returns c =
     λ x h. l.invariant.2 x h
     ∙ ap (λ (n : ℕ). any (λ j. eqb (get_or p.result j 0) x) n || array_bit a.bits.now x) done
     ∙ ap (λ (t : Bool). t || array_bit a.bits.now x)
-    (any_position a.chip.unit a.count (bytes_of a.key) x p.result p.ensures.0)
+    (any_position a.chip.unit a.count (bytes_of a.key) x p.result p.ensures.equal)

@@ -6,9 +6,9 @@ use Rattle.geometry.proofs.areas.in_full_pages.Goals as goal
 pub overflow_sub-result : goal.overflow_sub-result
 overflow_sub-result c =
     let x = c.before.args in
-    omega (arith, c.slot.ensures.0, (euclid x.n x.per-page (power_some x.per-page c.before.requires)).whole)
+    omega (arith, c.slot.ensures.0, (euclid x.n x.per_page (power_some x.per_page c.before.requires)).whole)
 
 pub returns : goal.returns
 returns c =
     let x = c.before.args in
-    omega (arith, c.slot.ensures.0, (euclid x.n x.per-page (power_some x.per-page c.before.requires)).whole)
+    omega (arith, c.slot.ensures.0, (euclid x.n x.per_page (power_some x.per_page c.before.requires)).whole)

@@ -6,7 +6,7 @@ use Rattle.geometry.specs.Bounds.{product_le}
 use Rattle.geometry.proofs.areas.item_place.Goals as goal
 
 pub in_full_pages-requires : goal.in_full_pages-requires
-in_full_pages-requires c = c.requires.area_sound.0.power
+in_full_pages-requires c = c.requires.area_sound.power
 
 pub block_address-requires : goal.block_address-requires
 block_address-requires c =
@@ -30,7 +30,7 @@ returns-then-j-in_full_pages c =
     rw (sym f.ensures, lt-ltb c.before.before.before.args.j f.result (omega arith), c.block_address.ensures)
 
 pub slot-requires : goal.slot-requires
-slot-requires c = c.before.before.requires.area_sound.0.power
+slot-requires c = c.before.before.requires.area_sound.power
 
 -- an item's place in its page
 page_place : (c : goal.After-slot) → c.slot.result * c.before.before.before.args.a.size ≤ 512 * 16

@@ -3,4 +3,4 @@ use Rattle.geometry.specs.Rows.{rule}
 use Rattle.geometry.proofs.table.row_at.Goals as goal
 
 pub returns : goal.returns
-returns c = (refl, rule c.before.args.i c.before.requires)
+returns c = record { equal = refl; ruled = rule c.before.args.i c.before.requires }

@@ -1,0 +1,9 @@
+use mathlib.Core.Path.{ap, ◌∙◌}
+use Rattle.geometry.specs.Shape.{shape}
+use Rattle.planning.specs.Edits.{programs_in}
+use Rattle.changes.proofs.programs.Goals as goal
+
+pub returns : goal.returns
+returns c =
+    let k = c.before in
+    c.programs.ensures ∙ ap (programs_in (shape k.before.before.args.t.g)) k.slots.ensures
