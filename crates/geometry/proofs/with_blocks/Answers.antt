@@ -6,15 +6,15 @@ use Rattle.geometry.specs.declared.Shaped.TheVariants.{Good}
 use Rattle.geometry.proofs.with_blocks.Goals as goal
 
 pub returns-then-not-blocks_allowed : goal.returns-then-not-blocks_allowed
-returns-then-not-blocks_allowed c = rw (← c.before.blocks_allowed.ensures, not-true c.before.blocks_allowed.result c.if-not-blocks_allowed.true)
+returns-then-not-blocks_allowed c = rw (← c.before.blocks_allowed.ensures, c.if-not-blocks_allowed.true)
 
 pub returns-then-not-blocks_allowed-2 : goal.returns-then-not-blocks_allowed-2
 returns-then-not-blocks_allowed-2 c =
     rw (
       ← c.before.before.before.blocks_allowed.ensures,
       ← c.before.blocks_allowed-2.ensures,
-      not-false c.before.before.before.blocks_allowed.result c.before.before.if-not-blocks_allowed.false,
-      not-true c.before.blocks_allowed-2.result c.if-not-blocks_allowed-2.true,
+      c.before.before.if-not-blocks_allowed.false,
+      c.if-not-blocks_allowed-2.true,
     )
 
 pub returns-then-not-hashes_allowed : goal.returns-then-not-hashes_allowed
@@ -25,9 +25,9 @@ returns-then-not-hashes_allowed c =
       ← b.blocks_allowed.ensures,
       ← d.blocks_allowed-2.ensures,
       ← c.before.hashes_allowed.ensures,
-      not-false b.blocks_allowed.result d.before.if-not-blocks_allowed.false,
-      not-false d.blocks_allowed-2.result c.before.before.if-not-blocks_allowed-2.false,
-      not-true c.before.hashes_allowed.result c.if-not-hashes_allowed.true,
+      d.before.if-not-blocks_allowed.false,
+      c.before.before.if-not-blocks_allowed-2.false,
+      c.if-not-hashes_allowed.true,
     )
 
 pub returns : goal.returns
@@ -43,8 +43,8 @@ returns c =
       ← b.blocks_allowed.ensures,
       ← d.before.blocks_allowed-2.ensures,
       ← k.before.hashes_allowed.ensures,
-      not-false b.blocks_allowed.result d.before.before.if-not-blocks_allowed.false,
-      not-false d.before.blocks_allowed-2.result d.if-not-blocks_allowed-2.false,
-      not-false k.before.hashes_allowed.result k.if-not-hashes_allowed.false,
+      d.before.before.if-not-blocks_allowed.false,
+      d.if-not-blocks_allowed-2.false,
+      k.if-not-hashes_allowed.false,
     )
     (λ i. Good (record { chip = record { unit = u i }; row = e i; ra = s.ra_blocks; da = s.da_blocks; hashes = s.hash_count }))

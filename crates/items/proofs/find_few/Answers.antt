@@ -8,6 +8,6 @@ pub returns-then-not-has_word : goal.returns-then-not-has_word
 returns-then-not-has_word c =
     let h = c.before in
     let x = h.before.before.args in
-    let none = sym h.has_word.ensures ∙ not-true h.has_word.result c.if-not-has_word.true in
+    let none = sym h.has_word.ensures ∙ c.if-not-has_word.true in
     sym (newest_none (has_key x.s.now x.at (key_is x.key)) x.count
     (no_word x.s.now x.at (key_is x.key) x.count none))

@@ -11,5 +11,5 @@ returns c =
     let b = c.before.before.before.before.before.before in
     let k = c.before.before.copy in
     let x = b.args in
-    part_back x.dst.now x.at (x.at + length x.src.now) k.new.0 (omega arith) b.requires (omega (arith, ap length k.ensures))
+    part_back x.dst.now x.at (x.at + length x.src.now) k.new.dst (omega arith) b.requires (omega (arith, ap length k.ensures))
     ∙ ap (λ (ys : List ℕ). write x.dst.now x.at ys) k.ensures

@@ -11,7 +11,7 @@ returns c =
     let b = c.before.before.before.before.before in
     let x = b.args in
     let k = c.before.before.fill in
-    let l : k.new.0 ≡ replicate x.n x.v =
+    let l : k.new.dst ≡ replicate x.n x.v =
     k.ensures ∙ rw (length_part x.dst.now x.at x.n b.requires) in
-    part_back x.dst.now x.at (x.at + x.n) k.new.0 (omega arith) b.requires (omega (arith, ap length l, length-replicate {A = ℕ} x.n x.v))
+    part_back x.dst.now x.at (x.at + x.n) k.new.dst (omega arith) b.requires (omega (arith, ap length l, length-replicate {A = ℕ} x.n x.v))
     ∙ ap (λ (ys : List ℕ). write x.dst.now x.at ys) l

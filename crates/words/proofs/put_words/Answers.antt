@@ -33,26 +33,21 @@ none_put (x ∷ l) zero = refl
 none_put (x ∷ l) (suc at) = ap (λ (r : List ℕ). x ∷ r) (none_put l at)
 
 -- as many bytes as before
-long : (l : goal.At-loop-i) → length l.loop-i.s ≡ length l.before.before.before.args.s.now
-long l =
-    let x = l.before.before.before.args in
-    ap length l.loop-i.invariant.1 ∙ length_write x.s.now x.at (words_bytes (take l.loop-i.i x.ws.now))
+long : (old new : List ℕ) (at : ℕ) (bytes : List ℕ) → new ≡ write old at bytes → length new ≡ length old
+long old new at bytes e = ap length e ∙ length_write old at bytes
 
 pub loop-i-init : goal.loop-i-init
 unfolding words_bytes
 loop-i-init c = (omega arith, none_put _ _)
 
 pub overflow_mul-i : goal.overflow_mul-i
-overflow_mul-i c = omega (arith, c.before.before.before.before.before.requires)
+overflow_mul-i c = omega (arith, c.requires)
 
 pub overflow_add-at : goal.overflow_add-at
-overflow_add-at c = omega (arith, c.before.before.before.before.before.requires)
+overflow_add-at c = omega (arith, c.requires)
 
 pub put32-requires : goal.put32-requires
-put32-requires c =
-    let l = c.before.before.before in
-    let s = l.before.before.before in
-    omega (arith, s.requires, long l)
+put32-requires c = omega (arith, c.requires, long c.args.s.now c.loop-i.s c.args.at _ c.loop-i.invariant.1)
 
 pub loop-i-preserved : goal.loop-i-preserved
 loop-i-preserved c =
@@ -67,7 +62,7 @@ loop-i-preserved c =
     )
 
 pub shape_of-s : goal.shape_of-s
-shape_of-s c = long c.before
+shape_of-s c = long c.args.s.now c.loop-i.s c.args.at _ c.loop-i.invariant.1
 
 pub returns : goal.returns
 returns c =
