@@ -28,7 +28,7 @@ loop-i-preserved c =
       omega arith,
       omega arith,
       l.loop-i.invariant.3
-          ∙ erase_more x.chip.unit x.b x.k l.loop-i.i (flash_of l.loop-i.main l.loop-i.spare) (flash_of e.new.1.1.0 e.new.1.1.1.0) (omega arith) e.ensures,
+          ∙ erase_more x.chip.unit x.b x.k l.loop-i.i (flash_of l.loop-i.main l.loop-i.spare) (flash_of e.new.main e.new.spare) (omega arith) e.ensures,
     )
 
 pub returns : goal.returns

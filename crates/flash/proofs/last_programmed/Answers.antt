@@ -1,6 +1,7 @@
 use native.Mathlib.Omega.{arith}
 use Prim.Native.Nat.{◌-◌}
-use mathlib.Core.Path.{refl, sym, ◌∙◌}
+use mathlib.Core.Path.{refl, sym, ap, ◌∙◌}
+use mathlib.Core.Bool.{not}
 use lib.ListN.{length}
 use Rattle.flash.proofs.Laws.{turn_lt, last_none, last_here, last_below}
 use Rattle.flash.proofs.last_programmed.Goals as goal
@@ -30,7 +31,7 @@ returns-then-not-is_fresh c =
     let t = c.before in
     let l = t.before.before.before in
     let x = l.before.before.args in
-    last_here x.spare.now x.first x.step l.loop-k.k t.is_fresh.result (omega arith) t.is_fresh.ensures c.if-not-is_fresh.true
+    last_here x.spare.now x.first x.step l.loop-k.k t.is_fresh.result (omega arith) t.is_fresh.ensures (ap not c.if-not-is_fresh.true)
     ∙ sym l.loop-k.invariant.1
 
 pub loop-k-preserved : goal.loop-k-preserved
@@ -41,7 +42,7 @@ loop-k-preserved c =
     let is = t.is_fresh in (
       omega arith,
       l.loop-k.invariant.1
-          ∙ last_below x.spare.now x.first x.step l.loop-k.k is.result (omega arith) is.ensures c.if-not-is_fresh.false,
+          ∙ last_below x.spare.now x.first x.step l.loop-k.k is.result (omega arith) is.ensures (ap not c.if-not-is_fresh.false),
     )
 
 pub returns : goal.returns

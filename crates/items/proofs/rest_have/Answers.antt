@@ -5,6 +5,7 @@ use mathlib.Core.Logic.{⊎_elim}
 use Rattle.memory.specs.Ranges.{any}
 use Rattle.items.specs.Scans.{is_word, any_yes, any_skips, word_yes, word_no}
 use Rattle.items.proofs.rest_have.Goals as goal
+use Rattle.items.proofs.rest_have.Goals.{then-get32-j, else-get32-j}
 
 pub loop-i-init : goal.loop-i-init
 loop-i-init c = (c.before.requires.0, sym c.before.requires.2)
@@ -16,10 +17,10 @@ loop-i-preserved c =
     let x = l.before.before.args in
     let t = is_word x.s.now x.at x.j in (
       omega arith,
-      ⊎_elim
-          (λ w. w.1 ∙ sym (any_yes t l.loop-i.i (word_yes x.s.now x.at x.j l.loop-i.i g.get32.result g.get32.ensures w.0.true)))
-          (λ w. w.1 ∙ (l.loop-i.invariant.1 ∙ sym (any_skips t l.loop-i.i (word_no x.s.now x.at x.j l.loop-i.i g.get32.result g.get32.ensures w.0.false))))
-          c.if-get32-j.branch,
+      elim c.if-get32-j.branch [
+        then-get32-j w ↦ w.found-is ∙ sym (any_yes t l.loop-i.i (word_yes x.s.now x.at x.j l.loop-i.i g.get32.result g.get32.ensures w.if-get32-j.true))
+        | else-get32-j w ↦ w.found-is ∙ (l.loop-i.invariant.1 ∙ sym (any_skips t l.loop-i.i (word_no x.s.now x.at x.j l.loop-i.i g.get32.result g.get32.ensures w.if-get32-j.false)))
+      ],
     )
 
 pub returns : goal.returns
