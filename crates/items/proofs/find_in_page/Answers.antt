@@ -6,6 +6,7 @@ use lib.Pow.{pow_pos}
 use Rattle.keys.specs.Key.{key_is}
 use Rattle.items.specs.Scans.{has_key, last_entry, newest_end, newest_none, no_word, entries_no}
 use Rattle.items.proofs.find_in_page.Goals as goal
+use Rattle.items.proofs.find_in_page.Goals.{After-page_size-b}
 
 -- From the newest 64 words on: those that have not the key have no entry with it.
 
@@ -43,7 +44,7 @@ pub page_size-b-requires : goal.page_size-b-requires
 page_size-b-requires c = c.before.before.before.requires.0.1.most
 
 -- the entries of a page are those of its runs
-page_runs : (c : goal.After-page_size-b) → let x = c.before.before.before.before.args in
+page_runs : (c : After-page_size-b) → let x = c.before.before.before.before.args in
     last_entry x.s.now x.at (8 * x.chip.unit) (key_is x.key)
     ≡ last_entry x.s.now x.at (c.page_size-b.result / 256 * 32) (key_is x.key)
 page_runs c =
@@ -72,7 +73,7 @@ pub last_key-requires-then-many_have : goal.last_key-requires-then-many_have
 last_key-requires-then-many_have c = omega (arith, c.before.before.before.before.page_size-b.ensures, c.before.before.before.before.before.before.before.before.requires.1, c.before.before.before.loop-b.invariant.0)
 
 pub returns-then-many_have : goal.returns-then-many_have
-returns-then-many_have c = c.last_key-then-many_have.ensures ∙ sym (page_runs c.before.before.before.before.before ∙ c.before.before.before.before.loop-b.invariant.1)
+returns-then-many_have c = c.last_key-then-many_have.ensures ∙ sym (page_runs (goal.at.returns-then-many_have c).After-page_size-b ∙ c.before.before.before.before.loop-b.invariant.1)
 
 pub loop-b-preserved : goal.loop-b-preserved
 loop-b-preserved c =
@@ -88,5 +89,5 @@ returns c =
     let l = c.before.loop-b in
     let x = c.before.before.before.before.before.before.args in
     let e : l.b * 32 ≡ 0 = omega arith in
-    sym (page_runs c.before.before ∙ l.invariant.1
+    sym (page_runs (goal.at.returns c).After-page_size-b ∙ l.invariant.1
     ∙ (ap (λ (n : ℕ). last_entry x.s.now x.at n (key_is x.key)) e ∙ newest_end (has_key x.s.now x.at (key_is x.key))))
