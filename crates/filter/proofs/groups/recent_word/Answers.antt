@@ -15,7 +15,7 @@ use Rattle.filter.proofs.groups.recent_word.Goals as goal
 
 -- A position more each turn: L1's bytes, and those of the SKA page behind them.
 
-eight : (c : goal.Start) → length c.args.t3 ≡ 8
+eight : (c : goal.Start) → length c.args.ps ≡ 8
 eight c = search rules
 
 main_lt : (c : goal.Start) → length c.args.main.now < 2 ^ 63
@@ -47,7 +47,7 @@ overflow_sub-top-2 c =
 pub loop-i-init : goal.loop-i-init
 loop-i-init c =
     let x = c.before.before.before.before.before.before.args in
-    (omega arith, tested_none (has_recent x.rs x.main.now x.ram.now) x.t3 x.first (bits x.rs x.first) (omega arith))
+    (omega arith, tested_none (has_recent x.rs x.main.now x.ram.now) x.ps x.first (bits x.rs x.first) (omega arith))
 
 -- what the loop works with
 abbrev Set : Type 0
@@ -62,8 +62,8 @@ width d = d.before.before.before.power-w.result
 abbrev upper : Set → ℕ
 upper d = d.before.before.lesser-top.result
 
-word_in : (d : Set) (k row other : ℕ) → let x = (begun d).args in k < x.count → row ≡ row_at x.rs.l1 (get_or x.t3 k 0) → other ≡ row_at x.rs.ska (get_or x.t3 k 0)
-    → WordIn x.rs x.first x.count x.t3 (length x.main.now) (length x.ram.now) (width d) (upper d) d.lesser-n.result k row other
+word_in : (d : Set) (k row other : ℕ) → let x = (begun d).args in k < x.count → row ≡ row_at x.rs.l1 (get_or x.ps k 0) → other ≡ row_at x.rs.ska (get_or x.ps k 0)
+    → WordIn x.rs x.first x.count x.ps (length x.main.now) (length x.ram.now) (width d) (upper d) d.lesser-n.result k row other
 word_in d k row other h e f =
     let p = (begun d).requires in
     let a = aligned (begun d).args.first p.0 in
@@ -110,7 +110,7 @@ abbrev set_of : At → Set
 set_of c = c.before.before.before.before
 
 word_at : (c : At) → let d = set_of c in let x = (begun d).args in
-    WordIn x.rs x.first x.count x.t3 (length x.main.now) (length x.ram.now) (width d) (upper d) d.lesser-n.result
+    WordIn x.rs x.first x.count x.ps (length x.main.now) (length x.ram.now) (width d) (upper d) d.lesser-n.result
     c.before.before.before.loop-i.i c.before.row_of-row.result c.row_of-other.result
 word_at c =
     let l = c.before.before in
@@ -169,7 +169,7 @@ loop-i-preserved c =
     let l = a.before.before.before.loop-i in
     let W = c.before.before.before.usize_of_u32 in (
       omega arith,
-      tested_more (has_recent x.rs x.main.now x.ram.now) x.t3 x.first (bits x.rs x.first) l.i (omega (arith, eight b, b.requires.2)) l.r c.row_bits-y.result l.invariant.1
+      tested_more (has_recent x.rs x.main.now x.ram.now) x.ps x.first (bits x.rs x.first) l.i (omega (arith, eight b, b.requires.2)) l.r c.row_bits-y.result l.invariant.1
           (recent_one (word_at a) x.main.now x.ram.now W.result c.before.byte_bits-s.result c.row_bits-y.result W.ensures
           c.before.byte_bits-s.ensures.1 c.row_bits-y.ensures.0 c.row_bits-y.ensures.1),
     )
@@ -181,7 +181,7 @@ returns c =
     let x = b.args in
     let l = c.before.loop-i in
     let e : l.i ≡ x.count = omega arith in
-    let T : Tested (has_recent x.rs x.main.now x.ram.now) x.t3 x.first (bits x.rs x.first) x.count l.r = rw e at l.invariant.1 in
-    shows_same (λ g. all_of (λ p. has_recent x.rs x.main.now x.ram.now p g) (take x.count x.t3))
-    (λ g. recent_has x.rs x.main.now x.ram.now (take x.count x.t3) (x.rs.l1.start + g)) x.first (bits x.rs x.first) l.r
-    (λ g. recent_is x.rs x.main.now x.ram.now (take x.count x.t3) g b.requires.3.order) T
+    let T : Tested (has_recent x.rs x.main.now x.ram.now) x.ps x.first (bits x.rs x.first) x.count l.r = rw e at l.invariant.1 in
+    shows_same (λ g. all_of (λ p. has_recent x.rs x.main.now x.ram.now p g) (take x.count x.ps))
+    (λ g. recent_has x.rs x.main.now x.ram.now (take x.count x.ps) (x.rs.l1.start + g)) x.first (bits x.rs x.first) l.r
+    (λ g. recent_is x.rs x.main.now x.ram.now (take x.count x.ps) g b.requires.3.order) T
