@@ -3,7 +3,6 @@ use Prim.Native.Nat.{◌*◌, ◌/◌}
 use lib.ListN.{get_or, take}
 use Rattle.memory.specs.Numbers.{euclid}
 use Rattle.geometry.specs.Indexes.{index_of}
-use Rattle.laws.specs.Units.{UnitIs}
 use Rattle.filter.proofs.Levels.{LevelAt, exponent_is, in_sets}
 use Rattle.filter.proofs.Recent.{rounds_are, recent_in, recent_at}
 use Rattle.filter.proofs.Rows.{block_at}
@@ -60,9 +59,9 @@ block_by_eights-requires c =
     let p = c.requires.by_index in
     let U = exponent_is c.args.fs.chip.unit c.exponent-e.result c.requires.by_index.0.2.unit c.exponent-e.ensures.0 in
     let L : LevelAt x.fs.chip.unit (index_of x.fs.index) x.main.now x.ram.now x.fs.count x.below c.level_in_sets-l.result =
-        rw (c.level_in_sets-l.ensures, c.stage_of.ensures)
-        (in_sets x.fs.chip.unit c.exponent-e.result x.fs.count x.below p.0.0 (index_of x.fs.index) x.main.now x.ram.now
-        U p.0.2 p.0.1 p.2 p.3 (omega (arith, c.if-below-start.false)) (rw (rounds_are x.fs.chip.unit x.fs.count U.some) c.if-below-start.false)) in
+    rw (c.level_in_sets-l.ensures, c.stage_of.ensures)
+    (in_sets x.fs.chip.unit c.exponent-e.result x.fs.count x.below p.0.0 (index_of x.fs.index) x.main.now x.ram.now
+    U p.0.2 p.0.1 p.2 p.3 (omega (arith, c.if-below-start.false)) (rw (rounds_are x.fs.chip.unit x.fs.count U.some) c.if-below-start.false)) in
     record { le_count = (q.0, q.1, L.start_lt); by_index = λ i h. record { some = omega (arith, c.if-l-gt5.true); few = L.narrow; reach = L.eights (get_or x.ps i 0) (q.2 i h) } }
 
 pub returns-then-l-gt5 : goal.returns-then-l-gt5
@@ -71,9 +70,9 @@ returns-then-l-gt5 c =
     let p = c.requires.by_index in
     let U = exponent_is c.args.fs.chip.unit c.exponent-e.result c.requires.by_index.0.2.unit c.exponent-e.ensures.0 in
     let L : LevelAt x.fs.chip.unit (index_of x.fs.index) x.main.now x.ram.now x.fs.count x.below c.level_in_sets-l.result =
-        rw (c.level_in_sets-l.ensures, c.stage_of.ensures)
-        (in_sets x.fs.chip.unit c.exponent-e.result x.fs.count x.below p.0.0 (index_of x.fs.index) x.main.now x.ram.now
-        U p.0.2 p.0.1 p.2 p.3 (omega (arith, c.if-below-start.false)) (rw (rounds_are x.fs.chip.unit x.fs.count U.some) c.if-below-start.false)) in
+    rw (c.level_in_sets-l.ensures, c.stage_of.ensures)
+    (in_sets x.fs.chip.unit c.exponent-e.result x.fs.count x.below p.0.0 (index_of x.fs.index) x.main.now x.ram.now
+    U p.0.2 p.0.1 p.2 p.3 (omega (arith, c.if-below-start.false)) (rw (rounds_are x.fs.chip.unit x.fs.count U.some) c.if-below-start.false)) in
     block_at x.fs.chip.unit (index_of x.fs.index) x.main.now x.ram.now x.fs.count x.below c.level_in_sets-l.result (take x.count x.ps) c.block_by_eights.result
     L c.block_by_eights.ensures
 
@@ -84,9 +83,9 @@ block_by_words-requires c =
     let p = c.requires.by_index in
     let U = exponent_is c.args.fs.chip.unit c.exponent-e.result c.requires.by_index.0.2.unit c.exponent-e.ensures.0 in
     let L : LevelAt x.fs.chip.unit (index_of x.fs.index) x.main.now x.ram.now x.fs.count x.below c.level_in_sets-l.result =
-        rw (c.level_in_sets-l.ensures, c.stage_of.ensures)
-        (in_sets x.fs.chip.unit c.exponent-e.result x.fs.count x.below p.0.0 (index_of x.fs.index) x.main.now x.ram.now
-        U p.0.2 p.0.1 p.2 p.3 (omega (arith, c.if-below-start.false)) (rw (rounds_are x.fs.chip.unit x.fs.count U.some) c.if-below-start.false)) in
+    rw (c.level_in_sets-l.ensures, c.stage_of.ensures)
+    (in_sets x.fs.chip.unit c.exponent-e.result x.fs.count x.below p.0.0 (index_of x.fs.index) x.main.now x.ram.now
+    U p.0.2 p.0.1 p.2 p.3 (omega (arith, c.if-below-start.false)) (rw (rounds_are x.fs.chip.unit x.fs.count U.some) c.if-below-start.false)) in
     record { le_count = (q.0, q.1, omega (arith, c.if-l-gt5.false), L.start_lt); by_index = λ i h. record { reach = L.blocks (get_or x.ps i 0) (q.2 i h); small = L.small } }
 
 pub returns : goal.returns
@@ -95,8 +94,8 @@ returns c =
     let p = c.requires.by_index in
     let U = exponent_is c.args.fs.chip.unit c.exponent-e.result c.requires.by_index.0.2.unit c.exponent-e.ensures.0 in
     let L : LevelAt x.fs.chip.unit (index_of x.fs.index) x.main.now x.ram.now x.fs.count x.below c.level_in_sets-l.result =
-        rw (c.level_in_sets-l.ensures, c.stage_of.ensures)
-        (in_sets x.fs.chip.unit c.exponent-e.result x.fs.count x.below p.0.0 (index_of x.fs.index) x.main.now x.ram.now
-        U p.0.2 p.0.1 p.2 p.3 (omega (arith, c.if-below-start.false)) (rw (rounds_are x.fs.chip.unit x.fs.count U.some) c.if-below-start.false)) in
+    rw (c.level_in_sets-l.ensures, c.stage_of.ensures)
+    (in_sets x.fs.chip.unit c.exponent-e.result x.fs.count x.below p.0.0 (index_of x.fs.index) x.main.now x.ram.now
+    U p.0.2 p.0.1 p.2 p.3 (omega (arith, c.if-below-start.false)) (rw (rounds_are x.fs.chip.unit x.fs.count U.some) c.if-below-start.false)) in
     block_at x.fs.chip.unit (index_of x.fs.index) x.main.now x.ram.now x.fs.count x.below c.level_in_sets-l.result (take x.count x.ps) c.block_by_words.result
     L c.block_by_words.ensures

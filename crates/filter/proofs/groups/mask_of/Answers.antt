@@ -2,7 +2,7 @@ use borrow.Author.Tests.{eqb-true}
 use native.Mathlib.Nat.{mod-lt}
 use native.Mathlib.Omega.{arith}
 use mathlib.Core.Path.{◌≡◌, sym, ◌∙◌}
-use Prim.Native.Nat.{ℕ, ◌-◌, ◌%◌, ◌^◌, ◌≤◌, ◌<◌}
+use Prim.Native.Nat.{ℕ, ◌%◌, ◌^◌, ◌≤◌, ◌<◌}
 use lib.Bits.{or_lt}
 use lib.ListN.{get_or}
 use lib.Pow.{pow_pos, pow-lt, pow_mono}

@@ -91,9 +91,9 @@ pub overflow_add-other : goal.overflow_add-other
 overflow_add-other c =
     let x = c.args in
     let Q : WordIn x.rs x.first x.count x.ps (length x.main.now) (length x.ram.now) c.power-w.result c.lesser-top.result c.lesser-n.result
-        c.loop-i.i c.row_of-row.result c.row_of-other.result =
-        word_in c.loop-i.i c.row_of-row.result c.row_of-other.result c.requires c.power-w.ensures.0 c.lesser-top.ensures c.lesser-n.ensures
-        c.loop-i-test.true c.row_of-row.ensures c.row_of-other.ensures in
+    c.loop-i.i c.row_of-row.result c.row_of-other.result =
+    word_in c.loop-i.i c.row_of-row.result c.row_of-other.result c.requires c.power-w.ensures.0 c.lesser-top.ensures c.lesser-n.ensures
+    c.loop-i-test.true c.row_of-row.ensures c.row_of-other.ensures in
     let ram_lt : length c.args.ram.now < 2 ^ 63 = omega arith in
     omega (arith, in_ram_lem Q, ram_lt, mod-lt c.usize_of_u32.result c.power-w.ensures.1)
 
@@ -101,18 +101,18 @@ pub overflow_sub-rs : goal.overflow_sub-rs
 overflow_sub-rs c =
     let x = c.args in
     let Q : WordIn x.rs x.first x.count x.ps (length x.main.now) (length x.ram.now) c.power-w.result c.lesser-top.result c.lesser-n.result
-        c.loop-i.i c.row_of-row.result c.row_of-other.result =
-        word_in c.loop-i.i c.row_of-row.result c.row_of-other.result c.requires c.power-w.ensures.0 c.lesser-top.ensures c.lesser-n.ensures
-        c.loop-i-test.true c.row_of-row.ensures c.row_of-other.ensures in
+    c.loop-i.i c.row_of-row.result c.row_of-other.result =
+    word_in c.loop-i.i c.row_of-row.result c.row_of-other.result c.requires c.power-w.ensures.0 c.lesser-top.ensures c.lesser-n.ensures
+    c.loop-i-test.true c.row_of-row.ensures c.row_of-other.ensures in
     omega (arith, top_le Q)
 
 pub byte_bits-s-requires : goal.byte_bits-s-requires
 byte_bits-s-requires c =
     let x = c.args in
     let Q : WordIn x.rs x.first x.count x.ps (length x.main.now) (length x.ram.now) c.power-w.result c.lesser-top.result c.lesser-n.result
-        c.loop-i.i c.row_of-row.result c.row_of-other.result =
-        word_in c.loop-i.i c.row_of-row.result c.row_of-other.result c.requires c.power-w.ensures.0 c.lesser-top.ensures c.lesser-n.ensures
-        c.loop-i-test.true c.row_of-row.ensures c.row_of-other.ensures in
+    c.loop-i.i c.row_of-row.result c.row_of-other.result =
+    word_in c.loop-i.i c.row_of-row.result c.row_of-other.result c.requires c.power-w.ensures.0 c.lesser-top.ensures c.lesser-n.ensures
+    c.loop-i-test.true c.row_of-row.ensures c.row_of-other.ensures in
     let ram_lt : length c.args.ram.now < 2 ^ 63 = omega arith in
     let low = c.usize_of_u32.result % c.power-w.result in
     let l = mod-lt c.usize_of_u32.result c.power-w.ensures.1 in
@@ -122,9 +122,9 @@ pub overflow_mul-first : goal.overflow_mul-first
 overflow_mul-first c =
     let x = c.args in
     let Q : WordIn x.rs x.first x.count x.ps (length x.main.now) (length x.ram.now) c.power-w.result c.lesser-top.result c.lesser-n.result
-        c.loop-i.i c.row_of-row.result c.row_of-other.result =
-        word_in c.loop-i.i c.row_of-row.result c.row_of-other.result c.requires c.power-w.ensures.0 c.lesser-top.ensures c.lesser-n.ensures
-        c.loop-i-test.true c.row_of-row.ensures c.row_of-other.ensures in
+    c.loop-i.i c.row_of-row.result c.row_of-other.result =
+    word_in c.loop-i.i c.row_of-row.result c.row_of-other.result c.requires c.power-w.ensures.0 c.lesser-top.ensures c.lesser-n.ensures
+    c.loop-i-test.true c.row_of-row.ensures c.row_of-other.ensures in
     let main_lt : length c.args.main.now < 2 ^ 63 = omega arith in
     omega (arith, first_in Q, main_lt)
 
@@ -132,9 +132,9 @@ pub overflow_add-row : goal.overflow_add-row
 overflow_add-row c =
     let x = c.args in
     let Q : WordIn x.rs x.first x.count x.ps (length x.main.now) (length x.ram.now) c.power-w.result c.lesser-top.result c.lesser-n.result
-        c.loop-i.i c.row_of-row.result c.row_of-other.result =
-        word_in c.loop-i.i c.row_of-row.result c.row_of-other.result c.requires c.power-w.ensures.0 c.lesser-top.ensures c.lesser-n.ensures
-        c.loop-i-test.true c.row_of-row.ensures c.row_of-other.ensures in
+    c.loop-i.i c.row_of-row.result c.row_of-other.result =
+    word_in c.loop-i.i c.row_of-row.result c.row_of-other.result c.requires c.power-w.ensures.0 c.lesser-top.ensures c.lesser-n.ensures
+    c.loop-i-test.true c.row_of-row.ensures c.row_of-other.ensures in
     let main_lt : length c.args.main.now < 2 ^ 63 = omega arith in
     omega (arith, first_in Q, main_lt)
 
@@ -142,9 +142,9 @@ pub overflow_add-row-in-loop-i : goal.overflow_add-row-in-loop-i
 overflow_add-row-in-loop-i c =
     let x = c.args in
     let Q : WordIn x.rs x.first x.count x.ps (length x.main.now) (length x.ram.now) c.power-w.result c.lesser-top.result c.lesser-n.result
-        c.loop-i.i c.row_of-row.result c.row_of-other.result =
-        word_in c.loop-i.i c.row_of-row.result c.row_of-other.result c.requires c.power-w.ensures.0 c.lesser-top.ensures c.lesser-n.ensures
-        c.loop-i-test.true c.row_of-row.ensures c.row_of-other.ensures in
+    c.loop-i.i c.row_of-row.result c.row_of-other.result =
+    word_in c.loop-i.i c.row_of-row.result c.row_of-other.result c.requires c.power-w.ensures.0 c.lesser-top.ensures c.lesser-n.ensures
+    c.loop-i-test.true c.row_of-row.ensures c.row_of-other.ensures in
     let main_lt : length c.args.main.now < 2 ^ 63 = omega arith in
     omega (arith, first_in Q, narrow Q, main_lt, mod-lt c.usize_of_u32.result c.power-w.ensures.1)
 
@@ -152,9 +152,9 @@ pub row_bits-y-requires : goal.row_bits-y-requires
 row_bits-y-requires c =
     let x = c.args in
     let Q : WordIn x.rs x.first x.count x.ps (length x.main.now) (length x.ram.now) c.power-w.result c.lesser-top.result c.lesser-n.result
-        c.loop-i.i c.row_of-row.result c.row_of-other.result =
-        word_in c.loop-i.i c.row_of-row.result c.row_of-other.result c.requires c.power-w.ensures.0 c.lesser-top.ensures c.lesser-n.ensures
-        c.loop-i-test.true c.row_of-row.ensures c.row_of-other.ensures in
+    c.loop-i.i c.row_of-row.result c.row_of-other.result =
+    word_in c.loop-i.i c.row_of-row.result c.row_of-other.result c.requires c.power-w.ensures.0 c.lesser-top.ensures c.lesser-n.ensures
+    c.loop-i-test.true c.row_of-row.ensures c.row_of-other.ensures in
     let p = c.usize_of_u32.result in
     (n_le Q, λ i h. row_in Q (p % c.power-w.result) i (mod-lt p c.power-w.ensures.1) h)
 
@@ -165,9 +165,9 @@ pub loop-i-preserved : goal.loop-i-preserved
 loop-i-preserved c =
     let x = c.args in
     let Q : WordIn x.rs x.first x.count x.ps (length x.main.now) (length x.ram.now) c.power-w.result c.lesser-top.result c.lesser-n.result
-        c.loop-i.i c.row_of-row.result c.row_of-other.result =
-        word_in c.loop-i.i c.row_of-row.result c.row_of-other.result c.requires c.power-w.ensures.0 c.lesser-top.ensures c.lesser-n.ensures
-        c.loop-i-test.true c.row_of-row.ensures c.row_of-other.ensures in
+    c.loop-i.i c.row_of-row.result c.row_of-other.result =
+    word_in c.loop-i.i c.row_of-row.result c.row_of-other.result c.requires c.power-w.ensures.0 c.lesser-top.ensures c.lesser-n.ensures
+    c.loop-i-test.true c.row_of-row.ensures c.row_of-other.ensures in
     let eight : length c.args.ps ≡ 8 = search rules in
     let l = c.loop-i in
     let W = c.usize_of_u32 in (
