@@ -20,16 +20,14 @@ whole_eights l x all len h E =
 
 pub eights-r-requires : goal.eights-r-requires
 eights-r-requires c =
-    let b = c.before.before in
-    let x = b.args in
-    let p = b.requires in
-    (p.0.0, p.0.1, omega (arith, p.0.2), λ i h. whole_eights x.l (get_or x.ps i 0) (x.below - x.l.start) (length x.bytes.now) (omega (arith, p.0.2)) (p.1 i h))
+    let x = c.args in
+    let p = c.requires in
+    (p.le_count.0, p.le_count.1, omega (arith, p.le_count.2), λ i h. whole_eights x.l (get_or x.ps i 0) (x.below - x.l.start) (length x.bytes.now) (omega (arith, p.le_count.2)) (p.by_index i h))
 
 pub returns : goal.returns
 returns c =
-    let b = c.before.before.before.before.before in
-    let x = b.args in
-    let p = b.requires in
+    let x = c.args in
+    let p = c.requires in
     let all : ℕ = x.below - x.l.start in
-    word_block x.l x.bytes.now x.below (take x.count x.ps) (first all) (all - first all) ((all - first all + 7) / 8 * 8) c.before.before.eights-r.result c.lowest.result
-    (omega (arith, p.0.2)) p.0.2 (omega (arith, p.0.2)) (omega (arith, p.0.2)) (omega arith) (omega arith) c.before.before.eights-r.ensures c.lowest.ensures
+    word_block x.l x.bytes.now x.below (take x.count x.ps) (first all) (all - first all) ((all - first all + 7) / 8 * 8) c.eights-r.result c.lowest.result
+    (omega (arith, p.le_count.2)) p.le_count.2 (omega (arith, p.le_count.2)) (omega (arith, p.le_count.2)) (omega arith) (omega arith) c.eights-r.ensures c.lowest.ensures

@@ -22,62 +22,60 @@ has l bytes x g = bit_in bytes (row_at l x) (g * 2 ^ l.exponent + x % 2 ^ l.expo
 from_0 : (F : ℕ → Bool) (n y : ℕ) → ((i : ℕ) → i < n → bit y i ≡ F i) → (i : ℕ) → i < n → bit y i ≡ F (0 + i)
 from_0 F n y h i l = let z : 0 + i ≡ i = omega arith in rw z (h i l)
 
-eight : (c : goal.Start) → length c.args.t3 ≡ 8
-eight c = search rules
-
 pub overflow_sub-n : goal.overflow_sub-n
-overflow_sub-n c = omega (arith, c.before.before.requires.le_count.2)
+overflow_sub-n c = omega (arith, c.requires.le_count.2)
 
 pub bounds-ps-0 : goal.bounds-ps-0
-bounds-ps-0 c = omega (arith, eight c.before.before)
+bounds-ps-0 c =
+    let eight : length c.args.ps ≡ 8 = search rules in
+    omega (arith, eight)
 
 pub few_bits-r-requires : goal.few_bits-r-requires
 few_bits-r-requires c =
-    let b = c.before.before in
-    (omega (arith, b.requires.le_count.3), b.requires.by_index 0 (omega (arith, b.requires.le_count.0)))
+    (omega (arith, c.requires.le_count.3), c.requires.by_index 0 (omega (arith, c.requires.le_count.0)))
 
 pub loop-i-init : goal.loop-i-init
 loop-i-init c =
-    let b = c.before.before.before in
-    let x = b.args in
+    let eight : length c.args.ps ≡ 8 = search rules in
+    let x = c.args in
     let F = has x.l x.bytes.now in
     let n : ℕ = x.below - x.l.start in (
       omega arith,
-      b.requires.le_count.0,
+      c.requires.le_count.0,
       c.few_bits-r.ensures.0,
-      tested_one F x.t3 0 n (omega (arith, eight b)) c.few_bits-r.result (from_0 (F (get_or x.t3 0 0)) n c.few_bits-r.result c.few_bits-r.ensures.1),
+      tested_one F x.ps 0 n (omega (arith, eight)) c.few_bits-r.result (from_0 (F (get_or x.ps 0 0)) n c.few_bits-r.result c.few_bits-r.ensures.1),
     )
 
 pub offset_bounds-ps-i : goal.offset_bounds-ps-i
-offset_bounds-ps-i c = omega (arith, c.before.before.before.before.before.requires.le_count.1)
+offset_bounds-ps-i c = omega (arith, c.requires.le_count.1)
 
 pub bounds-ps-i : goal.bounds-ps-i
-bounds-ps-i c = let b = c.before.before.before.before.before in omega (arith, eight b, b.requires.le_count.1)
+bounds-ps-i c =
+    let eight : length c.args.ps ≡ 8 = search rules in
+    omega (arith, eight, c.requires.le_count.1)
 
 pub few_bits-y-requires : goal.few_bits-y-requires
 few_bits-y-requires c =
-    let b = c.before.before.before.before.before in
-    (omega (arith, b.requires.le_count.3), b.requires.by_index c.before.loop-i.i c.loop-i-test.true)
+    (omega (arith, c.requires.le_count.3), c.requires.by_index c.loop-i.i c.loop-i-test.true)
 
 pub loop-i-preserved : goal.loop-i-preserved
 loop-i-preserved c =
-    let b = c.before.before.before.before.before.before in
-    let x = b.args in
+    let eight : length c.args.ps ≡ 8 = search rules in
+    let x = c.args in
     let F = has x.l x.bytes.now in
     let n : ℕ = x.below - x.l.start in
-    let l = c.before.before.loop-i in (
+    let l = c.loop-i in (
       omega arith,
       omega arith,
       omega (arith, l.invariant.2, and_le_l l.r c.few_bits-y.result),
-      tested_more F x.t3 0 n l.i (omega (arith, eight b, b.requires.le_count.1)) l.r c.few_bits-y.result l.invariant.3
-          (from_0 (F (get_or x.t3 l.i 0)) n c.few_bits-y.result c.few_bits-y.ensures.1),
+      tested_more F x.ps 0 n l.i (omega (arith, eight, c.requires.le_count.1)) l.r c.few_bits-y.result l.invariant.3
+          (from_0 (F (get_or x.ps l.i 0)) n c.few_bits-y.result c.few_bits-y.ensures.1),
     )
 
 pub returns : goal.returns
 returns c =
-    let b = c.before.before.before.before.before in
-    let x = b.args in
-    let l = c.before.loop-i in
+    let x = c.args in
+    let l = c.loop-i in
     let e : l.i ≡ x.count = omega arith in
-    few_block x.l x.bytes.now x.below (take x.count x.t3) (x.below - x.l.start) l.r (omega arith) b.requires.le_count.2 (omega (arith, b.requires.le_count.3))
+    few_block x.l x.bytes.now x.below (take x.count x.ps) (x.below - x.l.start) l.r (omega arith) c.requires.le_count.2 (omega (arith, c.requires.le_count.3))
     l.invariant.2 (rw e at l.invariant.3)

@@ -9,25 +9,21 @@ use Rattle.filter.proofs.groups.level_in_sets.Goals as goal
 
 pub set_level-requires : goal.set_level-requires
 set_level-requires c =
-    let b = c.before.before in
-    let x = b.args in
-    let p = b.requires in
-    (p.0.0.most, p.0.0.small, p.0.1, omega (arith, p.1.0), omega (arith, p.0.2, p.0.0.most), exponent_le x.chip.unit x.e p.0.0 x.st.rounds p.0.2)
+    let x = c.args in
+    let p = c.requires in
+    (p.unit_is.0.most, p.unit_is.0.small, p.unit_is.1, omega (arith, p.below_bound.0), omega (arith, p.unit_is.2, p.unit_is.0.most), exponent_le x.chip.unit x.e p.unit_is.0 x.st.rounds p.unit_is.2)
 
 pub returns-then-below-st : goal.returns-then-below-st
-returns-then-below-st c = rw (lt-ltb _ _ c.before.if-below-st.true) c.set_level.ensures
+returns-then-below-st c = rw (lt-ltb _ _ c.if-below-st.true) c.set_level.ensures
 
 pub full_level-requires : goal.full_level-requires
 full_level-requires c =
-    let b = c.before.before.before in
-    let x = b.args in
-    let p = b.requires in
-    let k : (x.below - 1) / 2 ^ (x.e + 9) < 2049 = rw (power_9 x.chip.unit x.e p.0.0)
-    (div_lt (x.below - 1) (128 * (4 * x.chip.unit)) 2049 (omega (arith, p.0.0.some)) (omega (arith, p.0.0.some))) in
-    (p.0.0.most, p.0.1, omega (arith, c.shifted.ensures))
+    let x = c.args in
+    let p = c.requires in
+    let k : (x.below - 1) / 2 ^ (x.e + 9) < 2049 = rw (power_9 x.chip.unit x.e p.unit_is.0)
+    (div_lt (x.below - 1) (128 * (4 * x.chip.unit)) 2049 (omega (arith, p.unit_is.0.some)) (omega (arith, p.unit_is.0.some))) in
+    (p.unit_is.0.most, p.unit_is.1, omega (arith, c.shifted.ensures))
 
 pub returns : goal.returns
 returns c =
-    let s = c.before in
-    let t = s.before in
-    rw (le-ltb _ _ t.if-below-st.false, ← s.shifted.ensures) c.full_level.ensures
+    rw (le-ltb _ _ c.if-below-st.false, ← c.shifted.ensures) c.full_level.ensures

@@ -8,20 +8,17 @@ use Rattle.filter.proofs.page.half_filter.Goals as goal
 
 pub new_filter-requires : goal.new_filter-requires
 new_filter-requires c =
-    let P = c.before.before.before.requires.unit_sound in
+    let P = c.requires.unit_sound in
     record { unit_sound = (P.0, P.1, omega arith, P.2); bits_value = refl }
 
 pub put_fourths-requires : goal.put_fourths-requires
 put_fourths-requires c =
-    let s = c.before.before.before.before.before.before.before in
-    let U = s.requires.unit_sound.0.1 in
-    (U.some, U.most, s.requires.f_bound.0, search rules, search rules)
+    let U = c.requires.unit_sound.0.1 in
+    (U.some, U.most, c.requires.f_bound.0, search rules, search rules)
 
 pub returns : goal.returns
 returns c =
-    let n = c.before.before.before.before.before.before in
-    let s = n.before.before.before.before in
-    let x = s.args in
-    put_ext x.chip.unit x.f (array_bit n.new_filter.new.1.1.1.1.1.1.0)
+    let x = c.args in
+    put_ext x.chip.unit x.f (array_bit c.new_filter.new.bits)
     (with_key x.chip.unit x.count x.at 4 (bytes_of x.last) x.ram.now) x.out.now _
-    (λ y h. n.new_filter.ensures y (omega (arith, h, s.requires.unit_sound.0.1.most))) c.before.before.put_fourths.ensures
+    (λ y h. c.new_filter.ensures y (omega (arith, h, c.requires.unit_sound.0.1.most))) c.put_fourths.ensures

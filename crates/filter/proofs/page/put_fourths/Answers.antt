@@ -1,5 +1,5 @@
 use native.Mathlib.Omega.{arith}
-use Prim.Native.Nat.{◌-◌, ◌*◌}
+use Prim.Native.Nat.{◌*◌}
 use Rattle.memory.specs.Lists.{length_part}
 use Rattle.filter.specs.Filter.{array_bit}
 use Rattle.filter.proofs.Pairs.{none_put, in_filter, in_both, one_turn, all_put}

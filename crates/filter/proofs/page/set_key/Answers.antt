@@ -1,7 +1,7 @@
 use native.Mathlib.Omega.{arith}
 use mathlib.Core.Path.{◌≡◌, refl, ap, ◌∙◌}
 use mathlib.Core.Bool.{Bool, ◌||◌}
-use Prim.Native.Nat.{ℕ, ◌-◌}
+use Prim.Native.Nat.{ℕ}
 use lib.Dec.{eqb}
 use lib.ListN.{get_or}
 use Rattle.memory.specs.Ranges.{any}
@@ -18,28 +18,28 @@ loop-i-init c = (omega arith, refl, λ x h. refl)
 
 pub set_bit-requires : goal.set_bit-requires
 set_bit-requires c =
-    let l = c.before.before.loop-i in
-    let pre = c.before.before.before.before.before.requires in
-    (l.invariant.1 ∙ pre.2, omega (arith, c.before.before.before.positions-ps.ensures.below l.i (omega arith), pre.0.1.most))
+    let l = c.loop-i in
+    let pre = c.requires in
+    (l.invariant.1 ∙ pre.2, omega (arith, c.positions-ps.ensures.below l.i (omega arith), pre.0.1.most))
 
 pub loop-i-preserved : goal.loop-i-preserved
 loop-i-preserved c =
-    let s = c.before.before.set_bit in
-    let l = c.before.before.before.before.before.loop-i in
-    let ps = c.before.before.before.before.before.before.positions-ps.result in (
+    let s = c.set_bit in
+    let l = c.loop-i in
+    let ps = c.positions-ps.result in (
       omega arith,
-      s.auto.1.0 ∙ l.invariant.1,
+      s.auto.bits ∙ l.invariant.1,
       λ x h. set_next (λ j. eqb (get_or ps j 0) x) l.i _ _ _ (l.invariant.2 x h) (s.ensures x h),
     )
 
 pub shape_of-bits : goal.shape_of-bits
-shape_of-bits c = c.before.loop-i.invariant.1
+shape_of-bits c = c.loop-i.invariant.1
 
 pub returns : goal.returns
 returns c =
-    let l = c.before.loop-i in
-    let p = c.before.before.positions-ps in
-    let a = c.before.before.before.before.args in
+    let l = c.loop-i in
+    let p = c.positions-ps in
+    let a = c.args in
     let done : l.i ≡ a.count = omega arith in
     λ x h. l.invariant.2 x h
     ∙ ap (λ (n : ℕ). any (λ j. eqb (get_or p.result j 0) x) n || array_bit a.bits.now x) done
