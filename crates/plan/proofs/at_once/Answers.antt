@@ -7,12 +7,10 @@ use Rattle.plan.proofs.at_once.Goals as goal
 
 pub returns-then-n-lt-SECTORS_PER_PAGE : goal.returns-then-n-lt-SECTORS_PER_PAGE
 returns-then-n-lt-SECTORS_PER_PAGE c =
-    let x = c.before.before in
-    let e = c.before.sector_size-n.ensures in
-    at_once_is x.args.chip.unit _ x.requires (rw (← e, lt-ltb (512 / c.before.sector_size-n.result) 4 (omega arith)) refl)
+    let e = c.sector_size-n.ensures in
+    at_once_is c.args.chip.unit _ c.requires (rw (← e, lt-ltb (512 / c.sector_size-n.result) 4 (omega arith)) refl)
 
 pub returns : goal.returns
 returns c =
-    let x = c.before.before in
-    let e = c.before.sector_size-n.ensures in
-    at_once_is x.args.chip.unit _ x.requires (rw (← e, le-ltb (512 / c.before.sector_size-n.result) 4 (omega arith)) refl)
+    let e = c.sector_size-n.ensures in
+    at_once_is c.args.chip.unit _ c.requires (rw (← e, le-ltb (512 / c.sector_size-n.result) 4 (omega arith)) refl)

@@ -10,22 +10,21 @@ use Rattle.plan.proofs.page_run.Goals as goal
 
 pub loop-j-init : goal.loop-j-init
 loop-j-init c =
-    let x = c.before.before.before.before.args in
+    let x = c.args in
     let z : x.part.from - x.part.from ≡ 0 = omega arith in
     (omega arith, omega arith, refl, refl, rw z refl)
 
 pub page_step-requires : goal.page_step-requires
 page_step-requires c =
-    let l = c.before.before.before.before.loop-j in
-    let x = c.before.before.before.before.before.before.before.before.before.args in
-    let P = c.before.before.before.before.before.before.before.before.before.requires in
-    let n = length x.ram.now in record { page_fits = at_lengths (λ m s. PageFits x.chip.unit x.page m s n) _ _ _ _ l.invariant.2 l.invariant.3 P.0; j_lt_sectors_per_page = (omega (arith, c.before.before.loop-j-test.true, P.1.0), P.1.1) }
+    let l = c.loop-j in
+    let x = c.args in
+    let n = length x.ram.now in record { page_fits = at_lengths (λ m s. PageFits x.chip.unit x.page m s n) _ _ _ _ l.invariant.2 l.invariant.3 c.requires.page_fits; j_lt_sectors_per_page = (omega (arith, c.loop-j-test.true, c.requires.to_le_sectors_per_page.0), c.requires.to_le_sectors_per_page.1) }
 
 pub loop-j-preserved : goal.loop-j-preserved
 loop-j-preserved c =
-    let l = c.before.before.before.before.before.before.before.before.before.loop-j in
-    let x = c.before.before.before.before.before.before.before.before.before.before.before.before.before.before.args in
-    let r = c.before.before.before.before.page_step in
+    let l = c.loop-j in
+    let x = c.args in
+    let r = c.page_step in
     let u = x.chip.unit in
     let f = filled_page u x.page x.item.now x.ram.now in (
       omega arith,
@@ -37,8 +36,8 @@ loop-j-preserved c =
 
 pub returns : goal.returns
 returns c =
-    let l = c.before.before.loop-j in
-    let x = c.before.before.before.before.before.before.before.args in
+    let l = c.loop-j in
+    let x = c.args in
     let u = x.chip.unit in
     let f = filled_page u x.page x.item.now x.ram.now in
     let k : l.j - x.part.from ≡ x.part.to - x.part.from = omega arith in

@@ -7,26 +7,16 @@ use Rattle.plan.proofs.run.Goals as goal
 
 pub deletion_count-n-requires : goal.deletion_count-n-requires
 deletion_count-n-requires c =
-    let s = c.before.before.before.before.before in
-    omega (arith, deletion_fits s.args.p _ _ _ s.requires.plan_fits s.well-formed.1.1.1.1.1.0.0)
+    omega (arith, deletion_fits c.args.p _ _ _ c.requires.plan_fits (omega arith))
 
 pub record_run-requires : goal.record_run-requires
 record_run-requires c =
-    let n = c.before.before.before in
-    let m = n.before.before in
-    let s = m.before.before.before.before.before.before.before.before.before.before.before.before in
-    let x = s.args in
-    let k = length x.ram.now in record { plan_fits = at_lengths (λ m s. PlanFits x.p m s k) _ _ _ _ (omega (arith, m.main.given)) (omega (arith, n.spare.given)) s.requires.plan_fits; len = s.requires.len }
+    let x = c.args in
+    let k = length x.ram.now in record { plan_fits = at_lengths (λ m s. PlanFits x.p m s k) _ _ _ _ (omega arith) (omega arith) c.requires.plan_fits; len = c.requires.len }
 
 pub returns : goal.returns
 returns c =
-    let d = c.before.before.before.before in
-    let w = d.before.before.before.before.before.before.before in
-    let r = w.before.before.before in
-    let b = r.before in
-    let n = b.before in
-    let s = n.before.before.before.before.before.before in
-    let x = s.args in
-    let e = n.deletion_count-n.ensures in
-    whole_run x.p x.new.now x.filters.now x.ram.now x.part b.behind-second.result (flash_of x.main.now x.spare.now)
-    r.among.result (rw e at b.behind-second.ensures) (rw e at r.among.ensures) w.deletion_run.ensures d.record_run.ensures
+    let x = c.args in
+    let e = c.deletion_count-n.ensures in
+    whole_run x.p x.new.now x.filters.now x.ram.now x.part c.behind-second.result (flash_of x.main.now x.spare.now)
+    c.among.result (rw e at c.behind-second.ensures) (rw e at c.among.ensures) c.deletion_run.ensures c.record_run.ensures
