@@ -16,7 +16,7 @@ use std::io::{Eprint, Read};
 use stream::Fill;
 
 // What a chunk leaves, whether the input continues, and whether nothing failed.
-#[derive(Drop)]
+#[derive(Clone, Copy)]
 struct ChunkResult {
     progress: Fill,
     continues: bool,
@@ -145,11 +145,12 @@ fn next_chunk(
     ensures prefix { FeedsPrefix result (buffers_of p line.old main.old spare.old ram.old out.old) chunk.new
         (buffers_of result.progress line.new main.new spare.new ram.new out.new) }
 {
+    let state = p.state;
     let Ok(n) = input.read(chunk) else {
-        return fail(rt, p.state, "replay: cannot read the input\n");
+        return fail(rt, state, "replay: cannot read the input\n");
     };
     if n == 0 {
-        return succeed(p.state, p.fill, false);
+        return succeed(state, p.fill, false);
     }
     answer_chunk(rt, p, &chunk[0..n], line, main, spare, ram, out)
 }
