@@ -11,12 +11,12 @@ ghost use Rattle.console.specs.Chunks.{after_chunk, FeedsPrefix, no_state, unfor
 ghost use Rattle.layout.specs.Flash.{flash_of};
 
 use geometry::Sizes;
-use libc::{STDERR_FILENO, STDIN_FILENO, STDOUT_FILENO};
 use state::State;
+use std::io::{Eprint, Read};
 use stream::Fill;
 
 // What a chunk leaves, whether the input continues, and whether nothing failed.
-#[derive(Drop)]
+#[derive(Clone, Copy)]
 struct ChunkResult {
     progress: Fill,
     continues: bool,
@@ -76,11 +76,11 @@ fn succeed(state: State, fill: usize, continues: bool) -> ChunkResult
 }
 
 // After a byte could not be read or written: the reason is told, and an unfinished line is not answered.
-fn fail(state: State, reason: &[u8]) -> ChunkResult
+fn fail(rt: &impl Eprint, state: State, reason: &str) -> ChunkResult
     ensures { (result.continues ≡ false) × (result.progress.state ≡ state) × (result.progress.fill ≡ 0)
         × (result.progress.printed ≡ 0) × (result.ok ≡ false) }
 {
-    io::write_all(STDERR_FILENO, reason);
+    let _ = rt.eprint(reason);
     let progress = Fill {
         state,
         fill: 0,
@@ -94,21 +94,22 @@ fn fail(state: State, reason: &[u8]) -> ChunkResult
 }
 
 // Answers are written: those of a chunk, or the last.
-fn write_answers(q: Fill, out: &[u8]) -> ChunkResult
+fn write_answers(rt: &(impl Print + Eprint), q: Fill, out: &[u8]) -> ChunkResult
     requires { q.printed ≤ length out.now }
     ensures { (result.progress.state ≡ q.state) × (result.progress.fill ≡ cond result.continues q.fill 0)
         × (result.progress.printed ≡ 0) × (result.ok ≡ result.continues) }
 {
     let printed = q.printed;
     let state = q.state;
-    if !io::write_all(STDOUT_FILENO, &out[0..printed]) {
-        return fail(state, b"replay: cannot write the answers\n");
+    if rt.write_all(&out[0..printed]).is_err() {
+        return fail(rt, state, "replay: cannot write the answers\n");
     }
     succeed(state, q.fill, true)
 }
 
 // The lines that end in a chunk are answered, and the answers are written.
 fn answer_chunk(
+    rt: &(impl Print + Eprint),
     p: Fill,
     chunk: &[u8],
     line: &mut [u8],
@@ -124,11 +125,13 @@ fn answer_chunk(
     ensures answered { result.ok ≡ result.continues }
 {
     let q = stream::feed(p, chunk, line, main, spare, ram, out);
-    write_answers(q, out)
+    write_answers(rt, q, out)
 }
 
 // The next chunk is read and answered.
 fn next_chunk(
+    rt: &(impl Print + Eprint),
+    input: &mut impl Read,
     p: Fill,
     chunk: &mut [u8],
     line: &mut [u8],
@@ -142,32 +145,39 @@ fn next_chunk(
     ensures prefix { FeedsPrefix result (buffers_of p line.old main.old spare.old ram.old out.old) chunk.new
         (buffers_of result.progress line.new main.new spare.new ram.new out.new) }
 {
-    let got = libc::read(STDIN_FILENO, chunk);
     let state = p.state;
-    if got < 0 {
-        return fail(state, b"replay: cannot read the input\n");
-    }
-    let n = io::count(got, chunk);
+    let Ok(n) = input.read(chunk) else {
+        return fail(rt, state, "replay: cannot read the input\n");
+    };
     if n == 0 {
         return succeed(state, p.fill, false);
     }
-    answer_chunk(p, &chunk[0..n], line, main, spare, ram, out)
+    answer_chunk(rt, p, &chunk[0..n], line, main, spare, ram, out)
 }
 
 // The input's end.
-fn finish(p: Fill, line: &[u8], main: &mut [u8], spare: &mut [u8], ram: &mut [u8], out: &mut [u8])
+fn finish(
+    rt: &(impl Print + Eprint),
+    p: Fill,
+    line: &[u8],
+    main: &mut [u8],
+    spare: &mut [u8],
+    ram: &mut [u8],
+    out: &mut [u8],
+)
     requires { (p.fill ≤ length line.now) × (p.printed ≡ 0) × (32 ≤ length out.old) }
     ensures { (flash_of main.new spare.new ≡ (close (buffers_of p line.now main.old spare.old ram.old out.old)).volume.flash)
         × (ram.new ≡ (close (buffers_of p line.now main.old spare.old ram.old out.old)).volume.ram)
         × (out.new ≡ (close (buffers_of p line.now main.old spare.old ram.old out.old)).out) }
 {
     let q = stream::close(p, line, main, spare, ram, out);
-    write_answers(q, out);
+    write_answers(rt, q, out);
 }
 
 // The whole input; the answer is whether its end was reached. A proved loop ends, so it counts its chunks down from a number that no run
 // uses up.
 pub fn run(
+    rt: &(impl Input + Print + Eprint),
     chunk: &mut [u8],
     line: &mut [u8],
     main: &mut [u8],
@@ -183,15 +193,16 @@ pub fn run(
         × (flash_of main.new spare.new ≡ (leaves result (unformatted main.old spare.old ram.old) input).flash)
         × (ram.new ≡ (leaves result (unformatted main.old spare.old ram.old) input).ram)) }
 {
+    let mut input = rt.reader();
     let mut p = begin();
     let mut left = u64::MAX;
     let mut ok = true;
     while left > 0 {
-        let r = next_chunk(p, chunk, line, main, spare, ram, out);
+        let r = next_chunk(rt, &mut input, p, chunk, line, main, spare, ram, out);
         p = r.progress;
         ok = r.ok;
         left = chunks_left(left, r.continues);
     }
-    finish(p, line, main, spare, ram, out);
+    finish(rt, p, line, main, spare, ram, out);
     ok
 }

@@ -8,7 +8,7 @@ ghost use Rattle.console.specs.Contract.{buffers_of};
 use state::State;
 
 // What is kept from one chunk to the next beside the buffers.
-#[derive(Drop)]
+#[derive(Clone, Copy)]
 pub struct Fill {
     pub state: State,
     pub fill: usize,

@@ -5,7 +5,7 @@
 #![tactic(auto)]
 ghost use Rattle.std.specs.Prelude.{◌*◌, ◌<◌, ◌≤◌, length};
 
-use libc::{STDIN_FILENO, STDOUT_FILENO};
+use std::io::Read;
 
 // The value of a hexadecimal digit; of any other byte 0.
 fn digit(c: u8) -> u8
@@ -68,15 +68,13 @@ fn word_length(line: &[u8]) -> usize
     i
 }
 
-// Writes a vector's bytes, as they were read, and their hash in eight digits.
-fn answer(text: &[u8]) {
+// Writes a vector's bytes, as they were read, and their hash in eight digits. A write that fails is passed over.
+fn answer(rt: &impl Print, text: &[u8]) {
     let mut bytes = [0u8; 300];
     let n = decode(text, &mut bytes);
     let h = fnv::fnv1a(&bytes[0..n]);
-    io::write_all(STDOUT_FILENO, text);
-    io::write_all(STDOUT_FILENO, b" ");
-    io::print_hex(STDOUT_FILENO, h as u64, 8);
-    io::write_all(STDOUT_FILENO, b"\n");
+    let _ = rt.write_all(text);
+    let _ = println!(rt; " {h:08x}");
 }
 
 // Whether a line has no vector: an empty line, or a comment.
@@ -88,17 +86,17 @@ fn is_skipped(line: &[u8]) -> bool {
 }
 
 // Answers a line that has a vector.
-fn handle(line: &[u8]) {
+fn handle(rt: &impl Print, line: &[u8]) {
     if is_skipped(line) {
         return;
     }
     let n = word_length(line);
-    answer(&line[0..n]);
+    answer(rt, &line[0..n]);
 }
 
 // The bytes of a chunk go into the line buffer, of which `filled` bytes are in use; each whole line
 // is handled. The answer is how many bytes are in use afterwards.
-fn feed(filled: usize, chunk: &[u8], line: &mut [u8]) -> usize
+fn feed(rt: &impl Print, filled: usize, chunk: &[u8], line: &mut [u8]) -> usize
     requires { filled ≤ length line.old }
     ensures { result ≤ length line.old }
 {
@@ -107,7 +105,7 @@ fn feed(filled: usize, chunk: &[u8], line: &mut [u8]) -> usize
     while i < chunk.len() {
         let b = chunk[i];
         if b == b'\n' {
-            handle(&line[0..fill]);
+            handle(rt, &line[0..fill]);
             fill = 0;
         } else {
             if fill < line.len() {
@@ -122,25 +120,28 @@ fn feed(filled: usize, chunk: &[u8], line: &mut [u8]) -> usize
 
 // Reads to the end of the input. A proved loop ends, so it counts its reads down from a number that
 // no run uses up.
-fn pump(line: &mut [u8], chunk: &mut [u8]) {
+fn pump(rt: &(impl Input + Print), line: &mut [u8], chunk: &mut [u8]) {
+    let mut input = rt.reader();
     let mut fill = 0;
     let mut left = u64::MAX;
     while left > 0 {
         left -= 1;
-        let got = libc::read(STDIN_FILENO, chunk);
-        let n = io::count(got, chunk);
+        let n = match input.read(chunk) {
+            Ok(n) => n,
+            Err(_) => 0,
+        };
         if n == 0 {
             break;
         }
-        fill = feed(fill, &chunk[0..n], line);
+        fill = feed(rt, fill, &chunk[0..n], line);
     }
     if fill > 0 {
-        handle(&line[0..fill]);
+        handle(rt, &line[0..fill]);
     }
 }
 
-fn main() {
+fn main(rt: HostRuntime) {
     let mut line = [0u8; 600];
-    let mut chunk = io::buffer();
-    pump(&mut line, &mut chunk);
+    let mut chunk = [0u8; 4096];
+    pump(&rt, &mut line, &mut chunk);
 }

@@ -1,12 +1,12 @@
 // Loads a tab from standard input into a freshly formatted volume, and tells the rows that were loaded and the refusal. Document 02,
 // requests 1 and 6.
 #![tactic(auto)]
-ghost use Rattle.std.specs.Prelude.{◌≡◌, length};
+ghost use Rattle.std.specs.Prelude.{◌≡◌, ◌≤◌, length};
 
 use geometry::Sizes;
-use libc::{STDERR_FILENO, STDIN_FILENO, STDOUT_FILENO};
 use script::answers;
 use state::State;
+use std::io::{Eprint, Read};
 
 // The longest tab that it takes.
 const MOST: usize = 262144;
@@ -31,33 +31,33 @@ fn spare_buffer() -> [u8; 9344]
     [0; 9344]
 }
 
-fn complain(reason: &[u8]) {
-    io::write_all(STDERR_FILENO, reason);
+fn complain(rt: &impl Eprint, reason: &str) {
+    let _ = rt.eprint(reason);
 }
 
 // A number, and the byte that ends it.
-fn print_number(n: u32, terminator: u8) {
+fn print_number(rt: &(impl Print + Eprint), n: u32, terminator: u8) {
     let mut text = [0u8; 16];
     let end = answers::put_number(n, terminator, 0, &mut text);
-    if !io::write_all(STDOUT_FILENO, &text[0..end]) {
-        complain(b"load_tab: cannot write the answer\n");
+    if rt.write_all(&text[0..end]).is_err() {
+        complain(rt, "load_tab: cannot write the answer\n");
     }
 }
 
 // `rows N ok`, or `rows N no NUMBER`.
-fn print_answer(rows: u32, refusal: u32) {
-    io::write_all(STDOUT_FILENO, b"rows ");
-    print_number(rows, b' ');
+fn print_answer(rt: &(impl Print + Eprint), rows: u32, refusal: u32) {
+    let _ = rt.print("rows ");
+    print_number(rt, rows, b' ');
     if refusal == state::ACCEPTED {
-        io::write_all(STDOUT_FILENO, b"ok\n");
+        let _ = rt.print("ok\n");
         return;
     }
-    io::write_all(STDOUT_FILENO, b"no ");
-    print_number(refusal, b'\n');
+    let _ = rt.print("no ");
+    print_number(rt, refusal, b'\n');
 }
 
 // A formatted volume, and the tab loaded into it.
-fn load_new(tab: &[u8]) {
+fn load_new(rt: &(impl Print + Eprint), tab: &[u8]) {
     let mut main_area = main_buffer();
     let mut spare = spare_buffer();
     let mut ram = [0u8; 1600];
@@ -74,20 +74,38 @@ fn load_new(tab: &[u8]) {
     };
     let f = format::format(none, sizes, &mut main_area, &mut spare, &mut ram);
     let r = load::load(f.state, tab, &mut main_area, &mut spare, &mut ram);
-    print_answer(r.rows, r.refusal);
+    print_answer(rt, r.rows, r.refusal);
 }
 
-fn main() {
+// Reads until the tab's buffer is full, the input ends or a read fails; how many bytes there are.
+fn read_full(input: &mut impl Read, tab: &mut [u8]) -> usize
+    ensures { result ≤ length tab.new }
+{
+    let mut done = 0;
+    while done < tab.len() {
+        let Ok(n) = input.read(&mut tab[done..]) else {
+            break;
+        };
+        if n == 0 {
+            break;
+        }
+        done += n;
+    }
+    done
+}
+
+fn main(rt: HostRuntime) {
     let mut tab = tab_buffer();
-    let n = io::read_full(STDIN_FILENO, &mut tab);
+    let mut input = rt.reader();
+    let n = read_full(&mut input, &mut tab);
     if n > MOST {
-        complain(b"load_tab: the tab has more than 262144 bytes; nothing was loaded\n");
+        complain(&rt, "load_tab: the tab has more than 262144 bytes; nothing was loaded\n");
         return;
     }
     let mut rest = [0u8; 1];
-    if libc::read(STDIN_FILENO, &mut rest) != 0 {
-        complain(b"load_tab: cannot read the tab; nothing was loaded\n");
+    let Ok(0) = input.read(&mut rest) else {
+        complain(&rt, "load_tab: cannot read the tab; nothing was loaded\n");
         return;
-    }
-    load_new(&tab[0..n]);
+    };
+    load_new(&rt, &tab[0..n]);
 }

@@ -17,7 +17,7 @@ fn answers() -> [u8; 524288]
 }
 
 // It lends 59,392 cells, 3,712 marks and a desk of 640 bytes, which serve S = 16 alone.
-fn main() {
+fn main(rt: HostRuntime) {
     let mut input = chunk();
     let mut output = answers();
     let mut line = [0u8; 64];
@@ -25,6 +25,7 @@ fn main() {
     let mut spare = [0u8; 3712];
     let mut ram = [0u8; 640];
     console::run(
+        &rt,
         &mut input,
         &mut line,
         &mut main_area,

@@ -16,7 +16,7 @@ fn answers() -> [u8; 524288]
     [0; 524288]
 }
 
-fn main() {
+fn main(rt: HostRuntime) {
     let mut input = chunk();
     let mut output = answers();
     let mut line = [0u8; 64];
@@ -24,6 +24,7 @@ fn main() {
     let mut spare = [0u8; 12224];
     let mut ram = [0u8; 1600];
     console::run(
+        &rt,
         &mut input,
         &mut line,
         &mut main_area,
