@@ -3,7 +3,7 @@ use Prim.Native.Nat.{◌*◌, ◌≤◌}
 use native.Mathlib.Omega.{arith}
 use Rattle.geometry.specs.Shape.{shape}
 use Rattle.geometry.specs.Bounds.{deletion_capacity_le, deletion_index_le}
-use Rattle.planning.specs.Computed.{quotient_le, deletion_full_le, not_taken, not_left, no_deletion_summary, deletion_summary_is}
+use Rattle.planning.specs.Computed.{quotient_le, deletion_full_le, no_deletion_summary, deletion_summary_is}
 use Rattle.planning.proofs.deletion_summary.Goals as goal
 
 pub returns-then-not-deletion_fills : goal.returns-then-not-deletion_fills
@@ -11,7 +11,7 @@ returns-then-not-deletion_fills c =
     let b1 = c.before in
     let b2 = b1.before in
     let x = b2.before.args in
-    c.no_deletions.ensures ∙ no_deletion_summary (shape x.g) x.d (sym b2.deletion_fills.ensures ∙ not_taken _ b1.if-not-deletion_fills.true)
+    c.no_deletions.ensures ∙ no_deletion_summary (shape x.g) x.d (sym b2.deletion_fills.ensures ∙ b1.if-not-deletion_fills.true)
 
 pub overflow_add-filters : goal.overflow_add-filters
 overflow_add-filters c =
@@ -46,5 +46,5 @@ returns c =
     let x = b2.before.args in
     c.summary.ensures
     ∙ deletion_summary_is (shape x.g) i.deletion_index.result p.fourth_size.result x.d f.deletion_filters-filters.result
-    (sym b2.deletion_fills.ensures ∙ not_left _ b1.if-not-deletion_fills.false) i.deletion_index.ensures p.fourth_size.ensures
+    (sym b2.deletion_fills.ensures ∙ b1.if-not-deletion_fills.false) i.deletion_index.ensures p.fourth_size.ensures
     f.deletion_filters-filters.ensures

@@ -3,7 +3,7 @@ use Prim.Native.Nat.{◌≤◌}
 use native.Mathlib.Omega.{arith}
 use Rattle.geometry.specs.Shape.{shape}
 use Rattle.geometry.specs.Bounds.{index_le}
-use Rattle.planning.specs.Computed.{full_le, not_taken, not_left, no_entry_summary, entry_summary_is}
+use Rattle.planning.specs.Computed.{full_le, no_entry_summary, entry_summary_is}
 use Rattle.planning.proofs.entry_summary.Goals as goal
 
 pub returns-then-not-entry_fills : goal.returns-then-not-entry_fills
@@ -11,7 +11,7 @@ returns-then-not-entry_fills c =
     let b1 = c.before in
     let b2 = b1.before in
     let x = b2.before.args in
-    c.no_entries.ensures ∙ no_entry_summary (shape x.g) x.n (sym b2.entry_fills.ensures ∙ not_taken _ b1.if-not-entry_fills.true)
+    c.no_entries.ensures ∙ no_entry_summary (shape x.g) x.n (sym b2.entry_fills.ensures ∙ b1.if-not-entry_fills.true)
 
 pub summary-requires : goal.summary-requires
 summary-requires c =
@@ -38,5 +38,5 @@ returns c =
     let x = b2.before.args in
     c.summary.ensures
     ∙ entry_summary_is (shape x.g) i.key_index.result p.fourth_size.result x.n q.entries_per_page.result
-    (sym b2.entry_fills.ensures ∙ not_left _ b1.if-not-entry_fills.false) i.key_index.ensures p.fourth_size.ensures
+    (sym b2.entry_fills.ensures ∙ b1.if-not-entry_fills.false) i.key_index.ensures p.fourth_size.ensures
     q.entries_per_page.ensures

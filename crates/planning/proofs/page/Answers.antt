@@ -1,7 +1,7 @@
 use native.Mathlib.Omega.{arith}
 use mathlib.Core.Path.{sym, ◌∙◌}
 use Rattle.geometry.specs.Shape.{area}
-use Rattle.planning.specs.Computed.{quotient_le, not_taken, not_left, page_open, page_full}
+use Rattle.planning.specs.Computed.{quotient_le, page_open, page_full}
 use Rattle.planning.proofs.page.Goals as goal
 
 pub page_sectors-requires : goal.page_sectors-requires
@@ -25,7 +25,7 @@ returns-then-not-fills c =
     let b3 = b2.before.before in
     let x = b3.before.args in
     page_open (area x.a) x.n b3.first_sector.result b2.page_sectors.result b3.first_sector.ensures
-    b2.page_sectors.ensures (sym b1.fills.ensures ∙ not_taken _ c.if-not-fills.true)
+    b2.page_sectors.ensures (sym b1.fills.ensures ∙ c.if-not-fills.true)
 
 pub returns : goal.returns
 returns c =
@@ -34,4 +34,4 @@ returns c =
     let b3 = b2.before.before in
     let x = b3.before.args in
     page_full (area x.a) x.n b3.first_sector.result b2.page_sectors.result b3.first_sector.ensures
-    b2.page_sectors.ensures (sym b1.fills.ensures ∙ not_left _ c.if-not-fills.false)
+    b2.page_sectors.ensures (sym b1.fills.ensures ∙ c.if-not-fills.false)
