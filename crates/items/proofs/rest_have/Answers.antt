@@ -18,7 +18,7 @@ loop-i-preserved c =
     let t = is_word x.s.now x.at x.j in (
       omega arith,
       elim c.if-get32-j.branch [
-        then-get32-j w ↦ w.found-is ∙ sym (any_yes t l.loop-i.i (word_yes x.s.now x.at x.j l.loop-i.i g.get32.result g.get32.ensures w.if-get32-j.true))
+        | then-get32-j w ↦ w.found-is ∙ sym (any_yes t l.loop-i.i (word_yes x.s.now x.at x.j l.loop-i.i g.get32.result g.get32.ensures w.if-get32-j.true))
         | else-get32-j w ↦ w.found-is ∙ (l.loop-i.invariant.1 ∙ sym (any_skips t l.loop-i.i (word_no x.s.now x.at x.j l.loop-i.i g.get32.result g.get32.ensures w.if-get32-j.false)))
       ],
     )
