@@ -1,5 +1,6 @@
 // Fields of bits taken out of a row of bytes, one after another, a run of bytes at a time.
 #![tactic(auto)]
+
 ghost use Rattle.std.specs.Prelude.{◌≡◌, ℕ, ◌+◌, ◌*◌, ◌^◌, ◌<◌, ◌≤◌, length};
 ghost use Rattle.memory.specs.Lists.{tabulate};
 ghost use Rattle.fields.specs.Sources.{field_byte, run_byte, Aligned, Near, Whole, Size, Reaches, Run, Runs};

@@ -11,15 +11,18 @@ overflow_add-at c =
 pub copy_runs-requires : goal.copy_runs-requires
 copy_runs-requires c =
     let x = c.before.before.before.before.before.before in
-    let n = length x.args.out.now in record { size = (
+    let n = length x.args.out.now in record {
+      size = (
         run_size x.args.bytes.now x.args.s x.args.w x.args.y n x.requires.aligned.0 x.requires.aligned.1,
         omega arith,
         x.requires.aligned.2,
         runs_in x.args.bytes.now x.args.s x.args.w x.args.y n x.requires.aligned.0 x.requires.aligned.1 x.requires.aligned.3,
-      ); whole = (
+      );
+      whole = (
         runs_whole x.args.bytes.now x.args.s x.args.w x.args.y n x.requires.aligned.0 x.requires.aligned.1 x.args.y x.requires.whole.0,
         runs_whole x.args.bytes.now x.args.s x.args.w x.args.y n x.requires.aligned.0 x.requires.aligned.1 n x.requires.whole.1,
-      ) }
+      );
+    }
 
 pub returns : goal.returns
 returns c =
