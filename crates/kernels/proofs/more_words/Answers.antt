@@ -14,7 +14,7 @@ most : (n b j : ℕ) → (n - b) * 8 - j ≤ n * 8
 most n b j = omega arith
 
 pub nonzero_div-per : goal.nonzero_div-per
-nonzero_div-per c = let p = c.before.before.before.requires.by_index.0 in omega (arith, eight_le p.0 c.before.before.before.args.w p.1 p.3)
+nonzero_div-per c = let p = c.before.before.before.requires.sizes.0 in omega (arith, eight_le p.0 c.before.before.before.args.w p.1 p.3)
 
 pub loop-b-init : goal.loop-b-init
 loop-b-init c =
@@ -23,13 +23,13 @@ loop-b-init c =
     (omega arith, shows_none (all_in x.bytes.now x.at.now x.low.now x.w x.count) _ _ 0 (ap (λ (y : ℕ). y * (64 / x.w)) z ∙ omega arith))
 
 pub overflow_mul-b : goal.overflow_mul-b
-overflow_mul-b c = omega (arith, c.before.before.before.before.before.requires.by_index.3, c.before.loop-b.invariant.0)
+overflow_mul-b c = omega (arith, c.before.before.before.before.before.requires.sizes.3, c.before.loop-b.invariant.0)
 
 pub overflow_add-q : goal.overflow_add-q
-overflow_add-q c = omega (arith, c.before.before.before.before.before.requires.by_index.3, c.before.before.before.before.before.requires.by_index.4, c.before.loop-b.invariant.0)
+overflow_add-q c = omega (arith, c.before.before.before.before.before.requires.sizes.3, c.before.before.before.before.before.requires.sizes.4, c.before.loop-b.invariant.0)
 
 pub field_block-f-requires : goal.field_block-f-requires
-field_block-f-requires c = c.before.before.before.before.before.requires.by_index_2.0 (c.before.loop-b.b - 1) (omega (arith, c.before.loop-b.invariant.0))
+field_block-f-requires c = c.before.before.before.before.before.requires.rows.0 (c.before.loop-b.b - 1) (omega (arith, c.before.loop-b.invariant.0))
 
 pub loop-j-init : goal.loop-j-init
 loop-j-init c =
@@ -57,13 +57,13 @@ bounds-f-j c = omega (arith, c.before.loop-j.invariant.0)
 pub squeeze-s-requires : goal.squeeze-s-requires
 squeeze-s-requires c =
     let b = c.before.before.before.before.before.before.before.before in
-    let p = b.requires.by_index.0 in
+    let p = b.requires.sizes.0 in
     ((p.0, omega (arith, p.1), p.2, p.3), λ q. omega (arith, q, eight_le p.0 b.args.w p.1 p.3))
 
 pub overflow_shl-r : goal.overflow_shl-r
 overflow_shl-r c =
     let b = c.before.before.before.before.before.before.before.before.before in
-    let p = b.requires.by_index in
+    let p = b.requires.sizes in
     omega (arith, per_le p.0.0 b.args.w (64 / b.args.w) p.0.1 p.0.3 p.1)
 
 pub loop-j-preserved : goal.loop-j-preserved
@@ -73,13 +73,13 @@ loop-j-preserved c =
     let l = c.before.before.before.before.before.loop-b in
     let b = c.before.before.before.before.before.before.before.before.before in
     let x = b.args in
-    let p = b.requires.by_index in
+    let p = b.requires.sizes in
     let j = k.j - 1 in
     let Q = x.q + (l.b - 1) * 8 + j in
     let N = (x.n - (l.b - 1)) * 8 - k.j in (
       omega (arith, k.invariant.0),
       word_more x.bytes.now x.at.now x.low.now x.count x.w ((64 / x.w)) Q N k.r (get_or F.field_block-f.result j 0) c.squeeze-s.result
-          (omega (arith, eight_le p.0.0 x.w p.0.1 p.0.3)) p.1 b.requires.by_index_2.1 (F.field_block-f.ensures j (omega (arith, k.invariant.0))) c.squeeze-s.ensures
+          (omega (arith, eight_le p.0.0 x.w p.0.1 p.0.3)) p.1 b.requires.rows.1 (F.field_block-f.ensures j (omega (arith, k.invariant.0))) c.squeeze-s.ensures
           (x.q + (l.b - 1) * 8 + k.j) ((x.n - (l.b - 1)) * 8 - j) (omega arith) (omega (arith, k.invariant.0, l.invariant.0))
           (omega (arith, mul-le-mul_right ((64 / x.w)) (most x.n (l.b - 1) j), p.2)) k.invariant.1,
     )

@@ -2,9 +2,9 @@ use Rattle.kernels.proofs.Eights.{nought}
 use native.Mathlib.Omega.{arith}
 use mathlib.Core.Path.{refl, ap, ◌∙◌}
 use mathlib.Core.Bool.{◌&&◌}
-use Prim.Native.Nat.{ℕ, ◌-◌}
+use Prim.Native.Nat.{ℕ}
 use lib.Dec.{ltb}
-use lib.ListN.{get_or, length, length-set}
+use lib.ListN.{get_or, length-set}
 use Rattle.memory.specs.Bits.{bit}
 use Rattle.kernels.proofs.Uptos.{upto_more, upto_end, upto_none}
 use Rattle.kernels.proofs.part.Goals as goal
@@ -30,8 +30,8 @@ loop-j-preserved c =
     let x = b.args in (
       omega arith,
       length-set l.r l.j c.lowest-y.result ∙ l.invariant.1,
-      upto_more (λ k i. bit (get_or x.t1 k 0) i) x.n l.j c.lowest-y.result l.r (omega arith) (omega (arith, b.requires)) l.invariant.1 l.invariant.2
-          (λ i h. c.lowest-y.ensures i h ∙ ap (λ (z : ℕ). ltb i z && bit (get_or x.t1 l.j 0) i) c.before.lesser-m.ensures),
+      upto_more (λ k i. bit (get_or x.f k 0) i) x.n l.j c.lowest-y.result l.r (omega arith) (omega (arith, b.requires)) l.invariant.1 l.invariant.2
+          (λ i h. c.lowest-y.ensures i h ∙ ap (λ (z : ℕ). ltb i z && bit (get_or x.f l.j 0) i) c.before.lesser-m.ensures),
     )
 
 pub returns : goal.returns

@@ -26,7 +26,7 @@ more_words-a-requires c =
     let x = b.args in
     let G = b.requires.4 in
     let W = most G.power.0 x.w G.power.2 G.power.1 in
-    let F = more G.power.0 x.w x.from x.m _ G.power.2 b.requires.0 (omega (arith, W)) b.requires.3 b.requires.1 b.requires.2 G.small refl in record { by_index = ((G.power.0, F.low_e, F.high_e, G.power.2), F.word, F.fits, F.n_le, F.q_lt); by_index_2 = (λ y l. record { some = G.some; firsts = G.firsts; lows = G.lows; row_in = λ k h. omega (arith, F.in_block y l, G.blocks_in k h); low_lt = λ k h. omega (arith, G.low_lt k h, W) }, G.low_lt) }
+    let F = more G.power.0 x.w x.from x.m _ G.power.2 b.requires.0 (omega (arith, W)) b.requires.3 b.requires.1 b.requires.2 G.small refl in record { sizes = ((G.power.0, F.low_e, F.high_e, G.power.2), F.word, F.fits, F.n_le, F.q_lt); rows = (λ y l. record { some = G.some; firsts = G.firsts; lows = G.lows; row_in = λ k h. omega (arith, F.in_block y l, G.blocks_in k h); low_lt = λ k h. omega (arith, G.low_lt k h, W) }, G.low_lt) }
 
 pub returns : goal.returns
 returns c =
