@@ -5,7 +5,7 @@ use Rattle.fields.proofs.copy_runs.Goals as goal
 
 pub whole_runs-requires : goal.whole_runs-requires
 whole_runs-requires c =
-    let p = at_size (length c.args.bytes.now) c.args.at c.args.stride c.args.n c.args.y (length c.args.out.now) 1 (omega arith) (omega arith) (c.requires.size, c.requires.whole) in record { n_nonzero = p.0; whole = p.1 }
+    let p = at_size (length c.args.bytes.now) c.args.at c.args.stride c.args.n c.args.y (length c.args.out.now) 1 (omega arith) (omega arith) (c.requires.size, c.requires.whole) in record { runs = p.0; whole = p.1 }
 
 pub returns-then-n-eq1 : goal.returns-then-n-eq1
 returns-then-n-eq1 c =
@@ -13,7 +13,7 @@ returns-then-n-eq1 c =
 
 pub whole_runs-requires-then-n-eq2 : goal.whole_runs-requires-then-n-eq2
 whole_runs-requires-then-n-eq2 c =
-    let p = at_size (length c.args.bytes.now) c.args.at c.args.stride c.args.n c.args.y (length c.args.out.now) 2 (omega arith) (omega arith) (c.requires.size, c.requires.whole) in record { n_nonzero = p.0; whole = p.1 }
+    let p = at_size (length c.args.bytes.now) c.args.at c.args.stride c.args.n c.args.y (length c.args.out.now) 2 (omega arith) (omega arith) (c.requires.size, c.requires.whole) in record { runs = p.0; whole = p.1 }
 
 pub returns-then-n-eq2 : goal.returns-then-n-eq2
 returns-then-n-eq2 c =
@@ -21,7 +21,7 @@ returns-then-n-eq2 c =
 
 pub whole_runs-requires-then-n-eq4 : goal.whole_runs-requires-then-n-eq4
 whole_runs-requires-then-n-eq4 c =
-    let p = at_size (length c.args.bytes.now) c.args.at c.args.stride c.args.n c.args.y (length c.args.out.now) 4 (omega arith) (omega arith) (c.requires.size, c.requires.whole) in record { n_nonzero = p.0; whole = p.1 }
+    let p = at_size (length c.args.bytes.now) c.args.at c.args.stride c.args.n c.args.y (length c.args.out.now) 4 (omega arith) (omega arith) (c.requires.size, c.requires.whole) in record { runs = p.0; whole = p.1 }
 
 pub returns-then-n-eq4 : goal.returns-then-n-eq4
 returns-then-n-eq4 c =
@@ -29,7 +29,7 @@ returns-then-n-eq4 c =
 
 pub whole_runs-requires-then-n-eq8 : goal.whole_runs-requires-then-n-eq8
 whole_runs-requires-then-n-eq8 c =
-    let p = at_size (length c.args.bytes.now) c.args.at c.args.stride c.args.n c.args.y (length c.args.out.now) 8 (omega arith) (omega arith) (c.requires.size, c.requires.whole) in record { n_nonzero = p.0; whole = p.1 }
+    let p = at_size (length c.args.bytes.now) c.args.at c.args.stride c.args.n c.args.y (length c.args.out.now) 8 (omega arith) (omega arith) (c.requires.size, c.requires.whole) in record { runs = p.0; whole = p.1 }
 
 pub returns-then-n-eq8 : goal.returns-then-n-eq8
 returns-then-n-eq8 c =
@@ -38,7 +38,7 @@ returns-then-n-eq8 c =
 pub whole_runs-requires-2 : goal.whole_runs-requires-2
 whole_runs-requires-2 c =
     let p = at_size (length c.args.bytes.now) c.args.at c.args.stride c.args.n c.args.y (length c.args.out.now) 16
-    (last_size c.args.n c.requires.size.0 c.if-n-eq1.false c.if-n-eq2.false c.if-n-eq4.false c.if-n-eq8.false) (omega arith) (c.requires.size, c.requires.whole) in record { n_nonzero = p.0; whole = p.1 }
+    (last_size c.args.n c.requires.size.0 c.if-n-eq1.false c.if-n-eq2.false c.if-n-eq4.false c.if-n-eq8.false) (omega arith) (c.requires.size, c.requires.whole) in record { runs = p.0; whole = p.1 }
 
 pub returns : goal.returns
 returns c =
