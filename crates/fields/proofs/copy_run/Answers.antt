@@ -19,6 +19,6 @@ slice_bounds-copy-end c =
 
 pub returns : goal.returns
 returns c =
-    let small : (i : ℕ) → get_or c.args.bytes.now i 0 < 256 = λ i. omega (arith, c.shared_slice_known-1.given i) in
+    let small : (i : ℕ) → get_or c.args.bytes.now i 0 < 256 = λ i. omega (arith, c.type_inv.bytes i) in
     c.copy.ensures
     ∙ copies c.args.bytes.now c.args.s c.args.w c.args.y (length c.args.out.now) c.requires.0 c.requires.1 c.requires.3 c.requires.2 small

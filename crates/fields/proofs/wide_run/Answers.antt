@@ -25,4 +25,4 @@ copy_runs-requires c =
 pub returns : goal.returns
 returns c =
     runs_are c.args.bytes.now c.args.s c.args.w c.args.y (length c.args.out.now) c.requires.aligned.0 c.requires.aligned.1 _
-    (λ i. omega (arith, c.shared_slice_known-1.given i)) c.copy_runs.ensures
+    (λ i. omega (arith, c.type_inv.bytes i)) c.copy_runs.ensures
