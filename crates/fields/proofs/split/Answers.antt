@@ -14,10 +14,8 @@ exchanged-requires c = (omega arith, apart_28)
 
 pub returns-then-w-eq1 : goal.returns-then-w-eq1
 returns-then-w-eq1 c =
-    let b1 = c.before in
-    let b2 = b1.before in
-    rw b2.before.if-w-eq1.true
-    (split_1 b2.before.before.args.x b2.exchanged-a.result b1.exchanged-b.result c.exchanged.result b2.exchanged-a.ensures b1.exchanged-b.ensures c.exchanged.ensures)
+    rw c.if-w-eq1.true
+    (split_1 c.args.x c.exchanged-a.result c.exchanged-b.result c.exchanged.result c.exchanged-a.ensures c.exchanged-b.ensures c.exchanged.ensures)
 
 pub exchanged-a-requires-then-w-eq2 : goal.exchanged-a-requires-then-w-eq2
 exchanged-a-requires-then-w-eq2 c = (omega arith, apart_12)
@@ -33,12 +31,9 @@ exchanged-requires-then-w-eq2 c = (omega arith, apart_8)
 
 pub returns-then-w-eq2 : goal.returns-then-w-eq2
 returns-then-w-eq2 c =
-    let b1 = c.before in
-    let b2 = b1.before in
-    let b3 = b2.before in
-    rw b3.before.if-w-eq2.true
-    (split_2 b3.before.before.before.args.x b3.exchanged-a-then-w-eq2.result b2.exchanged-b-then-w-eq2.result b1.exchanged-c.result c.exchanged-then-w-eq2.result
-    b3.exchanged-a-then-w-eq2.ensures b2.exchanged-b-then-w-eq2.ensures b1.exchanged-c.ensures c.exchanged-then-w-eq2.ensures)
+    rw c.if-w-eq2.true
+    (split_2 c.args.x c.exchanged-a-then-w-eq2.result c.exchanged-b-then-w-eq2.result c.exchanged-c.result c.exchanged-then-w-eq2.result
+    c.exchanged-a-then-w-eq2.ensures c.exchanged-b-then-w-eq2.ensures c.exchanged-c.ensures c.exchanged-then-w-eq2.ensures)
 
 pub exchanged-a-requires-2 : goal.exchanged-a-requires-2
 exchanged-a-requires-2 c = (omega arith, apart_4)
@@ -51,9 +46,6 @@ exchanged-requires-2 c = (omega arith, apart_16)
 
 pub returns : goal.returns
 returns c =
-    let b1 = c.before in
-    let b2 = b1.before in
-    let x = b2.before.before.before in
-    let four = not_others x.args.w x.requires b2.before.before.if-w-eq1.false b2.before.if-w-eq2.false in
+    let four = not_others c.args.w c.requires c.if-w-eq1.false c.if-w-eq2.false in
     rw four
-    (split_4 x.args.x b2.exchanged-a-2.result b1.exchanged-b-2.result c.exchanged-2.result b2.exchanged-a-2.ensures b1.exchanged-b-2.ensures c.exchanged-2.ensures)
+    (split_4 c.args.x c.exchanged-a-2.result c.exchanged-b-2.result c.exchanged-2.result c.exchanged-a-2.ensures c.exchanged-b-2.ensures c.exchanged-2.ensures)

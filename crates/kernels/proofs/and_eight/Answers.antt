@@ -8,4 +8,4 @@ use Rattle.kernels.proofs.and_eight.Goals as goal
 
 pub returns : goal.returns
 returns c =
-    eight (λ j v. v ≡ bit_and (get_or c.args.t1 j 0) (get_or c.args.t2 j 0)) _ _ _ _ _ _ _ _ refl refl refl refl refl refl refl refl
+    eight (λ j v. v ≡ bit_and (get_or c.args.x j 0) (get_or c.args.y j 0)) _ _ _ _ _ _ _ _ refl refl refl refl refl refl refl refl

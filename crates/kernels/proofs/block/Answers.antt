@@ -18,29 +18,26 @@ inside A first n w len o m p h =
 
 pub field_block-f-requires : goal.field_block-f-requires
 field_block-f-requires c =
-    let b = c.before.before.before.before.before in
-    let G = b.requires.3 in
-    let o = one G.power.0 b.args.w G.power.2 c.if-w-gt1.false in
+    let G = c.requires.3 in
+    let o = one G.power.0 c.args.w G.power.2 c.if-w-gt1.false in
     record {
       some = G.some;
       firsts = G.firsts;
       lows = G.lows;
-      row_in = λ k h. inside (get_or b.args.at.now k 0) b.args.first b.args.n b.args.w (length b.args.bytes.now) o b.requires.2 b.requires.0 (G.blocks_in k h);
+      row_in = λ k h. inside (get_or c.args.at.now k 0) c.args.first c.args.n c.args.w (length c.args.bytes.now) o c.requires.2 c.requires.0 (G.blocks_in k h);
       low_lt = λ k h. omega (arith, G.low_lt k h, o);
     }
 
 pub returns-then-n-eq512 : goal.returns-then-n-eq512
 returns-then-n-eq512 c =
-    let b = c.before.before.before.before.before.before.before in
-    let x = b.args in
-    let G = b.requires.3 in
-    upto_all (λ j i. all_in x.bytes.now x.at.now x.low.now x.w x.count (x.first + (j * 64 + i))) x.n c.before.field_block-f.result c.if-n-eq512.true
-    (single x.bytes.now x.at.now x.low.now x.count x.w x.first c.before.field_block-f.result (one G.power.0 x.w G.power.2 c.before.before.if-w-gt1.false) b.requires.2 G.low_lt c.before.field_block-f.ensures)
+    let x = c.args in
+    let G = c.requires.3 in
+    upto_all (λ j i. all_in x.bytes.now x.at.now x.low.now x.w x.count (x.first + (j * 64 + i))) x.n c.field_block-f.result c.if-n-eq512.true
+    (single x.bytes.now x.at.now x.low.now x.count x.w x.first c.field_block-f.result (one G.power.0 x.w G.power.2 c.if-w-gt1.false) c.requires.2 G.low_lt c.field_block-f.ensures)
 
 pub returns : goal.returns
 returns c =
-    let b = c.before.before.before.before.before.before.before.before in
-    let x = b.args in
-    let G = b.requires.3 in
-    upto_map (λ j i. bit (get_or c.before.before.field_block-f.result j 0) i) (λ j i. all_in x.bytes.now x.at.now x.low.now x.w x.count (x.first + (j * 64 + i))) x.n c.part.result
-    (single x.bytes.now x.at.now x.low.now x.count x.w x.first c.before.before.field_block-f.result (one G.power.0 x.w G.power.2 c.before.before.before.if-w-gt1.false) b.requires.2 G.low_lt c.before.before.field_block-f.ensures) c.part.ensures
+    let x = c.args in
+    let G = c.requires.3 in
+    upto_map (λ j i. bit (get_or c.field_block-f.result j 0) i) (λ j i. all_in x.bytes.now x.at.now x.low.now x.w x.count (x.first + (j * 64 + i))) x.n c.part.result
+    (single x.bytes.now x.at.now x.low.now x.count x.w x.first c.field_block-f.result (one G.power.0 x.w G.power.2 c.if-w-gt1.false) c.requires.2 G.low_lt c.field_block-f.ensures) c.part.ensures

@@ -34,72 +34,51 @@ fewer n k h = omega arith
 -- ---- before the loop
 
 pub overflow_mul-o : goal.overflow_mul-o
-overflow_mul-o c = omega (arith, c.before.before.requires.2)
+overflow_mul-o c = omega (arith, c.requires.2)
 
 pub overflow_add-o : goal.overflow_add-o
-overflow_add-o c = omega (arith, c.before.before.requires.2)
+overflow_add-o c = omega (arith, c.requires.2)
 
 pub loop-o-init : goal.loop-o-init
 loop-o-init c =
-    let x = c.before.before.args in
+    let x = c.args in
     let z : x.n - x.n ≡ 0 = omega arith in
     (x.n, omega arith, refl, pack_none (has x.at x.low x.step x.bytes.now) c.bit_place-s.result x.n (x.n - x.n) z)
 
 -- ---- a byte
 
--- the turn at hand
-turn : (c : goal.In-loop-o)
-    → let x = c.before.before.before.before.args in let l = c.before.loop-o in
-    (0 < l.invariant.0) × (x.step ≤ l.o) × (l.o - x.step ≡ x.at + (l.invariant.0 - 1) * x.step)
-turn c =
-    let x = c.before.before.before.before.args in
-    let l = c.before.loop-o in
-    falls x.at x.step l.invariant.0 l.o l.invariant.2 c.loop-o-test.true
-
--- what is gathered so far
-small : (l : goal.At-loop-o) → l.loop-o.r < 32768
-small l =
-    let P = l.before in
-    let b = P.before.before in
-    let x = b.args in
-    let k = l.loop-o.invariant.0 in
-    pack_small (has x.at x.low x.step x.bytes.now) P.bit_place-s.result k (x.n - k) l.loop-o.r P.bit_place-s.ensures.1 (fewer x.n k b.requires.0) l.loop-o.invariant.3
-
 pub overflow_sub-o : goal.overflow_sub-o
-overflow_sub-o c = (turn c).1
+overflow_sub-o c = (falls c.args.at c.args.step c.loop-o.invariant.0 c.loop-o.o c.loop-o.invariant.2 c.loop-o-test.true).1
 
 pub masked-b-requires : goal.masked-b-requires
 masked-b-requires c =
-    let b = c.before.before.before.before in
-    let l = c.before.loop-o in
-    let t = turn c in
-    rw t.2 (b.requires.3 (l.invariant.0 - 1) (omega (arith, t.0, l.invariant.1)))
+    let l = c.loop-o in
+    let t = falls c.args.at c.args.step c.loop-o.invariant.0 c.loop-o.o c.loop-o.invariant.2 c.loop-o-test.true in
+    rw t.2 (c.requires.3 (l.invariant.0 - 1) (omega (arith, t.0, l.invariant.1)))
 
 pub overflow_mul-r : goal.overflow_mul-r
-overflow_mul-r c = omega (arith, small c.before.before)
+overflow_mul-r c = omega (arith, pack_small (has c.args.at c.args.low c.args.step c.args.bytes.now) c.bit_place-s.result c.loop-o.invariant.0 (c.args.n - c.loop-o.invariant.0) c.loop-o.r c.bit_place-s.ensures.1 (fewer c.args.n c.loop-o.invariant.0 c.requires.0) c.loop-o.invariant.3)
 
 pub overflow_add-r : goal.overflow_add-r
-overflow_add-r c = omega (arith, small c.before.before, c.masked-b.ensures.1)
+overflow_add-r c = omega (arith, pack_small (has c.args.at c.args.low c.args.step c.args.bytes.now) c.bit_place-s.result c.loop-o.invariant.0 (c.args.n - c.loop-o.invariant.0) c.loop-o.r c.bit_place-s.ensures.1 (fewer c.args.n c.loop-o.invariant.0 c.requires.0) c.loop-o.invariant.3, c.masked-b.ensures.1)
 
 pub loop-o-smaller : goal.loop-o-smaller
-loop-o-smaller c = omega (arith, (turn c.before).1, c.before.before.before.before.before.requires.1)
+loop-o-smaller c = omega (arith, (falls c.args.at c.args.step c.loop-o.invariant.0 c.loop-o.o c.loop-o.invariant.2 c.loop-o-test.true).1, c.requires.1)
 
 pub loop-o-preserved : goal.loop-o-preserved
 loop-o-preserved c =
-    let P = c.before.before.before in
-    let b = P.before.before in
-    let x = b.args in
-    let l = c.before.before.loop-o in
-    let t = turn c.before in
-    let s = P.bit_place-s.result in
+    let x = c.args in
+    let l = c.loop-o in
+    let t = falls c.args.at c.args.step c.loop-o.invariant.0 c.loop-o.o c.loop-o.invariant.2 c.loop-o-test.true in
+    let s = c.bit_place-s.result in
     let k = l.invariant.0 in
     let f = has x.at x.low x.step x.bytes.now in
     let is : bit (get_or x.bytes.now (l.o - x.step) 0) s ≡ f (k - 1)
-    = ap (λ (z : ℕ). bit (get_or x.bytes.now z 0) s) t.2 ∙ ap (bit (get_or x.bytes.now (x.at + (k - 1) * x.step) 0)) P.bit_place-s.ensures.0 in (
+    = ap (λ (z : ℕ). bit (get_or x.bytes.now z 0) s) t.2 ∙ ap (bit (get_or x.bytes.now (x.at + (k - 1) * x.step) 0)) c.bit_place-s.ensures.0 in (
       k - 1,
       omega (arith, l.invariant.1),
       t.2,
-      pack_more f s (k - 1) (get_or x.bytes.now (l.o - x.step) 0) ((1 * 2 ^ s) % 2 ^ 64) c.masked-b.result (one_of s (omega (arith, P.bit_place-s.ensures.1))) c.masked-b.ensures.0 is
+      pack_more f s (k - 1) (get_or x.bytes.now (l.o - x.step) 0) ((1 * 2 ^ s) % 2 ^ 64) c.masked-b.result (one_of s (omega (arith, c.bit_place-s.ensures.1))) c.masked-b.ensures.0 is
           (x.n - k) (2 ^ (x.n - k)) k (x.n - (k - 1)) (2 ^ (x.n - (k - 1))) l.r (omega (arith, t.0)) (omega (arith, t.0, l.invariant.1)) (twice x.n k t.0 l.invariant.1) l.invariant.3,
     )
 
@@ -107,10 +86,8 @@ loop-o-preserved c =
 
 pub returns : goal.returns
 returns c =
-    let l = c.before.loop-o in
-    let P = c.before.before in
-    let b = P.before.before in
-    let x = b.args in
-    let z = none_left x.at x.step l.invariant.0 l.o l.invariant.2 b.requires.1 (omega arith) in
+    let l = c.loop-o in
+    let x = c.args in
+    let z = none_left x.at x.step l.invariant.0 l.o l.invariant.2 c.requires.1 (omega arith) in
     let f = has x.at x.low x.step x.bytes.now in
-    unpack f P.bit_place-s.result x.n (2 ^ x.n) l.r _ refl (pack_all f P.bit_place-s.result x.n l.invariant.0 l.r z l.invariant.3)
+    unpack f c.bit_place-s.result x.n (2 ^ x.n) l.r _ refl (pack_all f c.bit_place-s.result x.n l.invariant.0 l.r z l.invariant.3)

@@ -12,21 +12,20 @@ use Rattle.kernels.proofs.eight_bits.Goals as goal
 pub returns : goal.returns
 returns c =
     let t0 = c.masked-a in
-    let t1 = c.before.masked-b in
-    let t2 = c.before.before.masked-c in
-    let t3 = c.before.before.before.masked-d in
-    let t4 = c.before.before.before.before.masked-e in
-    let t5 = c.before.before.before.before.before.masked-f in
-    let t6 = c.before.before.before.before.before.before.masked-g in
-    let t7 = c.before.before.before.before.before.before.before.masked-h in
-    let P = c.before.before.before.before.before.before.before.before in
-    let x = P.before.before.args in
-    let s = P.bit_place-s.result in
+    let t1 = c.masked-b in
+    let t2 = c.masked-c in
+    let t3 = c.masked-d in
+    let t4 = c.masked-e in
+    let t5 = c.masked-f in
+    let t6 = c.masked-g in
+    let t7 = c.masked-h in
+    let x = c.args in
+    let s = c.bit_place-s.result in
     let f : ℕ → Bool = λ k. bit (get_or x.bytes.now (x.at + k * x.step) 0) (x.low % 8) in
     let m = (1 * 2 ^ s) % 2 ^ 64 in
-    let one = one_of s (omega (arith, P.bit_place-s.ensures.1)) in
+    let one = one_of s (omega (arith, c.bit_place-s.ensures.1)) in
     let has : (k a : ℕ) → a ≡ x.at + k * x.step → bit (get_or x.bytes.now a 0) s ≡ f k
-    = λ k a e. ap (λ (z : ℕ). bit (get_or x.bytes.now z 0) s) e ∙ ap (bit (get_or x.bytes.now (x.at + k * x.step) 0)) P.bit_place-s.ensures.0 in
+    = λ k a e. ap (λ (z : ℕ). bit (get_or x.bytes.now z 0) s) e ∙ ap (bit (get_or x.bytes.now (x.at + k * x.step) 0)) c.bit_place-s.ensures.0 in
     let b : ℕ → ℕ = λ a. get_or x.bytes.now a 0 in
     let p7 = pack_first f s 7 (b (x.at + 7 * x.step)) m t7.result one t7.ensures.0 (has 7 _ refl) in
     let p6 = pack_more f s 6 (b (x.at + 6 * x.step)) m t6.result one t6.ensures.0 (has 6 _ refl) 1 2 7 2 4 _ refl refl refl p7 in

@@ -8,4 +8,4 @@ use Rattle.kernels.proofs.field_at.Goals as goal
 
 pub returns : goal.returns
 unfolding Word64
-returns c i h = bit_shr c.get64.result c.before.before.args.low i ∙ c.get64.ensures (c.before.before.args.low + i) h
+returns c i h = bit_shr c.get64.result c.args.low i ∙ c.get64.ensures (c.args.low + i) h

@@ -13,5 +13,5 @@ squeeze-y-requires c = ((1, omega arith, omega arith, refl), λ e. omega arith)
 
 pub returns : goal.returns
 returns c =
-    let x = c.before.before.args in
-    two_halves x.a x.b c.before.squeeze-x.result c.squeeze-y.result c.before.squeeze-x.ensures c.squeeze-y.ensures
+    let x = c.args in
+    two_halves x.a x.b c.squeeze-x.result c.squeeze-y.result c.squeeze-x.ensures c.squeeze-y.ensures

@@ -9,10 +9,10 @@ use Rattle.kernels.proofs.has_mask.Goals as goal
 
 pub returns-then-x-m : goal.returns-then-x-m
 unfolding bit
-returns-then-x-m c = let x = c.before.args in (omega arith, sym (ap not (kept x.x x.m c.if-x-m.true)))
+returns-then-x-m c = let x = c.args in (omega arith, sym (ap not (kept x.x x.m c.if-x-m.true)))
 
 pub returns : goal.returns
 unfolding bit
 returns c =
-    let x = c.before.args in
+    let x = c.args in
     (omega arith, sym (ap not (not_kept x.x x.m (omega arith) (omega arith) c.if-x-m.false)))

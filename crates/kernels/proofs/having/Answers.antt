@@ -5,5 +5,4 @@ use Rattle.kernels.proofs.having.Goals as goal
 
 pub returns : goal.returns
 returns c gate S =
-    let b = c.before.before in
-    not_shut gate b.args.n b.args.x c.before.interleaved-r.result c.lowest.result b.requires.1 S c.before.interleaved-r.ensures c.lowest.ensures
+    not_shut gate c.args.n c.args.x c.interleaved-r.result c.lowest.result c.requires.1 S c.interleaved-r.ensures c.lowest.ensures

@@ -18,5 +18,5 @@ exchanged-requires c = (omega arith, apart_12)
 
 pub returns : goal.returns
 returns c =
-    interleaving c.before.before.before.before.args.x c.before.before.before.exchanged-a.result c.before.before.exchanged-b.result c.before.exchanged-c.result c.exchanged.result
-    c.before.before.before.exchanged-a.ensures c.before.before.exchanged-b.ensures c.before.exchanged-c.ensures c.exchanged.ensures
+    interleaving c.args.x c.exchanged-a.result c.exchanged-b.result c.exchanged-c.result c.exchanged.result
+    c.exchanged-a.ensures c.exchanged-b.ensures c.exchanged-c.ensures c.exchanged.ensures

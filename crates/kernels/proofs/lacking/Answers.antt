@@ -1,7 +1,7 @@
 use native.Mathlib.Omega.{arith}
 use mathlib.Core.Path.{◌≡◌, sym, ap, ◌∙◌}
 use mathlib.Core.Bool.{not}
-use Prim.Native.Nat.{◌+◌, ◌-◌, ◌*◌, ◌/◌}
+use Prim.Native.Nat.{◌+◌, ◌*◌, ◌/◌}
 use lib.Bits.{or_lt}
 use Rattle.kernels.proofs.Masks.{lacks, shut_more}
 use Rattle.kernels.proofs.lacking.Goals as goal
@@ -14,11 +14,11 @@ loop-j-init c = (omega arith, omega arith, λ gate q h S G. let e : q + 0 ≡ q 
 pub loop-j-preserved : goal.loop-j-preserved
 loop-j-preserved c =
     let z = c.nonzero-z in
-    let d = c.before.missing-d in
-    let w = c.before.before.get64 in
-    let l = c.before.before.before.before.loop-j in
-    let f = c.before.before.before.before.before.four_times-mask in
-    let x = c.before.before.before.before.before.before.before.args in (
+    let d = c.missing-d in
+    let w = c.get64 in
+    let l = c.loop-j in
+    let f = c.four_times-mask in
+    let x = c.args in (
       omega arith,
       or_lt 64 (l.r / 2) z.result (omega (arith, l.invariant.1)) (omega arith),
       λ gate q h S G.
@@ -34,7 +34,7 @@ loop-j-preserved c =
 
 pub returns : goal.returns
 returns c gate q h S G =
-    let l = c.before.loop-j in
-    let x = c.before.before.before.before.args in
+    let l = c.loop-j in
+    let x = c.args in
     let z : l.j ≡ x.n = omega arith in
     rw z at (l.invariant.2 gate q h S G)

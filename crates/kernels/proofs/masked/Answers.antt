@@ -7,9 +7,9 @@ use Rattle.kernels.proofs.masked.Goals as goal
 -- No more than the byte.
 
 pub overflow_cast-result : goal.overflow_cast-result
-overflow_cast-result c = omega (arith, c.shared_slice_known-1.given c.before.args.at)
+overflow_cast-result c = omega (arith, c.type_inv.bytes c.args.at)
 
 pub returns : goal.returns
 returns c =
-    let x = c.before.args in
-    (refl, omega (arith, and_le_l (get_or x.bytes.now x.at 0) x.mask, c.shared_slice_known-1.given x.at))
+    let x = c.args in
+    (refl, omega (arith, and_le_l (get_or x.bytes.now x.at 0) x.mask, c.type_inv.bytes x.at))

@@ -9,15 +9,15 @@ use Rattle.kernels.proofs.row_block.Goals as goal
 
 pub returns : goal.returns
 returns c =
-    let x = c.before.before.before.before.before.before.before.before.before.args in (
+    let x = c.args in (
       refl,
       eight (λ j v. (i : ℕ) → x.low + i < 64 → bit v i ≡ bit_in x.bytes.now (x.at + j * 8) (x.low + i)) _ _ _ _ _ _ _ _
-          (λ i h. let e : x.at + 0 * 8 ≡ x.at = omega arith in rw e (c.before.before.before.before.before.before.before.field_at-a.ensures i h))
-          c.before.before.before.before.before.before.field_at-b.ensures
-          c.before.before.before.before.before.field_at-c.ensures
-          c.before.before.before.before.field_at-d.ensures
-          c.before.before.before.field_at-e.ensures
-          c.before.before.field_at-f.ensures
-          c.before.field_at-g.ensures
+          (λ i h. let e : x.at + 0 * 8 ≡ x.at = omega arith in rw e (c.field_at-a.ensures i h))
+          c.field_at-b.ensures
+          c.field_at-c.ensures
+          c.field_at-d.ensures
+          c.field_at-e.ensures
+          c.field_at-f.ensures
+          c.field_at-g.ensures
           c.field_at-h.ensures,
     )

@@ -7,31 +7,30 @@ use Rattle.kernels.proofs.squeeze.Goals as goal
 
 pub returns-then-w-eq2 : goal.returns-then-w-eq2
 returns-then-w-eq2 c =
-    rw c.before.before.before.before.before.if-w-eq2.true
-    (squeezed_2 c.before.before.before.before.before.before.args.x c.before.before.before.before.join-a.result c.before.before.before.join-b.result c.before.before.join-c.result c.before.join-d.result c.join.result (omega arith)
-    c.before.before.before.before.join-a.ensures c.before.before.before.join-b.ensures c.before.before.join-c.ensures c.before.join-d.ensures c.join.ensures)
+    rw c.if-w-eq2.true
+    (squeezed_2 c.args.x c.join-a.result c.join-b.result c.join-c.result c.join-d.result c.join.result (omega arith)
+    c.join-a.ensures c.join-b.ensures c.join-c.ensures c.join-d.ensures c.join.ensures)
 
 pub returns-then-w-eq8 : goal.returns-then-w-eq8
 returns-then-w-eq8 c =
-    rw c.before.before.before.if-w-eq8.true
-    (squeezed_8 c.before.before.before.before.before.args.x c.before.before.join-a-then-w-eq8.result c.before.join-b-then-w-eq8.result c.join-then-w-eq8.result (omega arith)
-    c.before.before.join-a-then-w-eq8.ensures c.before.join-b-then-w-eq8.ensures c.join-then-w-eq8.ensures)
+    rw c.if-w-eq8.true
+    (squeezed_8 c.args.x c.join-a-then-w-eq8.result c.join-b-then-w-eq8.result c.join-then-w-eq8.result (omega arith)
+    c.join-a-then-w-eq8.ensures c.join-b-then-w-eq8.ensures c.join-then-w-eq8.ensures)
 
 pub returns-then-w-eq16 : goal.returns-then-w-eq16
 returns-then-w-eq16 c =
-    rw c.before.before.if-w-eq16.true
-    (squeezed_16 c.before.before.before.before.before.args.x c.before.join-a-then-w-eq16.result c.join-then-w-eq16.result (omega arith)
-    c.before.join-a-then-w-eq16.ensures c.join-then-w-eq16.ensures)
+    rw c.if-w-eq16.true
+    (squeezed_16 c.args.x c.join-a-then-w-eq16.result c.join-then-w-eq16.result (omega arith)
+    c.join-a-then-w-eq16.ensures c.join-then-w-eq16.ensures)
 
 pub returns-then-w-eq32 : goal.returns-then-w-eq32
 returns-then-w-eq32 c =
-    rw c.before.if-w-eq32.true
-    (squeezed_32 c.before.before.before.before.before.args.x c.join-then-w-eq32.result (omega arith)
+    rw c.if-w-eq32.true
+    (squeezed_32 c.args.x c.join-then-w-eq32.result (omega arith)
     c.join-then-w-eq32.ensures)
 
 pub returns : goal.returns
 returns c =
-    let b = c.before.before.before.before in
-    let p = b.requires.0 in
-    rw (sixty_four p.0 b.args.w p.1 p.2 p.3 c.before.before.before.if-w-eq2.false b.requires.1 c.before.before.if-w-eq8.false c.before.if-w-eq16.false c.if-w-eq32.false)
-    (squeezed_64 b.args.x)
+    let p = c.requires.0 in
+    rw (sixty_four p.0 c.args.w p.1 p.2 p.3 c.if-w-eq2.false c.requires.1 c.if-w-eq8.false c.if-w-eq16.false c.if-w-eq32.false)
+    (squeezed_64 c.args.x)

@@ -27,36 +27,34 @@ pub loop-j-init : goal.loop-j-init
 loop-j-init c = (omega arith, refl, upto_none _ _ _ (omega arith) nought)
 
 pub overflow_add-first : goal.overflow_add-first
-overflow_add-first c = omega (arith, small (length c.before.before.before.before.before.before.args.bytes.now) c.before.before.before.before.before.before.args.first c.before.before.before.before.before.before.args.n c.before.before.before.before.before.before.args.w c.before.before.before.before.before.before.requires.0 c.before.before.before.before.before.before.requires.3.small)
+overflow_add-first c = omega (arith, small (length c.args.bytes.now) c.args.first c.args.n c.args.w c.requires.0 c.requires.3.small)
 
 pub passed-y-requires : goal.passed-y-requires
 passed-y-requires c =
-    let b = c.before.before.before.before.before.before in
-    let x = b.args in
-    let l = c.before.before.loop-j in (
-      b.requires.0,
+    let x = c.args in
+    let l = c.loop-j in (
+      c.requires.0,
       omega (arith, c.lesser-m.ensures),
       omega (arith, c.lesser-m.ensures),
-      omega (arith, b.requires.2),
-      group_fewer x.at.now x.low.now x.count x.w (x.first + x.n) (x.first + l.j * 64 + c.lesser-m.result) (length x.bytes.now) (omega (arith, c.lesser-m.ensures)) b.requires.3,
+      omega (arith, c.requires.2),
+      group_fewer x.at.now x.low.now x.count x.w (x.first + x.n) (x.first + l.j * 64 + c.lesser-m.result) (length x.bytes.now) (omega (arith, c.lesser-m.ensures)) c.requires.3,
     )
 
 pub bounds-r-j : goal.bounds-r-j
-bounds-r-j c = omega (arith, c.before.before.before.before.before.before.before.requires.1)
+bounds-r-j c = omega (arith, c.requires.1)
 
 pub loop-j-preserved : goal.loop-j-preserved
 loop-j-preserved c =
-    let l = c.before.before.before.loop-j in
-    let b = c.before.before.before.before.before.before.before in
-    let x = b.args in
-    let m = c.before.lesser-m in (
+    let l = c.loop-j in
+    let x = c.args in
+    let m = c.lesser-m in (
       omega arith,
       length-set l.r l.j c.passed-y.result ∙ l.invariant.1,
-      upto_more (λ k i. all_in x.bytes.now x.at.now x.low.now x.w x.count (x.first + (k * 64 + i))) x.n l.j c.passed-y.result l.r (omega arith) (omega (arith, b.requires.1)) l.invariant.1 l.invariant.2
+      upto_more (λ k i. all_in x.bytes.now x.at.now x.low.now x.w x.count (x.first + (k * 64 + i))) x.n l.j c.passed-y.result l.r (omega arith) (omega (arith, c.requires.1)) l.invariant.1 l.invariant.2
           (λ i h. of_open (all_in x.bytes.now x.at.now x.low.now x.w x.count) x.first l.j m.result (min 64 (x.n - l.j * 64)) c.passed-y.result m.ensures c.passed-y.ensures i h),
     )
 
 pub returns : goal.returns
 returns c =
-    let l = c.before.loop-j in
+    let l = c.loop-j in
     upto_end _ _ _ _ (omega arith) l.invariant.2

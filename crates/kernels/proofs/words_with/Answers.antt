@@ -10,15 +10,15 @@ use Rattle.kernels.proofs.words_with.Goals as goal
 
 pub loop-k-init : goal.loop-k-init
 loop-k-init c =
-    let x = c.before.args in
+    let x = c.args in
     (omega arith, open_none (has_mask x.bytes.now x.at 64 x.m) x.n (x.n - x.n) (omega arith))
 
 pub loop-k-preserved : goal.loop-k-preserved
 loop-k-preserved c =
     let b = c.has_mask-b in
-    let w = c.before.get64 in
-    let l = c.before.before.before.loop-k in
-    let x = c.before.before.before.before.before.args in
+    let w = c.get64 in
+    let l = c.loop-k in
+    let x = c.args in
     let k = l.k - 1 in (
       omega arith,
       open_more (has_mask x.bytes.now x.at 64 x.m) k l.k (x.n - l.k) (x.n - k) l.r b.result
@@ -28,8 +28,8 @@ loop-k-preserved c =
 
 pub returns : goal.returns
 returns c =
-    let l = c.before.loop-k in
-    let x = c.before.before.before.args in
+    let l = c.loop-k in
+    let x = c.args in
     let z : l.k ≡ 0 = omega arith in
     let m : x.n - 0 ≡ x.n = omega arith in
     rw (z, m) at l.invariant.1
