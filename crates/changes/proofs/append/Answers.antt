@@ -9,28 +9,20 @@ use Rattle.changes.proofs.append.Goals as goal
 
 pub record_number-requires : goal.record_number-requires
 record_number-requires c =
-    let k = c.before.before in
-    let s = k.before.before.before in
-    (s.requires.sound.0, rw k.slots-e.ensures s.requires.sound.1)
+    (c.requires.sound.0, rw c.slots-e.ensures c.requires.sound.1)
 
 pub returns : goal.returns
 returns c =
-    let a = c.before.before in
-    let n = a.before.before.before in
-    let r = n.before.before in
-    let j = r.before in
-    let k = j.before in
-    let s = k.before.before.before in
-    let x = s.args in
+    let x = c.args in
     λ main spare.
-    ram_appended (shape x.t.g) (task_on x.t main spare x.ram.now) x.t.edit k.slots-e.result j.old_number.result
-    r.new_record.result n.new_bytes-new.result
+    ram_appended (shape x.t.g) (task_on x.t main spare x.ram.now) x.t.edit c.slots-e.result c.old_number.result
+    c.new_record.result c.new_bytes-new.result
     (record {
-      pos = s.requires.sound.0.unit.1.some;
-      long = s.requires.sound.2;
-      slots_are = k.slots-e.ensures;
-      number_is = j.old_number.ensures;
-      record_is_lem = r.new_record.ensures;
-      new_is = n.new_bytes-new.ensures ∙ ap (new_bytes j.old_number.result (record_is r.new_record.result)) n.before.record_number.ensures;
+      pos = c.requires.sound.0.unit.1.some;
+      long = c.requires.sound.2;
+      slots_are = c.slots-e.ensures;
+      number_is = c.old_number.ensures;
+      record_is_lem = c.new_record.ensures;
+      new_is = c.new_bytes-new.ensures ∙ ap (new_bytes c.old_number.result (record_is c.new_record.result)) c.record_number.ensures;
     })
-    (ap (programs_in (shape x.t.g)) k.slots-e.ensures ∙ s.requires.t_value) _ a.append.ensures
+    (ap (programs_in (shape x.t.g)) c.slots-e.ensures ∙ c.requires.t_value) _ c.append.ensures

@@ -5,6 +5,5 @@ use Rattle.changes.proofs.new_bytes.Goals as goal
 
 pub returns : goal.returns
 returns c =
-    let p = c.before in
-    let x = p.before.before.before.args in
-    p.put_words.ensures ∙ all_written x.old (record_is x.«record») x.n
+    let x = c.args in
+    c.put_words.ensures ∙ all_written x.old (record_is x.«record») x.n

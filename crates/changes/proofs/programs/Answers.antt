@@ -5,5 +5,4 @@ use Rattle.changes.proofs.programs.Goals as goal
 
 pub returns : goal.returns
 returns c =
-    let k = c.before in
-    c.programs.ensures ∙ ap (programs_in (shape k.before.before.args.t.g)) k.slots.ensures
+    c.programs.ensures ∙ ap (programs_in (shape c.args.t.g)) c.slots.ensures

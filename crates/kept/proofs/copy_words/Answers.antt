@@ -1,5 +1,5 @@
 use native.Mathlib.Omega.{arith}
-use Prim.Native.Nat.{ℕ, ◌+◌, ◌-◌, ◌≤◌}
+use Prim.Native.Nat.{ℕ, ◌+◌, ◌≤◌}
 use mathlib.Core.Path.{◌≡◌, refl, ◌∙◌}
 use mathlib.Core.List.{List, ◌++◌, append-nil}
 use lib.ListN.{length, set, get_or, take, drop, length-set, drop_of_length-le}
@@ -39,15 +39,14 @@ bounds-dst-i-in-loop-i-3 c = simp length-set (omega arith)
 
 pub loop-i-preserved : goal.loop-i-preserved
 loop-i-preserved c =
-    let l = c.before.before.before.before.before in
-    let x = l.before.args in (
+    let x = c.args in (
       omega arith,
       omega arith,
-      simp length-set l.loop-i.invariant.2,
-      rw l.loop-i.invariant.3 (copy_four l.loop-i.i x.src.now x.dst.now (omega arith) (omega arith)),
+      simp length-set c.loop-i.invariant.2,
+      rw c.loop-i.invariant.3 (copy_four c.loop-i.i x.src.now x.dst.now (omega arith) (omega arith)),
     )
 
 pub returns : goal.returns
 returns c =
-    let x = c.before.before.args in
-    c.before.loop-i.invariant.3 ∙ rw (take_all c.before.loop-i.i x.src.now (omega arith), drop_of_length-le x.dst.now {i = c.before.loop-i.i} (omega arith)) (append-nil x.src.now)
+    let x = c.args in
+    c.loop-i.invariant.3 ∙ rw (take_all c.loop-i.i x.src.now (omega arith), drop_of_length-le x.dst.now {i = c.loop-i.i} (omega arith)) (append-nil x.src.now)

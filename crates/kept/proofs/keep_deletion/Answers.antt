@@ -1,6 +1,5 @@
 use native.Mathlib.Omega.{arith}
 use mathlib.Core.Path.{sym, ap, ◌∙◌}
-use mathlib.Core.Bool.{not, not-not}
 use Rattle.memory.specs.Lists.{length_part}
 use Rattle.layout.specs.Items.{DA}
 use Rattle.layout.specs.Calls.{deletion_index, deletion_filters}
@@ -13,53 +12,40 @@ use Rattle.kept.proofs.keep_deletion.Goals as goal
 
 pub keep_item-requires : goal.keep_item-requires
 keep_item-requires c =
-    let a = c.before.before.deletion_area-deletions in
-    let b = c.before.before.before.before.before.before in
-    let x = b.args in
-    let P = b.requires in
-    item_fits x.g P.0 a.result (DA (shape x.g)) a.ensures.equal a.ensures.sound _ _
-    (length_part x.new.now 0 4 (omega (arith, P.1))) (omega arith) (omega arith) P.3
+    let a = c.deletion_area-deletions in
+    let x = c.args in
+    let P = c.requires in
+    let f = item_fits x.g P.0 a.result (DA (shape x.g)) a.ensures.equal a.ensures.sound _ _
+    (length_part x.new.now 0 4 (omega (arith, P.1))) (omega arith) (omega arith) P.3 in
+    record { area_sound = f.0; item_len = f.1 }
 
 pub returns-then-not-fills : goal.returns-then-not-fills
 returns-then-not-fills c =
-    let f = c.before in
-    let k = f.before.before.before in
-    let a = k.before.before.before in
-    let x = a.before.before.before.before.args in
+    let x = c.args in
     let g = shape x.g in
-    let r = a.deletion_area-deletions.result in
-    let a_is = a.deletion_area-deletions.ensures.equal in
-    let y_is = k.keep_item.ensures ∙ item_kept g r (DA g) x.d _ x.ram.now a_is in
+    let r = c.deletion_area-deletions.result in
+    let a_is = c.deletion_area-deletions.ensures.equal in
+    let y_is = c.keep_item.ensures ∙ item_kept g r (DA g) x.d _ x.ram.now a_is in
     kept_open g.u r (DA g) a_is x.d (deletion_index g) (deletion_filters g x.d) 2 (deletion_fourths x.filters.now) _ _ y_is
-    (sym f.fills.ensures ∙ sym (not-not _) ∙ ap not c.if-not-fills.true)
+    (sym c.fills.ensures ∙ c.if-not-fills.true)
 
 pub keep_filters-requires : goal.keep_filters-requires
 keep_filters-requires c =
-    let b1 = c.before.before.before in
-    let b2 = b1.before.before.before in
-    let b3 = b2.before in
-    let b4 = b3.before.before.before.before.before.before.before.before in
-    let x = b4.args in
-    let P = b4.requires in
-    let s = ap (λ (i : Index). i.ska) b1.deletion_index.ensures in
-    filters_fit x.g P.0 _ _ _ _ _ (omega (arith, s)) (omega arith) (omega arith) (omega arith)
+    let x = c.args in
+    let P = c.requires in
+    let s = ap (λ (i : Index). i.ska) c.deletion_index.ensures in
+    let f = filters_fit x.g P.0 _ _ _ _ _ (omega (arith, s)) (omega arith) (omega arith) (omega arith)
     (omega (arith, length_part x.filters.now 0 512 (omega (arith, P.2))))
-    (omega (arith, P.3, b3.ram.given))
+    (omega arith) in
+    record { unit_bound = f.0; unit_in_bounds = f.1 }
 
 pub returns : goal.returns
 returns c =
-    let b1 = c.before.before in
-    let n = b1.before.before.before in
-    let b2 = n.before in
-    let b3 = b2.before in
-    let f = b3.before in
-    let k = f.before.before.before in
-    let a = k.before.before.before in
-    let x = a.before.before.before.before.args in
+    let x = c.args in
     let g = shape x.g in
-    let r = a.deletion_area-deletions.result in
-    let a_is = a.deletion_area-deletions.ensures.equal in
-    let y_is = k.keep_item.ensures ∙ item_kept g r (DA g) x.d _ x.ram.now a_is in
+    let r = c.deletion_area-deletions.result in
+    let a_is = c.deletion_area-deletions.ensures.equal in
+    let y_is = c.keep_item.ensures ∙ item_kept g r (DA g) x.d _ x.ram.now a_is in
     kept_full g.u r (DA g) a_is x.d (deletion_index g) (deletion_filters g x.d) 2 (deletion_fourths x.filters.now) _ _ y_is
-    b2.deletion_index.result _ _ (sym f.fills.ensures ∙ sym (not-not _) ∙ ap not b3.if-not-fills.false)
-    (ap index_of b2.deletion_index.ensures) n.deletion_filters.ensures b1.keep_filters.ensures
+    c.deletion_index.result _ _ (sym c.fills.ensures ∙ c.if-not-fills.false)
+    (ap index_of c.deletion_index.ensures) c.deletion_filters.ensures c.keep_filters.ensures

@@ -18,8 +18,12 @@ page_run-requires c =
     let x = c.args in
     let P = c.requires.plan_fits in
     let n = length x.ram.now in
-    let i = length_part x.new.now 0 4 (omega (arith, c.requires.len.0)) in record { page_fits = at_numbers (λ a m s. PageFits x.p.chip.unit (record { sector = x.p.da.first; at = a }) m s n) _ _ _ _ _ _
-          c.page_address.ensures refl refl P.da; to_le_sectors_per_page = (among_le _ _ _ 4 c.among.ensures P.da_count, omega (arith, i, P.some)) }
+    let i = length_part x.new.now 0 4 (omega (arith, c.requires.len.0)) in
+    record {
+      page_fits = at_numbers (λ a m s. PageFits x.p.chip.unit (record { sector = x.p.da.first; at = a }) m s n) _ _ _ _ _ _
+          c.page_address.ensures refl refl P.da;
+      to_le_sectors_per_page = (among_le _ _ _ 4 c.among.ensures P.da_count, omega (arith, i, P.some));
+    }
 
 pub slice_bounds-index_run-end : goal.slice_bounds-index_run-end
 slice_bounds-index_run-end c =

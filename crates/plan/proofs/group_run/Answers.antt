@@ -9,7 +9,7 @@ use Rattle.partition.specs.Sources.{page_source}
 use Rattle.partition.specs.Shared.{Shares}
 use Rattle.partition.specs.Sharing.{shares_made}
 use Rattle.plan.specs.Segments.{next_set}
-use Rattle.plan.specs.Groups.{Turn, turn_of, turn_span, steps_few, few_sectors, next_part, of_page, shared_at}
+use Rattle.plan.specs.Groups.{turn_of, turn_span, steps_few, few_sectors, next_part, of_page, shared_at}
 use Rattle.plan.proofs.group_run.Goals as goal
 
 pub at_once-n-requires : goal.at_once-n-requires
@@ -53,8 +53,13 @@ page_part-requires c =
     let u = c.args.chip.unit in
     let F = c.requires.next_fits.0 in
     let e = c.up_to-some.ensures in
-    let h : l.j < c.args.part.to = omega arith in record { next_fits = (next_part u c.args.set c.args.s c.args.part.to c.up_to-some.result.to _ _ _ _ F T.most l.invariant.2 l.invariant.3, omega (arith, T.first, T.more)); of_page = rw e (of_page u l.j n.result c.args.part.to n.ensures.1 n.ensures.2 h); shares = rw T.first (shared_at u c.args.set c.args.s c.args.part.to c.args.main.now c.args.spare.now l.main l.spare F c.args.part.from l.j _
-            l.invariant.0 h (c.requires.beside l.j l.invariant.0 h) l.invariant.4 l.invariant.5) }
+    let h : l.j < c.args.part.to = omega arith in
+    record {
+      next_fits = (next_part u c.args.set c.args.s c.args.part.to c.up_to-some.result.to _ _ _ _ F T.most l.invariant.2 l.invariant.3, omega (arith, T.first, T.more));
+      of_page = rw e (of_page u l.j n.result c.args.part.to n.ensures.1 n.ensures.2 h);
+      shares = rw T.first (shared_at u c.args.set c.args.s c.args.part.to c.args.main.now c.args.spare.now l.main l.spare F c.args.part.from l.j _
+          l.invariant.0 h (c.requires.beside l.j l.invariant.0 h) l.invariant.4 l.invariant.5);
+    }
 
 pub loop-j-smaller : goal.loop-j-smaller
 loop-j-smaller c =

@@ -13,8 +13,12 @@ page_run-requires c =
     let x = c.args in
     let P = c.requires.plan_fits in
     let n = length x.ram.now in
-    let i = length_part x.new.now 4 16 (omega (arith, c.requires.len.0)) in record { page_fits = at_numbers (λ a m s. PageFits x.p.chip.unit (record { sector = x.p.ra.first; at = a }) m s n) _ _ _ _ _ _
-          (omega (arith, c.page_address.ensures)) refl refl P.ra; to_le_sectors_per_page = (among_le _ _ _ 4 c.among.ensures P.ra_count, omega (arith, i, P.some)) }
+    let i = length_part x.new.now 4 16 (omega (arith, c.requires.len.0)) in
+    record {
+      page_fits = at_numbers (λ a m s. PageFits x.p.chip.unit (record { sector = x.p.ra.first; at = a }) m s n) _ _ _ _ _ _
+          (omega (arith, c.page_address.ensures)) refl refl P.ra;
+      to_le_sectors_per_page = (among_le _ _ _ 4 c.among.ensures P.ra_count, omega (arith, i, P.some));
+    }
 
 pub slice_bounds-page_run-end-2 : goal.slice_bounds-page_run-end-2
 slice_bounds-page_run-end-2 c =
@@ -25,8 +29,12 @@ page_run-requires-2 c =
     let x = c.args in
     let P = c.requires.plan_fits in
     let n = length x.ram.now in
-    let i = length_part x.new.now 20 8 (omega (arith, c.requires.len.0)) in record { page_fits = at_numbers (λ a m s. PageFits x.p.chip.unit (record { sector = x.p.ka.first; at = a }) m s n) _ _ _ _ _ _
-          (omega (arith, c.page_address-2.ensures)) (omega arith) (omega arith) P.ka; to_le_sectors_per_page = (among_le _ _ _ 4 c.among-2.ensures P.ka_count, omega (arith, i, P.some)) }
+    let i = length_part x.new.now 20 8 (omega (arith, c.requires.len.0)) in
+    record {
+      page_fits = at_numbers (λ a m s. PageFits x.p.chip.unit (record { sector = x.p.ka.first; at = a }) m s n) _ _ _ _ _ _
+          (omega (arith, c.page_address-2.ensures)) (omega arith) (omega arith) P.ka;
+      to_le_sectors_per_page = (among_le _ _ _ 4 c.among-2.ensures P.ka_count, omega (arith, i, P.some));
+    }
 
 pub slice_bounds-index_run-end : goal.slice_bounds-index_run-end
 slice_bounds-index_run-end c =
