@@ -1,289 +1,166 @@
 use native.Mathlib.Omega.{arith}
 use mathlib.Core.Path.{◌≡◌, ap}
-use mathlib.Core.Bool.{Bool}
-use mathlib.Core.Option.{Option}
+use mathlib.Core.Bool.{Bool, true, false}
+use mathlib.Core.Option.{Option, none}
 use mathlib.Core.List.{List}
 use Prim.Native.Nat.{ℕ, ◌+◌, ◌*◌, ◌-◌, ◌/◌, ◌≤◌, ◌<◌}
-use lib.ListN.{take}
+use lib.ListN.{take, get_or}
 use Rattle.layout.specs.Geometry as layout
 use Rattle.layout.specs.Calls.{deletion_index, deletion_filters, maybe_deleted}
-use Rattle.layout.specs.Search.{Stop, found}
-use Rattle.laws.specs.WalkLaws.{Pages, Part, part_few, part_ended, part_next, free, lesser, Shown}
-use Rattle.laws.specs.WalkLaws.{words_first, words_next, words_left, words_end}
+use Rattle.layout.specs.Search.{Stop, found, reply, search_pages}
+use Rattle.laws.specs.WalkLaws.{Words, Pages, Part, part_few, part_ended, part_next, free, lesser, Shown}
+use Rattle.laws.specs.WalkLaws.{words_next, words_left, words_end}
+use Rattle.laws.specs.Walks.{onward}
 use Rattle.geometry.specs.Shape.{shape}
-use Rattle.geometry.specs.Bounds.{product_le}
 use Rattle.filter.specs.Blocks.{BlockAt}
 use Rattle.filter.specs.declared.groups.Block.{Block}
+use Rattle.deletions.specs.declared.Deletions.{Deletions}
 use Rattle.deletions.specs.Test.{held, DeletionsFit}
-use Rattle.deletions.specs.Walk.{test_stop, try_held, either_bit}
-use Rattle.deletions.proofs.Volume.{per_page, pages, page_at, first_lt, first_few, block_shows, word_in, word_part}
+use Rattle.deletions.specs.Walk.{test_stop, try_word, try_held, test_below, either_bit, WordPagesIn}
+use Rattle.deletions.proofs.Volume.{per_page, pages, pages_then, page_at, first_lt, first_few, block_shows, word_in, word_part}
 use Rattle.deletions.proofs.Volume.{pages_few, pages_then_lem, page_in, sets_le, index_fits}
 use Rattle.deletions.proofs.in_block.Goals as goal
 
 -- What is left of the search at each word of a block.
 
--- ---- the search at hand
+module _ {t : Deletions} {main ram : List ℕ} (R : DeletionsFit t main ram) (j below : ℕ) (ps : List ℕ) (b : Block)
+    (B : BlockAt t.g.chip.unit (deletion_index (shape t.g)) main ram (deletion_filters (shape t.g) t.d) (2 * below) ps b)
+    (then : below ≤ pages_then t) where
+  abbrev gate_at : ℕ → Bool
+  gate_at = maybe_deleted (shape t.g) (held t main ram) ps
 
-abbrev Start : Type 0
-Start = goal.Start
+  abbrev try_at : ℕ → Option Stop
+  try_at = try_held t main ram j
 
-abbrev ready : (b : Start) → DeletionsFit b.args.t b.args.main.now b.args.ram.now
-ready b = b.requires.deletions_fit.0
+  abbrev first : ℕ
+  first = b.start / 2
 
-abbrev positions_of : Start → List ℕ
-positions_of b = take b.args.count b.args.ps
+  -- pages tested are full ones
+  below_le : below ≤ pages t
+  below_le = omega (arith, then, pages_then_lem R)
 
-abbrev gate_at : Start → ℕ → Bool
-gate_at b = maybe_deleted (shape b.args.t.g) (held b.args.t b.args.main.now b.args.ram.now) (positions_of b)
+  -- pages that its words show to be open
+  shows : Shown either_bit 32 first below b.words gate_at
+  shows = block_shows t main ram below ps b B
 
-abbrev try_at : Start → ℕ → Option Stop
-try_at b = try_held b.args.t b.args.main.now b.args.ram.now b.args.j
+  block_lt : first < below
+  block_lt = first_lt t main ram below ps b B
 
--- pages tested are full ones
-below_le : (b : Start) → b.args.below ≤ pages b.args.t
-below_le b = omega (arith, b.requires.below_nonzero.1, pages_then_lem (ready b))
+  module _ (opened w : ℕ) (I : Words try_at free (per_page t) either_bit 32 first below b.words opened 0 w) where
+    -- no word is left
+    ended : w ≤ 0 → test_below t main ram j ps below ≡ onward none opened (test_below t main ram j ps first)
+    ended h = (words_end I gate_at shows h block_lt).found
 
-below_few : (b : Start) → b.args.below ≤ 65536
-below_few b = omega (arith, below_le b, pages_few (ready b))
+    module _ (some : 0 < w) where
+      abbrev from : ℕ
+      from = first + (w - 1) * 32
 
-abbrev Told : Type 0
-Told = goal.After-block_below-b
+      -- there are eight at the most
+      word_lt_8 : w - 1 < 8
+      word_lt_8 = omega (arith, I.used, first_few t main ram below ps b B, block_lt, some)
 
-abbrev start_of : Told → Start
-start_of G = G.before.before.before.before
+      -- and each begins with a page of the block
+      from_lt : from < below
+      from_lt = omega (arith, I.used, block_lt, some)
 
-abbrev block_of : Told → Block
-block_of G = G.block_below-b.result
+      -- the word's pages are left
+      left : (gate : ℕ → Bool) → Shown either_bit 32 first below b.words gate
+          → Pages gate try_at free (per_page t) below opened 0 (lesser (from + 32) below)
+      left gate s = words_left I gate s some
 
-block_at : (G : Told) → let b = start_of G in let x = b.args in let g = x.t.g in
-    BlockAt g.chip.unit (deletion_index (shape g)) x.main.now x.ram.now (deletion_filters (shape g) x.t.d) (2 * x.below)
-    (positions_of b) (block_of G)
-block_at G = rw G.before.filters.ensures at G.block_below-b.ensures
+      -- the first byte of its pages
+      module _ (at : ℕ) (at_is : at ≡ page_at t from) where
+        pages_in : WordPagesIn t.g.chip.unit at (get_or b.words (w - 1) 0) main
+        pages_in = record {
+          page_in = λ k h s.
+              let l = word_in first below b.words (w - 1) word_lt_8 gate_at shows k h s in
+              omega (arith, at_is, page_in R (from + k) (omega (arith, l, below_le)));
+        }
 
--- pages that its words show to be open
-abbrev Gates : Told → (ℕ → Bool) → Type 0
-Gates G = Shown either_bit 32 ((block_of G).start / 2) (start_of G).args.below (block_of G).words
+        module _ (met : Bool) (k : ℕ)
+            (e : reply (test_stop j met) k ≡ search_pages (either_bit (get_or b.words (w - 1) 0)) (try_word main at j) (per_page t) 32) where
+          part : (gate : ℕ → Bool) → Shown either_bit 32 first below b.words gate
+              → Part gate try_at free (per_page t) (lesser (from + 32) below) from k 0 (test_stop j met)
+          part gate s = word_part first below b.words (w - 1) word_lt_8 gate s t main ram j below_le from_lt at at_is met k e
 
-shows : (G : Told) → Gates G (gate_at (start_of G))
-shows G =
-    let b = start_of G in
-    let x = b.args in
-    block_shows x.t x.main.now x.ram.now x.below (positions_of b) (block_of G) (block_at G)
+          opened_few : opened + k ≤ below
+          opened_few = part_few (left gate_at shows) (part gate_at shows)
 
-block_lt : (G : Told) → (block_of G).start / 2 < (start_of G).args.below
-block_lt G =
-    let b = start_of G in
-    let x = b.args in
-    first_lt x.t x.main.now x.ram.now x.below (positions_of b) (block_of G) (block_at G)
+          found_in : met ≡ true → test_below t main ram j ps below ≡ reply (test_stop j true) (opened + k)
+          found_in m = (part_ended (left gate_at shows) (part gate_at shows) (found j) (ap (test_stop j) m)).0
 
-block_few : (G : Told) → (start_of G).args.below ≤ (block_of G).start / 2 + 256
-block_few G =
-    let b = start_of G in
-    let x = b.args in
-    first_few x.t x.main.now x.ram.now x.below (positions_of b) (block_of G) (block_at G)
+          next : met ≡ false → Words try_at free (per_page t) either_bit 32 first below b.words (opened + k) 0 (w - 1)
+          next m =
+              words_next try_at free (per_page t) either_bit 32 first below b.words (opened + k) 0 (w - 1) from_lt
+              (λ gate s. part_next (left gate s) (part gate s) (ap (test_stop j) m) (omega (arith, from_lt)))
 
--- ---- before the first word
-
-pub filters-requires : goal.filters-requires
-filters-requires c = (ready c.before.before).sound
-
-pub overflow_mul-below : goal.overflow_mul-below
-overflow_mul-below c = omega (arith, below_few c.before.before.before)
-
-pub block_below-b-requires : goal.block_below-b-requires
-block_below-b-requires c =
-    let b = c.before.before.before in
-    let x = b.args in
-    let R = ready b in
-    let L = b.requires.deletions_fit.1 in
+pub block_below-b-requires-clause-by_index : goal.block_below-b-requires-clause-by_index
+block_below-b-requires-clause-by_index c =
+    let x = c.args in
+    let R = c.requires.deletions_fit.0 in
     rw c.filters.ensures (
-      (
-        (
-          layout.deletion_sets (shape x.t.g),
-          sets_le R,
-          index_fits R,
-        ),
-        omega (arith, pages_few R),
-        omega (arith, b.requires.below_nonzero.0),
-        omega (arith, below_le b),
-      ),
-      (L.some, L.few, L.within),
+      (layout.deletion_sets (shape x.t.g), sets_le R, index_fits R),
+      omega (arith, pages_few R),
+      omega (arith, c.requires.below_nonzero.0),
+      omega (arith, c.requires.below_nonzero.1, pages_then_lem R),
     )
 
-pub da_block-requires : goal.da_block-requires
-da_block-requires c = (ready (start_of c)).sound
-
--- the first block is a number of the machine
-block_small : (b : Start) → layout.da_block (shape b.args.t.g) * layout.block b.args.t.g.chip.unit ≤ 268435456
-block_small b =
-    let s = (ready b).sound in
-    let g = b.args.t.g in
-    let h : layout.da_block (shape g) ≤ 8192 = omega (arith, s.ra_most) in
-    omega (arith, product_le (layout.da_block (shape g)) g.chip.unit 8192 32 h s.unit.1.most)
-
-pub block_address-start-requires : goal.block_address-start-requires
-block_address-start-requires c =
-    let b = start_of c.before in
-    ((ready b).sound.unit.1.most, rw c.da_block.ensures (omega (arith, block_small b)))
-
-abbrev Placed : Type 0
-Placed = goal.After-block_address-start
-
-abbrev told : Placed → Told
-told A = A.before.before
-
-start_is : (A : Placed) → let g = (start_of (told A)).args.t.g in
-    A.block_address-start.result ≡ layout.da_block (shape g) * layout.block g.chip.unit
-start_is A = rw A.before.da_block.ensures at A.block_address-start.ensures
-
-pub overflow_sub-w : goal.overflow_sub-w
-overflow_sub-w c = omega (arith, block_lt (told c))
-
-pub overflow_add-w : goal.overflow_add-w
-overflow_add-w c = omega (arith, below_few (start_of (told c)))
-
-pub loop-w-init : goal.loop-w-init
-loop-w-init c =
-    let G = told c in
-    let b = start_of G in
-    let x = b.args in
-    let first = (block_of G).start / 2 in
-    words_first (try_at b) free (per_page x.t) either_bit 32 first x.below (block_of G).words ((x.below - first + 31) / 32)
-    (omega arith) (omega (arith, block_lt G))
-
--- ---- a word
-
-abbrev InWord : Type 0
-InWord = goal.In-loop-w
-
-abbrev known : InWord → Told
-known c = told c.before.before
-
-abbrev word_of : InWord → ℕ
-word_of c = c.before.loop-w.w - 1
-
-abbrev from_of : InWord → ℕ
-from_of c = (block_of (known c)).start / 2 + word_of c * 32
-
--- there are eight at the most
-word_lt_8 : (c : InWord) → word_of c < 8
-word_lt_8 c = omega (arith, c.before.loop-w.invariant.used, block_few (known c), block_lt (known c), c.loop-w-test.true)
-
--- and each begins with a page of the block
-from_lt : (c : InWord) → from_of c < (start_of (known c)).args.below
-from_lt c = omega (arith, c.before.loop-w.invariant.used, block_lt (known c), c.loop-w-test.true)
-
-pub overflow_mul-w : goal.overflow_mul-w
-overflow_mul-w c = omega (arith, word_lt_8 c)
-
-pub overflow_add-first : goal.overflow_add-first
-overflow_add-first c = omega (arith, from_lt c, below_few (start_of (known c)))
-
-page_small : (c : InWord) → from_of c * layout.page (start_of (known c)).args.t.g.chip.unit ≤ 134217728
-page_small c =
-    let b = start_of (known c) in
-    let h : from_of c ≤ 65536 = omega (arith, from_lt c, below_few b) in
-    omega (arith, product_le (from_of c) b.args.t.g.chip.unit 65536 32 h (ready b).sound.unit.1.most)
-
-pub page_address-requires : goal.page_address-requires
-page_address-requires c = ((ready (start_of (known c))).sound.unit.1.most, omega (arith, page_small c))
-
-abbrev Paged : Type 0
-Paged = goal.After-page_address
-
-pub overflow_add-at : goal.overflow_add-at
-overflow_add-at c =
-    let i = c.before in
-    omega (arith, c.page_address.ensures, page_small i, start_is i.before.before, block_small (start_of (known i)))
-
-pub offset_bounds-b-w : goal.offset_bounds-b-w
-offset_bounds-b-w c = omega (arith, word_lt_8 c.before)
-
-pub bounds-b-w : goal.bounds-b-w
-bounds-b-w c = word_lt_8 c.before
-
--- the first byte of its pages
-abbrev at_of : Paged → ℕ
-at_of P = P.before.before.before.block_address-start.result + P.page_address.result
-
-at_is : (P : Paged) → at_of P ≡ page_at (start_of (known P.before)).args.t (from_of P.before)
-at_is P = omega (arith, P.page_address.ensures, start_is P.before.before.before)
+-- the first byte of all pages
+first_byte : (t : Deletions) (block start : ℕ) → block ≡ layout.da_block (shape t.g) → start ≡ block * layout.block t.g.chip.unit
+    → (p at : ℕ) → at ≡ p * layout.page t.g.chip.unit → start + at ≡ page_at t p
+first_byte t block start e s p at a = let z = rw e at s in omega (arith, z, a)
 
 pub in_word-r-requires : goal.in_word-r-requires
 in_word-r-requires c =
-    let P = c.before in
-    let i = P.before in
-    let G = known i in
-    let b = start_of G in
-    let x = b.args in (
-      (ready b).sound.unit,
-      record {
-        page_in = λ k h s.
-            let l = word_in ((block_of G).start / 2) x.below (block_of G).words (word_of i) (word_lt_8 i) (gate_at b) (shows G) k h s in
-            omega (arith, at_is P, page_in (ready b) (from_of i + k) (omega (arith, l, below_le b)));
-      },
+    let x = c.args in
+    let R = c.requires.deletions_fit.0 in
+    let b = c.block_below-b.result in (
+      R.sound.unit,
+      pages_in R x.j x.below (take x.count x.ps) b (rw c.filters.ensures at c.block_below-b.ensures) c.requires.below_nonzero.1
+          c.loop-w.opened c.loop-w.w c.loop-w.invariant c.loop-w-test.true
+          (c.block_address-start.result + c.page_address.result)
+          (first_byte x.t c.da_block.result c.block_address-start.result c.da_block.ensures c.block_address-start.ensures
+          (b.start / 2 + (c.loop-w.w - 1) * 32) c.page_address.result c.page_address.ensures),
     )
-
--- ---- after it
-
-abbrev Walked : Type 0
-Walked = goal.After-in_word-r
-
-abbrev visit : Walked → InWord
-visit W = W.before.before.before
-
-part : (W : Walked) (gate : ℕ → Bool) → let i = visit W in let G = known i in let b = start_of G in let x = b.args in
-    let r = W.in_word-r.result in Gates G gate
-    → Part gate (try_at b) free (per_page x.t) (lesser (from_of i + 32) x.below) (from_of i) r.opened 0 (test_stop x.j r.met)
-part W gate s =
-    let i = visit W in
-    let P = W.before.before in
-    let G = known i in
-    let b = start_of G in
-    let x = b.args in
-    word_part ((block_of G).start / 2) x.below (block_of G).words (word_of i) (word_lt_8 i) gate s x.t x.main.now x.ram.now
-    x.j (below_le b) (from_lt i) (at_of P) (at_is P) W.in_word-r.result.met W.in_word-r.result.opened W.in_word-r.ensures
-
--- the word's pages are left
-left : (c : InWord) (gate : ℕ → Bool) → let G = known c in let b = start_of G in let x = b.args in
-    Gates G gate → Pages gate (try_at b) free (per_page x.t) x.below c.before.loop-w.opened 0 (lesser (from_of c + 32) x.below)
-left c gate s = words_left c.before.loop-w.invariant gate s c.loop-w-test.true
 
 pub overflow_add-opened : goal.overflow_add-opened
 overflow_add-opened c =
-    let W = c.before in
-    let i = visit W in
-    let G = known i in
-    let b = start_of G in
-    omega (arith, part_few (left i (gate_at b) (shows G)) (part W (gate_at b) (shows G)), below_few b)
+    let x = c.args in
+    let R = c.requires.deletions_fit.0 in
+    let b = c.block_below-b.result in
+    let few = opened_few R x.j x.below (take x.count x.ps) b (rw c.filters.ensures at c.block_below-b.ensures) c.requires.below_nonzero.1
+    c.loop-w.opened c.loop-w.w c.loop-w.invariant c.loop-w-test.true
+    (c.block_address-start.result + c.page_address.result)
+    (first_byte x.t c.da_block.result c.block_address-start.result c.da_block.ensures c.block_address-start.ensures
+    (b.start / 2 + (c.loop-w.w - 1) * 32) c.page_address.result c.page_address.ensures)
+    c.in_word-r.result.met c.in_word-r.result.opened c.in_word-r.ensures in
+    omega (arith, few, c.requires.below_nonzero.1, pages_then_lem R, pages_few R)
 
-pub returns-then-r : goal.returns-then-r
-returns-then-r c =
-    let W = c.before.before in
-    let i = visit W in
-    let G = known i in
-    let b = start_of G in
-    let j = b.args.j in
-    let e = ap (test_stop j) c.if-r.true in
-    record { start = block_lt G; found = (part_ended (left i (gate_at b) (shows G)) (part W (gate_at b) (shows G)) (found j) e).0 }
-
-pub loop-w-smaller : goal.loop-w-smaller
-loop-w-smaller c = let i = visit c.before.before in omega (arith, i.loop-w-test.true)
+pub returns-then-r-clause-found : goal.returns-then-r-clause-found
+returns-then-r-clause-found c =
+    let x = c.args in
+    let b = c.block_below-b.result in
+    found_in c.requires.deletions_fit.0 x.j x.below (take x.count x.ps) b (rw c.filters.ensures at c.block_below-b.ensures) c.requires.below_nonzero.1
+    c.loop-w.opened c.loop-w.w c.loop-w.invariant c.loop-w-test.true
+    (c.block_address-start.result + c.page_address.result)
+    (first_byte x.t c.da_block.result c.block_address-start.result c.da_block.ensures c.block_address-start.ensures
+    (b.start / 2 + (c.loop-w.w - 1) * 32) c.page_address.result c.page_address.ensures)
+    c.in_word-r.result.met c.in_word-r.result.opened c.in_word-r.ensures c.if-r.true
 
 pub loop-w-preserved : goal.loop-w-preserved
 loop-w-preserved c =
-    let W = c.before.before in
-    let i = visit W in
-    let G = known i in
-    let b = start_of G in
-    let x = b.args in
-    words_next (try_at b) free (per_page x.t) either_bit 32 ((block_of G).start / 2) x.below (block_of G).words
-    (i.before.loop-w.opened + W.in_word-r.result.opened) 0 (word_of i) (from_lt i)
-    (λ gate s. part_next (left i gate s) (part W gate s) (ap (test_stop x.j) c.if-r.false) (omega (arith, from_lt i)))
+    let x = c.args in
+    let b = c.block_below-b.result in
+    next c.requires.deletions_fit.0 x.j x.below (take x.count x.ps) b (rw c.filters.ensures at c.block_below-b.ensures) c.requires.below_nonzero.1
+    c.loop-w.opened c.loop-w.w c.loop-w.invariant c.loop-w-test.true
+    (c.block_address-start.result + c.page_address.result)
+    (first_byte x.t c.da_block.result c.block_address-start.result c.da_block.ensures c.block_address-start.ensures
+    (b.start / 2 + (c.loop-w.w - 1) * 32) c.page_address.result c.page_address.ensures)
+    c.in_word-r.result.met c.in_word-r.result.opened c.in_word-r.ensures c.if-r.false
 
 -- no word is left
-pub returns : goal.returns
-returns c =
-    let l = c.before in
-    let G = told l.before in
-    record { start = block_lt G; found = (words_end l.loop-w.invariant (gate_at (start_of G)) (shows G) (omega arith) (block_lt G)).found }
+pub returns-clause-found : goal.returns-clause-found
+returns-clause-found c =
+    let x = c.args in
+    ended c.requires.deletions_fit.0 x.j x.below (take x.count x.ps) c.block_below-b.result (rw c.filters.ensures at c.block_below-b.ensures)
+    c.requires.below_nonzero.1 c.loop-w.opened c.loop-w.w c.loop-w.invariant (omega arith)

@@ -1,7 +1,6 @@
-use Prim.Native.Nat.{◌-◌, ◌/◌}
+use Prim.Native.Nat.{◌/◌}
 use Rattle.laws.specs.WalkLaws.{free}
 use Rattle.laws.specs.WalkLaws.{Words}
-use Rattle.deletions.specs.Test.{held}
 use Rattle.deletions.specs.Walk.{try_held, either_bit}
 use Rattle.deletions.proofs.Volume.{per_page}
 use Rattle.deletions.proofs.in_block.Given as goal

@@ -1,6 +1,6 @@
 use Rattle.memory.specs.Bits.{bit}
 use Rattle.memory.specs.Candidate.{candidate}
-use Rattle.layout.specs.Geometry.{page, deletions_per_page}
+use Rattle.layout.specs.Geometry.{deletions_per_page}
 use Rattle.deletions.specs.Walk.{try_word, either_bit}
 use Rattle.deletions.proofs.Bits.{Left}
 use Rattle.deletions.proofs.in_word.Given as goal
