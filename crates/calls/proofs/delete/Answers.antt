@@ -6,7 +6,6 @@ use Rattle.calls.proofs.delete.Goals as goal
 
 pub returns : goal.returns
 returns c =
-    let p = c.before.before.before.before.before.before.before in
-    let a = p.before.before.before.before.before.before.before.args in
+    let a = c.args in
     let v = volume a.s a.main.now a.spare.now a.ram.now in
-    rw c.uncut.ensures (ap uncut_effect p.perform_for.ensures ∙ whole_effect v (Delete a.key))
+    rw c.uncut.ensures (ap uncut_effect c.perform_for.ensures ∙ whole_effect v (Delete a.key))

@@ -5,7 +5,6 @@ use Rattle.restart.proofs.restart.Goals as goal
 
 pub returns : goal.returns
 returns c =
-    let s = c.before.before.before.before.before.before.before.before.before.before.before.before.before.before in
-    let f = c.before.before.before.before.before.before.before.restart_for in
+    let x = c.args in
     rw c.uncut.ensures
-    (whole_effect (volume s.args.s s.args.main.now s.args.spare.now s.args.ram.now) _ f.result.refusal f.ensures refl)
+    (whole_effect (volume x.s x.main.now x.spare.now x.ram.now) _ c.restart_for.result.refusal c.restart_for.ensures refl)
