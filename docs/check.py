@@ -76,10 +76,20 @@ def check_placeholders(path):
             wrong.append(f"{path.relative_to(ROOT)}:{number}: placeholder {line.strip()}")
 
 
+def braced(text, start):
+    """What stands between the brace that is open at `start` and the one that closes it."""
+    depth = 1
+    for at in range(start, len(text)):
+        depth += {"{": 1, "}": -1}.get(text[at], 0)
+        if not depth:
+            return text[start:at]
+    return text[start:]
+
+
 def contract(source, name):
     """What the contract of a function ensures; nothing if there is no such function."""
     found = re.search(rf"^( *)(?:pub )?(?:extern \"C\" )?fn {name}\b.*?\n\1\{{", source, re.M | re.S)
-    return found and " ".join(re.findall(r"^ *ensures\b.*?⌝ \}", found.group(0), re.M | re.S))
+    return found and " ".join(braced(found.group(0), clause.end()) for clause in re.finditer(r"^ *ensures\b[^{\n]*\{", found.group(0), re.M))
 
 
 def items(cell):
