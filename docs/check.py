@@ -89,7 +89,8 @@ def braced(text, start):
 def contract(source, name):
     """What the contract of a function ensures; nothing if there is no such function."""
     found = re.search(rf"^( *)(?:pub )?(?:extern \"C\" )?fn {name}\b.*?\n\1\{{", source, re.M | re.S)
-    return found and " ".join(braced(found.group(0), clause.end()) for clause in re.finditer(r"^ *ensures\b[^{\n]*\{", found.group(0), re.M))
+    clauses = re.finditer(r"^ *ensures\b[^{\n]*\{", found.group(0), re.M) if found else ()
+    return found and " ".join(braced(found.group(0), clause.end()) for clause in clauses)
 
 
 def items(cell):
