@@ -37,12 +37,11 @@ module _ (t : Task) (p : Plan) (main spare ram : List ℕ) (V : VolumeFits (task
       plan_as (shape t.g) p (task_slots t) _ _ _ R.1
       (edit_fits t.g V.sound main spare ram V.long (task_slots t) R.0)
 
-  -- what the code makes of its edit
-  module _ (e : Slots) (j : ℕ) (r : Record) (new : List ℕ) (n : ℕ) (e_is : e ≡ task_slots t) (j_is : j ≡ old_number t.edit)
-      (r_is : r ≡ new_record t.edit) (new_is : new ≡ new_bytes j (record_is r) n) (n_is : n ≡ record_number e) where
-    -- the parts of the edit
-    parts : Parts (shape t.g) (task_on t main spare ram) t.edit e j r new
-    parts = record {
+  module _ (e : Slots) (j : ℕ) (r : Record) (new : List ℕ) where
+    -- the parts of the edit, as the code makes them
+    parts : e ≡ task_slots t → j ≡ old_number t.edit → r ≡ new_record t.edit → (n : ℕ) → n ≡ record_number e
+        → new ≡ new_bytes j (record_is r) n → Parts (shape t.g) (task_on t main spare ram) t.edit e j r new
+    parts e_is j_is r_is n n_is new_is = record {
       pos = V.sound.unit.1.some;
       long = V.long.read.ram_fits;
       slots_are = e_is;
@@ -51,59 +50,79 @@ module _ (t : Task) (p : Plan) (main spare ram : List ℕ) (V : VolumeFits (task
       new_is = new_is ∙ ap (new_bytes j (record_is r)) n_is;
     }
 
-    -- the plan is that of the code's places
-    plan_is : p ≡ numbers_of (shape t.g) e
-    plan_is = R.1 ∙ ap (numbers_of (shape t.g)) (sym e_is)
+    module _ (A : Parts (shape t.g) (task_on t main spare ram) t.edit e j r new) where
+      -- the plan is that of the code's places
+      plan_is : p ≡ numbers_of (shape t.g) e
+      plan_is = R.1 ∙ ap (numbers_of (shape t.g)) (sym A.slots_are)
 
-    -- no more is done than is planned
-    from_le : (filters : List ℕ) → FiltersOf (shape t.g) j (key_is r.key) ram filters e → (total : Span) → total ≡ whole_of p
-        → (from : ℕ) → from ≤ length (task_plan t main spare ram) → from ≤ total.to
-    from_le filters F total whole_is from h =
-        let e : total.to ≡ length (task_plan t main spare ram)
-        = ap (λ (w : Span). w.to) whole_is
-        ∙ total_is (shape t.g) (task_on t main spare ram) t.edit e j r new parts filters F p plan_is in
-        omega (arith, e, h)
+      -- no more is done than is planned
+      from_le : (filters : List ℕ) → FiltersOf (shape t.g) j (key_is r.key) ram filters e → (total : Span) → total ≡ whole_of p
+          → (from : ℕ) → from ≤ length (task_plan t main spare ram) → from ≤ total.to
+      from_le filters F total whole_is from h =
+          let e : total.to ≡ length (task_plan t main spare ram)
+          = ap (λ (w : Span). w.to) whole_is
+          ∙ total_is (shape t.g) (task_on t main spare ram) t.edit e j r new A filters F p plan_is in
+          omega (arith, e, h)
 
 pub whole-total-requires : goal.whole-total-requires
 whole-total-requires c =
-    count_fits _ _ _ _ (plan_fits c.args.t c.args.p c.args.main.now c.args.spare.now c.args.ram.now c.requires.volume_fits.0 c.requires.volume_fits.1) (omega arith)
+    let x = c.args in
+    count_fits _ _ _ _ (plan_fits x.t x.p x.main.now x.spare.now x.ram.now c.requires.volume_fits.0 c.requires.volume_fits.1) (omega arith)
 
 pub overflow_sub-left : goal.overflow_sub-left
-overflow_sub-left c = from_le c.args.t c.args.p c.args.main.now c.args.spare.now c.args.ram.now c.requires.volume_fits.0 c.requires.volume_fits.1
-    c.slots-e.result c.old_number-old.result c.new_record-record.result c.new_bytes-new.result c.record_number.result
-    c.slots-e.ensures c.old_number-old.ensures c.new_record-record.ensures c.new_bytes-new.ensures c.record_number.ensures
-    c.new_filters.new.filters c.new_filters.ensures c.whole-total.result c.whole-total.ensures c.args.from c.requires.from_in_bounds
+overflow_sub-left c =
+    let x = c.args in
+    let V = c.requires.volume_fits.0 in
+    let R = c.requires.volume_fits.1 in
+    let S = c.slots-e.result in
+    let j = c.old_number-old.result in
+    let r = c.new_record-record.result in
+    let new = c.new_bytes-new.result in
+    let A = parts x.t x.p x.main.now x.spare.now x.ram.now V R S j r new
+    c.slots-e.ensures c.old_number-old.ensures c.new_record-record.ensures _ c.record_number.ensures c.new_bytes-new.ensures in
+    from_le x.t x.p x.main.now x.spare.now x.ram.now V R S j r new A c.new_filters.new.filters c.new_filters.ensures
+    c.whole-total.result c.whole-total.ensures x.from c.requires.from_in_bounds
 
 pub overflow_add-to : goal.overflow_add-to
 overflow_add-to c =
-    omega (
-      arith,
-      c.lesser.ensures,
-      from_le c.args.t c.args.p c.args.main.now c.args.spare.now c.args.ram.now c.requires.volume_fits.0 c.requires.volume_fits.1
-          c.slots-e.result c.old_number-old.result c.new_record-record.result c.new_bytes-new.result c.record_number.result
-          c.slots-e.ensures c.old_number-old.ensures c.new_record-record.ensures c.new_bytes-new.ensures c.record_number.ensures
-          c.new_filters.new.filters c.new_filters.ensures c.whole-total.result c.whole-total.ensures c.args.from c.requires.from_in_bounds,
-    )
+    let x = c.args in
+    let V = c.requires.volume_fits.0 in
+    let R = c.requires.volume_fits.1 in
+    let S = c.slots-e.result in
+    let j = c.old_number-old.result in
+    let r = c.new_record-record.result in
+    let new = c.new_bytes-new.result in
+    let A = parts x.t x.p x.main.now x.spare.now x.ram.now V R S j r new
+    c.slots-e.ensures c.old_number-old.ensures c.new_record-record.ensures _ c.record_number.ensures c.new_bytes-new.ensures in
+    let l = from_le x.t x.p x.main.now x.spare.now x.ram.now V R S j r new A c.new_filters.new.filters c.new_filters.ensures
+    c.whole-total.result c.whole-total.ensures x.from c.requires.from_in_bounds in
+    omega (arith, c.lesser.ensures, l)
 
 pub run-requires : goal.run-requires
-run-requires c = record {
-  plan_fits = plan_fits c.args.t c.args.p c.args.main.now c.args.spare.now c.args.ram.now c.requires.volume_fits.0 c.requires.volume_fits.1;
-  len = (omega arith, omega arith);
-}
+run-requires c =
+    let x = c.args in
+    record {
+      plan_fits = plan_fits x.t x.p x.main.now x.spare.now x.ram.now c.requires.volume_fits.0 c.requires.volume_fits.1;
+      len = (omega arith, omega arith);
+    }
 
 -- ---- after the operations
 
 pub returns-then-budget-left : goal.returns-then-budget-left
 returns-then-budget-left c =
     let x = c.args in
+    let V = c.requires.volume_fits.0 in
+    let R = c.requires.volume_fits.1 in
+    let S = c.slots-e.result in
+    let j = c.old_number-old.result in
+    let r = c.new_record-record.result in
+    let new = c.new_bytes-new.result in
+    let A = parts x.t x.p x.main.now x.spare.now x.ram.now V R S j r new
+    c.slots-e.ensures c.old_number-old.ensures c.new_record-record.ensures _ c.record_number.ensures c.new_bytes-new.ensures in
     let some = c.if-budget-left.true in
     let e : c.lesser.result ≡ x.budget = omega (arith, c.lesser.ensures, some) in
-    carried_some (shape x.t.g) (task_on x.t x.main.now x.spare.now x.ram.now) x.t.edit c.slots-e.result c.old_number-old.result
-    c.new_record-record.result c.new_bytes-new.result (parts c.args.t c.args.p c.args.main.now c.args.spare.now c.args.ram.now c.requires.volume_fits.0 c.requires.volume_fits.1
-    c.slots-e.result c.old_number-old.result c.new_record-record.result c.new_bytes-new.result c.record_number.result
-    c.slots-e.ensures c.old_number-old.ensures c.new_record-record.ensures c.new_bytes-new.ensures c.record_number.ensures) c.new_filters.new.filters c.new_filters.ensures x.p (plan_is c.args.t c.args.p c.args.main.now c.args.spare.now c.args.ram.now c.requires.volume_fits.0 c.requires.volume_fits.1
-    c.slots-e.result c.old_number-old.result c.new_record-record.result c.new_bytes-new.result c.record_number.result
-    c.slots-e.ensures c.old_number-old.ensures c.new_record-record.ensures c.new_bytes-new.ensures c.record_number.ensures) x.from x.budget
+    carried_some (shape x.t.g) (task_on x.t x.main.now x.spare.now x.ram.now) x.t.edit S j r new A
+    c.new_filters.new.filters c.new_filters.ensures x.p (plan_is x.t x.p x.main.now x.spare.now x.ram.now V R S j r new A) x.from x.budget
     c.whole-total.result.to (ap (λ (a : Span). a.to) c.whole-total.ensures) _ some (rw e at c.run.ensures)
 
 pub finish-requires : goal.finish-requires
@@ -113,17 +132,19 @@ finish-requires c =
 pub returns : goal.returns
 returns c =
     let x = c.args in
+    let V = c.requires.volume_fits.0 in
+    let R = c.requires.volume_fits.1 in
+    let S = c.slots-e.result in
+    let j = c.old_number-old.result in
+    let r = c.new_record-record.result in
+    let new = c.new_bytes-new.result in
+    let A = parts x.t x.p x.main.now x.spare.now x.ram.now V R S j r new
+    c.slots-e.ensures c.old_number-old.ensures c.new_record-record.ensures _ c.record_number.ensures c.new_bytes-new.ensures in
     let all = c.if-budget-left.false in
-    let l = from_le c.args.t c.args.p c.args.main.now c.args.spare.now c.args.ram.now c.requires.volume_fits.0 c.requires.volume_fits.1
-    c.slots-e.result c.old_number-old.result c.new_record-record.result c.new_bytes-new.result c.record_number.result
-    c.slots-e.ensures c.old_number-old.ensures c.new_record-record.ensures c.new_bytes-new.ensures c.record_number.ensures
-    c.new_filters.new.filters c.new_filters.ensures c.whole-total.result c.whole-total.ensures c.args.from c.requires.from_in_bounds in
+    let l = from_le x.t x.p x.main.now x.spare.now x.ram.now V R S j r new A c.new_filters.new.filters c.new_filters.ensures
+    c.whole-total.result c.whole-total.ensures x.from c.requires.from_in_bounds in
     let e : x.from + c.lesser.result ≡ c.whole-total.result.to = omega (arith, c.lesser.ensures, all, l) in
-    carried_all (shape x.t.g) (task_on x.t x.main.now x.spare.now x.ram.now) x.t.edit c.slots-e.result c.old_number-old.result
-    c.new_record-record.result c.new_bytes-new.result (parts c.args.t c.args.p c.args.main.now c.args.spare.now c.args.ram.now c.requires.volume_fits.0 c.requires.volume_fits.1
-    c.slots-e.result c.old_number-old.result c.new_record-record.result c.new_bytes-new.result c.record_number.result
-    c.slots-e.ensures c.old_number-old.ensures c.new_record-record.ensures c.new_bytes-new.ensures c.record_number.ensures) c.new_filters.new.filters c.new_filters.ensures x.p (plan_is c.args.t c.args.p c.args.main.now c.args.spare.now c.args.ram.now c.requires.volume_fits.0 c.requires.volume_fits.1
-    c.slots-e.result c.old_number-old.result c.new_record-record.result c.new_bytes-new.result c.record_number.result
-    c.slots-e.ensures c.old_number-old.ensures c.new_record-record.ensures c.new_bytes-new.ensures c.record_number.ensures) x.from x.budget
+    carried_all (shape x.t.g) (task_on x.t x.main.now x.spare.now x.ram.now) x.t.edit S j r new A
+    c.new_filters.new.filters c.new_filters.ensures x.p (plan_is x.t x.p x.main.now x.spare.now x.ram.now V R S j r new A) x.from x.budget
     c.whole-total.result.to (ap (λ (a : Span). a.to) c.whole-total.ensures) _ (omega (arith, all)) (rw e at c.run.ensures) _
     c.finish.ensures
