@@ -1,6 +1,7 @@
 // The reader of a script's lines; the writer of their answers is `answers`. Document 01, "Replay program"; the definitions of the
 // replay program are in `specs`.
 #![tactic(auto)]
+
 pub mod answers;
 
 ghost use Rattle.std.specs.Prelude.{◌≡◌, ◌+◌, ◌≤◌, ◌<◌, length, take, drop};

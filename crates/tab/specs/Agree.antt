@@ -5,11 +5,11 @@ use Rattle.std.proofs.Common.{sym, ap, ◌∙◌, inl, inr, not-suc-le-zero, ari
 use Rattle.std.proofs.Math.Option.{Option, none, some, map, none-ne-some}
 use mathlib.Core.List.{List, [], ◌∷◌, ◌++◌, append_assoc, cons-ne-nil}
 use Rattle.memory.specs.Cases.{either, eq?}
-use Rattle.tab.specs.Grammar.{comma, lf, cr, Line, HeaderLine, Row, RowLine, Follows, LineThen, Rows, Headed, Reading}
+use Rattle.tab.specs.Grammar.{comma, lf, cr, HeaderLine, Row, RowLine, Follows, LineThen, Rows, Headed, Reading}
 use Rattle.tab.specs.Reader.{Got, got, decimal, word, quoted, bare, after, line_end, ends, field, GotLine, got_line}
 use Rattle.tab.specs.Reader.{from_goal, from_moves, from_level, line}
 use Rattle.tab.specs.Reader.{row, header, body, Read, read_more, continue, rows_in, rows_of}
-use Rattle.tab.specs.Fields.{Stops, after_sound, ended_sound, Means, content_complete, Content, content_sound}
+use Rattle.tab.specs.Fields.{Stops, after_sound, ended_sound, Means, content_complete, content_sound}
 use Rattle.tab.specs.declared.Column.{Column}
 use Rattle.tab.specs.declared.Column.TheVariants.{Level, Moves, Goal}
 

@@ -5,7 +5,7 @@ use Rattle.std.proofs.Math.Option.{Option, none, some, map}
 use Prim.Native.String.{String}
 use Rattle.text.specs.Text.{ascii}
 use Rattle.tab.specs.Grammar.{each, doubled, Field, Row}
-use Rattle.tab.specs.Reader.{digits, decimal, word, bare, quoted, line_end, field, line, header, body, Read, rows_in, rows_of}
+use Rattle.tab.specs.Reader.{digits, decimal, word, bare, quoted, line_end, field, line, body, Read, rows_in, rows_of}
 
 abbrev row_of : ℕ → ℕ → ℕ → Row
 row_of a b c = record { level = a; moves = b; goal = c }

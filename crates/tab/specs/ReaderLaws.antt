@@ -1,16 +1,15 @@
 -- What the reader's steps make of a text, by its first byte: at place i of the list l.
-use Rattle.std.specs.Prelude.{◌≡◌, refl, ◌≢◌, ◌⊎◌, Bool, true, false, List, [], ◌∷◌, ℕ, ◌+◌, ◌*◌, ◌-◌, ◌≤◌, ◌<◌, length, get_or, drop}
-use Rattle.std.proofs.Common.{ap, ◌∙◌, inl, inr, arith}
-use Rattle.std.proofs.Math.Option.{Option, none, some, map}
+use Rattle.std.specs.Prelude.{◌≡◌, ◌≢◌, ◌⊎◌, true, false, List, [], ◌∷◌, ℕ, ◌+◌, ◌*◌, ◌-◌, ◌≤◌, ◌<◌, length, get_or, drop}
+use Rattle.std.proofs.Common.{inl, inr, arith}
+use Rattle.std.proofs.Math.Option.{Option, none, some}
 use Rattle.std.proofs.Math.Numerals.{add-one}
-use borrow.Author.Tests.{le-leb, lt-leb, lt-ltb, le-ltb, eq-eqb, ne_eqb}
+use borrow.Author.Tests.{le-leb, lt-leb, le-ltb, eq-eqb, ne_eqb}
 use Rattle.std.proofs.Math.ListN.{drop_of_length-le}
 use Rattle.std.proofs.Math.Seq.{drop-cons}
 use Rattle.memory.specs.Cases.{either, le?}
 use Rattle.text.specs.Text.{is_digit}
 use Rattle.tab.specs.Grammar.{dquote, lf, cr}
-use Rattle.tab.specs.Reader.{Got, got, digits, small, decimal, word, bare, after, line_end, ended, quoted, ends, field}
-use Rattle.tab.specs.declared.Column.{Column}
+use Rattle.tab.specs.Reader.{Got, got, digits, small, decimal, word, after, line_end, ended, quoted}
 
 digit? : (c : ℕ) → ((is_digit c ≡ true) × (48 ≤ c) × (c ≤ 57)) ⊎ (is_digit c ≡ false)
 digit? c = either (le? 48 c) (λ a. either (le? c 57) (λ b. inl (cc, a.1, b.1)) (λ b. inr cc)) (λ a. inr cc)

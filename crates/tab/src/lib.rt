@@ -1,6 +1,7 @@
 // A field of a tab of levels, by its place in the lent bytes: a number, or a column's name in the header, quoted or not, and what ends it.
 // Document 02, request 1; the grammar is in `specs/Grammar.antt`.
 #![tactic(auto)]
+
 pub mod reader;
 
 ghost use Rattle.std.specs.Prelude.{◌≡◌, false, List, ℕ, drop};

@@ -5,8 +5,8 @@ use Rattle.tab.proofs.bare_at.Goals as goal
 
 pub returns-then-header : goal.returns-then-header
 unfolding bare
-returns-then-header c = rw c.before.if-header.true c.name_at.ensures
+returns-then-header c = rw c.if-header.true c.name_at.ensures
 
 pub returns : goal.returns
 unfolding bare
-returns c = rw c.before.if-header.false c.decimal_at.ensures
+returns c = rw c.if-header.false c.decimal_at.ensures

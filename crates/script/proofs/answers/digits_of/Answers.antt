@@ -2,7 +2,6 @@ use native.Mathlib.Omega.{arith}
 use Prim.Native.Nat.{◌/◌}
 use mathlib.Core.Path.{ap}
 use lib.ListN.{length, length-append}
-use Rattle.script.specs.Answers.{decimal}
 use Rattle.script.specs.AnswerLaws.{decimal_one, decimal_more, decimal_length, decimal_there}
 use Rattle.script.proofs.answers.digits_of.Goals as goal
 
@@ -10,9 +9,9 @@ use Rattle.script.proofs.answers.digits_of.Goals as goal
 
 pub loop-left-preserved : goal.loop-left-preserved
 loop-left-preserved c =
-    let l = c.before.loop-left in
-    let e = simp length-append at (ap length (decimal_more l.false (omega arith) (omega arith))) in
-    omega (arith, e, decimal_length c.before.before.args.n, decimal_there (l.false / 10))
+    let l = c.loop-left in
+    let e = simp length-append at (ap length (decimal_more l.left (omega arith) (omega arith))) in
+    omega (arith, e, decimal_length c.args.n, decimal_there (l.left / 10))
 
 pub returns : goal.returns
-returns c = omega (arith, ap length (decimal_one c.before.loop-left.false (omega arith)))
+returns c = omega (arith, ap length (decimal_one c.loop-left.left (omega arith)))

@@ -10,29 +10,25 @@ opposite b v e = sym (not-not b) ∙ ap not e
 
 pub returns-then-not-level : goal.returns-then-not-level
 returns-then-not-level c =
-    let b = c.before.before.before.before.before in
-    let x = b.before.before.args in
-    sym (level_bad x.tab.now x.header x.at b.fields-l.result b.fields-l.ensures (opposite _ _ c.if-not-level.true))
+    let x = c.args in
+    sym (level_bad x.tab.now x.header x.at c.fields-l.result c.fields-l.ensures (opposite _ _ c.if-not-level.true))
 
 pub returns-then-not-moves : goal.returns-then-not-moves
 returns-then-not-moves c =
-    let b = c.before.before.before.before.before.before.before in
-    let x = b.before.before.args in
-    let i = opposite _ _ c.before.before.if-not-level.false in
-    sym (moves_bad x.tab.now x.header x.at b.fields-l.result b.fields-l.ensures i (opposite _ _ c.if-not-moves.true))
+    let x = c.args in
+    let i = opposite _ _ c.if-not-level.false in
+    sym (moves_bad x.tab.now x.header x.at c.fields-l.result c.fields-l.ensures i (opposite _ _ c.if-not-moves.true))
 
 pub returns-then-not-goal : goal.returns-then-not-goal
 returns-then-not-goal c =
-    let b = c.before.before.before.before.before.before.before.before.before in
-    let x = b.before.before.args in
-    let i = opposite _ _ c.before.before.before.before.if-not-level.false in
-    let j = opposite _ _ c.before.before.if-not-moves.false in
-    sym (goal_bad x.tab.now x.header x.at b.fields-l.result b.fields-l.ensures i j (opposite _ _ c.if-not-goal.true))
+    let x = c.args in
+    let i = opposite _ _ c.if-not-level.false in
+    let j = opposite _ _ c.if-not-moves.false in
+    sym (goal_bad x.tab.now x.header x.at c.fields-l.result c.fields-l.ensures i j (opposite _ _ c.if-not-goal.true))
 
 pub returns : goal.returns
 returns c =
-    let b = c.before.before.before.before.before.before.before.before.before in
-    let x = b.before.before.args in
-    let i = opposite _ _ c.before.before.before.before.if-not-level.false in
-    let j = opposite _ _ c.before.before.if-not-moves.false in
-    sym (all_good x.tab.now x.header x.at b.fields-l.result b.fields-l.ensures i j (opposite _ _ c.if-not-goal.false))
+    let x = c.args in
+    let i = opposite _ _ c.if-not-level.false in
+    let j = opposite _ _ c.if-not-moves.false in
+    sym (all_good x.tab.now x.header x.at c.fields-l.result c.fields-l.ensures i j (opposite _ _ c.if-not-goal.false))
