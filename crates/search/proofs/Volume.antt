@@ -31,6 +31,7 @@ use Rattle.filter.specs.Blocks.{BlockAt}
 use Rattle.filter.specs.declared.groups.Block.{Block}
 use Rattle.deletions.specs.Test as tests
 use Rattle.deletions.specs.Test.{tested_of}
+use Rattle.deletions.specs.declared.Deletions.{Deletions}
 use Rattle.deletions.specs.declared.Tested.{Tested}
 use Rattle.search.specs.declared.View.{View}
 use Rattle.search.specs.Find.{viewed, ViewFits, try_of, cost_of, try_in, cost_in, deleted_of, test_cost, pages_below, cost_below, deletions_of}
@@ -182,6 +183,18 @@ pub test_viewed : (v : View) (main ram : List ℕ) (j : ℕ)
     ≡ test_deletion fnv_family (shape v.g) (viewed v main ram) v.d0 j
 unfolding test_deletion try_deletion maybe_deleted
 test_viewed v main ram j = refl
+
+-- the test of its deletions, as it is called
+module _ (v : View) (main ram : List ℕ) (j : ℕ) (t : Deletions) (t_is : t ≡ deletions_of v) (r : Tested)
+    (is : tested_of j r ≡ test_deletion fnv_family (shape t.g) (tests.held t main ram) t.d0 j) where
+  told : tested_of j r ≡ test_deletion fnv_family (shape v.g) (viewed v main ram) v.d0 j
+  told = (rw t_is at is) ∙ test_viewed v main ram j
+
+  pub told_met : r.met ≡ deleted_of v main ram j
+  told_met = tested_met v main ram j r told
+
+  pub told_opened : r.opened ≡ test_cost v main ram j
+  told_opened = tested_opened v main ram j r told
 
 -- ---- a volume that fits
 

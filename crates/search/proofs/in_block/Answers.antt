@@ -1,486 +1,402 @@
 use native.Mathlib.Omega.{arith}
+use borrow.Author.Tests.{not-true, not-false}
 use mathlib.Core.Path.{◌≡◌, refl, sym, ◌∙◌}
-use mathlib.Core.Bool.{Bool, true}
+use mathlib.Core.Bool.{Bool, true, false}
 use mathlib.Core.Option.{Option, none, some}
-use Prim.Native.Nat.{ℕ, ◌+◌, ◌*◌, ◌-◌, ◌/◌, ◌≤◌, ◌<◌}
+use mathlib.Core.List.{List}
+use Prim.Native.Nat.{ℕ, ◌+◌, ◌*◌, ◌-◌, ◌≤◌, ◌<◌}
 use lib.ListN.{length, take}
 use Rattle.memory.specs.Bits.{bit}
 use Rattle.memory.specs.Cases.{lt?, either}
+use Rattle.memory.specs.Words.{word}
+use Rattle.layout.specs.Keys.{Key, number_in}
 use Rattle.layout.specs.Geometry.{page, full_sets}
 use Rattle.layout.specs.Hash.{fnv_family}
 use Rattle.layout.specs.Calls.{key_index, maybe_in, test_deletion}
 use Rattle.layout.specs.Search.{Stop, found, corrupt, reply, scan, scan_cost, search_pages, pages_cost}
-use Rattle.laws.specs.WalkLaws.{Shown, words_first, words_end}
+use Rattle.laws.specs.WalkLaws.{Shown, Words, Part, words_end}
 use Rattle.geometry.specs.Shape.{shape}
 use Rattle.items.specs.Scans.{last_entry}
-use Rattle.deletions.specs.Test.{tested_of}
+use Rattle.deletions.specs.Test.{held, tested_of}
+use Rattle.deletions.specs.declared.Deletions.{Deletions}
+use Rattle.deletions.specs.declared.Tested.{Tested}
 use Rattle.filter.specs.Filter.{index_fits}
 use Rattle.filter.specs.Blocks.{BlockAt}
 use Rattle.filter.specs.declared.groups.Block.{Block}
 use Rattle.keys.specs.Key.{key_is}
-use Rattle.search.specs.Find.{viewed, ViewFits, try_of, cost_of, try_in, cost_in, deleted_of, test_cost}
-use Rattle.search.specs.Tries.{entry_of}
-use Rattle.search.proofs.Tries.{count, newest, newest_le, newest_set, newest_some, fewer}
+use Rattle.search.specs.declared.View.{View}
+use Rattle.search.specs.declared.Tried.{Tried}
+use Rattle.search.specs.Find.{viewed, ViewFits, try_of, cost_of, try_in, cost_in, deleted_of, test_cost, deletions_of, pages_below, cost_below}
+use Rattle.search.specs.Tries.{page_start, entry_of, PagesIn, TriedAt}
+use Rattle.search.proofs.Tries.{count, newest, newest_le, newest_set, newest_some, measure, fewer}
 use Rattle.search.proofs.Bits.{Word, word_first, word_done, word_in, word_few, word_most, word_next, word_ended}
-use Rattle.search.proofs.Entries.{Same, left_none, left_first, left_corrupt, left_most, left_found, left_next, left_less}
-use Rattle.search.proofs.Volume.{per_page, pages, same_flash, same_bytes, scan_bytes, cost_bytes, vain_page, block_shows}
-use Rattle.search.proofs.Volume.{tested_met, tested_opened, test_fits, test_viewed, pages_few, pages_then_lem, page_in, sets_le, below_most}
-use borrow.Author.Tests.{not-true, not-false}
-use Rattle.search.proofs.in_block.Invariants.{try_in, cost_in, start_of, known}
+use Rattle.search.proofs.Entries.{Same, Left, left_none, left_first, left_corrupt, left_most, left_found, left_next, left_less}
+use Rattle.search.proofs.Volume.{per_page, pages, pages_then, same_flash, same_bytes, scan_bytes, cost_bytes, vain_page, block_shows}
+use Rattle.search.proofs.Volume.{told_met, told_opened, pages_few, pages_then_lem, page_in, sets_le, below_most}
 use Rattle.search.proofs.in_block.Goals as goal
 
 -- What is left of the search at each word of a block, at each page that is opened, and of the scan of its entries at each with the key.
 
 -- ---- the search at hand
 
-abbrev Start : Type 0
-Start = goal.Start
-
 -- the block is known
-abbrev Known : Type 0
-Known = goal.After-block_below-b
+record Known (v : View) (main ram : List ℕ) (below : ℕ) (ps : List ℕ) (b : Block) : Type 0 where
+  fits : ViewFits v main ram
+  block : BlockAt v.g.chip.unit (key_index (shape v.g)) main ram (pages v) below ps b
+  full : below ≤ pages_then v
 
-abbrev fits : (b : Start) → ViewFits b.args.v b.args.main.now b.args.ram.now
-fits b = b.requires.view_fits.0
+module _ {v : View} {main ram : List ℕ} {below : ℕ} {ps : List ℕ} {b : Block} (K : Known v main ram below ps b) (key : Key) where
+  abbrev gate_at : ℕ → Bool
+  gate_at = maybe_in (shape v.g) (viewed v main ram) ps
 
-abbrev gate_at : Start → ℕ → Bool
-gate_at b =
-    maybe_in (shape b.args.v.g) (viewed b.args.v b.args.main.now b.args.ram.now) (take b.args.count b.args.ps)
+  abbrev try_at : ℕ → Option Stop
+  try_at = try_of v main ram key
 
-abbrev try_at : Start → ℕ → Option Stop
-try_at b = try_of b.args.v b.args.main.now b.args.ram.now (key_is b.args.key)
+  abbrev cost_at : ℕ → ℕ
+  cost_at = cost_of v main ram key
 
-abbrev cost_at : Start → ℕ → ℕ
-cost_at b = cost_of b.args.v b.args.main.now b.args.ram.now (key_is b.args.key)
+  -- it shows the gates
+  shows : Shown bit 64 b.start below b.words gate_at
+  shows = block_shows v main ram key below ps b K.block
 
-abbrev deleted_at : Start → ℕ → Bool
-deleted_at b = deleted_of b.args.v b.args.main.now b.args.ram.now
+  -- its pages are full ones
+  page_lt : (p : ℕ) → p < below → p < pages v
+  page_lt p h = omega (arith, K.full, pages_then_lem K.fits)
 
-abbrev test_at : Start → ℕ → ℕ
-test_at b = test_cost b.args.v b.args.main.now b.args.ram.now
+  below_few : below ≤ 32768
+  below_few = omega (arith, K.full, pages_then_lem K.fits, pages_few K.fits)
 
-abbrev block_of : Known → Block
-block_of G = G.block_below-b.result
+  -- ---- a word
 
--- the block, as the view has it
-block_at : (G : Known) → let x = (start_of G).args in
-    BlockAt x.v.g.chip.unit (key_index (shape x.v.g)) x.main.now x.ram.now (pages x.v) x.below (take x.count x.ps) (block_of G)
-block_at G = rw G.before.key_filters.ensures at G.block_below-b.ensures
+  module _ {opened sum w : ℕ} (W : Words try_at cost_at (per_page v) bit 64 b.start below b.words opened sum w) where
+    -- there are eight at the most
+    word_lt_8 : 0 < w → w - 1 < 8
+    word_lt_8 h = omega (arith, W.used, K.block.few, h)
 
--- it shows the gates
-shows : (G : Known) → let b = start_of G in Shown bit 64 (block_of G).start b.args.below (block_of G).words (gate_at b)
-shows G =
-    let x = (start_of G).args in
-    block_shows x.v x.main.now x.ram.now (key_is x.key) x.below (take x.count x.ps) (block_of G) (block_at G)
+    -- and each begins with a page of the block
+    from_lt : 0 < w → b.start + (w - 1) * 64 < below
+    from_lt h = omega (arith, W.used, K.block.start_lt, h)
 
--- its pages are full ones
-page_lt : (G : Known) (p : ℕ) → p < (start_of G).args.below → p < pages (start_of G).args.v
-page_lt G p h =
-    let b = start_of G in
-    omega (arith, b.requires.below_nonzero.1, pages_then_lem (fits b))
+    -- no word is left
+    all_words : w ≤ 0 → Part gate_at try_at cost_at (per_page v) below b.start opened sum none
+    all_words h = words_end W gate_at shows h K.block.start_lt
 
-below_few : (G : Known) → (start_of G).args.below ≤ 32768
-below_few G =
-    let b = start_of G in
-    omega (arith, b.requires.below_nonzero.1, pages_then_lem (fits b), pages_few (fits b))
+  -- ---- the pages of a word, up to one with an entry of the key
+
+  module _ {opened sum w bits : ℕ} (I : Word try_at cost_at (per_page v) b.start below b.words opened sum w bits) where
+    abbrev from : ℕ
+    from = b.start + w * 64
+
+    abbrev entry_at : ℕ → ℕ
+    entry_at = entry_of v.g key from main
+
+    -- the newest with an entry, plus one
+    abbrev newest_at : ℕ
+    newest_at = newest bits entry_at 64
+
+    abbrev page_at : ℕ
+    page_at = from + (newest_at - 1)
+
+    -- a page without an entry of the key does not end the search
+    other : (i : ℕ) → bit bits i ≡ true → from + i < below → entry_at i ≡ 0
+        → (scan try_at ((from + i) * per_page v) (per_page v) ≡ none) × (scan_cost try_at cost_at ((from + i) * per_page v) (per_page v) ≡ 0)
+    other i s h = vain_page v main ram key (from + i) (page_lt (from + i) h)
+
+    -- its laws, at hand
+    visited_in : (i : ℕ) → i < 64 → bit bits i ≡ true → from + i < below
+    visited_in = word_in I entry_at other gate_at shows
+
+    visited_few : opened + count bits entry_at 64 ≤ below + 1
+    visited_few = word_few I entry_at other gate_at shows
+
+    page_below : 0 < newest_at → page_at < below
+    page_below h =
+        visited_in (newest_at - 1) (omega (arith, newest_le (bit bits) entry_at 64)) (newest_set (bit bits) entry_at 64 h)
+
+    pages_in : PagesIn v.g from bits main
+    pages_in = record { page_in = λ i h s. page_in K.fits (from + i) (page_lt (from + i) (visited_in i h s)) }
+
+    module _ {t : Tried} (T : TriedAt v.g key from bits main t) where
+      -- one was reached if an entry is told
+      reached : 0 < t.entry → 0 < newest_at
+      reached h = either (lt? 0 newest_at) (λ a. a.1) (λ a. absurd (omega (arith, (T.none (omega (arith, a.1))).2)))
+
+      told_some : 0 < newest_at → 0 < t.entry
+      told_some h = omega (arith, (T.some h).1, newest_some (bit bits) entry_at 64 h)
+
+      opened_few : opened + t.opened ≤ below + 1
+      opened_few = omega (arith, T.pages.opened, visited_few)
+
+      -- its entries lie within the flash
+      within_at : 0 < t.entry → t.start + page v.g.chip.unit ≤ length main
+      within_at h = let n = reached h in rw (T.some n).0 (page_in K.fits page_at (page_lt page_at (page_below n)))
+
+      -- by their bytes
+      abbrev try_there : ℕ → Option Stop
+      try_there = try_in v main ram key main t.start
+
+      abbrev cost_there : ℕ → ℕ
+      cost_there = cost_in v main ram key main t.start
+
+      same_at : Same main t.start (per_page v) v.n0 key (deleted_of v main ram) (test_cost v main ram) try_there cost_there 0
+      same_at = same_bytes v main ram key main t.start (per_page v)
+
+      -- as the view has them
+      scan_at : 0 < t.entry
+          → (scan try_there 0 (per_page v) ≡ scan try_at (page_at * per_page v) (per_page v))
+          × (scan_cost try_there cost_there 0 (per_page v) ≡ scan_cost try_at cost_at (page_at * per_page v) (per_page v))
+      scan_at h =
+          let n = reached h in
+          let S = same_flash v main ram key page_at t.start (per_page v) (page_lt page_at (page_below n)) (omega arith) (T.some n).0 in (
+            scan_bytes v main ram key main t.start (per_page v) (page_at * per_page v) S,
+            cost_bytes v main ram key main t.start (per_page v) (page_at * per_page v) S,
+          )
+
+      -- the newest with the key is the one told
+      entry_is : 0 < t.entry → t.entry ≡ last_entry main t.start (per_page v) key
+      entry_is h = let S = T.some (reached h) in rw S.0 S.1
+
+      first_left : 0 < t.entry → Left main t.start key try_there cost_there 0 (per_page v) sum t.entry sum
+      first_left h = left_first same_at sum t.entry (entry_is h)
+
+      -- what was paid before the page and for it is part of the cost of all
+      page_most : 0 < t.entry → sum + scan_cost try_there cost_there 0 (per_page v) ≤ pages_cost gate_at try_at cost_at (per_page v) below
+      page_most h = rw (scan_at h).1 (word_most I entry_at other gate_at shows (reached h))
+
+      paid_few : 0 < t.entry → sum + scan_cost try_there cost_there 0 (per_page v) < 18446744073709551616
+      paid_few h = omega (arith, page_most h, below_most K.fits key ps below K.full)
+
+      -- the page's scan ended
+      ended : 0 < t.entry → (r : Stop) (paid : ℕ) → scan try_there 0 (per_page v) ≡ some r → paid ≡ sum + scan_cost try_there cost_there 0 (per_page v)
+          → (search_pages gate_at try_at (per_page v) below ≡ reply (some r) (opened + t.opened))
+          × (pages_cost gate_at try_at cost_at (per_page v) below ≡ paid + 0)
+      ended h r paid e d =
+          let s = scan_at h in
+          let a = word_ended I entry_at other gate_at shows (reached h) r (sym s.0 ∙ e) in
+          (rw T.pages.opened a.0, omega (arith, a.1, d, s.1))
+
+      -- the word has fewer pages then
+      bits_fewer : 0 < bits → measure t.bits < measure bits
+      bits_fewer h = fewer bits entry_at t.bits T.pages.left h (λ z. (T.none z).0)
+
+      -- ---- an entry
+
+      module _ {e paid : ℕ} (L : 0 < t.entry → Left main t.start key try_there cost_there 0 (per_page v) sum e paid) (e_le : e ≤ t.entry) where
+        -- no entry of the page ended the search
+        next_bits : e ≤ 0 → (t.entry ≡ 0 → paid ≡ sum)
+            → Word try_at cost_at (per_page v) b.start below b.words (opened + t.opened) paid w t.bits
+        next_bits z free =
+            rw T.pages.opened
+            (word_next I entry_at other t.bits T.pages.left (λ h. (vain h).0) paid (λ h. (vain h).1) (λ z. free (T.none z).2))
+          where
+            vain : 0 < newest_at
+                → (scan try_at (page_at * per_page v) (per_page v) ≡ none) × (paid ≡ sum + scan_cost try_at cost_at (page_at * per_page v) (per_page v))
+            vain h =
+                let p = told_some h in
+                let a = left_none (L p) z in
+                (sym (scan_at p).0 ∙ a.0, omega (arith, a.1, (scan_at p).1))
+
+        module _ (some_left : 0 < e) where
+          told : 0 < t.entry
+          told = omega (arith, some_left, e_le)
+
+          entry_in : t.start + (e - 1) * 8 + 8 ≤ length main
+          entry_in = omega (arith, (L told).le, within_at told, some_left)
+
+          module _ {j : ℕ} (number : j ≡ number_in (word main (t.start + (e - 1) * 8 + 4))) where
+            corrupt_at : v.n0 ≤ j
+                → (search_pages gate_at try_at (per_page v) below ≡ reply (some corrupt) (opened + t.opened))
+                × (pages_cost gate_at try_at cost_at (per_page v) below ≡ paid + 0)
+            corrupt_at h =
+                let a = left_corrupt same_at (L told) some_left number h in
+                ended told corrupt paid a.0 a.1
+
+            module _ (lt : j < v.n0) where
+              less : (n : ℕ) → n ≡ last_entry main t.start (e - 1) key → n < e
+              less n n_is = left_less same_at (L told) some_left number lt n n_is
+
+              module _ {d : Deletions} (d_is : d ≡ deletions_of v) (r : Tested)
+                  (is : tested_of j r ≡ test_deletion fnv_family (shape d.g) (held d main ram) d.d0 j) where
+                test_few : paid + r.opened < 18446744073709551616
+                test_few =
+                    omega (
+                      arith,
+                      left_most same_at (L told) some_left number lt,
+                      told_opened v main ram j d d_is r is,
+                      paid_few told,
+                    )
+
+                found_at : r.met ≡ false
+                    → (search_pages gate_at try_at (per_page v) below ≡ reply (some (found j)) (opened + t.opened))
+                    × (pages_cost gate_at try_at cost_at (per_page v) below ≡ paid + r.opened + 0)
+                found_at m =
+                    let a = left_found same_at (L told) some_left number lt r.met r.opened (told_met v main ram j d d_is r is)
+                    (told_opened v main ram j d d_is r is) m in
+                    ended told (found j) (paid + r.opened) a.0 a.1
+
+                next_left : (n : ℕ) → n ≡ last_entry main t.start (e - 1) key → r.met ≡ true
+                    → Left main t.start key try_there cost_there 0 (per_page v) sum n (paid + r.opened)
+                next_left n n_is m =
+                    left_next same_at (L told) some_left number lt r.met r.opened (told_met v main ram j d d_is r is)
+                    (told_opened v main ram j d d_is r is) n m n_is
 
 -- ---- before the first word
 
-pub key_filters-requires : goal.key_filters-requires
-key_filters-requires c = (fits c.before.before).sound
-
-pub block_below-b-requires : goal.block_below-b-requires
-block_below-b-requires c =
-    let b = c.before.before.before in
-    let x = b.args in
-    let R = fits b in
-    let L = b.requires.view_fits.1 in
+pub block_below-b-requires-clause-by_index : goal.block_below-b-requires-clause-by_index
+block_below-b-requires-clause-by_index c =
+    let x = c.args in
+    let R = c.requires.view_fits.0 in
     rw c.key_filters.ensures (
-      (
-        (full_sets (shape x.v.g), sets_le R, index_fits x.v.g R.sound x.main.now x.ram.now R.read),
-        omega (arith, pages_few R),
-        b.requires.below_nonzero.0,
-        omega (arith, b.requires.below_nonzero.1, pages_then_lem R),
-      ),
-      (L.some, L.few, L.within),
-    )
-
-pub overflow_sub-w : goal.overflow_sub-w
-overflow_sub-w c = omega (arith, (block_at c).start-lt)
-
-pub overflow_add-w : goal.overflow_add-w
-overflow_add-w c = omega (arith, (block_at c).few)
-
-pub filters-init : goal.filters-init
-filters-init c =
-    let b = start_of c in
-    let first = (block_of c).start in
-    let below = b.args.below in (
-      words_first (try_at b) (cost_at b) (per_page b.args.v) bit 64 first below (block_of c).words ((below - first + 63) / 64)
-          (omega arith) (omega (arith, (block_at c).start-lt)),
-      refl,
+      (full_sets (shape x.v.g), sets_le R, index_fits x.v.g R.sound x.main.now x.ram.now R.read),
+      omega (arith, pages_few R),
+      c.requires.below_nonzero.0,
+      omega (arith, c.requires.below_nonzero.1, pages_then_lem R),
     )
 
 -- ---- a word
 
-abbrev InWord : Type 0
-InWord = goal.In-filters
-
--- there are eight at the most
-word_lt_8 : (c : InWord) → c.before.filters.w - 1 < 8
-word_lt_8 c = omega (arith, c.before.filters.invariant.0.used, (block_at c.before.before).few, c.filters-test.true)
-
--- and each begins with a page of the block
-from_lt : (c : InWord) → let G = c.before.before in (block_of G).start + (c.before.filters.w - 1) * 64 < (start_of G).args.below
-from_lt c = omega (arith, c.before.filters.invariant.0.used, (block_at c.before.before).start-lt, c.filters-test.true)
-
-pub overflow_mul-from : goal.overflow_mul-from
-overflow_mul-from c = omega (arith, word_lt_8 c)
-
-pub overflow_add-from : goal.overflow_add-from
-overflow_add-from c = omega (arith, from_lt c, below_few c.before.before)
-
-pub offset_bounds-b-w : goal.offset_bounds-b-w
-offset_bounds-b-w c = omega (arith, word_lt_8 c)
-
-pub bounds-b-w : goal.bounds-b-w
-bounds-b-w c = word_lt_8 c
-
 pub bits-init : goal.bits-init
 bits-init c =
-    let i = c.before in
-    let l = i.before in
-    (word_first l.filters.invariant.0 (omega arith) (word_lt_8 i), l.filters.invariant.1)
-
-pub filters-smaller : goal.filters-smaller
-filters-smaller c = let i = c.before.before.before in omega (arith, i.filters-test.true)
+    let x = c.args in
+    let K : Known x.v x.main.now x.ram.now x.below (take x.count x.ps) c.block_below-b.result
+        = record { fits = c.requires.view_fits.0; block = rw c.key_filters.ensures at c.block_below-b.ensures; full = c.requires.below_nonzero.1 } in
+    (word_first c.filters.invariant.0 c.filters-test.true (word_lt_8 K (key_is x.key) c.filters.invariant.0 c.filters-test.true), c.filters.invariant.1)
 
 pub filters-preserved : goal.filters-preserved
 filters-preserved c =
-    let B = c.before in
-    (word_done B.bits.invariant.0 c.bits-test.false (from_lt B.before.before), B.bits.invariant.1)
+    let x = c.args in
+    let K : Known x.v x.main.now x.ram.now x.below (take x.count x.ps) c.block_below-b.result
+        = record { fits = c.requires.view_fits.0; block = rw c.key_filters.ensures at c.block_below-b.ensures; full = c.requires.below_nonzero.1 } in
+    (word_done c.bits.invariant.0 c.bits-test.false (from_lt K (key_is x.key) c.filters.invariant.0 c.filters-test.true), c.bits.invariant.1)
 
 -- ---- the pages of a word, up to one with an entry of the key
 
-abbrev Visiting : Type 0
-Visiting = goal.In-bits
-
-abbrev word_of : Visiting → ℕ
-word_of c = c.before.before.before.before.filters.w - 1
-
-abbrev from_of : Visiting → ℕ
-from_of c = (block_of (known c)).start + word_of c * 64
-
-abbrev entry_at : Visiting → ℕ → ℕ
-entry_at c = let x = (start_of (known c)).args in entry_of x.v.g (key_is x.key) (from_of c) x.main.now
-
--- the newest with an entry, plus one
-abbrev newest_of : Visiting → ℕ
-newest_of c = newest c.before.bits.bits (entry_at c) 64
-
-abbrev page_of : Visiting → ℕ
-page_of c = from_of c + (newest_of c - 1)
-
--- a page without an entry of the key does not end the search
-other : (c : Visiting) → let b = start_of (known c) in let q = per_page b.args.v in
-    (i : ℕ) → bit c.before.bits.bits i ≡ true → from_of c + i < b.args.below → entry_at c i ≡ 0
-    → (scan (try_at b) ((from_of c + i) * q) q ≡ none) × (scan_cost (try_at b) (cost_at b) ((from_of c + i) * q) q ≡ 0)
-other c i s h =
-    let x = (start_of (known c)).args in
-    vain_page x.v x.main.now x.ram.now (key_is x.key) (from_of c + i) (page_lt (known c) (from_of c + i) h)
-
--- its laws, at hand
-visited_in : (c : Visiting) (i : ℕ) → i < 64 → bit c.before.bits.bits i ≡ true → from_of c + i < (start_of (known c)).args.below
-visited_in c =
-    let G = known c in
-    let b = start_of G in
-    let B = c.before in
-    word_in B.bits.invariant.0 (entry_at c) (other c) (gate_at b) (shows G)
-
-visited_few : (c : Visiting) → c.before.bits.opened + count c.before.bits.bits (entry_at c) 64 ≤ (start_of (known c)).args.below + 1
-visited_few c =
-    let G = known c in
-    let b = start_of G in
-    let B = c.before in
-    word_few B.bits.invariant.0 (entry_at c) (other c) (gate_at b) (shows G)
-
-page_below : (c : Visiting) → 0 < newest_of c → page_of c < (start_of (known c)).args.below
-page_below c h =
-    let bits = c.before.bits.bits in
-    visited_in c (newest_of c - 1) (omega (arith, newest_le (bit bits) (entry_at c) 64)) (newest_set (bit bits) (entry_at c) 64 h)
-
 pub next_with_key-t-requires : goal.next_with_key-t-requires
 next_with_key-t-requires c =
-    let G = known c in
-    let b = start_of G in (
-      (fits b).sound,
-      omega (arith, from_lt c.before.before.before, below_few G),
-      record {
-        page_in = λ i h s.
-            page_in (fits b) (from_of c + i) (page_lt G (from_of c + i) (visited_in c i h s));
-      },
+    let x = c.args in
+    let K : Known x.v x.main.now x.ram.now x.below (take x.count x.ps) c.block_below-b.result
+        = record { fits = c.requires.view_fits.0; block = rw c.key_filters.ensures at c.block_below-b.ensures; full = c.requires.below_nonzero.1 } in
+    (
+      K.fits.sound,
+      omega (arith, from_lt K (key_is x.key) c.filters.invariant.0 c.filters-test.true, below_few K (key_is x.key)),
+      pages_in K (key_is x.key) c.bits.invariant.0,
     )
-
-abbrev Tries : Type 0
-Tries = goal.After-next_with_key-t
 
 pub overflow_add-opened : goal.overflow_add-opened
-overflow_add-opened c = let N = c.before in omega (arith, N.next_with_key-t.ensures.pages.opened, visited_few N.before, below_few (known N.before))
-
--- one was reached if an entry is told
-reached : (N : Tries) → 0 < N.next_with_key-t.result.entry → 0 < newest_of N.before
-reached N h =
-    either (lt? 0 (newest_of N.before))
-    (λ t. t.1)
-    (λ t. absurd (omega (arith, (N.next_with_key-t.ensures.none (omega (arith, t.1))).2)))
-
-told_some : (N : Tries) → 0 < newest_of N.before → 0 < N.next_with_key-t.result.entry
-told_some N h = omega (arith, (N.next_with_key-t.ensures.some h).1, newest_some (bit N.before.before.bits.bits) (entry_at N.before) 64 h)
-
--- its entries lie within the flash
-within_at : (N : Tries) → 0 < N.next_with_key-t.result.entry → let x = (start_of (known N.before)).args in
-    N.next_with_key-t.result.start + page x.v.g.chip.unit ≤ length x.main.now
-within_at N h =
-    let c = N.before in
-    let b = start_of (known c) in
-    let n = reached N h in
-    rw (N.next_with_key-t.ensures.some n).0 (page_in (fits b) (page_of c) (page_lt (known c) (page_of c) (page_below c n)))
-
-same_at : (N : Tries) → let b = start_of (known N.before) in let x = b.args in let start = N.next_with_key-t.result.start in
-    Same x.main.now start (per_page x.v) x.v.n0 (key_is x.key) (deleted_at b) (test_at b) (try_in N) (cost_in N) 0
-same_at N =
-    let x = (start_of (known N.before)).args in
-    same_bytes x.v x.main.now x.ram.now (key_is x.key) x.main.now N.next_with_key-t.result.start (per_page x.v)
-
--- as the view has them
-scan_at : (N : Tries) → 0 < N.next_with_key-t.result.entry → let b = start_of (known N.before) in let q = per_page b.args.v in
-    (scan (try_in N) 0 q ≡ scan (try_at b) (page_of N.before * q) q)
-    × (scan_cost (try_in N) (cost_in N) 0 q ≡ scan_cost (try_at b) (cost_at b) (page_of N.before * q) q)
-scan_at N h =
-    let c = N.before in
-    let x = (start_of (known c)).args in
-    let n = reached N h in
-    let start = N.next_with_key-t.result.start in
-    let S = same_flash x.v x.main.now x.ram.now (key_is x.key) (page_of c) start (per_page x.v) (page_lt (known c) (page_of c) (page_below c n)) (omega arith)
-    (N.next_with_key-t.ensures.some n).0 in (
-      scan_bytes x.v x.main.now x.ram.now (key_is x.key) x.main.now start (per_page x.v) (page_of c * per_page x.v) S,
-      cost_bytes x.v x.main.now x.ram.now (key_is x.key) x.main.now start (per_page x.v) (page_of c * per_page x.v) S,
-    )
-
--- the newest with the key is the one told
-entry_is : (N : Tries) → 0 < N.next_with_key-t.result.entry → let x = (start_of (known N.before)).args in
-    N.next_with_key-t.result.entry ≡ last_entry x.main.now N.next_with_key-t.result.start (per_page x.v) (key_is x.key)
-entry_is N h = let S = N.next_with_key-t.ensures.some (reached N h) in rw S.0 S.1
+overflow_add-opened c =
+    let x = c.args in
+    let K : Known x.v x.main.now x.ram.now x.below (take x.count x.ps) c.block_below-b.result
+        = record { fits = c.requires.view_fits.0; block = rw c.key_filters.ensures at c.block_below-b.ensures; full = c.requires.below_nonzero.1 } in
+    omega (arith, opened_few K (key_is x.key) c.bits.invariant.0 c.next_with_key-t.ensures, below_few K (key_is x.key))
 
 pub entries-init : goal.entries-init
 entries-init c =
-    let N = c.before in (
-      λ h. left_first (same_at N) N.before.before.bits.da_pages N.next_with_key-t.result.entry (entry_is N h),
-      omega arith,
-      N.before.before.bits.invariant.1,
-      λ z. refl,
-    )
+    let x = c.args in
+    let K : Known x.v x.main.now x.ram.now x.below (take x.count x.ps) c.block_below-b.result
+        = record { fits = c.requires.view_fits.0; block = rw c.key_filters.ensures at c.block_below-b.ensures; full = c.requires.below_nonzero.1 } in
+    (first_left K (key_is x.key) c.bits.invariant.0 c.next_with_key-t.ensures, omega arith, c.bits.invariant.1, λ z. refl)
 
 -- ---- an entry
 
-abbrev AtEntry : Type 0
-AtEntry = goal.At-entries
-
-some_left : (E : AtEntry) → 0 < E.entries.e → 0 < E.before.before.next_with_key-t.result.entry
-some_left E h = omega (arith, E.entries.invariant.1)
-
 pub number_at-j-requires : goal.number_at-j-requires
 number_at-j-requires c =
-    let E = c.before in
-    let h = some_left E (omega arith) in
-    omega (arith, (E.entries.invariant.0 h).le, within_at E.before.before h)
-
-pub test-seen-requires : goal.test-seen-requires
-test-seen-requires c =
-    let b = start_of (known c.before.before.before.before.before.before.before.before.before) in
-    rw c.deletions_of.ensures (test_fits (fits b))
-
-abbrev Tests : Type 0
-Tests = goal.After-test-seen
-
-abbrev wide_of : Tests → goal.After-usize_of_u32
-wide_of D = D.before.before.before.before
-
-abbrev number_of : Tests → goal.After-number_at-j
-number_of D = (wide_of D).before
-
-abbrev entry_of : Tests → AtEntry
-entry_of D = (number_of D).before.before
-
-abbrev tries_of : Tests → Tries
-tries_of D = (entry_of D).before.before
-
-abbrev start_at : Tests → Start
-start_at D = start_of (known (tries_of D).before)
-
-one_left : (D : Tests) → 0 < (entry_of D).entries.e
-one_left D = (number_of D).before.entries-test.true
-
-number_lt : (D : Tests) → (number_of D).number_at-j.result < (start_at D).args.v.n0
-number_lt D = omega (arith, (wide_of D).usize_of_u32.ensures, D.before.before.if-usize_of_u32-v.false)
-
--- the test is of the view's deletions
-told : (D : Tests) → let x = (start_at D).args in let j = (number_of D).number_at-j.result in
-    tested_of j D.test-seen.result ≡ test_deletion fnv_family (shape x.v.g) (viewed x.v x.main.now x.ram.now) x.v.d0 j
-told D =
-    let x = (start_at D).args in
-    rw D.before.deletions_of.ensures at D.test-seen.ensures ∙ test_viewed x.v x.main.now x.ram.now (number_of D).number_at-j.result
-
--- what the test says of the view's deletions
-told_met : (D : Tests) → D.test-seen.result.met ≡ deleted_at (start_at D) (number_of D).number_at-j.result
-told_met D =
-    let x = (start_at D).args in
-    tested_met x.v x.main.now x.ram.now (number_of D).number_at-j.result D.test-seen.result (told D)
-
-told_opened : (D : Tests) → D.test-seen.result.opened ≡ test_at (start_at D) (number_of D).number_at-j.result
-told_opened D =
-    let x = (start_at D).args in
-    tested_opened x.v x.main.now x.ram.now (number_of D).number_at-j.result D.test-seen.result (told D)
-
--- what was paid before the page and for it is part of the cost of all
-page_most : (N : Tries) → 0 < N.next_with_key-t.result.entry → let c = N.before in let b = start_of (known c) in let q = per_page b.args.v in
-    c.before.bits.da_pages + scan_cost (try_in N) (cost_in N) 0 q ≤ pages_cost (gate_at b) (try_at b) (cost_at b) q b.args.below
-page_most N h =
-    let c = N.before in
-    let B = c.before in
-    let G = known c in
-    let b = start_of G in
-    rw (scan_at N h).1
-    (word_most B.bits.invariant.0 (entry_at c) (other c) (gate_at b) (shows G) (reached N h))
+    let x = c.args in
+    let K : Known x.v x.main.now x.ram.now x.below (take x.count x.ps) c.block_below-b.result
+        = record { fits = c.requires.view_fits.0; block = rw c.key_filters.ensures at c.block_below-b.ensures; full = c.requires.below_nonzero.1 } in
+    entry_in K (key_is x.key) c.bits.invariant.0 c.next_with_key-t.ensures c.entries.invariant.0 c.entries.invariant.1 c.entries-test.true
 
 pub overflow_add-da_pages : goal.overflow_add-da_pages
 overflow_add-da_pages c =
-    let D = c.before in
-    let J = number_of D in
-    let E = entry_of D in
-    let N = tries_of D in
-    let b = start_at D in
-    let x = b.args in
-    let h = some_left E (one_left D) in
+    let x = c.args in
+    let K : Known x.v x.main.now x.ram.now x.below (take x.count x.ps) c.block_below-b.result
+        = record { fits = c.requires.view_fits.0; block = rw c.key_filters.ensures at c.block_below-b.ensures; full = c.requires.below_nonzero.1 } in
     omega (
       arith,
-      left_most (same_at N) (E.entries.invariant.0 h) (one_left D) J.number_at-j.ensures (number_lt D),
-      told_opened D,
-      page_most N h,
-      below_most (fits b) (key_is x.key) (take x.count x.ps) x.below b.requires.below_nonzero.1,
+      test_few K (key_is x.key) c.bits.invariant.0 c.next_with_key-t.ensures c.entries.invariant.0 c.entries.invariant.1 c.entries-test.true
+      c.number_at-j.ensures (omega (arith, c.usize_of_u32.ensures, c.if-usize_of_u32-v.false)) c.deletions_of.ensures c.test-seen.result c.test-seen.ensures,
     )
 
 pub find_entry-e-requires : goal.find_entry-e-requires
 find_entry-e-requires c =
-    let D = c.before.before.before in
-    let E = entry_of D in
-    let h = some_left E (one_left D) in
-    omega (arith, (E.entries.invariant.0 h).le, within_at E.before.before h)
+    let x = c.args in
+    let K : Known x.v x.main.now x.ram.now x.below (take x.count x.ps) c.block_below-b.result
+        = record { fits = c.requires.view_fits.0; block = rw c.key_filters.ensures at c.block_below-b.ensures; full = c.requires.below_nonzero.1 } in
+    omega (
+      arith,
+      entry_in K (key_is x.key) c.bits.invariant.0 c.next_with_key-t.ensures c.entries.invariant.0 c.entries.invariant.1 c.entries-test.true,
+    )
 
 pub entries-smaller : goal.entries-smaller
 entries-smaller c =
-    let D = c.before.before.before.before in
-    let J = number_of D in
-    let E = entry_of D in
-    let N = tries_of D in
-    let L = E.entries.invariant.0 (some_left E (one_left D)) in
-    left_less (same_at N) L (one_left D) J.number_at-j.ensures (number_lt D) c.find_entry-e.result c.find_entry-e.ensures
+    let x = c.args in
+    let K : Known x.v x.main.now x.ram.now x.below (take x.count x.ps) c.block_below-b.result
+        = record { fits = c.requires.view_fits.0; block = rw c.key_filters.ensures at c.block_below-b.ensures; full = c.requires.below_nonzero.1 } in
+    less K (key_is x.key) c.bits.invariant.0 c.next_with_key-t.ensures c.entries.invariant.0 c.entries.invariant.1 c.entries-test.true
+    c.number_at-j.ensures (omega (arith, c.usize_of_u32.ensures, c.if-usize_of_u32-v.false)) 
+    c.find_entry-e.result c.find_entry-e.ensures
 
 pub entries-preserved : goal.entries-preserved
 entries-preserved c =
-    let D = c.before.before.before.before in
-    let J = number_of D in
-    let E = entry_of D in
-    let N = tries_of D in
-    let h = some_left E (one_left D) in
-    let L = E.entries.invariant.0 h in
-    let less = left_less (same_at N) L (one_left D) J.number_at-j.ensures (number_lt D) c.find_entry-e.result
-    c.find_entry-e.ensures in (
-      λ t. left_next (same_at N) L (one_left D) J.number_at-j.ensures (number_lt D) D.test-seen.result.met
-          D.test-seen.result.opened (told_met D) (told_opened D) c.find_entry-e.result (not-false D.test-seen.result.met c.before.if-not-seen.false) c.find_entry-e.ensures,
-      omega (arith, less, E.entries.invariant.1),
-      E.entries.invariant.2,
-      λ z. absurd (omega (arith, h)),
+    let x = c.args in
+    let K : Known x.v x.main.now x.ram.now x.below (take x.count x.ps) c.block_below-b.result
+        = record { fits = c.requires.view_fits.0; block = rw c.key_filters.ensures at c.block_below-b.ensures; full = c.requires.below_nonzero.1 } in
+    let below : c.number_at-j.result < x.v.n0 = omega (arith, c.usize_of_u32.ensures, c.if-usize_of_u32-v.false) in
+    let l = less K (key_is x.key) c.bits.invariant.0 c.next_with_key-t.ensures c.entries.invariant.0 c.entries.invariant.1 c.entries-test.true
+        c.number_at-j.ensures below c.find_entry-e.result c.find_entry-e.ensures in
+    (
+      λ h. next_left K (key_is x.key) c.bits.invariant.0 c.next_with_key-t.ensures c.entries.invariant.0 c.entries.invariant.1 c.entries-test.true
+          c.number_at-j.ensures below c.deletions_of.ensures c.test-seen.result c.test-seen.ensures c.find_entry-e.result c.find_entry-e.ensures
+          (not-false c.test-seen.result.met c.if-not-seen.false),
+      omega (arith, l, c.entries.invariant.1),
+      c.entries.invariant.2,
+      λ z. absurd (omega (arith, z, c.entries.invariant.1, c.entries-test.true)),
     )
 
 -- ---- the next page
 
 pub bits-smaller : goal.bits-smaller
 bits-smaller c =
-    let N = c.before.before.before in
-    let Y = N.before in
-    fewer Y.before.bits.bits (entry_at Y) N.next_with_key-t.result.bits N.next_with_key-t.ensures.pages.false (omega (arith, Y.bits-test.true)) (λ z. (N.next_with_key-t.ensures.none z).0)
-
--- no entry of the page ended the search
-vain_at : (E : AtEntry) → E.entries.e ≤ 0 → let N = E.before.before in let b = start_of (known N.before) in let q = per_page b.args.v in
-    0 < newest_of N.before
-    → (scan (try_at b) (page_of N.before * q) q ≡ none)
-    × (E.entries.da_pages ≡ N.before.before.bits.da_pages + scan_cost (try_at b) (cost_at b) (page_of N.before * q) q)
-vain_at E z h =
-    let N = E.before.before in
-    let p = told_some N h in
-    let e = left_none (E.entries.invariant.0 p) z in
-    (sym (scan_at N p).0 ∙ e.0, omega (arith, e.1, (scan_at N p).1))
-
--- none was tried where no page has an entry
-free_at : (E : AtEntry) → let N = E.before.before in newest_of N.before ≡ 0 → E.entries.da_pages ≡ N.before.before.bits.da_pages
-free_at E z = let N = E.before.before in E.entries.invariant.3 (N.next_with_key-t.ensures.none z).2
+    let x = c.args in
+    let K : Known x.v x.main.now x.ram.now x.below (take x.count x.ps) c.block_below-b.result
+        = record { fits = c.requires.view_fits.0; block = rw c.key_filters.ensures at c.block_below-b.ensures; full = c.requires.below_nonzero.1 } in
+    bits_fewer K (key_is x.key) c.bits.invariant.0 c.next_with_key-t.ensures (omega (arith, c.bits-test.true))
 
 pub bits-preserved : goal.bits-preserved
 bits-preserved c =
-    let E = c.before in
-    let N = E.before.before in
-    let Y = N.before in
-    let B = Y.before in
-    let left = c.entries-test.false in
-    let z = word_next B.bits.invariant.0 (entry_at Y) (other Y) N.next_with_key-t.result.bits N.next_with_key-t.ensures.pages.false
-    (λ h. (vain_at E left h).0) E.entries.da_pages (λ h. (vain_at E left h).1) (free_at E) in
-    (rw N.next_with_key-t.ensures.pages.opened z, E.entries.invariant.2)
+    let x = c.args in
+    let K : Known x.v x.main.now x.ram.now x.below (take x.count x.ps) c.block_below-b.result
+        = record { fits = c.requires.view_fits.0; block = rw c.key_filters.ensures at c.block_below-b.ensures; full = c.requires.below_nonzero.1 } in
+    (
+      next_bits K (key_is x.key) c.bits.invariant.0 c.next_with_key-t.ensures c.entries.invariant.0 c.entries.invariant.1 c.entries-test.false
+          c.entries.invariant.3,
+      c.entries.invariant.2,
+    )
 
 -- ---- the three ways out
 
 pub returns-after-filters : goal.returns-after-filters
 returns-after-filters c =
-    let l = c.before in
-    let G = l.before in
-    let b = start_of G in
-    let e = words_end l.filters.invariant.0 (gate_at b) (shows G) (omega arith) (block_at G).start-lt in
-    record { start = (block_at G).start-lt; found = rw l.filters.invariant.1 e.found; pages = rw l.filters.invariant.1 e.price }
-
--- the page's scan ended
-ended : (N : Tries) (r : Stop) (sum : ℕ) → let c = N.before in let b = start_of (known c) in let x = b.args in let q = per_page x.v in
-    0 < N.next_with_key-t.result.entry → scan (try_in N) 0 q ≡ some r → sum ≡ c.before.bits.da_pages + scan_cost (try_in N) (cost_in N) 0 q
-    → (search_pages (gate_at b) (try_at b) q x.below ≡ reply (some r) (c.before.bits.opened + N.next_with_key-t.result.opened))
-    × (pages_cost (gate_at b) (try_at b) (cost_at b) q x.below ≡ sum + 0)
-ended N r sum h e d =
-    let c = N.before in
-    let B = c.before in
-    let G = known c in
-    let b = start_of G in
-    let s = scan_at N h in
-    let w = word_ended B.bits.invariant.0 (entry_at c) (other c) (gate_at b) (shows G) (reached N h) r (sym s.0 ∙ e) in
-    (rw N.next_with_key-t.ensures.pages.opened w.0, omega (arith, w.1, d, s.1))
+    let x = c.args in
+    let K : Known x.v x.main.now x.ram.now x.below (take x.count x.ps) c.block_below-b.result
+        = record { fits = c.requires.view_fits.0; block = rw c.key_filters.ensures at c.block_below-b.ensures; full = c.requires.below_nonzero.1 } in
+    let e = all_words K (key_is x.key) c.filters.invariant.0 (omega arith) in
+    record { start = K.block.start_lt; found = rw c.filters.invariant.1 e.found; pages = rw c.filters.invariant.1 e.price }
 
 pub returns-then-usize_of_u32-v : goal.returns-then-usize_of_u32-v
 returns-then-usize_of_u32-v c =
-    let W = c.before.before in
-    let J = W.before in
-    let E = J.before.before in
-    let N = E.before.before in
-    let G = known N.before in
-    let p = J.before.entries-test.true in
-    let h = some_left E p in
-    let e = left_corrupt (same_at N) (E.entries.invariant.0 h) p J.number_at-j.ensures (omega (arith, W.usize_of_u32.ensures)) in
-    ((block_at G).start-lt, ended N corrupt E.entries.da_pages h e.0 e.1)
+    let x = c.args in
+    let K : Known x.v x.main.now x.ram.now x.below (take x.count x.ps) c.block_below-b.result
+        = record { fits = c.requires.view_fits.0; block = rw c.key_filters.ensures at c.block_below-b.ensures; full = c.requires.below_nonzero.1 } in
+    let e = corrupt_at K (key_is x.key) c.bits.invariant.0 c.next_with_key-t.ensures c.entries.invariant.0 c.entries.invariant.1 c.entries-test.true
+        c.number_at-j.ensures (omega (arith, c.usize_of_u32.ensures, c.if-usize_of_u32-v.true)) in
+    record { start = K.block.start_lt; found = e.0; pages = e.1 }
 
 pub returns-then-not-seen : goal.returns-then-not-seen
 returns-then-not-seen c =
-    let D = c.before.before.before in
-    let J = number_of D in
-    let E = entry_of D in
-    let N = tries_of D in
-    let G = known N.before in
-    let h = some_left E (one_left D) in
-    let e = left_found (same_at N) (E.entries.invariant.0 h) (one_left D) J.number_at-j.ensures (number_lt D)
-    D.test-seen.result.met D.test-seen.result.opened (told_met D) (told_opened D) (not-true D.test-seen.result.met c.if-not-seen.true) in
-    ((block_at G).start-lt, ended N (found J.number_at-j.result) (E.entries.da_pages + D.test-seen.result.opened) h e.0 e.1)
+    let x = c.args in
+    let K : Known x.v x.main.now x.ram.now x.below (take x.count x.ps) c.block_below-b.result
+        = record { fits = c.requires.view_fits.0; block = rw c.key_filters.ensures at c.block_below-b.ensures; full = c.requires.below_nonzero.1 } in
+    let e = found_at K (key_is x.key) c.bits.invariant.0 c.next_with_key-t.ensures c.entries.invariant.0 c.entries.invariant.1 c.entries-test.true
+        c.number_at-j.ensures (omega (arith, c.usize_of_u32.ensures, c.if-usize_of_u32-v.false)) c.deletions_of.ensures c.test-seen.result c.test-seen.ensures
+        (not-true c.test-seen.result.met c.if-not-seen.true) in
+    record { start = K.block.start_lt; found = e.0; pages = e.1 }

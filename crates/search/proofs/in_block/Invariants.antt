@@ -1,9 +1,6 @@
 use mathlib.Core.Path.{◌≡◌}
-use mathlib.Core.Option.{Option}
-use Prim.Native.Nat.{ℕ, ◌-◌, ◌≤◌, ◌<◌}
+use Prim.Native.Nat.{◌≤◌, ◌<◌}
 use Rattle.memory.specs.Bits.{bit}
-use Rattle.layout.specs.Geometry.{page}
-use Rattle.layout.specs.Search.{Stop}
 use Rattle.laws.specs.WalkLaws.{Words}
 use Rattle.keys.specs.Key.{key_is}
 use Rattle.search.specs.declared.End.TheVariants.{Nothing}
@@ -11,21 +8,8 @@ use Rattle.search.specs.Find.{try_of, cost_of, try_in, cost_in}
 use Rattle.search.proofs.Tries.{measure}
 use Rattle.search.proofs.Bits.{Word}
 use Rattle.search.proofs.Entries.{Left}
-use Rattle.search.proofs.Volume.{per_page, pages}
+use Rattle.search.proofs.Volume.{per_page}
 use Rattle.search.proofs.in_block.Given as goal
-
--- by their bytes
-abbrev pub try_in : Tries → ℕ → Option Stop
-try_in N = let x = (start_of (known N.before)).args in try_in x.v x.main.now x.ram.now (key_is x.key) x.main.now N.next_with_key-t.result.start
-
-abbrev pub cost_in : Tries → ℕ → ℕ
-cost_in N = let x = (start_of (known N.before)).args in cost_in x.v x.main.now x.ram.now (key_is x.key) x.main.now N.next_with_key-t.result.start
-
-abbrev pub start_of : Known → Start
-start_of G = G.before.before.before.before
-
-abbrev pub known : Visiting → Known
-known c = c.before.before.before.before.before
 
 abbrev pub invariant-entries : goal.invariant-entries
 invariant-entries l =

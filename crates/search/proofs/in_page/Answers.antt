@@ -1,157 +1,98 @@
 use native.Mathlib.Omega.{arith}
-use mathlib.Core.Path.{◌≡◌, sym, ◌∙◌}
-use mathlib.Core.Bool.{Bool}
-use mathlib.Core.Option.{Option}
-use Prim.Native.Nat.{ℕ, ◌<◌}
-use Rattle.layout.specs.Search.{Stop}
-use Rattle.layout.specs.Hash.{fnv_family}
-use Rattle.layout.specs.Calls.{test_deletion}
-use Rattle.geometry.specs.Shape.{shape}
-use Rattle.deletions.specs.Test.{tested_of}
-use Rattle.keys.specs.Key.{key_is}
-use Rattle.search.specs.Find.{viewed, try_in, cost_in, deleted_of, test_cost}
-use Rattle.search.proofs.Entries.{Same, left_none, left_first, left_corrupt, left_most, left_found, left_next, left_less}
-use Rattle.search.proofs.Volume.{same_bytes, tested_met, tested_opened, test_fits, test_viewed, row_most}
 use borrow.Author.Tests.{not-true, not-false}
+use mathlib.Core.Path.{◌≡◌, sym}
+use mathlib.Core.Bool.{Bool, true, false}
+use mathlib.Core.Option.{Option, none, some}
+use mathlib.Core.List.{List}
+use Prim.Native.Nat.{ℕ, ◌+◌, ◌*◌, ◌-◌, ◌≤◌, ◌<◌}
+use Rattle.memory.specs.Words.{word}
+use Rattle.layout.specs.Hash.{fnv_family}
+use Rattle.layout.specs.Keys.{Key, number_in}
+use Rattle.layout.specs.Calls.{test_deletion}
+use Rattle.layout.specs.Search.{Stop, found, scan, scan_cost}
+use Rattle.geometry.specs.Shape.{shape}
+use Rattle.items.specs.Scans.{last_entry}
+use Rattle.deletions.specs.Test.{held, tested_of}
+use Rattle.deletions.specs.declared.Deletions.{Deletions}
+use Rattle.deletions.specs.declared.Tested.{Tested}
+use Rattle.keys.specs.Key.{key_is}
+use Rattle.search.specs.declared.View.{View}
+use Rattle.search.specs.Find.{try_in, cost_in, deleted_of, test_cost, deletions_of}
+use Rattle.search.proofs.Entries.{Same, Left, left_none, left_first, left_corrupt, left_most, left_found, left_next, left_less}
+use Rattle.search.proofs.Volume.{same_bytes, told_met, told_opened, row_most}
 use Rattle.search.proofs.in_page.Goals as goal
 
 -- What is left of the scan of a page's entries, at each with the key.
 
--- ---- the scan at hand
-
-abbrev Start : Type 0
-Start = goal.Start
-
-abbrev try_at : Start → ℕ → Option Stop
-try_at b = try_in b.args.v b.args.main.now b.args.ram.now (key_is b.args.key) b.args.page.now b.args.start
-
-abbrev cost_at : Start → ℕ → ℕ
-cost_at b = cost_in b.args.v b.args.main.now b.args.ram.now (key_is b.args.key) b.args.page.now b.args.start
-
-abbrev deleted_at : Start → ℕ → Bool
-deleted_at b = deleted_of b.args.v b.args.main.now b.args.ram.now
-
-abbrev test_at : Start → ℕ → ℕ
-test_at b = test_cost b.args.v b.args.main.now b.args.ram.now
-
-same_at : (b : Start) → Same b.args.page.now b.args.start b.args.count b.args.v.n0 (key_is b.args.key) (deleted_at b) (test_at b) (try_at b) (cost_at b) 0
-same_at b = same_bytes b.args.v b.args.main.now b.args.ram.now (key_is b.args.key) b.args.page.now b.args.start b.args.count
-
-abbrev start_of : goal.At-loop-e → Start
-start_of l = l.before.before.before.before.before
-
-pub find_entry-e-requires : goal.find_entry-e-requires
-find_entry-e-requires c = c.before.before.before.requires.1
-
 pub loop-e-init : goal.loop-e-init
 loop-e-init c =
-    let b = c.before.before.before.before in
-    left_first (same_at b) 0 c.find_entry-e.result c.find_entry-e.ensures
-
-pub number_at-j-requires : goal.number_at-j-requires
-number_at-j-requires c =
-    let l = c.before in
-    omega (arith, (start_of l).requires.1, l.loop-e.invariant.le)
+    let x = c.args in
+    left_first (same_bytes x.v x.main.now x.ram.now (key_is x.key) x.page.now x.start x.count) 0 c.find_entry-e.result c.find_entry-e.ensures
 
 pub returns-then-usize_of_u32-v : goal.returns-then-usize_of_u32-v
 returns-then-usize_of_u32-v c =
-    let N = c.before.before.before in
-    let l = N.before.before in
-    let b = start_of l in
-    let e = left_corrupt (same_at b) l.loop-e.invariant (omega arith) N.number_at-j.ensures
-    (omega (arith, c.before.before.usize_of_u32.ensures)) in
+    let x = c.args in
+    let e = left_corrupt (same_bytes x.v x.main.now x.ram.now (key_is x.key) x.page.now x.start x.count) c.loop-e.invariant c.loop-e-test.true c.number_at-j.ensures
+    (omega (arith, c.usize_of_u32.ensures, c.if-usize_of_u32-v.true)) in
     record { end_value = sym e.0; pages = omega (arith, e.1) }
 
 -- ---- the test of a number
 
-pub test-seen-requires : goal.test-seen-requires
-test-seen-requires c =
-    let b = start_of c.before.before.before.before.before.before in
-    rw c.deletions_of.ensures (test_fits b.requires.0)
+module _ (v : View) (main ram : List ℕ) (key : Key) (start count : ℕ) (page : List ℕ) {e sum j : ℕ}
+    (L : Left page start key (try_in v main ram key page start) (cost_in v main ram key page start) 0 count 0 e sum) (some_left : 0 < e)
+    (number : j ≡ number_in (word page (start + (e - 1) * 8 + 4))) (below : j < v.n0)
+    (t : Deletions) (t_is : t ≡ deletions_of v) (r : Tested)
+    (is : tested_of j r ≡ test_deletion fnv_family (shape t.g) (held t main ram) t.d0 j) where
+  abbrev S : Same page start count v.n0 key (deleted_of v main ram) (test_cost v main ram) (try_in v main ram key page start) (cost_in v main ram key page start) 0
+  S = same_bytes v main ram key page start count
 
-abbrev Tests : Type 0
-Tests = goal.After-test-seen
+  paid : sum + r.opened ≤ scan_cost (try_in v main ram key page start) (cost_in v main ram key page start) 0 count
+  paid = omega (arith, left_most S L some_left number below, told_opened v main ram j t t_is r is)
 
-abbrev wide_of : Tests → goal.After-usize_of_u32
-wide_of D = D.before.before.before.before
+  found_here : r.met ≡ false
+      → (scan (try_in v main ram key page start) 0 count ≡ some (found j))
+      × (sum + r.opened ≡ 0 + scan_cost (try_in v main ram key page start) (cost_in v main ram key page start) 0 count)
+  found_here m =
+      left_found S L some_left number below r.met r.opened (told_met v main ram j t t_is r is) (told_opened v main ram j t t_is r is) m
 
-abbrev number_of : Tests → goal.After-number_at-j
-number_of D = (wide_of D).before
+  module _ (n : ℕ) (n_is : n ≡ last_entry page start (e - 1) key) where
+    less : n < e
+    less = left_less S L some_left number below n n_is
 
-abbrev loop_of : Tests → goal.At-loop-e
-loop_of D = (number_of D).before.before
-
-number_lt : (D : Tests) → (number_of D).number_at-j.result < (start_of (loop_of D)).args.v.n0
-number_lt D = omega (arith, (wide_of D).usize_of_u32.ensures, D.before.before.if-usize_of_u32-v.false)
-
--- the test is of the view's deletions
-told : (D : Tests) → let x = (start_of (loop_of D)).args in let j = (number_of D).number_at-j.result in
-    tested_of j D.test-seen.result ≡ test_deletion fnv_family (shape x.v.g) (viewed x.v x.main.now x.ram.now) x.v.d0 j
-told D =
-    let x = (start_of (loop_of D)).args in
-    rw D.before.deletions_of.ensures at D.test-seen.ensures ∙ test_viewed x.v x.main.now x.ram.now (number_of D).number_at-j.result
-
--- what it says of the view's deletions
-told_met : (D : Tests) → D.test-seen.result.met ≡ deleted_at (start_of (loop_of D)) (number_of D).number_at-j.result
-told_met D =
-    let x = (start_of (loop_of D)).args in
-    tested_met x.v x.main.now x.ram.now (number_of D).number_at-j.result D.test-seen.result (told D)
-
-told_opened : (D : Tests) → D.test-seen.result.opened ≡ test_at (start_of (loop_of D)) (number_of D).number_at-j.result
-told_opened D =
-    let x = (start_of (loop_of D)).args in
-    tested_opened x.v x.main.now x.ram.now (number_of D).number_at-j.result D.test-seen.result (told D)
+    next : r.met ≡ true → Left page start key (try_in v main ram key page start) (cost_in v main ram key page start) 0 count 0 n (sum + r.opened)
+    next m =
+        left_next S L some_left number below r.met r.opened (told_met v main ram j t t_is r is) (told_opened v main ram j t t_is r is) n m n_is
 
 pub overflow_add-da_pages : goal.overflow_add-da_pages
 overflow_add-da_pages c =
-    let D = c.before in
-    let N = number_of D in
-    let l = loop_of D in
-    let b = start_of l in
-    let x = b.args in
-    omega (
-      arith,
-      left_most (same_at b) l.loop-e.invariant N.before.loop-e-test.true N.number_at-j.ensures (number_lt D),
-      told_opened D,
-      row_most b.requires.0 (key_is x.key) x.page.now x.start x.count b.requires.2,
-    )
+    let x = c.args in
+    let p = paid x.v x.main.now x.ram.now (key_is x.key) x.start x.count x.page.now c.loop-e.invariant c.loop-e-test.true c.number_at-j.ensures
+    (omega (arith, c.usize_of_u32.ensures, c.if-usize_of_u32-v.false)) c.deletions_of.result c.deletions_of.ensures c.test-seen.result c.test-seen.ensures in
+    omega (arith, p, row_most c.requires.0 (key_is x.key) x.page.now x.start x.count c.requires.2)
 
 pub returns-then-not-seen : goal.returns-then-not-seen
 returns-then-not-seen c =
-    let D = c.before.before.before in
-    let N = number_of D in
-    let l = loop_of D in
-    let b = start_of l in
-    let e = left_found (same_at b) l.loop-e.invariant N.before.loop-e-test.true N.number_at-j.ensures (number_lt D)
-    D.test-seen.result.met D.test-seen.result.opened (told_met D) (told_opened D) (not-true D.test-seen.result.met c.if-not-seen.true) in
+    let x = c.args in
+    let e = found_here x.v x.main.now x.ram.now (key_is x.key) x.start x.count x.page.now c.loop-e.invariant c.loop-e-test.true c.number_at-j.ensures
+    (omega (arith, c.usize_of_u32.ensures, c.if-usize_of_u32-v.false)) c.deletions_of.result c.deletions_of.ensures c.test-seen.result c.test-seen.ensures
+    (not-true c.test-seen.result.met c.if-not-seen.true) in
     record { end_value = sym e.0; pages = omega (arith, e.1) }
-
-pub find_entry-e-requires-in-loop-e : goal.find_entry-e-requires-in-loop-e
-find_entry-e-requires-in-loop-e c =
-    let l = loop_of c.before.before.before in
-    omega (arith, (start_of l).requires.1, l.loop-e.invariant.le)
 
 pub loop-e-smaller : goal.loop-e-smaller
 loop-e-smaller c =
-    let D = c.before.before.before.before in
-    let N = number_of D in
-    let l = loop_of D in
-    let b = start_of l in
-    left_less (same_at b) l.loop-e.invariant N.before.loop-e-test.true N.number_at-j.ensures (number_lt D)
+    let x = c.args in
+    less x.v x.main.now x.ram.now (key_is x.key) x.start x.count x.page.now c.loop-e.invariant c.loop-e-test.true c.number_at-j.ensures
+    (omega (arith, c.usize_of_u32.ensures, c.if-usize_of_u32-v.false)) c.deletions_of.result c.deletions_of.ensures c.test-seen.result c.test-seen.ensures
     c.find_entry-e-in-loop-e.result c.find_entry-e-in-loop-e.ensures
 
 pub loop-e-preserved : goal.loop-e-preserved
 loop-e-preserved c =
-    let D = c.before.before.before.before in
-    let N = number_of D in
-    let l = loop_of D in
-    let b = start_of l in
-    left_next (same_at b) l.loop-e.invariant N.before.loop-e-test.true N.number_at-j.ensures (number_lt D)
-    D.test-seen.result.met D.test-seen.result.opened (told_met D) (told_opened D) c.find_entry-e-in-loop-e.result
-    (not-false D.test-seen.result.met c.before.if-not-seen.false) c.find_entry-e-in-loop-e.ensures
+    let x = c.args in
+    next x.v x.main.now x.ram.now (key_is x.key) x.start x.count x.page.now c.loop-e.invariant c.loop-e-test.true c.number_at-j.ensures
+    (omega (arith, c.usize_of_u32.ensures, c.if-usize_of_u32-v.false)) c.deletions_of.result c.deletions_of.ensures c.test-seen.result c.test-seen.ensures
+    c.find_entry-e-in-loop-e.result c.find_entry-e-in-loop-e.ensures (not-false c.test-seen.result.met c.if-not-seen.false)
 
 pub returns : goal.returns
 returns c =
-    let l = c.before in
-    let e = left_none l.loop-e.invariant (omega arith) in
+    let e = left_none c.loop-e.invariant (omega arith) in
     record { end_value = sym e.0; pages = omega (arith, e.1) }
