@@ -76,10 +76,21 @@ def check_placeholders(path):
             wrong.append(f"{path.relative_to(ROOT)}:{number}: placeholder {line.strip()}")
 
 
+def braced(text, start):
+    """What stands between the brace that is open at `start` and the one that closes it."""
+    depth = 1
+    for at in range(start, len(text)):
+        depth += {"{": 1, "}": -1}.get(text[at], 0)
+        if not depth:
+            return text[start:at]
+    return text[start:]
+
+
 def contract(source, name):
     """What the contract of a function ensures; nothing if there is no such function."""
     found = re.search(rf"^( *)(?:pub )?(?:extern \"C\" )?fn {name}\b.*?\n\1\{{", source, re.M | re.S)
-    return found and " ".join(re.findall(r"^ *ensures\b.*?⌝ \}", found.group(0), re.M | re.S))
+    clauses = re.finditer(r"^ *ensures\b[^{\n]*\{", found.group(0), re.M) if found else ()
+    return found and " ".join(braced(found.group(0), clause.end()) for clause in clauses)
 
 
 def items(cell):
@@ -123,7 +134,7 @@ def check_names(path):
             if not any(cites(promise, word) for word in cited):
                 wrong.append(f"{path.relative_to(ROOT)}: the contract of {label}::{name} cites none of {', '.join(sorted(cited))}")
         for crate, edit in re.findall(r"`(\w+)/(\w+)`", row.get("edit", "")):
-            if not list((ROOT / "crates" / crate / "must-fail").glob(f"**/{edit}.edit")):
+            if not list((ROOT / "crates" / crate).glob(f"must-fail*/{edit}.edit")):
                 wrong.append(f"{path.relative_to(ROOT)}: no edit {crate}/{edit}")
         for word in sorted(cited) if "its contract cites" in row else []:
             if not any(cites(promise, word) for promise in ensures):

@@ -1,5 +1,5 @@
 /* What it costs a driver to learn a call's steps, by two recipes, beside the call itself; the tables of PERFORMANCE.md, "A driver's steps":
- *   rt staticlib capi
+ *   tools/staticlib
  *   gcc -std=c11 -Wall -Wextra -O2 -Iinclude docs/driver_cost.c target/staticlib/libcapi.a -o target/driver_cost && target/driver_cost
  * Growing: the call with budget 1, then restarts on the same bytes with a budget of 1 that grows while there are only erases, as
  * examples/driver.c has it. From a copy: the call with budgets 1, 2, 3 and so on, each on the bytes before the call. Both find the step by

@@ -1,6 +1,6 @@
 /* One level tuned again and again and then deleted: what a lookup takes before and after the deletion, and an insert of the level behind
  * it; the table of PERFORMANCE.md, "A level tuned often and then deleted":
- *   rt staticlib capi
+ *   tools/staticlib
  *   gcc -std=c11 -Wall -Wextra -O2 -Iinclude docs/hot_level.c target/staticlib/libcapi.a -o target/hot_level && target/hot_level
  * Processor time; of each number the least of five rounds.
  */

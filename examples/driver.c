@@ -1,7 +1,7 @@
 /* A driver for a chip that is not memory. What is lent to the store is a copy; each call is carried out on the unit's chip and RAM step by
  * step, in the order of its steps, so that power may be lost between any two of them. The chip refuses to program a sector that is not
  * erased, or before an earlier sector of its page. Seasons of calls are made while power is lost again and again:
- *   rt staticlib capi && mkdir -p target/examples
+ *   tools/staticlib && mkdir -p target/examples
  *   gcc -std=c11 -Wall -Wextra -Werror -O2 -Iinclude examples/driver.c target/staticlib/libcapi.a -o target/examples/driver
  */
 #include <stdio.h>

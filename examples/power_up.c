@@ -1,6 +1,6 @@
 /* What firmware does at power-up: `power_up` restarts and handles every refusal. The program makes each case happen, holds the unit
  * to be usable afterwards where it should be, and prints a line for each:
- *   rt staticlib capi && mkdir -p target/examples
+ *   tools/staticlib && mkdir -p target/examples
  *   gcc -std=c11 -Wall -Wextra -Werror -O2 -Iinclude examples/power_up.c target/staticlib/libcapi.a -o target/examples/power_up
  */
 #include <stdio.h>

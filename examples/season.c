@@ -1,6 +1,6 @@
 /* Formats a small volume, inserts, updates, deletes, loads and looks up a few levels, loses power in the middle of an update, restarts,
  * and prints what comes back:
- *   rt staticlib capi && mkdir -p target/examples
+ *   tools/staticlib && mkdir -p target/examples
  *   gcc -std=c11 -Wall -Wextra -Werror -O2 -Iinclude examples/season.c target/staticlib/libcapi.a -o target/examples/season
  */
 #include <stdio.h>

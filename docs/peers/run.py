@@ -2,7 +2,7 @@
 """run.py [--rounds N] [--levels N] [--folder FOLDER]: the proved store beside SQLite, LMDB, LevelDB and GDBM, in one run.
 
 Builds bench.c with each peer that is installed (Debian: libsqlite3-dev liblmdb-dev libleveldb-dev libgdbm-dev) and with the store
-(`rt staticlib capi` first), runs them in turns, one process each, and prints the table of PERFORMANCE.md, "What one would take instead": of
+(`tools/staticlib` first), runs them in turns, one process each, and prints the table of PERFORMANCE.md, "What one would take instead": of
 each time the least of all rounds. FOLDER, where they keep their files, should be in memory (/dev/shm).
 """
 

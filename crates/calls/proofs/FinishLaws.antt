@@ -12,7 +12,7 @@ use Rattle.layout.specs.Geometry.{State}
 use Rattle.layout.specs.Flash.{Flash, apply_all}
 use Rattle.layout.specs.Calls.{Result, Call, insert, update, delete, lookup}
 use Rattle.layout.specs.Header.{header_size, pages, header, finished, header_bytes, intent_words, no_intent}
-use Rattle.layout.specs.Budgets.{Memory, memory, steps, last_steps}
+use Rattle.layout.specs.Budgets.{Memory, memory, last_steps}
 use Rattle.laws.specs.StepLaws.{last_cut, last_length}
 use Rattle.laws.specs.HeaderLaws.{pages_of, whole_ram, length_header}
 use Rattle.state.specs.Contract.{Ran}

@@ -5,7 +5,7 @@ use mathlib.Core.List.{List, ◌++◌}
 use Prim.Native.Nat.{ℕ, suc, ◌+◌, ◌≤◌}
 use native.Mathlib.Omega.{arith}
 use lib.Dec.{leb}
-use lib.ListN.{length, length-take, length-append}
+use lib.ListN.{length, length-append}
 use borrow.Author.Tests.{le-leb, lt-leb}
 use Rattle.memory.specs.Bits.{num}
 use Rattle.memory.specs.Cases.{either, le?}
@@ -146,10 +146,6 @@ module _ (v : Volume) (c : Call) where
           left = record { state = cond p.finished r.volume.state v.state; flash = m.flash; ram = m.ram };
         } ≡ cut_of (cut_with b' unit v (intended v c) r)
         here = rw (e, yes, leb_suc (length (last_steps r)) b, R.memory_is, R.finished_is, one_more p.steps, R.steps_is)
-
--- no more steps than the budget
-pub ran_few : {u b : ℕ} {ss : List Step} {m m' : Memory} {p : Progress} → Ran u ss b m m' p → p.steps ≤ b
-ran_few {b = b} {ss = ss} R = omega (arith, R.steps_is, length-take b ss)
 
 -- what is told of it, with the state on either side of the last step
 pub told_cut_lem : (f : Bool) (k : ℕ) (new old : State) (main spare ram : List ℕ) (s : layout.State) (x : CutEffect) → state_is new ≡ s

@@ -1,6 +1,7 @@
 // The changing calls insert, update and delete, by one way: 1, 2, 10, 8, then 3 or 4 by whether the key is live, then 5, 6, 7 or the change
 // in steps; and the same of a pending call by a restart. Document 01, "Calls"; document 02, request 8.
 #![tactic(auto)]
+
 ghost use Rattle.std.specs.Prelude.{◌≡◌, false, ◌≤◌, length};
 ghost use Rattle.layout.specs.Hash.{fnv_family};
 ghost use Rattle.layout.specs.Calls as layout;

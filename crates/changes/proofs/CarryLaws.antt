@@ -1,15 +1,15 @@
 -- Steps of a change by the steps of the code: its operations, then its RAM.
 use mathlib.Core.Path.{◌≡◌, refl, sym, ap, ◌∙◌}
 use mathlib.Core.Bool.{Bool, true, false, ◌||◌, false≢true}
-use mathlib.Core.List.{List, [], ◌∷◌}
-use Prim.Native.Nat.{ℕ, suc, ◌+◌, ◌-◌, ◌≤◌, ◌<◌}
+use mathlib.Core.List.{List, []}
+use Prim.Native.Nat.{ℕ, ◌+◌, ◌-◌, ◌≤◌, ◌<◌}
 use native.Mathlib.Omega.{arith}
 use lib.ListN.{length, take, drop, length-drop}
 use lib.Seq.{take_all}
 use borrow.Author.Tests.{lt-ltb, le-ltb}
 use Rattle.layout.specs.Keys.{Key}
 use Rattle.layout.specs.Geometry.{Geometry, ram_size, work_ram}
-use Rattle.layout.specs.Flash.{Flash, Op, apply, apply_all, Planned, op_on, plan_ops}
+use Rattle.layout.specs.Flash.{Flash, Op, apply_all, Planned, plan_ops}
 use Rattle.layout.specs.Hash.{fnv_family}
 use Rattle.layout.specs.Items.{Record, Ra, DA, fills, record_bytes, zero_page}
 use Rattle.layout.specs.Calls.{Volume, Result, change_plan}

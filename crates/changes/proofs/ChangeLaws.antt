@@ -17,7 +17,6 @@ use Rattle.state.specs.Contract.{record_is}
 use Rattle.plan.specs.declared.Plan.{Plan}
 use Rattle.plan.specs.Plans.{planned}
 use Rattle.planning.specs.declared.Slots.{Slots}
-use Rattle.planning.specs.declared.Slots.TheVariants as slots
 use Rattle.planning.specs.Edits.{Room, numbers_of, programs_in, nothing_planned}
 use Rattle.changes.specs.declared.Edit.{Edit}
 use Rattle.changes.specs.Edits.{edit_is, old_number, new_record, slots_of, room_refusal}

@@ -1,5 +1,6 @@
 // A change of a volume: 5, 6, 7, else its operations and then its RAM, by a budget of steps. Document 01, "Calls"; document 02, request 8.
 #![tactic(auto)]
+
 ghost use Rattle.std.specs.Prelude.{◌≡◌, false, List, ℕ, ◌<◌, ◌≤◌, length, replicate};
 ghost use Rattle.layout.specs.Geometry.{record_capacity, deletion_capacity, spare_size, ram_size};
 ghost use Rattle.laws.specs.Done.{done_count};

@@ -1,6 +1,7 @@
 // The test of a record number: is it among the deletions. The numbers past the last full page come first, then full pages, newest first, a
 // page being opened only if one of its two filters has all bits of the number's positions. Document 02, §5.
 #![tactic(auto)]
+
 ghost use Rattle.std.specs.Prelude.{◌≡◌, ◌/◌, ◌≤◌, ◌<◌, take};
 ghost use Rattle.layout.specs.Geometry.{deletions_per_page};
 ghost use Rattle.layout.specs.Hash.{fnv_family};

@@ -1,5 +1,6 @@
 // Fields of bits taken out of a row of bytes, one after another, a run of bytes at a time.
 #![tactic(auto)]
+
 ghost use Rattle.std.specs.Prelude.{◌≡◌, ℕ, ◌+◌, ◌*◌, ◌^◌, ◌<◌, ◌≤◌, length};
 ghost use Rattle.memory.specs.Lists.{tabulate};
 ghost use Rattle.fields.specs.Sources.{field_byte, run_byte, Aligned, Near, Whole, Size, Reaches, Run, Runs};
@@ -31,7 +32,7 @@ fn copy_run(bytes: &[u8], s: Source, w: usize, y: usize, out: &mut [u8])
 
 // Runs of n bytes, `stride` bytes from one to the next, the first from byte `at` on: bytes from their byte y on, where a run begins.
 fn whole_runs(bytes: &[u8], at: usize, stride: usize, n: usize, y: usize, out: &mut [u8])
-    requires n_nonzero { (0 < n) × (stride < 2 ^ 61) × (0 < length out.old)
+    requires runs { (0 < n) × (stride < 2 ^ 61) × (0 < length out.old)
         × Runs (length bytes.now) at stride n y (length out.old) }
     requires whole { Whole n y × Whole n (length out.old) }
     ensures { out.new ≡ tabulate (length out.old) (λ (i : ℕ). run_byte bytes.now at stride n (y + i)) }

@@ -1,6 +1,6 @@
 -- Blocks of the filters since the last round, out of what L1 and the SKA page show.
 use mathlib.Core.Path.{◌≡◌, refl, sym, ap, ◌∙◌}
-use mathlib.Core.Bool.{Bool, true, false, ◌&&◌, not, cond}
+use mathlib.Core.Bool.{Bool, ◌&&◌, not}
 use mathlib.Core.List.{List, [], ◌∷◌}
 use Prim.Native.Nat.{ℕ, zero, suc, ◌+◌, ◌*◌, ◌-◌, ◌/◌, ◌%◌, ◌^◌, ◌≤◌, ◌<◌, min}
 use native.Mathlib.Nat.{mul-le-mul_right}
@@ -21,7 +21,6 @@ use Rattle.filter.specs.Filter.{IndexFits}
 use Rattle.filter.specs.Groups.{row_at, level_has, ska_level, l1_level}
 use Rattle.filter.specs.Recent.{MaskOf, OneRow, recent_has, RecentIn, RecentOf}
 use Rattle.filter.specs.declared.groups.Block.{Block}
-use Rattle.filter.specs.declared.groups.Level.{Level}
 use Rattle.filter.specs.declared.groups.Recent.{Recent}
 use Rattle.filter.proofs.Masks.{level_mask}
 use Rattle.filter.proofs.Levels.{power_4, ska_lies, l1_lies}

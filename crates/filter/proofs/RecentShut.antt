@@ -5,10 +5,9 @@ use mathlib.Core.Bool.{Bool, ◌&&◌, not}
 use mathlib.Core.List.{List, [], ◌∷◌}
 use Prim.Native.Nat.{ℕ, ◌+◌, ◌*◌, ◌-◌, ◌/◌, ◌%◌, ◌^◌, ◌≤◌, ◌<◌, min}
 use native.Mathlib.Omega.{arith}
-use borrow.Author.Tests.{lt-ltb, le-ltb}
-use lib.Dec.{ltb}
+use borrow.Author.Tests.{lt-ltb}
 use lib.ListN.{length, get_or, take}
-use Rattle.memory.specs.Bits.{bit, bit_zero}
+use Rattle.memory.specs.Bits.{bit_zero}
 use Rattle.memory.specs.Cases.{either, lt?}
 use Rattle.kernels.specs.Blocks.{Open, Upto, open_none}
 use Rattle.kernels.specs.Masks.{has_mask, Shut, Had, Lacked}

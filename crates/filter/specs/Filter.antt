@@ -1,5 +1,5 @@
 -- A filter's bits as an array, the filters of a page that a key or a number fills, and what is asked of an index in lent bytes.
-use Rattle.std.specs.Prelude.{Bool, ◌||◌, List, ℕ, zero, suc, ◌+◌, ◌-◌, ◌*◌, ◌/◌, ◌%◌, ◌≤◌, ◌<◌, length, get_or}
+use Rattle.std.specs.Prelude.{Bool, ◌||◌, List, ℕ, zero, suc, ◌+◌, ◌-◌, ◌*◌, ◌/◌, ◌%◌, ◌≤◌, length, get_or}
 use Rattle.std.proofs.Common.{arith}
 use Rattle.memory.specs.Bits.{bit}
 use Rattle.memory.specs.Ranges.{any, memb}

@@ -1,10 +1,10 @@
 -- Groups of filters whose bits lie in the same rows: the SKA page, L1, the current set, and each full set.
-use Rattle.std.specs.Prelude.{Bool, true, false, cond, List, ℕ, ◌+◌, ◌-◌, ◌*◌, ◌/◌, ◌%◌, ◌^◌, ltb}
+use Rattle.std.specs.Prelude.{Bool, cond, List, ℕ, ◌+◌, ◌-◌, ◌*◌, ◌/◌, ◌%◌, ◌^◌, ltb}
 use Rattle.memory.specs.Bits.{bit_in}
 use Rattle.memory.specs.Power.{log2up}
 use Rattle.memory.specs.Ranges.{all_of}
 use Rattle.layout.specs.Geometry.{sector, page, block}
-use Rattle.layout.specs.Index.{Index, filters_per_flush, filters_per_round, pages_per_fourth}
+use Rattle.layout.specs.Index.{Index, pages_per_fourth}
 use Rattle.layout.specs.Index.{side_block, full_block, full_filters, in_set, in_full}
 use Rattle.filter.specs.declared.groups.Level.{Level}
 use Rattle.filter.specs.declared.groups.Stage.{Stage}

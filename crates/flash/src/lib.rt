@@ -1,6 +1,7 @@
 // Operations of the flash chip on two slices, the main area and the spare area with one byte a sector: programming sectors, erasing
 // blocks and looking whether sectors are fresh. Document 01, "The chip and the desk".
 #![tactic(auto)]
+
 ghost use Rattle.std.specs.Prelude.{◌≡◌, ◌++◌, ◌+◌, ◌*◌, ◌≤◌, ◌<◌, length};
 ghost use Rattle.layout.specs.Geometry.{sectors_per_block, sector, block};
 ghost use Rattle.layout.specs.Flash.{program, erase, fresh, apply, apply_all, erases, flash_of};

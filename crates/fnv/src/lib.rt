@@ -1,5 +1,6 @@
 // FNV-1a at 32 bits, the hash family of a key or a number and its positions in a filter. Document 01, "Filters".
 #![tactic(auto)]
+
 ghost use Rattle.std.specs.Prelude.{◌≡◌, ℕ, ◌+◌, ◌*◌, ◌%◌, ◌^◌, ◌<◌, ◌≤◌, bit_xor, slice_index};
 ghost use Rattle.memory.specs.Power.{PowerOfTwo};
 ghost use Rattle.memory.specs.Words.{bytes4};

@@ -1,5 +1,6 @@
 // Volumes: their sizes, areas, addresses and the places of items.
 #![tactic(auto)]
+
 pub mod areas;
 pub mod chip;
 pub mod sets;

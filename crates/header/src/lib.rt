@@ -1,5 +1,6 @@
 // The header of the RAM: the state and the pending call. Document 02, request 8.
 #![tactic(auto)]
+
 ghost use Rattle.std.specs.Prelude.{◌≡◌, ◌++◌, ◌-◌, ◌≤◌, ◌<◌, length, take};
 ghost use Rattle.memory.specs.Words.{words_bytes};
 ghost use Rattle.layout.specs.Header.{header_size, state_size, pages, header, on_pages, header_word, state_in, pending_in};

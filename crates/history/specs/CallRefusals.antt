@@ -60,20 +60,27 @@ module _ (h : Family) (g : Geometry) (v : Volume) where
   unfolding change_by memb
   insert_among r (some corrupt) = refl
   insert_among r (some (found j)) = refl
-  insert_among r none = either_among _ (no_room g v) _ _ refl (commit_among _ _ _ _ _ refl)
+  insert_among r none =
+      let is : List ℕ = refusals_of (insert r) in
+      either_among is (no_room g v) _ _ refl (commit_among is _ _ _ _ refl)
 
   update_among : (r : Record) (s : Option Stop) → Among (refusals_of (update r)) (update_after h g v r s).outcome
   unfolding change_by memb
   update_among r (some corrupt) = refl
-  update_among r none = either_among _ (no_room g v) _ _ refl (commit_among _ _ _ _ _ refl)
+  update_among r none =
+      let is : List ℕ = refusals_of (update r) in
+      either_among is (no_room g v) _ _ refl (commit_among is _ _ _ _ refl)
   update_among r (some (found j)) =
-      either_among _ (no_room g v) _ _ refl (either_among _ (no_deletion g v) _ _ refl (commit_among _ _ _ _ _ refl))
+      let is : List ℕ = refusals_of (update r) in
+      either_among is (no_room g v) _ _ refl (either_among is (no_deletion g v) _ _ refl (commit_among is _ _ _ _ refl))
 
   delete_among : (key : Key) (s : Option Stop) → Among (refusals_of (delete key)) (delete_after h g v s).outcome
   unfolding change_by memb
   delete_among key (some corrupt) = refl
   delete_among key none = refl
-  delete_among key (some (found j)) = either_among _ (no_deletion g v) _ _ refl (commit_among _ _ _ _ _ refl)
+  delete_among key (some (found j)) =
+      let is : List ℕ = refusals_of (delete key) in
+      either_among is (no_deletion g v) _ _ refl (commit_among is _ _ _ _ refl)
 
   lookup_among : (key : Key) (opened da_pages : ℕ) (s : Option Stop)
       → Among (refusals_of (lookup key)) (lookup_after g v opened da_pages s).outcome
@@ -101,7 +108,8 @@ pub absent_refusals : (h : Family) (v : Volume) (r : Record) → (search h (geom
 unfolding call judge_first change_by memb
 absent_refusals h v r e =
     let g : Geometry = geometry v.state.sizes in
+    let is : List ℕ = refusal.bad_state ∷ refusal.too_short ∷ refusal.full ∷ refusal.not_fresh ∷ [] in
     rw e
-    (either_among _ (bad_state v.state) _ _ refl
-    (either_among _ (too_short g v.flash v.ram) _ _ refl
-    (either_among _ (no_room g v) _ _ refl (commit_among h g v _ _ _ _ _ refl))))
+    (either_among is (bad_state v.state) _ _ refl
+    (either_among is (too_short g v.flash v.ram) _ _ refl
+    (either_among is (no_room g v) _ _ refl (commit_among h g v is _ _ _ _ refl))))

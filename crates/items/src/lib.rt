@@ -1,5 +1,6 @@
 // Words and entries in a row of bytes: is a number among the words, which entry has a key. Document 01, "Calls".
 #![tactic(auto)]
+
 ghost use Rattle.std.specs.Prelude.{◌≡◌, false, ◌≢◌, ◌+◌, ◌*◌, ◌≤◌, ◌<◌, length};
 ghost use Rattle.layout.specs.Keys.{word_size, same_key, key_at};
 ghost use Rattle.layout.specs.Geometry.{page, entries_per_page};

@@ -1,5 +1,5 @@
 -- What keeping an item of a sound geometry asks for, and what it comes to; `a` is what code computes.
-use Rattle.std.specs.Prelude.{◌≡◌, List, true, false, cond, ℕ, ◌+◌, ◌*◌, ◌/◌, ◌%◌, ◌≤◌}
+use Rattle.std.specs.Prelude.{◌≡◌, List, true, false, cond, ℕ, ◌+◌, ◌*◌, ◌%◌, ◌≤◌}
 use Rattle.std.proofs.Common.{sym, ap, ◌∙◌, mul-le-mul_left, arith}
 use Rattle.layout.specs.Geometry as layout
 use Rattle.layout.specs.Items as items

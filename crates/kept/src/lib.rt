@@ -1,5 +1,6 @@
 // The RAM after a change: written once, after the chip. Nothing here touches the flash.
 #![tactic(auto)]
+
 ghost use Rattle.std.specs.Prelude.{◌≡◌, ◌+◌, ◌*◌, ◌%◌, ◌≤◌, length};
 ghost use Rattle.layout.specs.Geometry.{sector, page, fourth_size, ram_size, work_ram};
 ghost use Rattle.layout.specs.Items.{put, item_ram, zero_page};

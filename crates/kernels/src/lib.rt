@@ -1,5 +1,6 @@
 // Fast passes over rows of bits: which filters have all of their bits, as the bits of words.
 #![tactic(auto)]
+
 ghost use Rattle.std.specs.Prelude.{◌≡◌, true, false, ◌&&◌, ◌||◌, not, ◌≢◌, ℕ, ◌+◌, ◌-◌, ◌*◌, ◌/◌, ◌%◌, ◌^◌, ◌≤◌, ◌<◌, ltb, eqb, length, get_or};
 ghost use Rattle.std.specs.Int.Bits.{bit_and, bit_or};
 ghost use Rattle.std.specs.Int.Count.{count_leading_zeros};
@@ -277,9 +278,9 @@ fn more_words(
     low: &[usize],
     bytes: &[u8],
 ) -> u64
-    requires by_index { ((e : ℕ) × (2 < e) × (e < 7) × (w ≡ 2 ^ e)) × (64 / w * w ≡ 64)
+    requires sizes { ((e : ℕ) × (2 < e) × (e < 7) × (w ≡ 2 ^ e)) × (64 / w * w ≡ 64)
         × (n * 8 * (64 / w) ≤ 64) × (n ≤ 8) × (q < 2 ^ 60) }
-    requires by_index_2 { ((b : ℕ) → b < n → BlockIn at.now low.now count (q + b * 8) (length bytes.now))
+    requires rows { ((b : ℕ) → b < n → BlockIn at.now low.now count (q + b * 8) (length bytes.now))
         × ((i : ℕ) → i < count → get_or low.now i 0 < w) }
     ensures { Shows (all_in bytes.now at.now low.now w count) (q * (64 / w)) (n * 8 * (64 / w)) result }
 {

@@ -1,5 +1,6 @@
 // The key of a level, its comparison, and where an entry's two words have it. Document 01, "Records, entries, deletions".
 #![tactic(auto)]
+
 ghost use Rattle.std.specs.Prelude.{◌≡◌};
 ghost use Rattle.layout.specs.Keys.{same_key, key_in, number_in};
 ghost use Rattle.keys.specs.Key.{key_is};

@@ -10,7 +10,7 @@ use borrow.Author.Tests.{lt-ltb, le-ltb}
 use Rattle.memory.specs.Lists.{tabulate, tabulate_ext}
 use Rattle.memory.specs.Numbers.{div_of}
 use Rattle.fields.specs.Sources.{field_byte, Aligned, Near, Whole, Run}
-use Rattle.fields.specs.Lanes.{lane_of, column_of, few, lane_aligned, lane_reaches, lane_byte}
+use Rattle.fields.specs.Lanes.{lane_of, column_of, lane_aligned, lane_reaches, lane_byte}
 use Rattle.layout.specs.Index.{set_width}
 use Rattle.partition.specs.declared.PageSource.{PageSource}
 use Rattle.partition.specs.Widths.{sector_whole}

@@ -1,5 +1,6 @@
 // Partition sets: the sectors of the next set out of L1 and the set before it. Document 01, "Filters".
 #![tactic(auto)]
+
 ghost use Rattle.std.specs.Prelude.{◌≡◌, ℕ, ◌+◌, ◌-◌, ◌*◌, ◌/◌, ◌<◌, ◌≤◌, min, length};
 ghost use Rattle.memory.specs.Lists.{tabulate};
 ghost use Rattle.layout.specs.Geometry.{sectors_per_page, sector, block, side_blocks};
@@ -112,7 +113,7 @@ pub fn shared_bytes(chip: Chip, set: Set, p: usize, main: &[u8], out: &mut [u8])
 fn l1_bytes(r: PageSource, y: usize, main: &[u8], shared: &[u8], out: &mut [u8])
     requires source_fits { SourceFits (length main.now) r × Shares main.now r shared.now }
     requires whole { Whole r.w y × Whole r.w (length out.old) }
-    requires by_index { (i : ℕ) → i < length out.old → y + i < round_bytes * r.w }
+    requires filled { (i : ℕ) → i < length out.old → y + i < round_bytes * r.w }
     ensures { out.new ≡ tabulate (length out.old) (λ (i : ℕ). field_byte main.now r.l1 r.w (y + i)) }
 {
     let w = r.w;

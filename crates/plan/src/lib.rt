@@ -1,6 +1,7 @@
 // The chip operations of a change as numbers, a run of them, whether their sectors are fresh, and how many count as done. The RAM is only
 // read.
 #![tactic(auto)]
+
 ghost use Rattle.std.specs.Prelude.{◌≡◌, List, ℕ, ◌+◌, ◌*◌, ◌/◌, ◌^◌, ◌<◌, ◌≤◌, length};
 ghost use Rattle.layout.specs.Geometry.{sectors_per_page, sector};
 ghost use Rattle.layout.specs.Index.{set_width};

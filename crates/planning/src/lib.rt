@@ -1,5 +1,6 @@
 // The plan of a change, from the counts alone.
 #![tactic(auto)]
+
 ghost use Rattle.std.specs.Prelude.{◌≡◌, ◌<◌, ◌≤◌};
 ghost use Rattle.layout.specs.Geometry.{record_capacity, deletion_capacity};
 ghost use Rattle.layout.specs.Items as layout;

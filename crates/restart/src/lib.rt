@@ -1,5 +1,6 @@
 // Restart: a pending call is finished, by the header. Document 02, request 8.
 #![tactic(auto)]
+
 ghost use Rattle.std.specs.Prelude.{◌≡◌};
 ghost use Rattle.layout.specs.Hash.{fnv_family};
 ghost use Rattle.layout.specs.Budgets.{restart_cut, restart_whole};

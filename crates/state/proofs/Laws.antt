@@ -16,7 +16,7 @@ use Rattle.geometry.specs.declared.Geometry.{Geometry}
 use Rattle.geometry.specs.declared.Shaped.{Shaped}
 use Rattle.geometry.specs.declared.Shaped.TheVariants as shaped
 use Rattle.state.specs.declared.Judgement.TheVariants.{Good, Refused}
-use Rattle.state.specs.Judge.{judgement_of, judgement_of_new, VolumeFits, FormatFits}
+use Rattle.state.specs.Judge.{judgement_of, VolumeFits, FormatFits}
 
 abbrev g_of : Geometry → Shaped → Geometry
 g_of d (shaped.Good g) = g
@@ -92,21 +92,6 @@ module _ (v : Volume) where
           d_le = ltb-false _ _ b.1;
         }
 
-module _ (sizes : layout.Sizes) (flash : Flash) (ram : List ℕ) where
-  pub new_shape : layout.allowed sizes ≡ false → judgement_of_new sizes flash ram ≡ Refused refusal.bad_state
-  new_shape q = rw q
-
-  module _ (g : Geometry) (q : layout.allowed sizes ≡ true) (p : g ≡ geometry_for sizes) where
-    new_at : (b : Bool) → too_short (shape g) flash ram ≡ b → too_short (shape (geometry_for sizes)) flash ram ≡ b
-    new_at b t = rw p at t
-
-    pub new_short : too_short (shape g) flash ram ≡ true → judgement_of_new sizes flash ram ≡ Refused refusal.too_short
-    new_short t = rw (q, new_at true t)
-
-    pub new_good : too_short (shape g) flash ram ≡ false → Good g ≡ judgement_of_new sizes flash ram
-    new_good t =
-        let e : judgement_of_new sizes flash ram ≡ Good (geometry_for sizes) = rw (q, new_at false t) in
-        ap Good p ∙ sym e
-
-    pub new_of : Sound g → too_short (shape g) flash ram ≡ false → FormatFits sizes flash ram g
-    new_of ok t = record { sound = ok; is = p; can = q; long = long_of (shape g) flash ram t }
+module _ (sizes : layout.Sizes) (flash : Flash) (ram : List ℕ) (g : Geometry) (q : layout.allowed sizes ≡ true) (p : g ≡ geometry_for sizes) where
+  pub new_of : Sound g → too_short (shape g) flash ram ≡ false → FormatFits sizes flash ram g
+  new_of ok t = record { sound = ok; is = p; can = q; long = long_of (shape g) flash ram t }

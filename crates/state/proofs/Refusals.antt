@@ -5,11 +5,11 @@ use Prim.Native.Nat.{ℕ}
 use lib.Dec.{eqb}
 use Rattle.layout.specs.Geometry as layout
 use Rattle.layout.specs.Refusals as refusal
-use Rattle.layout.specs.Calls.{Volume, Result, refuse, bad_state, too_short, judge_first, format, formatted}
+use Rattle.layout.specs.Calls.{Volume, Result, refuse, too_short, judge_first, format, formatted}
 use Rattle.laws.specs.Lengths.{not_short}
 use Rattle.geometry.specs.Shape.{geometry_for, shape}
 use Rattle.geometry.specs.declared.Geometry.{Geometry}
-use Rattle.state.specs.Judge.{judgement_of, judgement_of_new, VolumeFits}
+use Rattle.state.specs.Judge.{judgement_of_new, VolumeFits}
 use Rattle.state.specs.declared.Judgement.{Judgement}
 use Rattle.state.specs.declared.Judgement.TheVariants.{Good, Refused}
 

@@ -1,6 +1,7 @@
 // The values that calls take and give: the state of a volume, a record, a changing call, its answer, the refusals by name; and refusals 1
 // and 2. Document 01, "The chip and the desk" and "Calls"; document 02, request 8: answers of calls with a budget of steps.
 #![tactic(auto)]
+
 ghost use Rattle.std.specs.Prelude.{◌≡◌, ◌||◌, cond, ◌-◌, ◌≤◌, length, ltb};
 ghost use Rattle.memory.specs.Bits.{num};
 ghost use Rattle.layout.specs.Geometry.{record_capacity, deletion_capacity};

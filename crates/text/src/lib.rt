@@ -1,5 +1,6 @@
 // Texts as bytes, for all that is read or written as text: characters, decimal digits.
 #![tactic(auto)]
+
 ghost use Rattle.std.specs.Prelude.{◌≡◌, ◌-◌, ◌≤◌, ◌<◌};
 
 // The value of a digit.

@@ -1,5 +1,6 @@
 // Bytes in a slice: little-endian numbers of four and of eight bytes, copies and fills. Numbers, and bits of a word.
 #![tactic(auto)]
+
 ghost use Rattle.std.specs.Prelude.{◌≡◌, ◌+◌, ◌*◌, ◌≤◌, ◌<◌, length, replicate};
 ghost use Rattle.memory.specs.Lists.{write};
 ghost use Rattle.memory.specs.Words.{bytes4, bytes8, word, words_bytes, Word64};

@@ -1,0 +1,30 @@
+use native.Mathlib.Omega.{arith}
+use mathlib.Core.Path.{ap, sym, ◌∙◌}
+use mathlib.Core.Bool.{false≢true}
+use lib.ListN.{length}
+use Rattle.keys.specs.Key.{key_is}
+use Rattle.filter.specs.NewFilter.{entry_fourths_lem}
+use Rattle.layout.specs.Items.{Area, fills}
+use Rattle.geometry.specs.Shape.{shape}
+use Rattle.changes.proofs.put_entry_filter.Goals as goal
+
+pub returns-then-not-fills : goal.returns-then-not-fills
+returns-then-not-fills c =
+    let f = c.fills in
+    let a = c.entry_area in
+    let n = c.args.n in
+    let none = sym (f.ensures ∙ ap (λ (x : Area). fills x n) a.ensures.equal) ∙ c.if-not-fills.true in
+    λ full. absurd (false≢true (sym none ∙ full))
+
+pub new_filter-requires : goal.new_filter-requires
+new_filter-requires c =
+    record { unit_sound = (c.requires.0.unit, c.requires.0.k_most, omega arith, rw c.ka_ram.ensures (omega (arith, c.requires.1))); bits_value = c.requires.2 }
+
+pub returns : goal.returns
+returns c =
+    λ full.
+    entry_fourths_lem (shape c.args.g) c.args.n (key_is c.args.key) c.args.ram.now c.requires.0.unit.1.some full
+    (record { level_lt = omega arith })
+    (omega (arith, c.requires.1)) c.new_filter.new.bits c.requires.0.unit.1.most
+    (c.new_filter.auto.bits ∙ ap length c.requires.2) (λ y. omega (arith, c.type_inv.out y))
+    (rw (c.ka_ram.ensures, c.of_key.ensures) at c.new_filter.ensures)

@@ -1,0 +1,6 @@
+use Rattle.deletions.proofs.filters.Goals as goal
+
+-- Two filters of each full page.
+
+pub returns : goal.returns
+returns c = rw (c.before.deletion_index-index.ensures, c.deletion_filters.ensures)

@@ -1,0 +1,15 @@
+use Prim.Native.Nat.{ℕ, ◌-◌, ◌≤◌, min}
+use Rattle.filter.specs.declared.groups.Recent.{Recent}
+use Rattle.filter.proofs.Rows.{Tested}
+use Rattle.filter.proofs.RecentBytes.{has_recent}
+use Rattle.filter.proofs.groups.recent_word.Given as goal
+
+-- the bits of the word that count
+abbrev pub bits : Recent → ℕ → ℕ
+bits rs first = min (rs.below - rs.l1.start - first) 64
+
+abbrev pub invariant-loop-i : goal.invariant-loop-i
+invariant-loop-i l = (l.i ≤ l.count) × Tested (has_recent l.rs l.main l.ram) l.ps l.first (bits l.rs l.first) l.i l.r
+
+abbrev pub decreases-loop-i : goal.decreases-loop-i
+decreases-loop-i l = l.count - l.i

@@ -1,0 +1,26 @@
+use mathlib.Core.Path.{ap, ◌∙◌}
+use Rattle.layout.specs.Geometry.{work_ram}
+use Rattle.layout.specs.Items.{zero_page}
+use Rattle.geometry.specs.Shape.{shape}
+use Rattle.kept.specs.Kept.{record_kept}
+use Rattle.kept.proofs.finish.Goals as goal
+
+pub returns-in-Delete : goal.returns-in-Delete
+returns-in-Delete c =
+    let x = c.args in
+    rw c.in-Delete.is (c.clear_work.ensures ∙ ap (zero_page x.g.chip.unit (work_ram x.g.chip.unit))
+    c.keep_deletion.ensures)
+
+pub returns-in-Insert : goal.returns-in-Insert
+returns-in-Insert c =
+    let x = c.args in
+    rw c.in-Insert.is (c.clear_work-in-Insert.ensures ∙ ap (zero_page x.g.chip.unit (work_ram x.g.chip.unit))
+    c.keep_record.ensures)
+
+pub returns-in-Update : goal.returns-in-Update
+returns-in-Update c =
+    let x = c.args in
+    let g = shape x.g in
+    rw c.in-Update.is
+    (c.clear_work-in-Update.ensures ∙ ap (zero_page x.g.chip.unit (work_ram x.g.chip.unit))
+    (c.keep_record-in-Update.ensures ∙ ap (record_kept g _ x.new.now x.filters.now) c.keep_deletion-in-Update.ensures))

@@ -1,0 +1,60 @@
+use Rattle.kernels.proofs.Eights.{nought}
+use native.Mathlib.Nat.{mul-le-mul_left}
+use native.Mathlib.Omega.{arith}
+use mathlib.Core.Path.{◌≡◌, refl, ap, ◌∙◌}
+use mathlib.Core.Bool.{Bool, ◌&&◌}
+use Prim.Native.Nat.{ℕ, ◌+◌, ◌-◌, ◌*◌, ◌^◌, ◌<◌, min}
+use lib.Dec.{ltb}
+use lib.ListN.{length, length-set}
+use Rattle.memory.specs.Bits.{bit}
+use Rattle.kernels.specs.Rows.{all_in}
+use Rattle.kernels.specs.Blocks.{Open}
+use Rattle.kernels.proofs.Uptos.{upto_more, upto_end, upto_none, group_fewer}
+use Rattle.kernels.proofs.wide_block.Goals as goal
+
+-- A word more each turn.
+
+small : (len first n w : ℕ) → 7 < w → (first + n) * w < 2 ^ 60 → first + n < 2 ^ 60
+small len first n w h l = omega (arith, mul-le-mul_left (first + n) h)
+
+of_open : (gate : ℕ → Bool) (first j m k y : ℕ) → m ≡ k → Open gate (first + j * 64) m y → (i : ℕ) → i < 64 → bit y i ≡ (ltb i k && gate (first + (j * 64 + i)))
+unfolding Open
+of_open gate first j m k y e R i h =
+    let z : first + j * 64 + i ≡ first + (j * 64 + i) = omega arith in
+    R i h ∙ (ap (λ (t : ℕ). ltb i t && gate (first + j * 64 + i)) e ∙ ap (λ (t : ℕ). ltb i k && gate t) z)
+
+pub loop-j-init : goal.loop-j-init
+loop-j-init c = (omega arith, refl, upto_none _ _ _ (omega arith) nought)
+
+pub overflow_add-first : goal.overflow_add-first
+overflow_add-first c = omega (arith, small (length c.args.bytes.now) c.args.first c.args.n c.args.w c.requires.0 c.requires.3.small)
+
+pub passed-y-requires : goal.passed-y-requires
+passed-y-requires c =
+    let x = c.args in
+    let l = c.loop-j in (
+      c.requires.0,
+      omega (arith, c.lesser-m.ensures),
+      omega (arith, c.lesser-m.ensures),
+      omega (arith, c.requires.2),
+      group_fewer x.at.now x.low.now x.count x.w (x.first + x.n) (x.first + l.j * 64 + c.lesser-m.result) (length x.bytes.now) (omega (arith, c.lesser-m.ensures)) c.requires.3,
+    )
+
+pub bounds-r-j : goal.bounds-r-j
+bounds-r-j c = omega (arith, c.requires.1)
+
+pub loop-j-preserved : goal.loop-j-preserved
+loop-j-preserved c =
+    let l = c.loop-j in
+    let x = c.args in
+    let m = c.lesser-m in (
+      omega arith,
+      length-set l.r l.j c.passed-y.result ∙ l.invariant.1,
+      upto_more (λ k i. all_in x.bytes.now x.at.now x.low.now x.w x.count (x.first + (k * 64 + i))) x.n l.j c.passed-y.result l.r (omega arith) (omega (arith, c.requires.1)) l.invariant.1 l.invariant.2
+          (λ i h. of_open (all_in x.bytes.now x.at.now x.low.now x.w x.count) x.first l.j m.result (min 64 (x.n - l.j * 64)) c.passed-y.result m.ensures c.passed-y.ensures i h),
+    )
+
+pub returns : goal.returns
+returns c =
+    let l = c.loop-j in
+    upto_end _ _ _ _ (omega arith) l.invariant.2

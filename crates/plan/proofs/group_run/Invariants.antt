@@ -1,0 +1,19 @@
+use Prim.Native.Nat.{◌-◌, ◌/◌, ◌≤◌}
+use mathlib.Core.Path.{◌≡◌}
+use lib.ListN.{length}
+use Rattle.layout.specs.Flash.{flash_of, planned_from}
+use Rattle.geometry.specs.Indexes.{index_of}
+use Rattle.partition.specs.Sources.{page_source}
+use Rattle.partition.specs.Shared.{Shares}
+use Rattle.plan.specs.Runs.{done}
+use Rattle.plan.specs.Segments.{next_set}
+use Rattle.plan.proofs.group_run.Given as goal
+
+abbrev pub invariant-loop-j : goal.invariant-loop-j
+invariant-loop-j l =
+    (l.part.from ≤ l.j) × (l.j ≤ l.part.to) × (length l.main ≡ length l.initial.main) × (length l.spare ≡ length l.initial.spare)
+    × (flash_of l.main l.spare ≡ done l.chip.unit (planned_from (next_set l.chip.unit l.set l.s) l.part.from (l.j - l.part.from)) (flash_of l.initial.main l.initial.spare))
+    × Shares l.initial.main (page_source l.chip.unit (index_of l.set.index) l.set.rounds (l.part.from / 4)) l.shared
+
+abbrev pub decreases-loop-j : goal.decreases-loop-j
+decreases-loop-j l = l.part.to - l.j

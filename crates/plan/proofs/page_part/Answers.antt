@@ -1,0 +1,35 @@
+use native.Mathlib.Omega.{arith}
+use Prim.Native.Nat.{ℕ, ◌+◌, ◌-◌, ◌≤◌}
+use mathlib.Core.Path.{◌≡◌, refl, ap, ◌∙◌}
+use lib.ListN.{length, take, drop}
+use mathlib.Core.List.{List}
+use Rattle.memory.specs.Lists.{tabulate, length_tabulate}
+use Rattle.plan.specs.Groups.{page_is, made_size, made_in, made_are, in_page}
+use Rattle.plan.proofs.page_part.Goals as goal
+
+pub set_sectors-requires : goal.set_sectors-requires
+set_sectors-requires c =
+    let P = c.requires.next_fits.0 in
+    let n = c.sector_address-n in record { unit_sound = (P.unit, P.rounds, P.near); j_bound = omega (arith, P.sectors, c.requires.next_fits.1); unit_in_bounds = P.sides; shares = c.requires.shares; in_page = in_page c.args.chip.unit n.result _ c.args.part c.requires.of_page n.ensures (made_size _ n.result (omega (arith, n.ensures, c.requires.of_page.small))) }
+
+-- so many bytes are made
+made : (buffer out : List ℕ) (f : ℕ → ℕ) (n : ℕ) → out ≡ tabulate (length (take (n - 0) (drop 0 buffer))) f → n ≤ length buffer → length out ≡ n
+made buffer out f n e h = ap length e ∙ (length_tabulate _ _ ∙ made_size buffer n h)
+
+pub slice_bounds-program_sectors-end : goal.slice_bounds-program_sectors-end
+slice_bounds-program_sectors-end c =
+    made_in c.set_sectors.new.out _ c.sector_address-n.result (made _ _ _ c.sector_address-n.result c.set_sectors.ensures (omega (arith, c.sector_address-n.ensures, c.requires.of_page.small)))
+
+pub program_sectors-requires : goal.program_sectors-requires
+program_sectors-requires c =
+    let P = c.requires.next_fits.0 in
+    let n = c.sector_address-n in
+    let e : c.args.s + c.args.part.from + (c.args.part.to - c.args.part.from) ≡ c.args.s + c.args.part.to = omega (arith, c.requires.next_fits.1) in record { unit_bound = (P.unit.1.most, ap length (made_are c.set_sectors.new.out _ n.result (made _ _ _ c.sector_address-n.result c.set_sectors.ensures (omega (arith, c.sector_address-n.ensures, c.requires.of_page.small)))) ∙ (made _ _ _ c.sector_address-n.result c.set_sectors.ensures (omega (arith, c.sector_address-n.ensures, c.requires.of_page.small)) ∙ n.ensures)); unit_in_bounds = (rw e P.in_main, rw e P.in_spare) }
+
+pub returns : goal.returns
+returns c =
+    let n = c.sector_address-n in
+    let F = c.requires.next_fits.0 in
+    let u = c.args.chip.unit in
+    page_is u c.args.set c.args.s c.args.part.to _ _ F c.args.part refl c.requires.next_fits.1 c.args.main.now c.args.spare.now
+    c.set_sectors.new.out _ _ n.result (made _ _ _ c.sector_address-n.result c.set_sectors.ensures (omega (arith, c.sector_address-n.ensures, c.requires.of_page.small))) n.ensures c.set_sectors.ensures c.program_sectors.ensures

@@ -1,0 +1,12 @@
+use Rattle.tab.proofs.name_at.Goals as goal
+
+-- Each column by its own name.
+
+pub returns-in-Level : goal.returns-in-Level
+returns-in-Level c = rw c.before.before.enum_told.given.1 c.word_at.ensures
+
+pub returns-in-Moves : goal.returns-in-Moves
+returns-in-Moves c = rw c.before.before.enum_told-in-Moves-1.given.1 c.word_at-in-Moves.ensures
+
+pub returns-in-Goal : goal.returns-in-Goal
+returns-in-Goal c = rw c.before.before.enum_told-in-Goal-1.given.1 c.word_at-in-Goal.ensures
