@@ -1,6 +1,7 @@
 // A script from standard input, its answers to standard output. What the bytes of the input do is in `stream`; here they are moved, in
 // chunks, and nothing else.
 #![tactic(auto)]
+
 mod stream;
 
 ghost use Rattle.std.specs.Prelude.{◌≡◌, true, false, cond, List, ℕ, ◌*◌, ◌-◌, ◌≤◌, ◌<◌, length};

@@ -3,6 +3,7 @@
 // its bytes and their FNV-1a: that is the line that was read, where the hash is as published.
 // A line that is longer than 600 bytes is cut.
 #![tactic(auto)]
+
 ghost use Rattle.std.specs.Prelude.{◌*◌, ◌<◌, ◌≤◌, length};
 
 use std::io::Read;

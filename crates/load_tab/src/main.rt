@@ -1,6 +1,7 @@
 // Loads a tab from standard input into a freshly formatted volume, and tells the rows that were loaded and the refusal. Document 02,
 // requests 1 and 6.
 #![tactic(auto)]
+
 ghost use Rattle.std.specs.Prelude.{◌≡◌, ◌≤◌, length};
 
 use geometry::Sizes;
@@ -99,7 +100,10 @@ fn main(rt: HostRuntime) {
     let mut input = rt.reader();
     let n = read_full(&mut input, &mut tab);
     if n > MOST {
-        complain(&rt, "load_tab: the tab has more than 262144 bytes; nothing was loaded\n");
+        complain(
+            &rt,
+            "load_tab: the tab has more than 262144 bytes; nothing was loaded\n",
+        );
         return;
     }
     let mut rest = [0u8; 1];

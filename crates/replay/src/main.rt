@@ -1,5 +1,6 @@
 // The replay program: answers the lines of a script. Document 01, "Replay program".
 #![tactic(auto)]
+
 ghost use Rattle.std.specs.Prelude.{◌≡◌, length};
 
 // A part of the input.

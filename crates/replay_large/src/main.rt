@@ -1,6 +1,7 @@
 // The replay program over more bytes, for a test of what `replay` cannot reach: sets 4 and 5, a full set and a
 // second cycle at S = 16, sets over deletions, and a set at S = 64. Its script and answers are made by the Rust model.
 #![tactic(auto)]
+
 ghost use Rattle.std.specs.Prelude.{◌≡◌, length};
 
 fn chunk() -> [u8; 16384]

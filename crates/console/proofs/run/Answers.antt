@@ -58,7 +58,7 @@ returns-clause-input g c =
     let x = c.args in
     let k = c.finish in
     let h : (chunks : List (List ℕ)) × Short (length x.chunk.now) chunks
-        × Leaves (close_if c.loop-left.ok (feed_all (initial x.line.now x.main.now x.spare.now x.ram.now x.out.now) chunks)) c.loop-left.line k.new.main k.new.spare k.new.ram k.new.out
-        = returns-clause-chunks g c in
+    × Leaves (close_if c.loop-left.ok (feed_all (initial x.line.now x.main.now x.spare.now x.ram.now x.out.now) chunks)) c.loop-left.line k.new.main k.new.spare k.new.ram k.new.out
+    = returns-clause-chunks g c in
     λ e. run_leaves x.line.now x.main.now x.spare.now x.ram.now x.out.now c.loop-left.line k.new.main k.new.spare k.new.ram k.new.out
     (length x.chunk.now) c.loop-left.ok e h

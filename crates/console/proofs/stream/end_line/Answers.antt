@@ -1,5 +1,5 @@
 -- The line that is kept is answered behind what was printed, in at most 32 bytes.
-use Rattle.std.specs.Prelude.{◌+◌, ◌-◌, ◌≤◌, take, drop}
+use Rattle.std.specs.Prelude.{◌+◌, ◌-◌, take, drop}
 use Rattle.std.proofs.Common.{refl, arith}
 use Rattle.state.specs.Contract.{volume}
 use Rattle.lines.specs.Contract.{AfterLine, after_line}
