@@ -1,6 +1,7 @@
 // The search for a key: the entries past the last full page, newest first, then full pages, newest first, a page
 // being opened only if its filter has all bits of the key's positions. Document 01, "Calls"; document 02, §5.
 #![tactic(auto)]
+
 ghost use Rattle.std.specs.Prelude.{◌≡◌, ◌+◌, ◌*◌, ◌/◌, ◌%◌, ◌≤◌, ◌<◌, length, take};
 ghost use Rattle.memory.specs.Words.{word};
 ghost use Rattle.layout.specs.Keys.{word_size, number_in};

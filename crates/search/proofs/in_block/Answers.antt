@@ -26,8 +26,8 @@ use Rattle.filter.specs.declared.groups.Block.{Block}
 use Rattle.keys.specs.Key.{key_is}
 use Rattle.search.specs.declared.View.{View}
 use Rattle.search.specs.declared.Tried.{Tried}
-use Rattle.search.specs.Find.{viewed, ViewFits, try_of, cost_of, try_in, cost_in, deleted_of, test_cost, deletions_of, pages_below, cost_below}
-use Rattle.search.specs.Tries.{page_start, entry_of, PagesIn, TriedAt}
+use Rattle.search.specs.Find.{viewed, ViewFits, try_of, cost_of, try_in, cost_in, deleted_of, test_cost, deletions_of}
+use Rattle.search.specs.Tries.{entry_of, PagesIn, TriedAt}
 use Rattle.search.proofs.Tries.{count, newest, newest_le, newest_set, newest_some, measure, fewer}
 use Rattle.search.proofs.Bits.{Word, word_first, word_done, word_in, word_few, word_most, word_next, word_ended}
 use Rattle.search.proofs.Entries.{Same, Left, left_none, left_first, left_corrupt, left_most, left_found, left_next, left_less}
@@ -259,14 +259,14 @@ pub bits-init : goal.bits-init
 bits-init c =
     let x = c.args in
     let K : Known x.v x.main.now x.ram.now x.below (take x.count x.ps) c.block_below-b.result
-        = record { fits = c.requires.view_fits.0; block = rw c.key_filters.ensures at c.block_below-b.ensures; full = c.requires.below_nonzero.1 } in
+    = record { fits = c.requires.view_fits.0; block = rw c.key_filters.ensures at c.block_below-b.ensures; full = c.requires.below_nonzero.1 } in
     (word_first c.filters.invariant.0 c.filters-test.true (word_lt_8 K (key_is x.key) c.filters.invariant.0 c.filters-test.true), c.filters.invariant.1)
 
 pub filters-preserved : goal.filters-preserved
 filters-preserved c =
     let x = c.args in
     let K : Known x.v x.main.now x.ram.now x.below (take x.count x.ps) c.block_below-b.result
-        = record { fits = c.requires.view_fits.0; block = rw c.key_filters.ensures at c.block_below-b.ensures; full = c.requires.below_nonzero.1 } in
+    = record { fits = c.requires.view_fits.0; block = rw c.key_filters.ensures at c.block_below-b.ensures; full = c.requires.below_nonzero.1 } in
     (word_done c.bits.invariant.0 c.bits-test.false (from_lt K (key_is x.key) c.filters.invariant.0 c.filters-test.true), c.bits.invariant.1)
 
 -- ---- the pages of a word, up to one with an entry of the key
@@ -275,8 +275,7 @@ pub next_with_key-t-requires : goal.next_with_key-t-requires
 next_with_key-t-requires c =
     let x = c.args in
     let K : Known x.v x.main.now x.ram.now x.below (take x.count x.ps) c.block_below-b.result
-        = record { fits = c.requires.view_fits.0; block = rw c.key_filters.ensures at c.block_below-b.ensures; full = c.requires.below_nonzero.1 } in
-    (
+    = record { fits = c.requires.view_fits.0; block = rw c.key_filters.ensures at c.block_below-b.ensures; full = c.requires.below_nonzero.1 } in (
       K.fits.sound,
       omega (arith, from_lt K (key_is x.key) c.filters.invariant.0 c.filters-test.true, below_few K (key_is x.key)),
       pages_in K (key_is x.key) c.bits.invariant.0,
@@ -286,14 +285,14 @@ pub overflow_add-opened : goal.overflow_add-opened
 overflow_add-opened c =
     let x = c.args in
     let K : Known x.v x.main.now x.ram.now x.below (take x.count x.ps) c.block_below-b.result
-        = record { fits = c.requires.view_fits.0; block = rw c.key_filters.ensures at c.block_below-b.ensures; full = c.requires.below_nonzero.1 } in
+    = record { fits = c.requires.view_fits.0; block = rw c.key_filters.ensures at c.block_below-b.ensures; full = c.requires.below_nonzero.1 } in
     omega (arith, opened_few K (key_is x.key) c.bits.invariant.0 c.next_with_key-t.ensures, below_few K (key_is x.key))
 
 pub entries-init : goal.entries-init
 entries-init c =
     let x = c.args in
     let K : Known x.v x.main.now x.ram.now x.below (take x.count x.ps) c.block_below-b.result
-        = record { fits = c.requires.view_fits.0; block = rw c.key_filters.ensures at c.block_below-b.ensures; full = c.requires.below_nonzero.1 } in
+    = record { fits = c.requires.view_fits.0; block = rw c.key_filters.ensures at c.block_below-b.ensures; full = c.requires.below_nonzero.1 } in
     (first_left K (key_is x.key) c.bits.invariant.0 c.next_with_key-t.ensures, omega arith, c.bits.invariant.1, λ z. refl)
 
 -- ---- an entry
@@ -302,25 +301,25 @@ pub number_at-j-requires : goal.number_at-j-requires
 number_at-j-requires c =
     let x = c.args in
     let K : Known x.v x.main.now x.ram.now x.below (take x.count x.ps) c.block_below-b.result
-        = record { fits = c.requires.view_fits.0; block = rw c.key_filters.ensures at c.block_below-b.ensures; full = c.requires.below_nonzero.1 } in
+    = record { fits = c.requires.view_fits.0; block = rw c.key_filters.ensures at c.block_below-b.ensures; full = c.requires.below_nonzero.1 } in
     entry_in K (key_is x.key) c.bits.invariant.0 c.next_with_key-t.ensures c.entries.invariant.0 c.entries.invariant.1 c.entries-test.true
 
 pub overflow_add-da_pages : goal.overflow_add-da_pages
 overflow_add-da_pages c =
     let x = c.args in
     let K : Known x.v x.main.now x.ram.now x.below (take x.count x.ps) c.block_below-b.result
-        = record { fits = c.requires.view_fits.0; block = rw c.key_filters.ensures at c.block_below-b.ensures; full = c.requires.below_nonzero.1 } in
+    = record { fits = c.requires.view_fits.0; block = rw c.key_filters.ensures at c.block_below-b.ensures; full = c.requires.below_nonzero.1 } in
     omega (
       arith,
       test_few K (key_is x.key) c.bits.invariant.0 c.next_with_key-t.ensures c.entries.invariant.0 c.entries.invariant.1 c.entries-test.true
-      c.number_at-j.ensures (omega (arith, c.usize_of_u32.ensures, c.if-usize_of_u32-v.false)) c.deletions_of.ensures c.test-seen.result c.test-seen.ensures,
+          c.number_at-j.ensures (omega (arith, c.usize_of_u32.ensures, c.if-usize_of_u32-v.false)) c.deletions_of.ensures c.test-seen.result c.test-seen.ensures,
     )
 
 pub find_entry-e-requires : goal.find_entry-e-requires
 find_entry-e-requires c =
     let x = c.args in
     let K : Known x.v x.main.now x.ram.now x.below (take x.count x.ps) c.block_below-b.result
-        = record { fits = c.requires.view_fits.0; block = rw c.key_filters.ensures at c.block_below-b.ensures; full = c.requires.below_nonzero.1 } in
+    = record { fits = c.requires.view_fits.0; block = rw c.key_filters.ensures at c.block_below-b.ensures; full = c.requires.below_nonzero.1 } in
     omega (
       arith,
       entry_in K (key_is x.key) c.bits.invariant.0 c.next_with_key-t.ensures c.entries.invariant.0 c.entries.invariant.1 c.entries-test.true,
@@ -330,20 +329,19 @@ pub entries-smaller : goal.entries-smaller
 entries-smaller c =
     let x = c.args in
     let K : Known x.v x.main.now x.ram.now x.below (take x.count x.ps) c.block_below-b.result
-        = record { fits = c.requires.view_fits.0; block = rw c.key_filters.ensures at c.block_below-b.ensures; full = c.requires.below_nonzero.1 } in
+    = record { fits = c.requires.view_fits.0; block = rw c.key_filters.ensures at c.block_below-b.ensures; full = c.requires.below_nonzero.1 } in
     less K (key_is x.key) c.bits.invariant.0 c.next_with_key-t.ensures c.entries.invariant.0 c.entries.invariant.1 c.entries-test.true
-    c.number_at-j.ensures (omega (arith, c.usize_of_u32.ensures, c.if-usize_of_u32-v.false)) 
+    c.number_at-j.ensures (omega (arith, c.usize_of_u32.ensures, c.if-usize_of_u32-v.false))
     c.find_entry-e.result c.find_entry-e.ensures
 
 pub entries-preserved : goal.entries-preserved
 entries-preserved c =
     let x = c.args in
     let K : Known x.v x.main.now x.ram.now x.below (take x.count x.ps) c.block_below-b.result
-        = record { fits = c.requires.view_fits.0; block = rw c.key_filters.ensures at c.block_below-b.ensures; full = c.requires.below_nonzero.1 } in
+    = record { fits = c.requires.view_fits.0; block = rw c.key_filters.ensures at c.block_below-b.ensures; full = c.requires.below_nonzero.1 } in
     let below : c.number_at-j.result < x.v.n0 = omega (arith, c.usize_of_u32.ensures, c.if-usize_of_u32-v.false) in
     let l = less K (key_is x.key) c.bits.invariant.0 c.next_with_key-t.ensures c.entries.invariant.0 c.entries.invariant.1 c.entries-test.true
-        c.number_at-j.ensures below c.find_entry-e.result c.find_entry-e.ensures in
-    (
+    c.number_at-j.ensures below c.find_entry-e.result c.find_entry-e.ensures in (
       λ h. next_left K (key_is x.key) c.bits.invariant.0 c.next_with_key-t.ensures c.entries.invariant.0 c.entries.invariant.1 c.entries-test.true
           c.number_at-j.ensures below c.deletions_of.ensures c.test-seen.result c.test-seen.ensures c.find_entry-e.result c.find_entry-e.ensures
           (not-false c.test-seen.result.met c.if-not-seen.false),
@@ -358,15 +356,14 @@ pub bits-smaller : goal.bits-smaller
 bits-smaller c =
     let x = c.args in
     let K : Known x.v x.main.now x.ram.now x.below (take x.count x.ps) c.block_below-b.result
-        = record { fits = c.requires.view_fits.0; block = rw c.key_filters.ensures at c.block_below-b.ensures; full = c.requires.below_nonzero.1 } in
+    = record { fits = c.requires.view_fits.0; block = rw c.key_filters.ensures at c.block_below-b.ensures; full = c.requires.below_nonzero.1 } in
     bits_fewer K (key_is x.key) c.bits.invariant.0 c.next_with_key-t.ensures (omega (arith, c.bits-test.true))
 
 pub bits-preserved : goal.bits-preserved
 bits-preserved c =
     let x = c.args in
     let K : Known x.v x.main.now x.ram.now x.below (take x.count x.ps) c.block_below-b.result
-        = record { fits = c.requires.view_fits.0; block = rw c.key_filters.ensures at c.block_below-b.ensures; full = c.requires.below_nonzero.1 } in
-    (
+    = record { fits = c.requires.view_fits.0; block = rw c.key_filters.ensures at c.block_below-b.ensures; full = c.requires.below_nonzero.1 } in (
       next_bits K (key_is x.key) c.bits.invariant.0 c.next_with_key-t.ensures c.entries.invariant.0 c.entries.invariant.1 c.entries-test.false
           c.entries.invariant.3,
       c.entries.invariant.2,
@@ -378,7 +375,7 @@ pub returns-after-filters : goal.returns-after-filters
 returns-after-filters c =
     let x = c.args in
     let K : Known x.v x.main.now x.ram.now x.below (take x.count x.ps) c.block_below-b.result
-        = record { fits = c.requires.view_fits.0; block = rw c.key_filters.ensures at c.block_below-b.ensures; full = c.requires.below_nonzero.1 } in
+    = record { fits = c.requires.view_fits.0; block = rw c.key_filters.ensures at c.block_below-b.ensures; full = c.requires.below_nonzero.1 } in
     let e = all_words K (key_is x.key) c.filters.invariant.0 (omega arith) in
     record { start = K.block.start_lt; found = rw c.filters.invariant.1 e.found; pages = rw c.filters.invariant.1 e.price }
 
@@ -386,17 +383,17 @@ pub returns-then-usize_of_u32-v : goal.returns-then-usize_of_u32-v
 returns-then-usize_of_u32-v c =
     let x = c.args in
     let K : Known x.v x.main.now x.ram.now x.below (take x.count x.ps) c.block_below-b.result
-        = record { fits = c.requires.view_fits.0; block = rw c.key_filters.ensures at c.block_below-b.ensures; full = c.requires.below_nonzero.1 } in
+    = record { fits = c.requires.view_fits.0; block = rw c.key_filters.ensures at c.block_below-b.ensures; full = c.requires.below_nonzero.1 } in
     let e = corrupt_at K (key_is x.key) c.bits.invariant.0 c.next_with_key-t.ensures c.entries.invariant.0 c.entries.invariant.1 c.entries-test.true
-        c.number_at-j.ensures (omega (arith, c.usize_of_u32.ensures, c.if-usize_of_u32-v.true)) in
+    c.number_at-j.ensures (omega (arith, c.usize_of_u32.ensures, c.if-usize_of_u32-v.true)) in
     record { start = K.block.start_lt; found = e.0; pages = e.1 }
 
 pub returns-then-not-seen : goal.returns-then-not-seen
 returns-then-not-seen c =
     let x = c.args in
     let K : Known x.v x.main.now x.ram.now x.below (take x.count x.ps) c.block_below-b.result
-        = record { fits = c.requires.view_fits.0; block = rw c.key_filters.ensures at c.block_below-b.ensures; full = c.requires.below_nonzero.1 } in
+    = record { fits = c.requires.view_fits.0; block = rw c.key_filters.ensures at c.block_below-b.ensures; full = c.requires.below_nonzero.1 } in
     let e = found_at K (key_is x.key) c.bits.invariant.0 c.next_with_key-t.ensures c.entries.invariant.0 c.entries.invariant.1 c.entries-test.true
-        c.number_at-j.ensures (omega (arith, c.usize_of_u32.ensures, c.if-usize_of_u32-v.false)) c.deletions_of.ensures c.test-seen.result c.test-seen.ensures
-        (not-true c.test-seen.result.met c.if-not-seen.true) in
+    c.number_at-j.ensures (omega (arith, c.usize_of_u32.ensures, c.if-usize_of_u32-v.false)) c.deletions_of.ensures c.test-seen.result c.test-seen.ensures
+    (not-true c.test-seen.result.met c.if-not-seen.true) in
     record { start = K.block.start_lt; found = e.0; pages = e.1 }

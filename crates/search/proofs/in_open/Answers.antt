@@ -34,8 +34,8 @@ returns c =
     let q = c.entries_per_page-per_page in
     -- no page was filled since
     let none_filled : v.n / q.result ≤ v.n0 / q.result = elim c.if-v.branch [
-      then-v+else-p-v w ↦ w.if-p-v.false
-    | else-v w ↦ let e : v.n ≡ v.n0 = omega (arith, w.if-v.false, c.requires.n0_le) in rw e (omega arith)
+      | then-v+else-p-v w ↦ w.if-p-v.false
+      | else-v w ↦ let e : v.n ≡ v.n0 = omega (arith, w.if-v.false, c.requires.n0_le) in rw e (omega arith)
     ] in
     record {
       end_value = open_on_ram c.requires q.result q.ensures c.ka_ram.result c.ka_ram.ensures none_filled (key_is c.args.key)

@@ -1,15 +1,15 @@
 use native.Mathlib.Omega.{arith}
 use borrow.Author.Tests.{not-true, not-false}
 use mathlib.Core.Path.{◌≡◌, sym}
-use mathlib.Core.Bool.{Bool, true, false}
-use mathlib.Core.Option.{Option, none, some}
+use mathlib.Core.Bool.{true, false}
+use mathlib.Core.Option.{some}
 use mathlib.Core.List.{List}
 use Prim.Native.Nat.{ℕ, ◌+◌, ◌*◌, ◌-◌, ◌≤◌, ◌<◌}
 use Rattle.memory.specs.Words.{word}
 use Rattle.layout.specs.Hash.{fnv_family}
 use Rattle.layout.specs.Keys.{Key, number_in}
 use Rattle.layout.specs.Calls.{test_deletion}
-use Rattle.layout.specs.Search.{Stop, found, scan, scan_cost}
+use Rattle.layout.specs.Search.{found, scan, scan_cost}
 use Rattle.geometry.specs.Shape.{shape}
 use Rattle.items.specs.Scans.{last_entry}
 use Rattle.deletions.specs.Test.{held, tested_of}

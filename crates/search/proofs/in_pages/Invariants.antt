@@ -1,4 +1,3 @@
-use mathlib.Core.Path.{ap}
 use lib.ListN.{take}
 use Rattle.layout.specs.Calls.{maybe_in}
 use Rattle.laws.specs.WalkLaws.{Pages}

@@ -1,4 +1,3 @@
-use Prim.Native.Nat.{◌-◌}
 use Rattle.memory.specs.Bits.{bit}
 use Rattle.memory.specs.Candidate.{candidate}
 use Rattle.keys.specs.Key.{key_is}
