@@ -1,12 +1,12 @@
 -- A row that is accepted adds one record, within the volume's capacities, and no call is pending after it.
 use mathlib.Core.Path.{◌≡◌, refl, ap, ◌∙◌}
-use mathlib.Core.Bool.{Bool, true, false, cond, true≢false, ◌&&◌}
+use mathlib.Core.Bool.{Bool, true, false, cond, true≢false}
 use mathlib.Core.Option.{Option, none, some}
 use mathlib.Core.List.{List}
 use Prim.Native.Nat.{ℕ, suc, ◌+◌, ◌≤◌, ◌<◌}
 use native.Mathlib.Omega.{arith}
 use lib.ListN.{length, take}
-use lib.Dec.{eqb, leb, ltb}
+use lib.Dec.{eqb}
 use borrow.Author.Tests.{le-leb, leb-false, lt-ltb}
 use Rattle.layout.specs.Geometry.{Geometry, geometry, State, record_capacity, deletion_capacity}
 use Rattle.layout.specs.Hash.{Family}
@@ -15,7 +15,7 @@ use Rattle.layout.specs.Refusals as refusal
 use Rattle.layout.specs.Search.{Stop, found, corrupt}
 use Rattle.layout.specs.Flash.{Planned, plan_ops, all_fresh}
 use Rattle.layout.specs.Calls.{Volume, Outcome, accepted, hit, miss, refused, Result, refuse, bad_state, too_short, judge_first, search}
-use Rattle.layout.specs.Calls.{no_room, no_deletion, one, commit, change_by, change, update, update_after}
+use Rattle.layout.specs.Calls.{no_room, no_deletion, commit, change_by, change, update, update_after}
 use Rattle.layout.specs.Header.{on_pages, kind_in, finished}
 use Rattle.layout.specs.Budgets.{Memory, memory, steps, last_steps, call_steps, taken_by, result_of, call_for}
 use Rattle.laws.specs.StepLaws.{last_cut, last_length}

@@ -6,20 +6,18 @@ use mathlib.Core.List.{List, ◌++◌}
 use Prim.Native.Nat.{ℕ, ◌≤◌}
 use native.Mathlib.Omega.{arith}
 use lib.ListN.{length}
-use lib.Dec.{eqb, ltb}
+use lib.Dec.{eqb}
 use borrow.Author.Tests.{le-ltb}
 use Rattle.memory.specs.Booleans.{or_eq_false_iff}
 use Rattle.memory.specs.Words.{word, words_bytes, byte_of, length_words}
 use Rattle.layout.specs.Geometry as layout
 use Rattle.layout.specs.Calls.{Volume, bad_state, too_short}
-use Rattle.layout.specs.Header.{pages, on_pages, kind_in, finished, state_words, header_bytes, header_word, no_intent}
+use Rattle.layout.specs.Header.{pages, kind_in, finished, state_words, header_bytes, header_word, no_intent}
 use Rattle.laws.specs.HeaderLaws.{header_of, length_pages}
 use Rattle.laws.specs.Lengths.{Long}
 use Rattle.geometry.specs.Shape.{geometry_for, shape}
 use Rattle.geometry.specs.declared.Geometry.{Geometry}
-use Rattle.state.specs.Judge.{VolumeFits}
 use Rattle.state.specs.declared.Judgement.TheVariants.{Good}
-use Rattle.header.specs.Header.{idle_judgement}
 use Rattle.load.specs.Contract.{Judged}
 use Rattle.load.proofs.Counts.{Added}
 

@@ -5,7 +5,7 @@ use Rattle.std.proofs.Math.Option.{Option, none, some}
 use mathlib.Core.List.{List, [], ◌∷◌}
 use Rattle.memory.specs.Ranges.{memb}
 use Rattle.layout.specs.Geometry.{Geometry, geometry, unit_of}
-use Rattle.layout.specs.Flash.{all_fresh, plan_ops}
+use Rattle.layout.specs.Flash.{all_fresh}
 use Rattle.layout.specs.Hash.{Family}
 use Rattle.layout.specs.Items.{Record}
 use Rattle.layout.specs.Refusals as refusal
@@ -14,7 +14,7 @@ use Rattle.layout.specs.Calls.{Volume, Call, Outcome, accepted, hit, miss, refus
 use Rattle.layout.specs.Calls.{Edit, one, no_room, no_deletion, commit, change_by, change, update_after}
 use Rattle.layout.specs.Header.{pages, on_pages, kind_in, intended}
 use Rattle.layout.specs.Budgets.{Step, call_steps, taken_by, result_of, call_for}
-use Rattle.layout.specs.Several.{Several, ended, go_on}
+use Rattle.layout.specs.Several.{Several, go_on}
 use Rattle.tab.specs.Grammar.{Row}
 use Rattle.tab.specs.Reader.{body, rows_of}
 use Rattle.load.specs.LoadLaws.{row_update, row_result}

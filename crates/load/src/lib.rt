@@ -1,5 +1,6 @@
 // Loading a tab: its rows in turn, up to the first that is malformed or refused. Document 02, requests 1, 6 and 8.
 #![tactic(auto)]
+
 ghost use Rattle.std.specs.Prelude.{◌≡◌, drop};
 ghost use Rattle.layout.specs.Hash.{fnv_family};
 ghost use Rattle.layout.specs.Header.{on_pages};
