@@ -249,11 +249,6 @@ module _ {t : Deletions} {main ram : List ℕ} (R : DeletionsFit t main ram) whe
           (λ k h. try_flash t main ram j (pages_then t) k filled_is (omega (arith, slots_lt))))
 
     module _ (start : ℕ) (at : start ≡ layout.da_ram t.g.chip.unit) where
-      pub open_in_ram : start + count * 4 ≤ length ram
-      open_in_ram =
-          let c : count ≡ t.d0 % per_page t = rw q_is at count_is in
-          omega (arith, c, slots_lt, at, R.read.ram_fits)
-
       pub open_on_ram : t.d / q * q ≤ full → (j : ℕ) (met : Bool) → met ≡ has_word ram start count j
           → test_stop j met ≡ past_pages t main ram j
       open_on_ram h j met e =

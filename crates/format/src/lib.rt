@@ -1,5 +1,6 @@
 // Format: a new volume, in steps. Document 01, "Calls"; document 02, request 8.
 #![tactic(auto)]
+
 ghost use Rattle.std.specs.Prelude.{◌≡◌, ◌≤◌, length};
 ghost use Rattle.layout.specs.Hash.{fnv_family};
 ghost use Rattle.layout.specs.Flash.{flash_of};

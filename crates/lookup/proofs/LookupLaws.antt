@@ -3,16 +3,13 @@ use mathlib.Core.Path.{◌≡◌, refl, sym, ap, ◌∙◌}
 use mathlib.Core.Bool.{Bool, true, false, cond, false≢true}
 use mathlib.Core.List.{List}
 use mathlib.Core.Option.{none, some}
-use Prim.Native.Nat.{ℕ, ◌+◌, ◌*◌, ◌/◌, ◌%◌, ◌≤◌, ◌<◌}
+use Prim.Native.Nat.{ℕ, ◌+◌}
 use lib.ListN.{length}
-use lib.Dec.{ltb, eqb}
-use native.Mathlib.Omega.{arith}
-use native.Mathlib.Nat.{mod-lt, div-mul-le_self}
-use borrow.Author.Tests.{ltb-true}
+use lib.Dec.{eqb}
 use Rattle.layout.specs.Keys.{Key}
 use Rattle.layout.specs.Geometry as layout
 use Rattle.layout.specs.Hash.{Family}
-use Rattle.layout.specs.Items.{Place, item_place, Ra}
+use Rattle.layout.specs.Items.{item_place, Ra}
 use Rattle.layout.specs.Search as find
 use Rattle.layout.specs.Search.{found, corrupt}
 use Rattle.layout.specs.Refusals as refusal
@@ -20,8 +17,7 @@ use Rattle.layout.specs.Calls.{Volume, Outcome, accepted, hit, miss, refused, Re
 use Rattle.layout.specs.Calls.{answer, search, search_da_pages, lookup_after}
 use Rattle.layout.specs.Header.{pages, on_pages, kind_in, intended}
 use Rattle.layout.specs.Budgets.{Step, taken_by, taken, call_steps, result_of, call_for, call_whole}
-use Rattle.geometry.specs.Shape.{shape, geometry_for, Sound}
-use Rattle.geometry.specs.Bounds.{record_capacity_le}
+use Rattle.geometry.specs.Shape.{shape, geometry_for}
 use Rattle.geometry.specs.declared.Geometry.{Geometry}
 use Rattle.state.specs.Judge.{VolumeFits}
 use Rattle.state.specs.declared.Judgement.TheVariants.{Good, Refused}
@@ -55,19 +51,6 @@ module _ (h : Family) (g : layout.Geometry) (v : Volume) (key : Key) where
       → record { refusal = 0; found = 1; count = k; in_ram = 0; offset = o; deletion_count = m } ≡ lookup_of (answer h g v (lookup key))
   unfolding lookup_after
   lookup_main k m j o b e d p t = rw (e, d, ← p, t)
-
--- a record's place is a 32-bit number
-module _ (g : Geometry) (s : Sound g) (n j : ℕ) (m : n ≤ layout.record_capacity (shape g)) where
-  place_at : (t : Bool) → ltb j (n / layout.records_per_page g.chip.unit * layout.records_per_page g.chip.unit) ≡ t
-      → (cond {A = Place} t (record { in_ram = false; at = layout.ra_block (shape g) * layout.block g.chip.unit + j * 16 }) (record { in_ram = true; at = layout.ra_ram g.chip.unit + j % layout.records_per_page g.chip.unit * 16 })).at < 4294967296
-  place_at true q =
-      omega (arith, ltb-true j (n / layout.records_per_page g.chip.unit * layout.records_per_page g.chip.unit) q, div-mul-le_self n (layout.records_per_page g.chip.unit), record_capacity_le g s, m)
-  place_at false q =
-      let l : j % layout.records_per_page g.chip.unit < layout.records_per_page g.chip.unit = mod-lt j (omega (arith, s.unit.1.some)) in
-      omega (arith, l, s.unit.1.most)
-
-  pub place_fits : (p : Place) → p ≡ item_place g.chip.unit (Ra (shape g)) n j → p.at < 4294967296
-  place_fits p e = rw e (place_at (ltb j (n / layout.records_per_page g.chip.unit * layout.records_per_page g.chip.unit)) refl)
 
 -- ---- by what the judge of the state and the header answers
 

@@ -2,7 +2,7 @@
 use mathlib.Core.Path.{◌≡◌, refl, sym, ap, ◌∙◌}
 use mathlib.Core.Logic.{◌≢◌}
 use mathlib.Core.Bool.{Bool, true, false, false≢true}
-use mathlib.Core.List.{List, []}
+use mathlib.Core.List.{List}
 use Prim.Native.Nat.{ℕ, ◌+◌, ◌≤◌}
 use native.Mathlib.Omega.{arith}
 use lib.ListN.{length, take, drop}
@@ -66,13 +66,6 @@ num_true false q = absurd (omega (arith, q))
 num_false : (b : Bool) → num b ≢ 1 → b ≡ false
 num_false true q = absurd (q refl)
 num_false false q = refl
-
--- an answer with `found` 0 hands out nothing
-pub empty_part : (m r : ℕ × ℕ) (o : Outcome) (c d : ℕ) → (lookup_by o c d).found ≡ 0 → (part_of o ≡ []) × (where_of m r o ≡ (m.0, 0 + m.1))
-empty_part m r (hit p b) c d q = absurd (omega (arith, q))
-empty_part m r miss c d q = (refl, refl)
-empty_part m r (refused i) c d q = (refl, refl)
-empty_part m r accepted c d q = (refl, refl)
 
 -- a place by its two numbers
 as_place : (p : Place) (x : Bool) (q : ℕ) → p.in_ram ≡ x → q ≡ p.at → p ≡ record { in_ram = x; at = q }

@@ -1,5 +1,6 @@
 // Lookup: where a level's record lies. Document 01, "Calls"; document 02, request 8: 10.
 #![tactic(auto)]
+
 ghost use Rattle.std.specs.Prelude.{◌≡◌};
 ghost use Rattle.layout.specs.Hash.{fnv_family};
 ghost use Rattle.layout.specs.Calls.{lookup, answer};
@@ -116,7 +117,7 @@ pub fn lookup<'a>(
     numbers: &mut [u64; 4],
 ) -> &'a [u8]
     ensures part { (result.now ≡ part_of (call_whole fnv_family (volume s main.now spare.now ram.now) (lookup (key_is key))).outcome)
-        × (result.ref_ptr ≡ where_of main.entry.ptr ram.entry.ptr
+        × (result.ref_ptr ≡ where_of main.entry.ref_ptr ram.entry.ref_ptr
         (call_whole fnv_family (volume s main.now spare.now ram.now) (lookup (key_is key))).outcome) }
     ensures numbers { numbers.new
         ≡ answer_numbers (lookup_of (call_whole fnv_family (volume s main.now spare.now ram.now) (lookup (key_is key)))) }

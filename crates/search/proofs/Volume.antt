@@ -173,10 +173,6 @@ module _ (v : View) (main ram : List ℕ) (j : ℕ) (r : Tested)
   pub tested_opened : r.opened ≡ test_cost v main ram j
   tested_opened = ap (λ (f : Found). f.opened) is
 
--- its deletions can be tested
-pub test_fits : {v : View} {main ram : List ℕ} → ViewFits v main ram → tests.DeletionsFit (deletions_of v) main ram
-test_fits R = record { sound = R.sound; read = R.read; cap = R.d_cap; bound = R.d0_le }
-
 -- a test reads nothing of the records
 pub test_viewed : (v : View) (main ram : List ℕ) (j : ℕ)
     → test_deletion fnv_family (shape v.g) (tests.held (deletions_of v) main ram) v.d0 j
@@ -356,9 +352,6 @@ module _ {v : View} {main ram : List ℕ} (R : ViewFits v main ram) where
         cost_on_flash c e = (rw q_is at e) ∙ cost_bytes v main ram key main start (v.n0 % per_page v) (pages_then v * per_page v) same_there
 
     module _ (start : ℕ) (at : start ≡ layout.ka_ram v.g.chip.unit) where
-      pub open_in_ram : start + v.n0 % q * 8 ≤ length ram
-      open_in_ram = rw q_is (omega (arith, slots_lt, at, R.read.ram_fits))
-
       module _ (h : v.n / q ≤ v.n0 / q) (key : Key) where
         same_open : Same ram start (v.n0 % per_page v) v.n0 key (deleted_of v main ram) (test_cost v main ram) (try_of v main ram key) (cost_of v main ram key) (pages_then v * per_page v)
         same_open =

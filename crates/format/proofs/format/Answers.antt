@@ -6,8 +6,7 @@ use Rattle.format.proofs.format.Goals as goal
 
 pub returns : goal.returns
 returns c =
-    let s = c.before.before.before.before.before.before.before.before.before.before.before.before.before.before in
-    let f = c.before.before.before.before.before.before.before.format_for in
+    let x = c.args in
     rw c.uncut.ensures
-    (whole_effect (volume s.args.old s.args.main.now s.args.spare.now s.args.ram.now) (sizes_is s.args.sizes) _
-    f.result.refusal f.ensures refl)
+    (whole_effect (volume x.old x.main.now x.spare.now x.ram.now) (sizes_is x.sizes) _
+    c.format_for.result.refusal c.format_for.ensures refl)
