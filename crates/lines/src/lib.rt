@@ -1,6 +1,7 @@
 // What a line of a script does to a volume: its command is performed and answered, and the volume is passed on to the next line.
 // Document 01, "Replay program".
 #![tactic(auto)]
+
 ghost use Rattle.std.specs.Prelude.{◌≡◌, ◌≤◌, length};
 ghost use Rattle.layout.specs.Items.{record_of};
 ghost use Rattle.layout.specs.Calls.{lookup};

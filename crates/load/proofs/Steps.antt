@@ -71,9 +71,6 @@ rows_more text g e =
 abbrev pub more_done : ℕ → Several → Several
 more_done k s = record { outcome = s.outcome; done = k + s.done; volume = s.volume }
 
-pub none_done : (s : Several) → s ≡ more_done 0 s
-none_done s = let e : s.done ≡ 0 + s.done = omega arith in rw (← e)
-
 pub done_ended : (k : ℕ) (o : Outcome) (v : Volume) → more_done k (ended o v) ≡ record { outcome = o; done = k; volume = v }
 done_ended k o v = let e : k + 0 ≡ k = omega arith in rw e
 
