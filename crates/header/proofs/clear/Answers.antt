@@ -4,6 +4,4 @@ use Rattle.header.proofs.clear.Goals as goal
 
 pub returns : goal.returns
 unfolding header_bytes words_bytes
-returns c =
-    let k = c.before.before in
-    k.put_header.ensures
+returns c = c.put_header.ensures

@@ -9,8 +9,6 @@ use Rattle.header.proofs.intend.Goals as goal
 pub returns : goal.returns
 unfolding header_bytes words_bytes
 returns c =
-    let k = c.before.before in
-    let b = k.before.before.before in
-    let x = b.before.before.args in
-    k.put_header.ensures
-    ∙ ap (λ (l : List ℕ). pages x.ram.now ++ (words_bytes (state_words (state_is x.s)) ++ l)) b.request_bytes-intent.ensures
+    let x = c.args in
+    c.put_header.ensures
+    ∙ ap (λ (l : List ℕ). pages x.ram.now ++ (words_bytes (state_words (state_is x.s)) ++ l)) c.request_bytes-intent.ensures

@@ -10,12 +10,8 @@ use Rattle.header.proofs.intend_format.Goals as goal
 
 pub returns : goal.returns
 returns c =
-    let k = c.before.before in
-    let at = k.before.before.before in
-    let b = at.before.before in
-    let start = b.before.before in
-    let x = start.args in
+    let x = c.args in
     let words = format_words (sizes_is x.sizes) in
-    k.copy_at.ensures ∙ ap (λ (l : List ℕ). write x.ram.now (at.header_at-at.result + 24) l) b.intent_bytes-intent.ensures
-    ∙ ap (λ (n : ℕ). write x.ram.now (n + 24) (words_bytes words)) at.header_at-at.ensures
-    ∙ put_intent x.ram.now (words_bytes words) start.requires (length_words words)
+    c.copy_at.ensures ∙ ap (λ (l : List ℕ). write x.ram.now (c.header_at-at.result + 24) l) c.intent_bytes-intent.ensures
+    ∙ ap (λ (n : ℕ). write x.ram.now (n + 24) (words_bytes words)) c.header_at-at.ensures
+    ∙ put_intent x.ram.now (words_bytes words) c.requires (length_words words)

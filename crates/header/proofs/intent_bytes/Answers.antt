@@ -4,6 +4,5 @@ use Rattle.header.proofs.intent_bytes.Goals as goal
 
 pub returns : goal.returns
 returns c =
-    let p = c.before in
-    let x = p.before.before.before.args in
-    p.put_words.ensures ∙ intent_written x.kind x.a x.b x.c x.d
+    let x = c.args in
+    c.put_words.ensures ∙ intent_written x.kind x.a x.b x.c x.d

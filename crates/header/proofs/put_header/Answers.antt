@@ -10,14 +10,9 @@ use Rattle.header.proofs.put_header.Goals as goal
 
 pub returns : goal.returns
 returns c =
-    let k2 = c.before.before in
-    let k1 = k2.before.before.before.before in
-    let b = k1.before.before.before in
-    let at = b.before in
-    let start = at.before.before.before.before in
-    let x = start.args in
+    let x = c.args in
     let words = state_words (state_is x.s) in
-    let first = k1.copy_at.ensures ∙ ap (λ (l : List ℕ). write x.ram.now at.header_at-at.result l) b.state_bytes-b.ensures in
-    k2.copy_at-2.ensures ∙ ap (λ (l : List ℕ). write l (at.header_at-at.result + 24) x.intent.now) first
-    ∙ ap (λ (n : ℕ). write (write x.ram.now n (words_bytes words)) (n + 24) x.intent.now) at.header_at-at.ensures
-    ∙ put_whole x.ram.now (words_bytes words) x.intent.now start.requires.0 (length_words words) start.requires.1
+    let first = c.copy_at.ensures ∙ ap (λ (l : List ℕ). write x.ram.now c.header_at-at.result l) c.state_bytes-b.ensures in
+    c.copy_at-2.ensures ∙ ap (λ (l : List ℕ). write l (c.header_at-at.result + 24) x.intent.now) first
+    ∙ ap (λ (n : ℕ). write (write x.ram.now n (words_bytes words)) (n + 24) x.intent.now) c.header_at-at.ensures
+    ∙ put_whole x.ram.now (words_bytes words) x.intent.now c.requires.0 (length_words words) c.requires.1

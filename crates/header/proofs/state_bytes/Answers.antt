@@ -4,7 +4,4 @@ use Rattle.header.proofs.Laws.{state_written}
 use Rattle.header.proofs.state_bytes.Goals as goal
 
 pub returns : goal.returns
-returns c =
-    let p = c.before in
-    let x = p.before.before.before.args in
-    p.put_words.ensures ∙ state_written (state_is x.s)
+returns c = c.put_words.ensures ∙ state_written (state_is c.args.s)

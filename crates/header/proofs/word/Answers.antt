@@ -6,6 +6,5 @@ use Rattle.header.proofs.word.Goals as goal
 
 pub returns : goal.returns
 returns c =
-    let at = c.before in
-    let x = at.before.before.args in
-    c.get32.ensures ∙ ap (λ (n : ℕ). word x.ram.now (n + x.i * 4)) at.header_at.ensures ∙ word_at x.ram.now x.i
+    let x = c.args in
+    c.get32.ensures ∙ ap (λ (n : ℕ). word x.ram.now (n + x.i * 4)) c.header_at.ensures ∙ word_at x.ram.now x.i
