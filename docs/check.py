@@ -134,7 +134,7 @@ def check_names(path):
             if not any(cites(promise, word) for word in cited):
                 wrong.append(f"{path.relative_to(ROOT)}: the contract of {label}::{name} cites none of {', '.join(sorted(cited))}")
         for crate, edit in re.findall(r"`(\w+)/(\w+)`", row.get("edit", "")):
-            if not list((ROOT / "crates" / crate).glob(f"must-fail*/{edit}.edit")):
+            if not (ROOT / "crates" / crate / "must-fail" / f"{edit}.edit").exists():
                 wrong.append(f"{path.relative_to(ROOT)}: no edit {crate}/{edit}")
         for word in sorted(cited) if "its contract cites" in row else []:
             if not any(cites(promise, word) for promise in ensures):
