@@ -38,6 +38,16 @@ fresh_erases spare b zero = refl
 fresh_erases spare b (suc k) = fresh_erases spare (suc b) k
 
 module _ (u : ℕ) where
+  -- a program on an unaltered chip: the sector's mark is FF, and those of the sectors before it in its page are 00
+  abbrev pub Allowed : Op → Flash → Type 0
+  Allowed (program s bytes) c = (get_or c.spare s 0 ≡ 255) × ((x : ℕ) → x < s → x / 4 ≡ s / 4 → get_or c.spare x 0 ≡ 0)
+  Allowed (erase b) c = Unit {0}
+
+  abbrev pub AllAllowed : List Op → Flash → Type 0
+  AllAllowed [] c = Unit {0}
+  AllAllowed (o ∷ os) c = Allowed o c × AllAllowed os (apply u o c)
+
+module _ (u : ℕ) where
   -- equal bytes are equal operations
   pub programs_ext : (d s k : ℕ) (f g : ℕ → ℕ → ℕ) → ((j y : ℕ) → j < k → y < 16 * u → f j y ≡ g j y)
       → programs u d s k f ≡ programs u d s k g
@@ -48,20 +58,11 @@ module _ (u : ℕ) where
         programs_ext d (s + d) k (λ j. f (suc j)) (λ j. g (suc j)) (λ j y l m. e (suc j) y (omega arith) m),
       )
 
-  -- a program on an unaltered chip: the sector's mark is FF, and those of the sectors before it in its page are 00
-  abbrev pub Allowed : Op → Flash → Type 0
-  Allowed (program s bytes) c = (get_or c.spare s 0 ≡ 255) × ((x : ℕ) → x < s → x / 4 ≡ s / 4 → get_or c.spare x 0 ≡ 0)
-  Allowed (erase b) c = Unit {0}
-
-  abbrev pub AllAllowed : List Op → Flash → Type 0
-  AllAllowed [] c = Unit {0}
-  AllAllowed (o ∷ os) c = Allowed o c × AllAllowed os (apply u o c)
-
   pub apply_append : (xs ys : List Op) (c : Flash) → apply_all u (xs ++ ys) c ≡ apply_all u ys (apply_all u xs c)
   apply_append [] ys c = refl
   apply_append (o ∷ os) ys c = apply_append os ys (apply u o c)
 
-  pub allowed_append : (xs ys : List Op) (c : Flash) → AllAllowed xs c → AllAllowed ys (apply_all u xs c) → AllAllowed (xs ++ ys) c
+  pub allowed_append : (xs ys : List Op) (c : Flash) → AllAllowed u xs c → AllAllowed u ys (apply_all u xs c) → AllAllowed u (xs ++ ys) c
   allowed_append [] ys c a b = b
   allowed_append (o ∷ os) ys c a b = (a.0, allowed_append os ys (apply u o c) a.1 b)
 
@@ -138,7 +139,7 @@ module _ (u : ℕ) where
   pub programs_allowed : (d s k : ℕ) (f : ℕ → ℕ → ℕ) (c : Flash) → 0 < d → ((j : ℕ) → j < k → s + j * d < length c.spare)
       → ((j : ℕ) → j < k → get_or c.spare (s + j * d) 0 ≡ 255)
       → ((j x : ℕ) → j < k → x < s + j * d → x / 4 ≡ (s + j * d) / 4 → (get_or c.spare x 0 ≡ 0) ⊎ ((i : ℕ) × (i < j) × (x ≡ s + i * d)))
-      → AllAllowed (programs u d s k f) c
+      → AllAllowed u (programs u d s k f) c
   programs_allowed d s zero f c hd h fresh done = tt
   programs_allowed d s (suc k) f c hd h fresh done =
       let c1 : Flash = apply u (program s (tabulate (16 * u) (f zero))) c in
@@ -179,7 +180,7 @@ module _ (u : ℕ) where
 
   -- ---- k blocks in a row from b on are erased
 
-  pub erases_allowed : (b k : ℕ) (c : Flash) → AllAllowed (erases b k) c
+  pub erases_allowed : (b k : ℕ) (c : Flash) → AllAllowed u (erases b k) c
   erases_allowed b zero c = tt
   erases_allowed b (suc k) c = (tt, erases_allowed (suc b) k (apply u (erase b) c))
 
