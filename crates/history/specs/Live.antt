@@ -1,15 +1,12 @@
 -- The calls over the history alone, and the invariant between a history and document 01's finite map. Document 01, "Demand 3's map".
-use Rattle.std.specs.Prelude.{◌≡◌, refl, Bool, true, false, not, ◌&&◌, cond, List, [], ◌∷◌, ◌++◌, ℕ, ◌+◌, ◌≤◌, ◌<◌, length, leb}
-use Rattle.std.proofs.Common.{sym, ◌∙◌, not-suc-le-zero}
+use Rattle.std.specs.Prelude.{◌≡◌, Bool, true, false, not, ◌&&◌, cond, List, [], ◌∷◌, ◌++◌, ℕ, ◌+◌, ◌≤◌, ◌<◌, length, leb}
 use Rattle.std.proofs.Math.Option.{Option, none, some, map}
-use Rattle.memory.specs.Cases.{either}
-use Rattle.memory.specs.Ranges.{last, last_some, memb}
+use Rattle.memory.specs.Ranges.{last, memb}
 use Rattle.layout.specs.Keys.{Key, same_key}
 use Rattle.layout.specs.Calls.{Call, insert, update, delete, lookup, one}
 use Rattle.layout.specs.Refusals as refusal
-use Rattle.layout.specs.FiniteMap.{Level, level_of, Map, empty_map, find, Reply, accepts, hits, misses, refuses}
+use Rattle.layout.specs.FiniteMap.{Level, level_of, Map, find, Reply, accepts, hits, misses, refuses}
 use Rattle.layout.specs.Items.{Record, record_bytes}
-use Rattle.history.specs.KeyLaws.{key?}
 use Rattle.history.specs.Image.{History, record_at}
 
 -- ---- which records are live
@@ -97,25 +94,3 @@ pub record Live (H : History) (M : Map) : Type 0 where
   pub one : (k : Key) (i j : ℕ) → i < length H.records → j < length H.records → live_at H k i ≡ true → live_at H k j ≡ true → i ≡ j
   -- no number of a record to come is deleted
   pub below : (j : ℕ) → length H.records ≤ j → memb j H.deleted ≡ false
-
--- it holds at first
-pub live_start : Live empty_history empty_map
-unfolding last memb find
-live_start = record {
-  n_is = refl;
-  d_is = refl;
-  same = λ k. refl;
-  count = refl;
-  once = tt;
-  one = λ k i j h. absurd (not-suc-le-zero h);
-  below = λ j h. refl;
-}
-
--- ---- what a search finds is a record that is there
-
-pub live_key : (H : History) (k : Key) (j : ℕ) → live_at H k j ≡ true → (record_at H j).key ≡ k
-unfolding live_at
-live_key H k j e = either (key? (record_at H j).key k) (λ a. a.1) (λ a. let z : false ≡ true = sym (rw a.0) ∙ e in cc)
-
-pub found_below : (H : History) (k : Key) (j : ℕ) → find_live H k ≡ some j → (j < length H.records) × ((record_at H j).key ≡ k)
-found_below H k j e = let s = last_some (live_at H k) (length H.records) j e in (s.0, live_key H k j s.1)

@@ -4,4 +4,3 @@ pub mod Moves
 pub mod WornLoads
 pub mod WholeLoads
 pub mod CutMoves
-pub mod RowsKept
