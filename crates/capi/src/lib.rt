@@ -4,6 +4,7 @@
 // `bool` and narrow results. Which number is which, specs/Numbers.antt says. A number of 64 bits has a reference of its own, so that no
 // halves are put together.
 #![tactic(auto)]
+
 ghost use Rattle.std.specs.Prelude.{◌≡◌};
 ghost use Rattle.layout.specs.Geometry.{sizes_of};
 ghost use Rattle.layout.specs.Hash.{fnv_family};
