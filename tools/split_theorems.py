@@ -1,7 +1,7 @@
 #!/usr/bin/env python3
 """Theorems of a crate of definitions and theorems, moved from specs/ to proofs/.
 
-usage: tools/split_theorems.py CRATE..          at the top of the repository, once
+usage: tools/split_theorems.py CRATE|CRATE/FILE..          at the top of the repository, once
 
 The kit counts an edit of a definition as unread where theorems in specs/ rest on what falls. A file of specs/ keeps its definitions; theorems,
 and modules that have some, go to the file of the same name in proofs/, statements and proofs unchanged. Imports and edits follow.
@@ -101,12 +101,15 @@ def used(lines, text):
 
 def main(crates):
     os.chdir(TOP)
-    own = sorted(os.listdir("crates"))
+    only = {tuple(c.split("/")) for c in crates if "/" in c}
+    crates = sorted({c.split("/")[0] for c in crates})
     moved = {}  # (crate, file) -> names that stand in proofs/ now; None where the whole file does
     new = {}
     for crate in crates:
         folder = f"crates/{crate}/specs"
         parts = {f[:-5]: blocks(read(f"{folder}/{f}")) for f in sorted(os.listdir(folder)) if f.endswith(".antt") and f != "Lib.antt"}
+        if any(c == crate for c, _ in only):
+            parts = {f: bs for f, bs in parts.items() if (crate, f) in only}
         goes = {}
         theorems = set()
         for f, bs in parts.items():

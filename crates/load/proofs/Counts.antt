@@ -21,7 +21,7 @@ use Rattle.layout.specs.Budgets.{Memory, memory, steps, last_steps, call_steps, 
 use Rattle.laws.specs.StepLaws.{last_cut, last_length}
 use Rattle.tab.specs.Grammar.{Row}
 use Rattle.load.specs.Load.{row_record, row_call, row_whole}
-use Rattle.load.specs.LoadLaws.{row_result}
+use Rattle.load.proofs.LoadLaws.{row_result}
 
 -- the state with one record more and at most one deletion more, for which there was room
 pub record Added (g : Geometry) (s t : State) : Type 0 where

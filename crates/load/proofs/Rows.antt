@@ -29,7 +29,7 @@ use Rattle.calls.specs.Resolve.{stopped, resolved_of}
 use Rattle.tab.specs.Grammar.{Row}
 use Rattle.load.specs.Contract.{row_request}
 use Rattle.load.specs.Load.{row_call, row_whole}
-use Rattle.load.specs.LoadLaws.{row_result}
+use Rattle.load.proofs.LoadLaws.{row_result}
 use Rattle.calls.specs.Few.{few_ops}
 
 -- the level is the row's, whichever it is

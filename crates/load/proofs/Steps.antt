@@ -24,7 +24,7 @@ use Rattle.state.proofs.Refusals.{number, refuses}
 use Rattle.header.specs.Header.{idle_judgement}
 use Rattle.tab.specs.Grammar.{Row}
 use Rattle.tab.specs.Reader.{GotLine, got_line, read_more, row, header, body, rows_in, rows_of}
-use Rattle.tab.specs.Agree.{row_shorter}
+use Rattle.tab.proofs.Agree.{row_shorter}
 use Rattle.load.specs.Load.{end_of, load_rows_by, load_read_by, load_lines_by, row_whole, load_whole}
 
 -- ---- the rows of a text, one at a time

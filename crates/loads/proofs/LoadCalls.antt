@@ -13,9 +13,10 @@ use Rattle.history.specs.Runs.{KeyWord, KeyWords, after}
 use Rattle.layout.specs.Several.{Several, go_on}
 use Rattle.tab.specs.Grammar.{Row}
 use Rattle.tab.specs.Reader.{GotLine, body, row, rows_in, rows_of, continue}
-use Rattle.tab.specs.Agree.{row_sound}
+use Rattle.tab.proofs.Agree.{row_sound}
 use Rattle.load.specs.Load.{row_key, end_of, row_call, load_rows_by, load_rows, load_lines, load}
-use Rattle.load.specs.LoadLaws.{Judged, row_key_lem}
+use Rattle.load.specs.LoadLaws.{Judged}
+use Rattle.load.proofs.LoadLaws.{row_key_lem}
 use Rattle.loads.specs.LoadCalls.{accepts, counted}
 
 module _ (h : Family) where

@@ -23,7 +23,7 @@ use Rattle.history.specs.Reached.{map_after, Reached}
 use Rattle.history.proofs.Reached.{reach_call, reach_says, reach_format}
 use Rattle.tab.specs.Grammar.{Row, Reading}
 use Rattle.tab.specs.Reader.{body, rows_of}
-use Rattle.tab.specs.Agree.{reading_only}
+use Rattle.tab.proofs.Agree.{reading_only}
 use Rattle.load.specs.Load.{row_key, row_record, end_of, row_call, load_rows_by, load_rows, load_lines, load}
 use Rattle.load.specs.LoadLaws.{Judged}
 use Rattle.loads.specs.LoadCalls as calls

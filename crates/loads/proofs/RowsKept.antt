@@ -17,7 +17,8 @@ use Rattle.cuts.proofs.EveryTurn.{sizes_stay, beyond_on, calls_beyond}
 use Rattle.tab.specs.Grammar.{Row, Reading}
 use Rattle.tab.specs.Reader.{body, rows_of}
 use Rattle.load.specs.Load.{end_of, row_call, load_rows_by, load_lines_by, row_whole, load_whole}
-use Rattle.load.specs.LoadLaws.{Idle, load_whole_reading}
+use Rattle.load.specs.LoadLaws.{Idle}
+use Rattle.load.proofs.LoadLaws.{load_whole_reading}
 
 module _ (h : Family) where
   pub row_refused_keeps : (v : Volume) (r : Row) (i : ℕ) → (row_whole h v r).outcome ≡ refused i → row_whole h v r ≡ refuse v i

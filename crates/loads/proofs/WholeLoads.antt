@@ -36,7 +36,7 @@ use Rattle.cuts.specs.Several.{whole_turn, cut_turn}
 use Rattle.cuts.proofs.Several.{turns_after, turns_ops, turns_begun, turns_end, turns_flash, turns_in_order}
 use Rattle.tab.specs.Grammar.{Row}
 use Rattle.tab.specs.Reader.{GotLine, body, row, rows_in, rows_of, continue}
-use Rattle.tab.specs.Agree.{row_sound}
+use Rattle.tab.proofs.Agree.{row_sound}
 use Rattle.load.specs.Load.{row_key, end_of, row_call, load_rows_by, load_rows, load_lines_by, load_lines, load, row_whole, load_whole}
 use Rattle.loads.specs.LoadCalls.{accepts}
 use Rattle.loads.proofs.LoadCalls.{row_calls, lines_calls, tab_calls}

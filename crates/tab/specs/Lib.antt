@@ -4,6 +4,4 @@ pub mod Fields
 pub mod Agree
 pub mod Checks
 pub mod Places
-pub mod ReaderLaws
 pub mod Lines
-pub mod LineLaws

@@ -13,7 +13,7 @@ use Rattle.geometry.specs.declared.Geometry.{Geometry}
 use Rattle.state.specs.Contract.{cut_of, cut_by, outcome_of, volume}
 use Rattle.state.specs.declared.Cut.{Cut}
 use Rattle.tab.specs.Grammar.{Row}
-use Rattle.tab.specs.LineLaws.{row_goes_on}
+use Rattle.tab.proofs.LineLaws.{row_goes_on}
 use Rattle.load.specs.Load.{row_call, row_whole}
 use Rattle.load.specs.Contract.{Judged}
 use Rattle.load.proofs.Counts.{Added, row_counts}

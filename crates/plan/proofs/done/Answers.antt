@@ -2,7 +2,7 @@ use native.Mathlib.Omega.{arith}
 use Prim.Native.Nat.{ℕ, ◌+◌}
 use mathlib.Core.Path.{ap, ◌∙◌}
 use Rattle.plan.specs.Plans.{deletion_count}
-use Rattle.plan.specs.Done.{plan_done_is, record_done_le, later, earlier}
+use Rattle.plan.proofs.DoneLaws.{plan_done_is, record_done_le, later, earlier}
 use Rattle.plan.proofs.done.Goals as goal
 
 pub overflow_add-result : goal.overflow_add-result

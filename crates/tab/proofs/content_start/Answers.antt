@@ -1,7 +1,7 @@
 use native.Mathlib.Omega.{arith}
 use mathlib.Core.Path.{refl}
 use mathlib.Core.Logic.{inl, inr}
-use Rattle.tab.specs.ReaderLaws.{quoted_end, quoted_no, quoted_yes}
+use Rattle.tab.proofs.ReaderLaws.{quoted_end, quoted_no, quoted_yes}
 use Rattle.tab.proofs.content_start.Goals as goal
 
 pub returns-then-at-tab : goal.returns-then-at-tab

@@ -3,8 +3,8 @@ use mathlib.Core.Path.{sym, ap, ◌∙◌}
 use Prim.Native.Nat.{◌+◌}
 use lib.ListN.{drop}
 use Rattle.tab.specs.Reader.{small}
-use Rattle.tab.specs.ReaderLaws.{stays_large, digits_more, digits_low, digits_high, digits_end}
-use Rattle.tab.specs.ReaderLaws.{decimal_end, decimal_low, decimal_high, decimal_some}
+use Rattle.tab.proofs.ReaderLaws.{stays_large, digits_more, digits_low, digits_high, digits_end}
+use Rattle.tab.proofs.ReaderLaws.{decimal_end, decimal_low, decimal_high, decimal_some}
 use Rattle.tab.proofs.decimal_at.Goals as goal
 
 -- What is left to read, at each digit: the value so far has at most one digit too many.

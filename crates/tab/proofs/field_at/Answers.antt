@@ -1,7 +1,7 @@
 use mathlib.Core.Path.{sym}
 use lib.ListN.{drop}
 use Rattle.tab.specs.Reader.{ends, field}
-use Rattle.tab.specs.ReaderLaws.{ended_none, ended_open, ended_yes}
+use Rattle.tab.proofs.ReaderLaws.{ended_none, ended_open, ended_yes}
 use Rattle.tab.proofs.field_at.Goals as goal
 
 -- What stands in the field, and then what ends it.

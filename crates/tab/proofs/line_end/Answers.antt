@@ -1,6 +1,6 @@
 use native.Mathlib.Omega.{arith}
 use mathlib.Core.Path.{sym, ◌∙◌}
-use Rattle.tab.specs.ReaderLaws.{end_end, end_lf, end_cr, end_no}
+use Rattle.tab.proofs.ReaderLaws.{end_end, end_lf, end_cr, end_no}
 use Rattle.tab.proofs.line_end.Goals as goal
 
 -- The end of the tab, a line feed, a carriage return with one, or something else.

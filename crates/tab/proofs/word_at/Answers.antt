@@ -1,6 +1,6 @@
 use native.Mathlib.Omega.{arith}
 use mathlib.Core.Path.{sym, ◌∙◌}
-use Rattle.tab.specs.ReaderLaws.{word_done, word_short, word_other, word_more}
+use Rattle.tab.proofs.ReaderLaws.{word_done, word_short, word_other, word_more}
 use Rattle.tab.proofs.word_at.Goals as goal
 
 -- What is left to read, at each byte: the bytes of the name from i on.

@@ -1,6 +1,6 @@
 use mathlib.Core.Path.{◌≡◌, sym, ap, ◌∙◌}
 use mathlib.Core.Bool.{Bool, not, not-not}
-use Rattle.tab.specs.LineLaws.{level_bad, moves_bad, goal_bad, all_good}
+use Rattle.tab.proofs.LineLaws.{level_bad, moves_bad, goal_bad, all_good}
 use Rattle.tab.proofs.reader.line_at.Goals as goal
 
 -- The first field that is malformed, or all three.

@@ -3,7 +3,7 @@ use Rattle.std.specs.Prelude.{◌≡◌, Bool, true, false, List, ℕ, ◌-◌, 
 use Rattle.std.proofs.Common.{sym, ◌∙◌, arith, length-drop}
 use Rattle.std.proofs.Math.Option.{none, some}
 use Rattle.tab.specs.Reader.{got, field, got_line, line, row}
-use Rattle.tab.specs.Agree.{row_shorter}
+use Rattle.tab.proofs.Agree.{row_shorter}
 use Rattle.tab.specs.declared.Column.{Column}
 use Rattle.tab.specs.declared.Column.TheVariants.{Level, Moves, Goal}
 use Rattle.tab.specs.declared.Field.{Field}
