@@ -3,8 +3,8 @@
 
 Of README files and docs/*.md: lines of 140 characters at most, links that lead somewhere. Of these and of the landings: no
 placeholder, a word of capitals on a line of its own. Of README.md: its lines of C stand as they are in an example. Of
-ARCHITECTURE.md: every name stands in the file that it is said to be in, every edit is there, and the contract of every function in a
-column "code" cites what its row says.
+ARCHITECTURE.md: every name stands in the file that it is said to be in, or in the file of the same name in the other one of specs/ and
+proofs/; every edit is there, and the contract of every function in a column "code" cites what its row says.
 """
 
 import pathlib
@@ -117,13 +117,20 @@ def cites(ensures, name):
     return re.search(rf"(?<![\w-]){re.escape(name)}(?![\w-])", ensures or "")
 
 
+def declared(file):
+    """The text of a file, and of that of the same name beside it: a crate of theorems has definitions in specs/, theorems in proofs/."""
+    other = {"specs": "proofs", "proofs": "specs"}.get(file.parent.name)
+    beside = file.parent.parent / other / file.name if other else file
+    return "\n".join(source.read_text(encoding="utf-8") for source in sorted({file, beside}) if source.exists())
+
+
 def check_names(path):
     text = path.read_text(encoding="utf-8")
     files = references(text)
-    defines = r"^ *(?:(?:abbrev|unfoldable) )?(?:pub )?(?:record |data )?"
+    defines = r"^ *(?:(?:abbrev|unfoldable|opaque) )?(?:pub )?(?:record |data )?"
     for row in tables(text):
         for label, name in sum((list(items(cell)) for cell in row.values()), []):
-            source = (path.parent / files[label]).read_text(encoding="utf-8")
+            source = declared((path.parent / files[label]).resolve())
             form = rf"\b(?:fn|struct|enum|const) {name}\b" if files[label].endswith(".rt") else defines + re.escape(name) + " "
             if not re.search(form, source, re.M):
                 wrong.append(f"{path.relative_to(ROOT)}: no {name} in {label}")

@@ -1,5 +1,5 @@
 -- The key of a level. Every rule about keys goes by these names, the theorems' proofs by the laws
--- of `history/specs/KeyLaws.antt`. Document 01, "Records, entries, deletions", "Filters".
+-- of `history/proofs/KeyLaws.antt`. Document 01, "Records, entries, deletions", "Filters".
 use Rattle.std.specs.Prelude.{Bool, List, ℕ, ◌+◌, ◌^◌, ◌<◌, eqb}
 use Rattle.memory.specs.Words.{word, bytes4}
 

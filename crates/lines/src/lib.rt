@@ -176,7 +176,7 @@ pub fn answer_on(
     c.length
 }
 
-// The same by value, so that whoever calls it needs no proof by hand.
+// The same by value.
 pub fn answer_next(
     s: State,
     line: &[u8],

@@ -1,2 +1,3 @@
-// Demand 3 of the code: specs/Chain.antt; its power cuts: specs/CutChain.antt. The calls are the crates format, calls, restart and lookup.
+// Demand 3 of the code: proofs/Chain.antt; its power cuts: proofs/CutChain.antt. The calls are the crates format, calls, restart and
+// lookup.
 #![tactic(auto)]
