@@ -10,7 +10,7 @@ use Rattle.script.specs.Lines.{command}
 use Rattle.script.specs.Answers.{text}
 use Rattle.script.specs.AnswerLaws.{text_length}
 use Rattle.script.specs.Script.{Replay, perform, end_line, advance, feed, close, prints}
-use Rattle.script.specs.Cut.{cut}
+use Rattle.script.proofs.Cut.{cut}
 use Rattle.console.specs.BufferLaws.{take_before, take_written}
 use Rattle.console.specs.Buffers.{Buffers}
 use Rattle.console.specs.Buffers as buffers

@@ -3,7 +3,8 @@ use Prim.Native.Nat.{ℕ, ◌-◌}
 use mathlib.Core.Path.{◌≡◌, refl, sym, ap, ◌∙◌}
 use mathlib.Core.Bool.{true}
 use Rattle.geometry.specs.declared.table.SizeRow.{SizeRow}
-use Rattle.geometry.specs.Rows.{row_of, row_is}
+use Rattle.geometry.specs.Rows.{row_of}
+use Rattle.geometry.proofs.Rows.{row_is}
 use Rattle.geometry.specs.Shape.{sizes_is, shaped_of}
 use Rattle.geometry.specs.Allowed.{from_row, from_hit, from_next, from_end, shaped_hit, shaped_miss, shaped_sound}
 use Rattle.geometry.proofs.geometry_for.Goals as goal

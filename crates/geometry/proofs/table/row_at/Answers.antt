@@ -1,5 +1,5 @@
 use mathlib.Core.Path.{refl}
-use Rattle.geometry.specs.Rows.{rule}
+use Rattle.geometry.proofs.Rows.{rule}
 use Rattle.geometry.proofs.table.row_at.Goals as goal
 
 pub returns : goal.returns
