@@ -19,7 +19,7 @@ use Rattle.layout.specs.Budgets.{result_of, pending_on}
 use Rattle.laws.specs.Lengths.{long_of}
 use Rattle.laws.specs.Done.{ops_length, done_count, later_drop}
 use Rattle.geometry.specs.Shape.{shape, geometry_for, Sound}
-use Rattle.geometry.specs.Allowed.{allowed_sound}
+use Rattle.geometry.proofs.Allowed.{allowed_sound}
 use Rattle.geometry.specs.declared.Geometry.{Geometry}
 use Rattle.keys.specs.Key.{key_is}
 use Rattle.state.specs.Contract.{record_is, call_of}

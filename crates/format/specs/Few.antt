@@ -9,7 +9,7 @@ use Rattle.layout.specs.Flash.{erases}
 use Rattle.layout.specs.Refusals as refusal
 use Rattle.layout.specs.Calls.{Volume, refuse, too_short, format, formatted}
 use Rattle.geometry.specs.Shape.{geometry_for}
-use Rattle.geometry.specs.Allowed.{allowed_sound}
+use Rattle.geometry.proofs.Allowed.{allowed_sound}
 use Rattle.geometry.specs.Bounds.{blocks_le}
 
 pub erases_length : (b k : ℕ) → length (erases b k) ≡ k

@@ -6,7 +6,8 @@ use Rattle.geometry.specs.declared.table.SizeRow.{SizeRow}
 use Rattle.geometry.specs.Rows.{row_of}
 use Rattle.geometry.proofs.Rows.{row_is}
 use Rattle.geometry.specs.Shape.{sizes_is, shaped_of}
-use Rattle.geometry.specs.Allowed.{from_row, from_hit, from_next, from_end, shaped_hit, shaped_miss, shaped_sound}
+use Rattle.geometry.specs.Allowed.{from_row}
+use Rattle.geometry.proofs.Allowed.{from_hit, from_next, from_end, shaped_hit, shaped_miss, shaped_sound}
 use Rattle.geometry.proofs.geometry_for.Goals as goal
 
 pub loop-i-init : goal.loop-i-init
