@@ -38,7 +38,7 @@ use Rattle.history.proofs.CallRefusals.{call_refusals, either_among}
 use Rattle.cuts.proofs.Headers.{header_size_lem, intent_length}
 use Rattle.cuts.proofs.Whole as whole
 use Rattle.cuts.proofs.RestartLaws.{taken_outcome, restart_is, short_ram, restart_orderly}
-use Rattle.cuts.specs.EveryCut.{cut_refusals, format_refusals, restart_refusals, KeptRam, CutBeyond, Stores, Unchanged, sizes_named}
+use Rattle.cuts.specs.EveryCut.{cut_refusals, format_refusals, restart_refusals, KeptRam, CutBeyond, Stores, Unchanged}
 
 -- ---- a refusal hands everything back, the state too, and does no operation
 
@@ -175,10 +175,10 @@ unfolding restart_for memb
 restart_refusals_lem h b v =
     either_among restart_refusals (ltb (length v.ram) 64) _ _ refl (resumed_among h b v (pending_in v.ram))
 
-same_ram : (N : ℕ) (ram : List ℕ) → KeptRam N ram ram
+pub same_ram : (N : ℕ) (ram : List ℕ) → KeptRam N ram ram
 same_ram N ram = record { same = λ x l m. refl; long = refl }
 
-same_beyond : (g : Geometry) (v : Volume) → CutBeyond g v v
+pub same_beyond : (g : Geometry) (v : Volume) → CutBeyond g v v
 same_beyond g v = record {
   main = λ x l. refl;
   spare = λ x l. refl;
@@ -345,7 +345,7 @@ last_beyond sizes b v r long B i =
 
 module _ (h : Family) (b : ℕ) (v : Volume) where
   -- a RAM with no header is refused
-  resumed_beyond : (g : Geometry) (p : Pending) → pending_in v.ram ≡ p
+  pub resumed_beyond : (g : Geometry) (p : Pending) → pending_in v.ram ≡ p
       → (64 ≤ length v.ram → CutBeyond g v (resumed h b v p).volume) → CutBeyond g v (restart_for h b v).volume
   resumed_beyond g p q f =
       either (le? 64 (length v.ram))
@@ -379,23 +379,3 @@ restart_idle_keeps h b v q =
     (either_same v (ltb (length v.ram) 64) _ _ (refl, refl)
     (either_same v (bad_state (state_in v.ram)) _ _ (refl, refl)
     (either_same v (too_short (geometry (state_in v.ram).sizes) v.flash (pages v.ram)) _ _ (refl, refl) (refl, refl))))
-
-bytes_beyond : (g : Geometry) (v w : Volume) → w.flash ≡ v.flash → w.ram ≡ v.ram → CutBeyond g v w
-bytes_beyond g v w f r = record {
-  main = λ x l. rw f;
-  spare = λ x l. rw f;
-  main_length = rw f;
-  spare_length = rw f;
-  ram = rw r (same_ram (ram_size g) v.ram);
-}
-
--- any restart
-pub restart_beyond : (h : Family) (b : ℕ) (v : Volume)
-    → CutBeyond (geometry (sizes_named (pending_in v.ram) v.ram)) v (restart_for h b v).volume
-restart_beyond h b v = by (pending_in v.ram) refl
-  where
-    by : (p : Pending) → pending_in v.ram ≡ p → CutBeyond (geometry (sizes_named p v.ram)) v (restart_for h b v).volume
-    by nothing q = let k = restart_idle_keeps h b v q in bytes_beyond _ v _ k.0 k.1
-    by (changing c) q = restart_change_beyond h b v c q
-    by (formatting sizes) q = restart_format_beyond h b v sizes q
-    by unknown q = resumed_beyond h b v _ unknown q (λ l. same_beyond _ v)

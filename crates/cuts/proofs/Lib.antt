@@ -28,6 +28,7 @@ pub mod Several
 pub mod CutMap
 pub mod ActAnswers
 pub mod EveryCut
+pub mod EveryRestart
 pub mod ByFresh
 pub mod EveryTurn
 pub mod Waiting

@@ -1,7 +1,7 @@
 -- "Of a call made of several, as a load, each is cut and finished by itself": calls in turn with one budget of steps. A call that is cut
 -- ends them, and those after it are not made. With the restarts after them they are events, so that all that holds of power cuts holds of
 -- them.
-use Rattle.std.specs.Prelude.{◌≡◌, refl, Bool, true, false, cond, List, [], ◌∷◌, ◌++◌, ℕ, ◌+◌, ◌-◌, ◌≤◌, leb}
+use Rattle.std.specs.Prelude.{◌≡◌, refl, Bool, true, false, cond, List, [], ◌∷◌, ◌++◌, ℕ, ◌-◌, ◌≤◌, leb}
 use Rattle.std.proofs.Common.{sym, ap, subst, ◌∙◌, append_assoc, append-nil, arith}
 use Rattle.memory.specs.Cases.{either, le?}
 use Rattle.layout.specs.Geometry.{geometry, allowed, Sizes, unit_of}
@@ -21,41 +21,13 @@ use Rattle.cuts.proofs.Uncut.{lifted_is, enough_lifted, whole_lifted, pages_lift
 use Rattle.cuts.proofs.EventLaws.{key_word, all_words}
 use Rattle.cuts.proofs.Formats.{format_end_lem}
 use Rattle.cuts.proofs.PowerCut.{run, all_flash, all_in_order}
-use Rattle.cuts.specs.Several.{CallNumbers, AsEvents, Turn, whole_turn, cut_turn, OneNumbers, TurnNumbers}
+use Rattle.cuts.specs.Several.{CallNumbers, AsEvents, Turn, whole_turn, cut_turn, OneNumbers, TurnNumbers, several_for, calls_ops}
+use Rattle.cuts.specs.Several.{several_ops, begun, all_steps, turn_volume, turn_ops, turn_begun, turns_after, turns_ops, turns_begun}
 
 module _ (h : Family) where
-  -- the volume that calls in turn leave, with b steps for all of them
-  abbrev pub several_for : ℕ → Volume → List Call → Volume
-  several_for b v [] = v
-  several_for b v (c ∷ cs) =
-      cond (leb (step_count (result_of h v c)) b) (several_for (b - step_count (result_of h v c)) (call_for h b v c).volume cs)
-      (call_for h b v c).volume
-
-  -- and their chip operations
-  abbrev calls_ops : ℕ → Volume → List Call → List Op
-  calls_ops b v [] = []
-  calls_ops b v (c ∷ cs) =
-      (call_for h b v c).ops
-      ++ cond (leb (step_count (result_of h v c)) b) (calls_ops (b - step_count (result_of h v c)) (call_for h b v c).volume cs) []
-
-  -- the operations of the calls and of the restarts after them
-  abbrev pub several_ops : ℕ → List ℕ → Volume → List Call → List Op
-  several_ops b bs v cs = calls_ops b v cs ++ finish_ops h bs (several_for b v cs)
-
-  -- the calls of which a step was done, or that have none: all up to the one that is cut
-  abbrev pub begun : ℕ → Volume → List Call → List Call
-  begun b w [] = []
-  begun b w (c ∷ cs) =
-      cond (leb (step_count (call h w c)) b) (c ∷ begun (b - step_count (call h w c)) (call h w c).volume cs) (made_by b c)
-
-  -- the steps that all of them have
-  abbrev pub all_steps : Volume → List Call → ℕ
-  all_steps w [] = 0
-  all_steps w (c ∷ cs) = step_count (call h w c) + all_steps (call h w c).volume cs
-
   -- ---- with so many steps all are made, and no restart is asked for
 
-  pub all_begun : (w : Volume) (b : ℕ) (cs : List Call) → all_steps w cs ≤ b → begun b w cs ≡ cs
+  pub all_begun : (w : Volume) (b : ℕ) (cs : List Call) → all_steps h w cs ≤ b → begun h b w cs ≡ cs
   all_begun w b [] l = refl
   all_begun w b (c ∷ cs) l =
       either (le? (step_count (call h w c)) b)
@@ -63,7 +35,7 @@ module _ (h : Family) where
       (all_begun (call h w c).volume (b - step_count (call h w c)) cs (omega (arith, l)))))
       (λ q. absurd (omega (arith, l, q.1)))
 
-  pub several_whole : (w : Volume) (b : ℕ) (cs : List Call) → all_steps w cs ≤ b → several_for b (lift w) cs ≡ lift (after h w cs)
+  pub several_whole : (w : Volume) (b : ℕ) (cs : List Call) → all_steps h w cs ≤ b → several_for h b (lift w) cs ≡ lift (after h w cs)
   several_whole w b [] l = refl
   several_whole w b (c ∷ cs) l =
       let steps : step_count (result_of h (lift w) c) ≡ step_count (call h w c) = ap step_count (lifted_is h w c) in
@@ -177,45 +149,15 @@ made_append (e ∷ es) fs =
     ap (λ (cs : List Call). calls_of e ++ cs) (made_append es fs) ∙ sym (append_assoc (calls_of e) (made es) (made fs))
 
 module _ (h : Family) where
-  -- what one of them leaves
-  abbrev pub turn_volume : Volume → Turn → Volume
-  turn_volume v (whole_turn f) = whole_after h v (f (on_pages v))
-  turn_volume v (cut_turn f b bs) = (finish h bs (several_for h b v (f (on_pages v)))).volume
-
-  -- its operations
-  abbrev pub turn_ops : Volume → Turn → List Op
-  turn_ops v (whole_turn f) = whole_ops h v (f (on_pages v))
-  turn_ops v (cut_turn f b bs) = several_ops h b bs v (f (on_pages v))
-
-  -- its calls that are made
-  abbrev pub turn_begun : Volume → Turn → List Call
-  turn_begun w (whole_turn f) = f w
-  turn_begun w (cut_turn f b bs) = begun h b w (f w)
-
   -- it as events
   abbrev turn_events : Volume → Turn → List Event
   turn_events w (whole_turn f) = whole_events h (f w)
   turn_events w (cut_turn f b bs) = several_events h b bs w (f w)
 
-  -- what all of them leave
-  abbrev pub turns_after : Volume → List Turn → Volume
-  turns_after v [] = v
-  turns_after v (t ∷ ts) = turns_after (turn_volume v t) ts
-
-  -- the operations of all, in order
-  abbrev pub turns_ops : Volume → List Turn → List Op
-  turns_ops v [] = []
-  turns_ops v (t ∷ ts) = turn_ops v t ++ turns_ops (turn_volume v t) ts
-
-  -- the calls that are made
-  abbrev pub turns_begun : Volume → List Turn → List Call
-  turns_begun w [] = []
-  turns_begun w (t ∷ ts) = turn_begun w t ++ turns_begun (after h w (turn_begun w t)) ts
-
   -- all as events
   abbrev turns_events : Volume → List Turn → List Event
   turns_events w [] = []
-  turns_events w (t ∷ ts) = turn_events w t ++ turns_events (after h w (turn_begun w t)) ts
+  turns_events w (t ∷ ts) = turn_events w t ++ turns_events (after h w (turn_begun h w t)) ts
 
   after_append : (v : Volume) (es fs : List Event) → events_after h v (es ++ fs) ≡ events_after h (events_after h v es) fs
   after_append v [] fs = refl
@@ -241,7 +183,7 @@ module _ (h : Family) where
   }
 
   turn_events_lem : (w : Volume) (t : Turn) → OneNumbers t
-      → AsEvents h w (turn_volume (lift w) t) (turn_ops (lift w) t) (turn_begun w t) (turn_events w t)
+      → AsEvents h w (turn_volume h (lift w) t) (turn_ops h (lift w) t) (turn_begun h w t) (turn_events w t)
   turn_events_lem w (whole_turn f) n =
       let found : f (on_pages (lift w)) ≡ f w = ap f (pages_lifted w) in
       rw found (whole_events_lem h w (f w) (n w))
@@ -251,21 +193,21 @@ module _ (h : Family) where
 
   -- one of them leaves what document 01's calls leave, and so reaches
   pub turn_end : (sizes : Sizes) (w : Volume) (m : Map) (t : Turn) → OneNumbers t → Reached h sizes w m
-      → turn_volume (lift w) t ≡ lift (after h w (turn_begun w t))
+      → turn_volume h (lift w) t ≡ lift (after h w (turn_begun h w t))
   turn_end sizes w m t n X = leaves h sizes w _ m _ _ _ (turn_events_lem w t n) X
 
   pub turn_reaches : (sizes : Sizes) (w : Volume) (m : Map) (t : Turn) → OneNumbers t → Reached h sizes w m
-      → Reached h sizes (after h w (turn_begun w t)) (map_after (geometry sizes) m (turn_begun w t))
+      → Reached h sizes (after h w (turn_begun h w t)) (map_after (geometry sizes) m (turn_begun h w t))
   turn_reaches sizes w m t n X =
       let E = turn_events_lem w t n in
-      reach h sizes w m (turn_begun w t) X (rw E.calls_are (all_words (turn_events w t) E.numbers))
+      reach h sizes w m (turn_begun h w t) X (rw E.calls_are (all_words (turn_events w t) E.numbers))
 
   turns_events_lem : (sizes : Sizes) (w : Volume) (m : Map) (ts : List Turn) → TurnNumbers ts → Reached h sizes w m
-      → AsEvents h w (turns_after (lift w) ts) (turns_ops (lift w) ts) (turns_begun w ts) (turns_events w ts)
+      → AsEvents h w (turns_after h (lift w) ts) (turns_ops h (lift w) ts) (turns_begun h w ts) (turns_events w ts)
   turns_events_lem sizes w m [] n X = record { volume_is = refl; ops_are = refl; calls_are = refl; numbers = tt }
   turns_events_lem sizes w m (t ∷ ts) n X =
-      let next : Volume = after h w (turn_begun w t) in
-      let ends : turn_volume (lift w) t ≡ lift next = turn_end sizes w m t n.0 X in
+      let next : Volume = after h w (turn_begun h w t) in
+      let ends : turn_volume h (lift w) t ≡ lift next = turn_end sizes w m t n.0 X in
       rw ends
       (joined w next _ _ _ _ _ _ _ (rw ends at (turn_events_lem w t n.0))
       (turns_events_lem sizes next _ ts n.1 (turn_reaches sizes w m t n.0 X)))

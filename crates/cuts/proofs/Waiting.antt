@@ -19,7 +19,8 @@ use Rattle.cuts.proofs.Finish.{steps_length}
 use Rattle.cuts.proofs.RestartLaws.{call_outcome}
 use Rattle.cuts.proofs.Whole as whole
 use Rattle.cuts.specs.EveryCut.{CutBeyond}
-use Rattle.cuts.proofs.EveryCut.{cut_beyond, restart_beyond, restart_idle_keeps}
+use Rattle.cuts.proofs.EveryCut.{cut_beyond, restart_idle_keeps}
+use Rattle.cuts.proofs.EveryRestart.{restart_beyond}
 use Rattle.cuts.specs.Waiting.{is_accepted, SameLengths}
 
 ram_waits : (u : ℕ) (os : List Op) (d : List ℕ) (b : ℕ) (x : Flash) (ram : List ℕ) → b ≤ length os

@@ -19,59 +19,26 @@ use Rattle.cuts.proofs.EventLaws.{key_word}
 use Rattle.cuts.specs.Uncut.{whole_after}
 use Rattle.cuts.proofs.Uncut.{pages_lifted, finished_lifted}
 use Rattle.cuts.proofs.Formats.{format_end_lem}
-use Rattle.cuts.specs.CutMap.{step_for, CutAgrees}
+use Rattle.cuts.specs.CutMap.{CutAgrees}
 use Rattle.cuts.proofs.CutMap.{events_agree}
 use Rattle.cuts.specs.Several.{OneNumbers, TurnNumbers}
-use Rattle.cuts.proofs.Several.{several_for, begun, several_accepts, turn_volume, turn_begun, turns_after, turns_begun}
+use Rattle.cuts.specs.Several.{begun, turn_volume, turn_begun, turns_after, turns_begun}
+use Rattle.cuts.proofs.Several.{several_accepts}
 use Rattle.cuts.proofs.Several.{turn_end, turn_reaches}
 use Rattle.load.specs.Load.{load, load_whole}
-use Rattle.loads.proofs.LoadCalls.{tab_calls}
+use Rattle.loads.specs.LoadCalls.{tab_calls}
 use Rattle.loads.specs.LoadMap.{map_tab}
 use Rattle.loads.proofs.LoadMap.{load_agrees, tab_map}
 use Rattle.loads.specs.WholeLoads.{CutMove, whole_call}
 use Rattle.loads.proofs.WholeLoads.{WholeAgrees, load_lifted, loaded_lifted, tab_numbers, load_rows_lem}
 use Rattle.loads.specs.WholeLoads.{whole_load, cut_call, cut_load, idle_move, CutNumbers}
 use Rattle.loads.proofs.WholeLoads.{turn_of, turns_of, turn_numbers}
-use Rattle.loads.specs.CutMoves.{Unmoved}
+use Rattle.loads.specs.CutMoves.{Unmoved, load_restarted, move_volume, moves_after, move_map, moves_map}
 
 module _ (h : Family) where
-  -- a load with the budget b and its restarts: what the last of them answers and leaves
-  abbrev pub load_restarted : Volume → List ℕ → ℕ → List ℕ → Result
-  load_restarted v text b bs = finish h bs (several_for h b v (tab_calls h (on_pages v) text))
-
-  -- the calls of its rows up to the one that is cut: "each is cut and finished by itself"
-  abbrev pub rows_begun : Volume → List ℕ → ℕ → List Call
-  rows_begun v text b = begun h b (on_pages v) (tab_calls h (on_pages v) text)
-
-  -- what a move leaves
-  abbrev pub move_volume : Volume → CutMove → Volume
-  move_volume v (whole_call c) = (call_whole h v c).volume
-  move_volume v (whole_load text) = (load_whole h v text).volume
-  move_volume v (cut_call c b bs) = (finish h bs (call_for h b v c).volume).volume
-  move_volume v (cut_load text b bs) = (load_restarted v text b bs).volume
-  move_volume v (idle_move bs) = (finish h bs v).volume
-
-  -- and a list of them
-  abbrev pub moves_after : Volume → List CutMove → Volume
-  moves_after v [] = v
-  moves_after v (x ∷ xs) = moves_after (move_volume v x) xs
-
   module _ (sizes : Sizes) where
     abbrev g : Geometry
     g = geometry sizes
-
-    -- the map after a move. "A cut before the intent leaves what was there", and of a load the rows behind the one that is cut are not made
-    abbrev pub move_map : Volume → Map → CutMove → Map
-    move_map v m (whole_call c) = (map_of g m c).next
-    move_map v m (whole_load text) = (map_tab g m text).map
-    move_map v m (cut_call c b bs) = (step_for g b m c).next
-    move_map v m (cut_load text b bs) = map_after g m (rows_begun v text b)
-    move_map v m (idle_move bs) = m
-
-    -- after a list of them, each on the volume that those before it leave
-    abbrev pub moves_map : Volume → Map → List CutMove → Map
-    moves_map v m [] = m
-    moves_map v m (x ∷ xs) = moves_map (move_volume v x) (move_map v m x) xs
 
     -- the last restart of a load that was cut: it is not refused, the pages have the levels of the map m, and the header has the state and
     -- no intent
@@ -87,13 +54,13 @@ module _ (h : Family) where
     MoveAgrees v m (whole_load text) = WholeAgrees h sizes (load_whole h v text) (map_tab g m text)
     MoveAgrees v m (cut_call c b bs) =
         CutAgrees sizes v m b c (call_for h b v c).outcome (finish h bs (call_for h b v c).volume).volume
-    MoveAgrees v m (cut_load text b bs) = RestartAgrees (load_restarted v text b bs) (move_map v m (cut_load text b bs))
+    MoveAgrees v m (cut_load text b bs) = RestartAgrees (load_restarted h v text b bs) (move_map h sizes v m (cut_load text b bs))
     MoveAgrees v m (idle_move bs) = ((finish h bs v).outcome ≡ accepted) × ((finish h bs v).volume ≡ v)
 
     -- each of a list
     abbrev pub CutMovesAgree : Volume → Map → List CutMove → Type 0
     CutMovesAgree v m [] = Unit {0}
-    CutMovesAgree v m (x ∷ xs) = MoveAgrees v m x × CutMovesAgree (move_volume v x) (move_map v m x) xs
+    CutMovesAgree v m (x ∷ xs) = MoveAgrees v m x × CutMovesAgree (move_volume h v x) (move_map h sizes v m x) xs
 
 either_unmoved : (m : Map) (t : Bool) (s u : Step) → Unmoved m s → Unmoved m u → Unmoved m (cond t s u)
 either_unmoved m true s u p q = p

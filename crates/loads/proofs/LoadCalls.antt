@@ -17,22 +17,9 @@ use Rattle.tab.proofs.Agree.{row_sound}
 use Rattle.load.specs.Load.{row_key, end_of, row_call, load_rows_by, load_rows, load_lines, load}
 use Rattle.load.specs.LoadLaws.{Judged}
 use Rattle.load.proofs.LoadLaws.{row_key_lem}
-use Rattle.loads.specs.LoadCalls.{accepts, counted}
+use Rattle.loads.specs.LoadCalls.{accepts, counted, row_calls, lines_calls, tab_calls}
 
 module _ (h : Family) where
-  -- the calls of the rows that the store sees
-  unfoldable pub row_calls : Volume → List Row → List Call
-  row_calls v [] = []
-  row_calls v (r ∷ rs) = accepts (call h v (row_call h v r)).outcome (row_call h v r) (row_calls (call h v (row_call h v r)).volume rs)
-
-  abbrev pub lines_calls : Volume → Option (List ℕ) → List Call
-  lines_calls v none = []
-  lines_calls v (some lines) = row_calls v (rows_of lines).rows
-
-  -- the calls of a tab's rows
-  abbrev pub tab_calls : Volume → List ℕ → List Call
-  tab_calls v text = lines_calls v (body text)
-
   -- how many of the calls are accepted
   abbrev pub accepted_calls : Volume → List Call → ℕ
   accepted_calls v [] = 0
@@ -51,23 +38,23 @@ module _ (h : Family) where
   row_same v c miss rest cs e S = (S.0, rw e (ap suc S.1))
   row_same v c (refused i) rest cs e S = (refl, rw e)
 
-  rows_same : (v : Volume) (rs : List Row) (end : Outcome) → Same v (load_rows h v rs end) (row_calls v rs)
+  rows_same : (v : Volume) (rs : List Row) (end : Outcome) → Same v (load_rows h v rs end) (row_calls h v rs)
   unfolding load_rows_by row_calls
   rows_same v [] end = (refl, refl)
   rows_same v (r ∷ rs) end =
       let c : Call = row_call h v r in
-      row_same v c (call h v c).outcome (load_rows h (call h v c).volume rs end) (row_calls (call h v c).volume rs) refl
+      row_same v c (call h v c).outcome (load_rows h (call h v c).volume rs end) (row_calls h (call h v c).volume rs) refl
       (rows_same (call h v c).volume rs end)
 
-  lines_same : (v : Volume) (o : Option (List ℕ)) → Same v (load_lines h v o) (lines_calls v o)
+  lines_same : (v : Volume) (o : Option (List ℕ)) → Same v (load_lines h v o) (lines_calls h v o)
   lines_same v none = (refl, refl)
   lines_same v (some lines) = rows_same v (rows_of lines).rows (end_of (rows_of lines).rest)
 
-  pub load_volume : (v : Volume) (text : List ℕ) → Judged v → (load h v text).volume ≡ after h v (tab_calls v text)
+  pub load_volume : (v : Volume) (text : List ℕ) → Judged v → (load h v text).volume ≡ after h v (tab_calls h v text)
   unfolding load
   load_volume v text J = rw (J.0, J.1) (lines_same v (body text)).0
 
-  pub load_done : (v : Volume) (text : List ℕ) → Judged v → (load h v text).done ≡ accepted_calls v (tab_calls v text)
+  pub load_done : (v : Volume) (text : List ℕ) → Judged v → (load h v text).done ≡ accepted_calls v (tab_calls h v text)
   unfolding load
   load_done v text J = rw (J.0, J.1) (lines_same v (body text)).1
 
@@ -86,7 +73,7 @@ module _ (h : Family) where
   accepts_words miss c cs w ws = (w, ws)
   accepts_words (refused i) c cs w ws = (w, tt)
 
-  calls_words : (v : Volume) (rs : List Row) → RowWords rs → KeyWords (row_calls v rs)
+  calls_words : (v : Volume) (rs : List Row) → RowWords rs → KeyWords (row_calls h v rs)
   unfolding row_calls
   calls_words v [] w = tt
   calls_words v (r ∷ rs) w =
@@ -103,9 +90,9 @@ module _ (h : Family) where
       go none e ih = tt
       go (some g) e ih = (record { level_lt = (row_sound text g e).says.first.decimal.below }, ih g.next)
 
-  lines_words : (v : Volume) (o : Option (List ℕ)) → KeyWords (lines_calls v o)
+  lines_words : (v : Volume) (o : Option (List ℕ)) → KeyWords (lines_calls h v o)
   lines_words v none = tt
   lines_words v (some lines) = calls_words v (rows_of lines).rows (read_words (length lines) lines)
 
-  pub tab_words : (v : Volume) (text : List ℕ) → KeyWords (tab_calls v text)
+  pub tab_words : (v : Volume) (text : List ℕ) → KeyWords (tab_calls h v text)
   tab_words v text = lines_words v (body text)

@@ -27,7 +27,8 @@ use Rattle.tab.proofs.Agree.{reading_only}
 use Rattle.load.specs.Load.{row_key, row_record, end_of, row_call, load_rows_by, load_rows, load_lines, load}
 use Rattle.load.specs.LoadLaws.{Judged}
 use Rattle.loads.specs.LoadCalls as calls
-use Rattle.loads.proofs.LoadCalls.{row_calls, lines_calls, tab_calls, RowWords, row_word, read_words}
+use Rattle.loads.specs.LoadCalls.{row_calls, lines_calls, tab_calls}
+use Rattle.loads.proofs.LoadCalls.{RowWords, row_word, read_words}
 use Rattle.loads.specs.LoadMap.{call_if, map_call, MapLoaded, map_on, map_row, map_load, end_says, map_lines, map_tab, LoadReply}
 
 pub map_reading : (g : Geometry) (m : Map) (text : List ℕ) (rows : List Row) (rest : List ℕ) → Reading text rows rest

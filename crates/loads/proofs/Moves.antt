@@ -14,24 +14,13 @@ use Rattle.history.proofs.Reached.{reach, reach_call, reach_format}
 use Rattle.history.specs.Demands.{Run}
 use Rattle.history.proofs.Demands.{demand_2, demand_3}
 use Rattle.load.specs.Load.{load}
-use Rattle.loads.proofs.LoadCalls.{tab_calls, load_volume, tab_words}
+use Rattle.loads.specs.LoadCalls.{tab_calls}
+use Rattle.loads.proofs.LoadCalls.{load_volume, tab_words}
 use Rattle.loads.specs.LoadMap.{map_tab}
 use Rattle.loads.proofs.LoadMap.{LoadAgrees, load_agrees, reached_judged}
-use Rattle.loads.specs.Moves.{Move, one, tab, MoveWords}
+use Rattle.loads.specs.Moves.{Move, one, tab, MoveWords, after_moves, calls_of}
 
 module _ (h : Family) where
-  -- the volume after a list of calls and loads
-  abbrev pub after_moves : Volume → List Move → Volume
-  after_moves v [] = v
-  after_moves v (one c ∷ ms) = after_moves (call h v c).volume ms
-  after_moves v (tab text ∷ ms) = after_moves (load h v text).volume ms
-
-  -- its calls, those of its loads among them
-  abbrev pub calls_of : Volume → List Move → List Call
-  calls_of v [] = []
-  calls_of v (one c ∷ ms) = c ∷ calls_of (call h v c).volume ms
-  calls_of v (tab text ∷ ms) = tab_calls h v text ++ calls_of (load h v text).volume ms
-
   after_append : (v : Volume) (xs ys : List Call) → after h v (xs ++ ys) ≡ after h (after h v xs) ys
   after_append v [] ys = refl
   after_append v (x ∷ xs) ys = after_append (call h v x).volume xs ys
@@ -54,21 +43,21 @@ module _ (h : Family) where
         subst (λ (x : Volume). Reached h sizes x (map_after g m (tab_calls h v text))) (sym (load_is v m text X))
         (reach h sizes v m (tab_calls h v text) X (tab_words h v text))
 
-    moves_words : (v : Volume) (m : Map) (ms : List Move) → MoveWords ms → Reached h sizes v m → KeyWords (calls_of v ms)
+    moves_words : (v : Volume) (m : Map) (ms : List Move) → MoveWords ms → Reached h sizes v m → KeyWords (calls_of h v ms)
     moves_words v m [] w X = tt
     moves_words v m (one c ∷ ms) w X =
         (w.0, moves_words (call h v c).volume (map_of g m c).next ms w.1 (reach_call h sizes v m c X w.0))
     moves_words v m (tab text ∷ ms) w X =
-        words_append (tab_calls h v text) (calls_of (load h v text).volume ms) (tab_words h v text)
+        words_append (tab_calls h v text) (calls_of h (load h v text).volume ms) (tab_words h v text)
         (moves_words (load h v text).volume (map_after g m (tab_calls h v text)) ms w (reach_load v m text X))
 
-    moves_after_lem : (v : Volume) (m : Map) (ms : List Move) → MoveWords ms → Reached h sizes v m → after_moves v ms ≡ after h v (calls_of v ms)
+    moves_after_lem : (v : Volume) (m : Map) (ms : List Move) → MoveWords ms → Reached h sizes v m → after_moves h v ms ≡ after h v (calls_of h v ms)
     moves_after_lem v m [] w X = refl
     moves_after_lem v m (one c ∷ ms) w X = moves_after_lem (call h v c).volume (map_of g m c).next ms w.1 (reach_call h sizes v m c X w.0)
     moves_after_lem v m (tab text ∷ ms) w X =
         moves_after_lem (load h v text).volume (map_after g m (tab_calls h v text)) ms w (reach_load v m text X)
-        ∙ ap (λ (x : Volume). after h x (calls_of (load h v text).volume ms)) (load_is v m text X)
-        ∙ sym (after_append v (tab_calls h v text) (calls_of (load h v text).volume ms))
+        ∙ ap (λ (x : Volume). after h x (calls_of h (load h v text).volume ms)) (load_is v m text X)
+        ∙ sym (after_append v (tab_calls h v text) (calls_of h (load h v text).volume ms))
 
     -- each call and each load answers as the map does
     abbrev pub MovesAgree : Volume → Map → List Move → Type 0
@@ -100,11 +89,11 @@ module _ (h : Family) where
       abbrev start : Volume
       start = (format v sizes).volume
 
-      words : KeyWords (calls_of start ms)
+      words : KeyWords (calls_of h start ms)
       words = moves_words start empty_map ms w (reach_format h sizes v can long)
 
       -- the calls of a list leave what the list leaves
-      pub calls_leave : after_moves start ms ≡ after h start (calls_of start ms)
+      pub calls_leave : after_moves h start ms ≡ after h start (calls_of h start ms)
       calls_leave = moves_after_lem start empty_map ms w (reach_format h sizes v can long)
 
       -- each answer is the map's, those of loads too: the refusal, the number of rows and what they leave
@@ -112,11 +101,11 @@ module _ (h : Family) where
       demand_3_answers = moves_agree start empty_map ms w (reach_format h sizes v can long)
 
       -- demand 3 holds of the calls, a refused row's among them
-      pub demand_3_loads : Run h v sizes (calls_of start ms)
-      demand_3_loads = demand_3 h v sizes (calls_of start ms) can long words
+      pub demand_3_loads : Run h v sizes (calls_of h start ms)
+      demand_3_loads = demand_3 h v sizes (calls_of h start ms) can long words
 
       -- and after the list the volume is the image of their history
-      pub demand_2_loads : ImageOf h g (history_of h start empty_history (calls_of start ms)) v (after_moves start ms)
+      pub demand_2_loads : ImageOf h g (history_of h start empty_history (calls_of h start ms)) v (after_moves h start ms)
       demand_2_loads =
-          subst (ImageOf h g (history_of h start empty_history (calls_of start ms)) v) (sym calls_leave)
-          (demand_2 h v sizes (calls_of start ms) can long words)
+          subst (ImageOf h g (history_of h start empty_history (calls_of h start ms)) v) (sym calls_leave)
+          (demand_2 h v sizes (calls_of h start ms) can long words)

@@ -31,19 +31,22 @@ use Rattle.cuts.proofs.Uncut.{pages_lifted, finished_lifted, agrees_lifted, whol
 use Rattle.cuts.specs.Uncut.{whole_after}
 use Rattle.cuts.proofs.Uncut.{ops_lifted, after_lifted}
 use Rattle.cuts.specs.Several.{CallNumbers, Turn, TurnNumbers}
-use Rattle.cuts.proofs.Several.{several_for, begun, all_steps, all_begun, several_whole, several_end}
+use Rattle.cuts.specs.Several.{several_for, begun, all_steps}
+use Rattle.cuts.proofs.Several.{all_begun, several_whole, several_end}
 use Rattle.cuts.specs.Several.{whole_turn, cut_turn}
-use Rattle.cuts.proofs.Several.{turns_after, turns_ops, turns_begun, turns_end, turns_flash, turns_in_order}
+use Rattle.cuts.specs.Several.{turns_after, turns_ops, turns_begun}
+use Rattle.cuts.proofs.Several.{turns_end, turns_flash, turns_in_order}
 use Rattle.tab.specs.Grammar.{Row}
 use Rattle.tab.specs.Reader.{GotLine, body, row, rows_in, rows_of, continue}
 use Rattle.tab.proofs.Agree.{row_sound}
 use Rattle.load.specs.Load.{row_key, end_of, row_call, load_rows_by, load_rows, load_lines_by, load_lines, load, row_whole, load_whole}
 use Rattle.loads.specs.LoadCalls.{accepts}
-use Rattle.loads.proofs.LoadCalls.{row_calls, lines_calls, tab_calls}
+use Rattle.loads.specs.LoadCalls.{row_calls, lines_calls, tab_calls}
 use Rattle.loads.specs.LoadMap.{MapLoaded, map_tab}
 use Rattle.loads.proofs.LoadMap.{LoadAgrees}
 use Rattle.loads.specs.Moves.{Move, one, tab, MoveWords}
-use Rattle.loads.proofs.Moves.{after_moves, calls_of, MovesAgree, calls_leave, demand_3_answers}
+use Rattle.loads.specs.Moves.{after_moves, calls_of}
+use Rattle.loads.proofs.Moves.{MovesAgree, calls_leave, demand_3_answers}
 use Rattle.loads.proofs.Moves.{load_is, demand_3_loads, demand_2_loads}
 use Rattle.loads.proofs.WornLoads.{load_same}
 use Rattle.loads.specs.WholeLoads.{lift_several, CutMove, whole_call, whole_load, cut_call, cut_load, idle_move, CutNumbers, LoadWorn}

@@ -23,7 +23,8 @@ use Rattle.tab.specs.Reader.{body, rows_of}
 use Rattle.load.specs.Load.{row_key, row_record, end_of, row_call, load_rows_by, load_rows, load_lines, load}
 use Rattle.load.specs.LoadLaws.{Judged}
 use Rattle.loads.specs.LoadCalls.{accepts}
-use Rattle.loads.proofs.LoadCalls.{row_calls, lines_calls, tab_calls, load_volume, RowWords, row_word, read_words, tab_words}
+use Rattle.loads.specs.LoadCalls.{row_calls, lines_calls, tab_calls}
+use Rattle.loads.proofs.LoadCalls.{load_volume, RowWords, row_word, read_words, tab_words}
 use Rattle.loads.specs.LoadMap.{map_tab}
 use Rattle.loads.proofs.LoadMap.{load_agrees, reached_judged}
 use Rattle.loads.specs.Moves.{Move, one, tab, MoveWords}
