@@ -1,8 +1,8 @@
 #!/usr/bin/env python3
 """check.py: holds the documents to the tree; prints what is wrong, and ends with status 1 if anything is.
 
-Of README files and docs/*.md: lines of 140 characters at most, links that lead somewhere. Of these and of the landings: no
-placeholder, a word of capitals on a line of its own. Of README.md: its lines of C stand as they are in an example. Of
+Of README files and docs/*.md: lines of 140 characters at most (but of PORT.md, which has statements whole), links that lead somewhere. Of
+these and of the landings: no placeholder, a word of capitals on a line of its own. Of README.md: its lines of C stand as they are in an example. Of
 ARCHITECTURE.md: every name stands in the file that it is said to be in, or in the file of the same name in the other one of specs/ and
 proofs/; every edit is there, and the contract of every function in a column "code" cites what its row says.
 """
@@ -46,7 +46,7 @@ def references(text):
 def check_document(path):
     text = path.read_text(encoding="utf-8")
     for number, line in enumerate(text.splitlines(), 1):
-        if len(line) > WIDTH:
+        if len(line) > WIDTH and path.name != "PORT.md":
             wrong.append(f"{path.relative_to(ROOT)}:{number}: {len(line)} characters")
     prose = re.sub(r"`[^`]*`", "", text)
     for target in re.findall(r"\]\(([^)\s]+)\)", prose):
