@@ -1,14 +1,13 @@
--- Which sector sizes, counts of blocks and of hash functions are allowed: by the table, and that what is allowed is sound.
+-- Which sector sizes, counts of blocks and of hash functions are allowed: by the table.
 use Rattle.std.specs.Prelude.{ℕ, ◌+◌, ◌<◌, ◌≤◌, ◌≡◌, refl, Bool, true, false, ◌||◌, cond, None, Some, is_some, unwrap_or, find, eqb, List, [], ◌∷◌}
 use Rattle.std.proofs.Common.{add-one, ap, sym, ◌∙◌, eqb-true, arith, eq-eqb, ne_eqb, drop_of_length-le, drop-cons}
 use mathlib.Core.Bool.{false≢true}
 use Rattle.memory.specs.Ranges.{memb}
 use Rattle.layout.specs.Geometry as layout
-use Rattle.laws.specs.Sound.{sound, unit}
 use Rattle.geometry.specs.declared.table.SizeRow.{SizeRow}
 use Rattle.geometry.specs.Rows.{row, rows, row_of, row_with}
 use Rattle.geometry.specs.Allowed.{row_from}
-use Rattle.geometry.specs.Shape.{Sound, geometry_for, rest_allowed, shaped_by, shaped_of, GoodSound}
+use Rattle.geometry.specs.Shape.{rest_allowed, shaped_by, shaped_of}
 
 pub from_hit : (S i : ℕ) → i < 6 → (row_of i).sector ≡ S → row_from S i ≡ Some (row_of i)
 from_hit S i h e = rw (drop-cons rows i (row 0 0 0 0) h, eq-eqb (row_of i).sector S e)
@@ -47,6 +46,11 @@ pub found_row : (S : ℕ) (r : SizeRow) → row_with S ≡ Some r → r.sector �
 unfolding row_with
 found_row S r e = found_in S rows r e
 
+-- sizes whose sector size is in the table are allowed if the rest is
+pub allowed_hit : (sizes : layout.Sizes) (r : SizeRow) → row_with sizes.sector_size ≡ Some r → layout.allowed sizes ≡ rest_allowed sizes
+unfolding layout.allowed
+allowed_hit sizes r e = rw (← has_row sizes.sector_size, e)
+
 -- what is answered to a sector size that is in the table, and to one that is not
 pub shaped_hit : (sizes : layout.Sizes) (r : SizeRow) → row_with sizes.sector_size ≡ Some r → shaped_of sizes ≡ shaped_by (rest_allowed sizes) sizes
 unfolding layout.allowed
@@ -55,29 +59,3 @@ shaped_hit sizes r e = rw (← has_row sizes.sector_size, e)
 pub shaped_miss : (sizes : layout.Sizes) → row_with sizes.sector_size ≡ None → shaped_of sizes ≡ None
 unfolding layout.allowed
 shaped_miss sizes e = rw (← has_row sizes.sector_size, e)
-
--- ---- what is allowed is sound
-
-pub allowed_sound : (sizes : layout.Sizes) → layout.allowed sizes ≡ true → Sound (geometry_for sizes)
-allowed_sound sizes e =
-    let ok = sound sizes e in
-    record {
-      unit = (ok.e, unit sizes ok);
-      records = omega (arith, ok.size);
-      entries = omega (arith, ok.size);
-      bits = omega (arith, ok.size);
-      ra_some = ok.R-pos;
-      ra_most = ok.R-le;
-      da_some = ok.D-pos;
-      da_most = ok.D-le;
-      k_some = ok.k_pos;
-      k_most = ok.k_le;
-    }
-
--- a geometry that is answered is sound
-pub shaped_sound : (sizes : layout.Sizes) → GoodSound (shaped_of sizes)
-shaped_sound sizes = go (layout.allowed sizes) refl
-  where
-    go : (t : Bool) → layout.allowed sizes ≡ t → GoodSound (shaped_by t sizes)
-    go true e = allowed_sound sizes e
-    go false e = tt

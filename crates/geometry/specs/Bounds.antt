@@ -1,15 +1,15 @@
--- Bounds of a sound geometry's sizes.
+-- Bounds of a geometry's sizes.
 use Rattle.std.specs.Prelude.{ℕ, ◌*◌, ◌≤◌}
 use Rattle.std.proofs.Common.{mul-le-mul_right, mul-le-mul_left, le_trans, div-mul-le_self, arith}
 use Rattle.layout.specs.Geometry as layout
-use Rattle.geometry.specs.declared.Geometry.{Geometry}
-use Rattle.geometry.specs.Shape.{shape, Sound}
+use Rattle.geometry.specs.declared.volume.Geometry.{Geometry}
+use Rattle.geometry.specs.Shape.{shape}
 
 -- a product of bounded numbers
 pub product_le : (a b m n : ℕ) → a ≤ m → b ≤ n → a * b ≤ m * n
 product_le a b m n h k = le_trans (mul-le-mul_right b h) (mul-le-mul_left m k)
 
-module _ (g : Geometry) (s : Sound g) where
+module _ (g : Geometry) where
   pub index_le : layout.index_block (shape g) ≤ 10240
   index_le = omega arith
 
@@ -34,7 +34,7 @@ module _ (g : Geometry) (s : Sound g) where
       omega arith
 
   pub record_capacity_le : layout.record_capacity (shape g) ≤ 8388608
-  record_capacity_le = omega (arith, product_le g.ra g.chip.unit 4096 32 s.ra_most s.unit.1.most)
+  record_capacity_le = omega (arith, product_le g.ra g.chip.unit 4096 32 g.ra_allowed.1 g.chip.power.most)
 
   pub deletion_capacity_le : layout.deletion_capacity (shape g) ≤ 33554432
-  deletion_capacity_le = omega (arith, product_le g.da g.chip.unit 4096 32 s.da_most s.unit.1.most)
+  deletion_capacity_le = omega (arith, product_le g.da g.chip.unit 4096 32 g.da_allowed.1 g.chip.power.most)

@@ -1,3 +1,4 @@
+pub mod Powers
 pub mod Rows
 pub mod Shape
 pub mod Bounds

@@ -1,14 +1,21 @@
 -- The code's sizes, geometry, areas and places as the layout's, and what makes a geometry sound.
-use Rattle.std.specs.Prelude.{◌<◌, ◌≤◌, ◌≡◌, Bool, ◌&&◌, cond, Option, Some, None}
-use Prim.{Unit}
-use Rattle.memory.specs.Power.{PowerOfTwo}
+use Rattle.std.specs.Prelude.{◌*◌, ◌/◌, ◌^◌, ◌<◌, ◌≤◌, ◌≡◌, refl, ℕ, Bool, true, false, ◌&&◌, cond, Option, Some, None}
+use Rattle.std.proofs.Common.{arith, ap, sym, ◌∙◌}
+use mathlib.Core.Bool.{false≢true, Bool-set}
+use mathlib.Core.HLevel.{is_prop→PathP}
+use Rattle.std.proofs.Props.{props}
+use Rattle.memory.specs.Power.{PowerOfTwo, log2up}
+use Rattle.memory.specs.Ranges.{memb}
 use Rattle.layout.specs.Geometry as layout
 use Rattle.layout.specs.Items as items
-use Rattle.laws.specs.Units.{UnitSound}
+use Rattle.laws.specs.Units.{UnitIs, UnitSound}
+use Rattle.laws.specs.Sound.{sound, unit}
+use Rattle.geometry.specs.Powers.{unit_power}
 use Rattle.geometry.specs.declared.Sizes.{Sizes}
 use Rattle.geometry.specs.declared.chip.Chip.{Chip}
-use Rattle.geometry.specs.declared.Geometry.{Geometry}
-use Rattle.geometry.specs.declared.areas.Area.{Area}
+use Rattle.geometry.specs.declared.volume.Geometry.{Geometry}
+use Rattle.geometry.specs.declared.table.SizeRow.{SizeRow}
+use Rattle.geometry.specs.declared.area.Area.{Area}
 use Rattle.geometry.specs.declared.areas.Place.{Place}
 use Rattle.geometry.specs.Rows.{row_for}
 
@@ -17,10 +24,6 @@ sizes_is s = layout.sizes_of s.sector_size s.ra_blocks s.da_blocks s.hash_count
 
 abbrev pub shape : Geometry → layout.Geometry
 shape g = record { u = g.chip.unit; R = g.ra; D = g.da; k = g.hashes }
-
--- the chip of a volume
-abbrev pub chip_of : layout.Geometry → Chip
-chip_of g = record { unit = g.u }
 
 -- the unit is a power of two up to 32, the row is the table's, areas of records and deletions have 1 to 4096 blocks, and k is 1 to 8
 pub record Sound (g : Geometry) : Type 0 where
@@ -35,17 +38,122 @@ pub record Sound (g : Geometry) : Type 0 where
   pub k_some : 1 ≤ g.hashes
   pub k_most : g.hashes ≤ 8
 
+pub unit_sound : (c : Chip) → UnitSound c.unit
+unit_sound c = (log2up c.unit, c.power)
+
+-- every geometry is sound
+pub sound_of : (g : Geometry) → Sound g
+sound_of g =
+    record {
+      unit = unit_sound g.chip;
+      records = g.records;
+      entries = g.entries;
+      bits = g.bits;
+      ra_some = g.ra_allowed.0;
+      ra_most = g.ra_allowed.1;
+      da_some = g.da_allowed.0;
+      da_most = g.da_allowed.1;
+      k_some = g.hashes_allowed.0;
+      k_most = g.hashes_allowed.1;
+    }
+
+-- ---- values with the same fields are the same
+
+pub unit_prop : (u e : ℕ) → IsProp (UnitIs u e)
+unit_prop u e = Prim.hlevel props
+
+abbrev pub chip_eq : (c d : Chip) → c.unit ≡ d.unit → c ≡ d
+chip_eq c d p =
+    λ i.
+      record {
+        unit = p i;
+        power = is_prop→PathP (λ j. UnitIs (p j) (log2up (p j))) (λ j. unit_prop (p j) (log2up (p j))) c.power d.power i;
+      }
+
+-- what a geometry says besides its fields
+abbrev facts : ℕ → SizeRow → ℕ → ℕ → ℕ → Type 0
+facts u r a d k =
+    (r.records ≡ layout.records_per_page u)
+    × (r.entries ≡ layout.entries_per_page u)
+    × (r.bits ≡ layout.filter_bits u)
+    × ((1 ≤ a) × (a ≤ 4096))
+    × ((1 ≤ d) × (d ≤ 4096))
+    × ((1 ≤ k) × (k ≤ 8))
+
+facts_prop : (u : ℕ) (r : SizeRow) (a d k : ℕ) → IsProp (facts u r a d k)
+facts_prop u r a d k = Prim.hlevel props
+
+abbrev facts_of : (g : Geometry) → facts g.chip.unit g.row g.ra g.da g.hashes
+facts_of g = (g.records, g.entries, g.bits, g.ra_allowed, g.da_allowed, g.hashes_allowed)
+
+module _ (g h : Geometry) (u : g.chip.unit ≡ h.chip.unit) (r : g.row ≡ h.row) (a : g.ra ≡ h.ra) (d : g.da ≡ h.da) (k : g.hashes ≡ h.hashes) where
+  pub geometry_eq : g ≡ h
+  geometry_eq =
+      λ i.
+        let f = is_prop→PathP (λ j. facts (u j) (r j) (a j) (d j) (k j)) (λ j. facts_prop (u j) (r j) (a j) (d j) (k j)) (facts_of g) (facts_of h) i in
+        record {
+          chip = chip_eq g.chip h.chip u i;
+          row = r i;
+          ra = a i;
+          da = d i;
+          hashes = k i;
+          records = f.0;
+          entries = f.1;
+          bits = f.2;
+          ra_allowed = f.3;
+          da_allowed = f.4;
+          hashes_allowed = f.5;
+        }
+
 -- ---- from S, R, D and k
 
-abbrev pub geometry_for : layout.Sizes → Geometry
-geometry_for sizes =
+-- the geometry of sizes that are allowed
+unfoldable pub known : (sizes : layout.Sizes) → layout.allowed sizes ≡ true → Geometry
+known sizes e =
+    let ok = sound sizes e in
     record {
-      chip = chip_of (layout.geometry sizes);
+      chip = record { unit = layout.unit_of sizes; power = unit_power (layout.unit_of sizes) (ok.e, unit sizes ok) };
       row = row_for sizes.sector_size;
       ra = sizes.ra_blocks;
       da = sizes.da_blocks;
       hashes = sizes.hash_count;
+      records = omega (arith, ok.size);
+      entries = omega (arith, ok.size);
+      bits = omega (arith, ok.size);
+      ra_allowed = (ok.R-pos, ok.R-le);
+      da_allowed = (ok.D-pos, ok.D-le);
+      hashes_allowed = (ok.k_pos, ok.k_le);
     }
+
+-- the smallest volume: sectors of 16 bytes, a block of records and one of deletions, one hash function
+abbrev pub smallest : layout.Sizes
+smallest = layout.sizes_of 16 1 1 1
+
+pub smallest_allowed : layout.allowed smallest ≡ true
+unfolding layout.allowed memb
+smallest_allowed = refl
+
+-- by whether the sizes are allowed
+abbrev pub geometry_by : (sizes : layout.Sizes) (t : Bool) → layout.allowed sizes ≡ t → Geometry
+geometry_by sizes true e = known sizes e
+geometry_by sizes false e = known smallest smallest_allowed
+
+-- the geometry of sizes; of any that are not allowed, which no call goes by, that of the smallest volume
+pub geometry_for : layout.Sizes → Geometry
+geometry_for sizes = geometry_by sizes (layout.allowed sizes) refl
+
+at_allowed : (sizes : layout.Sizes) (t : Bool) (q : layout.allowed sizes ≡ t) (e : layout.allowed sizes ≡ true) → geometry_by sizes t q ≡ known sizes e
+at_allowed sizes true q e = ap (known sizes) (Bool-set _ _ q e)
+at_allowed sizes false q e = absurd (false≢true (sym q ∙ e))
+
+-- of allowed sizes it is theirs
+pub geometry_is : (sizes : layout.Sizes) (e : layout.allowed sizes ≡ true) → geometry_for sizes ≡ known sizes e
+unfolding geometry_for
+geometry_is sizes e = at_allowed sizes (layout.allowed sizes) refl e
+
+pub shape_is : (sizes : layout.Sizes) → layout.allowed sizes ≡ true → shape (geometry_for sizes) ≡ layout.geometry sizes
+unfolding known
+shape_is sizes e = ap shape (geometry_is sizes e)
 
 -- are R, D and k allowed
 abbrev pub rest_allowed : layout.Sizes → Bool
@@ -59,10 +167,6 @@ shaped_by t sizes = cond t (Some (geometry_for sizes)) None
 abbrev pub shaped_of : layout.Sizes → Option Geometry
 shaped_of sizes = shaped_by (layout.allowed sizes) sizes
 
-abbrev pub GoodSound : Option Geometry → Type 0
-GoodSound (Some g) = Sound g
-GoodSound None = Unit
-
 -- ---- areas and places
 
 abbrev pub area : Area → items.Area
@@ -71,11 +175,6 @@ area a = record { size = a.size; per_page = a.per_page; first = a.first; ram = a
 abbrev pub place : Place → items.Place
 place p = record { in_ram = p.in_ram; at = p.at }
 
--- sizes of an area of a sound geometry
-pub record AreaSound (a : Area) : Type 0 where
-  pub size_most : a.size ≤ 16
-  pub power : PowerOfTwo a.per_page
-  pub some : 0 < a.per_page
-  pub most : a.per_page ≤ 512
-  pub first_most : a.first ≤ 8192
-  pub ram_most : a.ram ≤ 8192
+-- items of a page of an area are a power of two
+pub per_page_power : (a : Area) → PowerOfTwo a.per_page
+per_page_power a = (log2up a.per_page, a.power)

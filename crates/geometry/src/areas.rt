@@ -3,9 +3,9 @@ ghost use Rattle.std.specs.Prelude.{◌≡◌, ◌*◌, ◌/◌, ◌%◌, ◌<�
 ghost use Rattle.memory.specs.Power.{PowerOfTwo};
 ghost use Rattle.layout.specs.Items as layout;
 ghost use Rattle.layout.specs.Items.{Ra, KA, DA, item_place};
-ghost use Rattle.geometry.specs.Shape.{shape, Sound, area, place, AreaSound};
+ghost use Rattle.geometry.specs.Shape.{shape, area, place};
 
-use crate::Geometry;
+use crate::{Area, Geometry};
 
 // Bytes of a number.
 pub const WORD_SIZE: usize = 4;
@@ -42,19 +42,9 @@ pub fn in_full_pages(per_page: usize, n: usize) -> usize
 
 // ---- areas
 
-// Items of `size` bytes, `per_page` to a page, from block `first` on; the page that is not full is in RAM from byte `ram` on.
-#[derive(Clone, Copy)]
-pub struct Area {
-    pub size: usize,
-    pub per_page: usize,
-    pub first: usize,
-    pub ram: usize,
-}
-
 impl Area {
     // Does item n fill its page.
     pub fn fills(self, n: usize) -> bool
-        requires { AreaSound self }
         ensures { result ≡ layout.fills (area self) n }
     {
         let q = self.per_page;
@@ -63,9 +53,7 @@ impl Area {
 }
 
 pub fn record_area(g: Geometry) -> Area
-    requires { Sound g }
-    ensures equal { area result ≡ Ra (shape g) }
-    ensures sound { AreaSound result }
+    ensures { area result ≡ Ra (shape g) }
 {
     Area {
         size: RECORD_SIZE,
@@ -76,9 +64,7 @@ pub fn record_area(g: Geometry) -> Area
 }
 
 pub fn entry_area(g: Geometry) -> Area
-    requires { Sound g }
-    ensures equal { area result ≡ KA (shape g) }
-    ensures sound { AreaSound result }
+    ensures { area result ≡ KA (shape g) }
 {
     Area {
         size: ENTRY_SIZE,
@@ -89,9 +75,7 @@ pub fn entry_area(g: Geometry) -> Area
 }
 
 pub fn deletion_area(g: Geometry) -> Area
-    requires { Sound g }
-    ensures equal { area result ≡ DA (shape g) }
-    ensures sound { AreaSound result }
+    ensures { area result ≡ DA (shape g) }
 {
     Area {
         size: DELETION_SIZE,
@@ -110,9 +94,7 @@ pub struct Place {
 
 // Where item j of n lies.
 pub fn item_place(g: Geometry, a: Area, n: usize, j: usize) -> Place
-    requires sound { Sound g }
-    requires area_sound { AreaSound a }
-    requires n_bound { (n < 4294967296) × (j < 4294967296) }
+    requires { (n < 4294967296) × (j < 4294967296) }
     ensures { place result ≡ item_place (shape g).u (area a) n j }
 {
     let size = a.size;

@@ -1,12 +1,15 @@
 // A flash chip: sectors, pages and blocks, their sizes and their addresses. Document 01, "The chip and the desk".
 ghost use Rattle.std.specs.Prelude.{◌≡◌, ◌*◌, ◌/◌, ◌^◌, ◌<◌, ◌≤◌};
+ghost use Rattle.memory.specs.Power.{log2up};
+ghost use Rattle.laws.specs.Units.{UnitIs};
 ghost use Rattle.layout.specs.Geometry.{sectors_per_page, sectors_per_block, sector, page, block, entries_per_page, deletions_per_page};
 ghost use Rattle.layout.specs.Geometry.{deletions_per_filter, filter_bits, fourth_size, side_blocks, index_blocks};
 
-// A chip by its unit, a sixteenth of the sector size.
+// A chip by its unit, a sixteenth of the sector size: a power of two up to 32.
 #[derive(Clone, Copy)]
 pub struct Chip {
     pub unit: usize,
+    pub ghost power: { UnitIs unit (log2up unit) },
 }
 
 impl Chip {
@@ -17,7 +20,8 @@ impl Chip {
     pub const SECTORS_PER_BLOCK: usize = Chip::PAGES_PER_BLOCK * Chip::SECTORS_PER_PAGE;
 
     // The chip with sectors of so many bytes.
-    pub fn with_sectors(size: usize) -> Chip
+    pub(crate) fn with_sectors(size: usize) -> Chip
+        requires { UnitIs (size / 16) (log2up (size / 16)) }
         ensures { result.unit ≡ size / 16 }
     {
         Chip { unit: size / 16 }
@@ -26,21 +30,18 @@ impl Chip {
     // ---- sizes in bytes
 
     pub fn sector_size(self) -> usize
-        requires { self.unit ≤ 32 }
         ensures { result ≡ sector self.unit }
     {
         16 * self.unit
     }
 
     pub fn page_size(self) -> usize
-        requires { self.unit ≤ 32 }
         ensures { result ≡ page self.unit }
     {
         Chip::SECTORS_PER_PAGE * self.sector_size()
     }
 
     pub fn block_size(self) -> usize
-        requires { self.unit ≤ 32 }
         ensures { result ≡ block self.unit }
     {
         Chip::PAGES_PER_BLOCK * self.page_size()
@@ -50,7 +51,6 @@ impl Chip {
 
     // Entries a page: S/2.
     pub fn entries_per_page(self) -> usize
-        requires { self.unit ≤ 32 }
         ensures { result ≡ entries_per_page self.unit }
     {
         self.sector_size() / 2
@@ -58,7 +58,6 @@ impl Chip {
 
     // Deletions a page: S.
     pub fn deletions_per_page(self) -> usize
-        requires { self.unit ≤ 32 }
         ensures { result ≡ deletions_per_page self.unit }
     {
         self.sector_size()
@@ -66,7 +65,6 @@ impl Chip {
 
     // Deletions of a filter, half a page of them: S/2.
     pub fn deletions_per_filter(self) -> usize
-        requires { self.unit ≤ 32 }
         ensures { result ≡ deletions_per_filter self.unit }
     {
         self.sector_size() / 2
@@ -74,7 +72,6 @@ impl Chip {
 
     // Bits of a filter: 4S.
     pub fn filter_bits(self) -> usize
-        requires { self.unit ≤ 32 }
         ensures { result ≡ filter_bits self.unit }
     {
         4 * self.sector_size()
@@ -82,7 +79,6 @@ impl Chip {
 
     // Bytes of a fourth of a filter: S/8.
     pub fn fourth_size(self) -> usize
-        requires { self.unit ≤ 32 }
         ensures { result ≡ fourth_size self.unit }
     {
         self.sector_size() / 8
@@ -90,7 +86,6 @@ impl Chip {
 
     // Blocks of a side, and of a full partition set: S/4.
     pub fn side_blocks(self) -> usize
-        requires { self.unit ≤ 32 }
         ensures { result ≡ side_blocks self.unit }
     {
         self.sector_size() / 4
@@ -98,7 +93,7 @@ impl Chip {
 
     // Blocks of an index with so many places for full sets: L1, both sides, the places.
     pub fn index_blocks(self, places: usize) -> usize
-        requires { (self.unit ≤ 32) × (places * side_blocks self.unit ≤ 1024) }
+        requires { places * side_blocks self.unit ≤ 1024 }
         ensures { result ≡ index_blocks self.unit places }
     {
         let side = self.side_blocks();
@@ -108,21 +103,21 @@ impl Chip {
     // ---- addresses: the first byte of a sector, of a page and of a block
 
     pub fn sector_address(self, s: usize) -> usize
-        requires { (self.unit ≤ 32) × (s * sector self.unit < 2 ^ 64) }
+        requires { s * sector self.unit < 2 ^ 64 }
         ensures { result ≡ s * sector self.unit }
     {
         s * self.sector_size()
     }
 
     pub fn page_address(self, p: usize) -> usize
-        requires { (self.unit ≤ 32) × (p * page self.unit < 2 ^ 64) }
+        requires { p * page self.unit < 2 ^ 64 }
         ensures { result ≡ p * page self.unit }
     {
         p * self.page_size()
     }
 
     pub fn block_address(self, b: usize) -> usize
-        requires { (self.unit ≤ 32) × (b * block self.unit < 2 ^ 64) }
+        requires { b * block self.unit < 2 ^ 64 }
         ensures { result ≡ b * block self.unit }
     {
         b * self.block_size()

@@ -1,19 +1,23 @@
 // Volumes: their sizes, areas, addresses and the places of items.
 #![tactic(auto)]
 
+pub mod area;
 pub mod areas;
 pub mod chip;
 pub mod sets;
 pub mod table;
+pub mod volume;
 
 ghost use Rattle.std.specs.Prelude.{◌≡◌};
 ghost use Rattle.layout.specs.Geometry as layout;
 ghost use Rattle.geometry.specs.Rows.{row_for};
-ghost use Rattle.geometry.specs.Shape.{sizes_is, shape, Sound, rest_allowed, shaped_by, shaped_of, GoodSound};
+ghost use Rattle.geometry.specs.Shape.{sizes_is, shape, rest_allowed, shaped_of};
 
-pub use areas::{Area, Place, deletion_area, entry_area, item_place, record_area};
+pub use area::Area;
+pub use areas::{Place, deletion_area, entry_area, item_place, record_area};
 pub use chip::Chip;
 pub use table::SizeRow;
+pub use volume::Geometry;
 
 // ---- the shape of a volume
 
@@ -29,16 +33,6 @@ pub struct Sizes {
 
 // The hash functions of a volume whose format names none.
 pub const DEFAULT_HASH_COUNT: u32 = 3;
-
-// A volume's chip, its row of the table, the blocks of records and of deletions, and the positions of a key in a filter.
-#[derive(Clone, Copy)]
-pub struct Geometry {
-    pub chip: Chip,
-    pub row: SizeRow,
-    pub ra: usize,
-    pub da: usize,
-    pub hashes: usize,
-}
 
 impl Geometry {
     // The pages of the RAM by number: records, entries, deletions, filters of the entries, work, filters of the deletions.
@@ -59,28 +53,24 @@ impl Geometry {
     // ---- the table's columns
 
     pub fn records_per_page(self) -> usize
-        requires { Sound self }
         ensures { result ≡ layout.records_per_page (shape self).u }
     {
         self.row.records as usize
     }
 
     pub fn entries_per_page(self) -> usize
-        requires { Sound self }
         ensures { result ≡ layout.entries_per_page (shape self).u }
     {
         self.row.entries as usize
     }
 
     pub fn deletions_per_page(self) -> usize
-        requires { Sound self }
         ensures { result ≡ layout.deletions_per_page (shape self).u }
     {
         self.chip.deletions_per_page()
     }
 
     pub fn filter_bits(self) -> usize
-        requires { Sound self }
         ensures { result ≡ layout.filter_bits (shape self).u }
     {
         self.row.bits as usize
@@ -89,35 +79,30 @@ impl Geometry {
     // ---- areas, in blocks
 
     pub fn ka_block(self) -> usize
-        requires { Sound self }
         ensures { result ≡ layout.ka_block (shape self) }
     {
         self.ra
     }
 
     pub fn ka_blocks(self) -> usize
-        requires { Sound self }
         ensures { result ≡ layout.ka_blocks (shape self) }
     {
         (self.ra + 1) / 2
     }
 
     pub fn da_block(self) -> usize
-        requires { Sound self }
         ensures { result ≡ layout.da_block (shape self) }
     {
         self.ka_block() + self.ka_blocks()
     }
 
     pub fn index_block(self) -> usize
-        requires { Sound self }
         ensures { result ≡ layout.index_block (shape self) }
     {
         self.da_block() + self.da
     }
 
     pub fn full_sets(self) -> usize
-        requires { Sound self }
         ensures { result ≡ layout.full_sets (shape self) }
     {
         self.ra / self.filter_bits()
@@ -125,7 +110,6 @@ impl Geometry {
 
     // The index over the deletions.
     pub fn deletion_index_block(self) -> usize
-        requires { Sound self }
         ensures { result ≡ layout.deletion_index_block (shape self) }
     {
         let places = self.full_sets();
@@ -133,7 +117,6 @@ impl Geometry {
     }
 
     pub fn deletion_sets(self) -> usize
-        requires { Sound self }
         ensures { result ≡ layout.deletion_sets (shape self) }
     {
         self.da / self.chip.sector_size()
@@ -141,7 +124,6 @@ impl Geometry {
 
     // B.
     pub fn blocks(self) -> usize
-        requires { Sound self }
         ensures { result ≡ layout.blocks (shape self) }
     {
         let places = self.deletion_sets();
@@ -151,7 +133,6 @@ impl Geometry {
     // ---- capacities, and bytes of data, spare and RAM
 
     pub fn record_capacity(self) -> usize
-        requires { Sound self }
         ensures { result ≡ layout.record_capacity (shape self) }
     {
         let ra = self.ra;
@@ -160,7 +141,6 @@ impl Geometry {
     }
 
     pub fn deletion_capacity(self) -> usize
-        requires { Sound self }
         ensures { result ≡ layout.deletion_capacity (shape self) }
     {
         let da = self.da;
@@ -169,21 +149,18 @@ impl Geometry {
     }
 
     pub fn main_size(self) -> usize
-        requires { Sound self }
         ensures { result ≡ layout.main_size (shape self) }
     {
         self.chip.block_address(self.blocks())
     }
 
     pub fn spare_size(self) -> usize
-        requires { Sound self }
         ensures { result ≡ layout.spare_size (shape self) }
     {
         Chip::first_sector(self.blocks())
     }
 
     pub fn ram_size(self) -> usize
-        requires { Sound self }
         ensures { result ≡ layout.ram_size (shape self) }
     {
         self.chip.page_address(Geometry::RAM_PAGES)
@@ -192,42 +169,36 @@ impl Geometry {
     // ---- first bytes of the RAM's pages
 
     pub fn ra_ram(self) -> usize
-        requires { Sound self }
         ensures { result ≡ layout.ra_ram (shape self).u }
     {
         self.chip.page_address(Geometry::RA_PAGE)
     }
 
     pub fn ka_ram(self) -> usize
-        requires { Sound self }
         ensures { result ≡ layout.ka_ram (shape self).u }
     {
         self.chip.page_address(Geometry::KA_PAGE)
     }
 
     pub fn da_ram(self) -> usize
-        requires { Sound self }
         ensures { result ≡ layout.da_ram (shape self).u }
     {
         self.chip.page_address(Geometry::DA_PAGE)
     }
 
     pub fn ska_ram(self) -> usize
-        requires { Sound self }
         ensures { result ≡ layout.ska_ram (shape self).u }
     {
         self.chip.page_address(Geometry::SKA_PAGE)
     }
 
     pub fn work_ram(self) -> usize
-        requires { Sound self }
         ensures { result ≡ layout.work_ram (shape self).u }
     {
         self.chip.page_address(Geometry::WORK_PAGE)
     }
 
     pub fn deletion_ska_ram(self) -> usize
-        requires { Sound self }
         ensures { result ≡ layout.deletion_ska_ram (shape self).u }
     {
         self.chip.page_address(Geometry::DELETION_SKA_PAGE)
@@ -257,8 +228,7 @@ fn rest_allowed(sizes: Sizes) -> bool
 
 // The geometry of these sizes, where they are allowed.
 pub fn geometry_for(sizes: Sizes) -> Option<Geometry>
-    ensures equal { result ≡ shaped_of (sizes_is sizes) }
-    ensures sound { GoodSound result }
+    ensures { result ≡ shaped_of (sizes_is sizes) }
 {
     let row = table::row_with(sizes.sector_size)?;
     if !rest_allowed(sizes) {

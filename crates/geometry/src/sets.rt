@@ -5,7 +5,7 @@ ghost use Rattle.memory.specs.Power.{log2up};
 ghost use Rattle.layout.specs.Geometry.{side_blocks};
 ghost use Rattle.layout.specs.Calls.{deletion_filters};
 ghost use Rattle.layout.specs.Index.{filters_per_flush, in_ska, set_pages, set_width, set_blocks, side_block, full_block, set_block};
-ghost use Rattle.geometry.specs.Shape.{shape, Sound};
+ghost use Rattle.geometry.specs.Shape.{shape};
 ghost use Rattle.geometry.specs.Indexes.{index_of, index_for, deletion_index_for};
 
 use crate::{Chip, Geometry};
@@ -37,7 +37,6 @@ pub struct Index {
 
 // The index over the entries.
 pub fn key_index(g: Geometry) -> Index
-    requires { Sound g }
     ensures { result ≡ index_for (shape g) }
 {
     Index {
@@ -48,7 +47,6 @@ pub fn key_index(g: Geometry) -> Index
 
 // Filters of the full pages of the first d deletions, two of each.
 pub fn deletion_filters(g: Geometry, d: usize) -> usize
-    requires { Sound g }
     ensures { result ≡ deletion_filters (shape g) d }
 {
     let pages = d / g.deletions_per_page();
@@ -57,7 +55,6 @@ pub fn deletion_filters(g: Geometry, d: usize) -> usize
 
 // The index over the deletions.
 pub fn deletion_index(g: Geometry) -> Index
-    requires { Sound g }
     ensures { result ≡ deletion_index_for (shape g) }
 {
     Index {
@@ -107,7 +104,7 @@ pub fn set_blocks(c: usize) -> usize
 
 // Bits of a filter in each of its pages.
 pub fn set_width(chip: Chip, c: usize) -> usize
-    requires { (chip.unit ≤ 32) × (c ≤ 128) }
+    requires { c ≤ 128 }
     ensures { result ≡ set_width chip.unit c }
 {
     chip.filter_bits() / set_pages(c)
@@ -115,7 +112,7 @@ pub fn set_width(chip: Chip, c: usize) -> usize
 
 // First block of the set of c rounds.
 pub fn side_block(chip: Chip, ix: Index, c: usize) -> usize
-    requires { (chip.unit ≤ 32) × (ix.first ≤ 20000) }
+    requires { ix.first ≤ 20000 }
     ensures { (result ≡ side_block chip.unit (index_of ix) c) × (result ≤ 20129) }
 {
     if c % 2 == 1 {
@@ -126,7 +123,7 @@ pub fn side_block(chip: Chip, ix: Index, c: usize) -> usize
 
 // First block of full set k.
 pub fn full_block(chip: Chip, ix: Index, k: usize) -> usize
-    requires { (chip.unit ≤ 32) × (ix.first ≤ 20000) × (k ≤ 2048) }
+    requires { (ix.first ≤ 20000) × (k ≤ 2048) }
     ensures { (result ≡ full_block chip.unit (index_of ix) k) × (result ≤ 300000) }
 {
     let side = chip.side_blocks();
@@ -135,7 +132,7 @@ pub fn full_block(chip: Chip, ix: Index, k: usize) -> usize
 
 // First block of the set that comes next.
 pub fn set_block(chip: Chip, set: Set) -> usize
-    requires unit_bound { (chip.unit ≤ 32) × (set.index.first ≤ 20000) }
+    requires first_bound { set.index.first ≤ 20000 }
     requires full_sets_bound { (set.full_sets ≤ 1024) × (set.rounds < side_blocks chip.unit) }
     ensures { (result ≡ set_block chip.unit (index_of set.index) set.full_sets set.rounds) × (result ≤ 300000) }
 {

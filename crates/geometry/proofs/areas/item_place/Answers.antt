@@ -2,16 +2,17 @@ use native.Mathlib.Omega.{arith}
 use mathlib.Core.Path.{sym}
 use Prim.Native.Nat.{◌*◌, ◌≤◌}
 use borrow.Author.Tests.{lt-ltb, le-ltb}
+use Rattle.geometry.specs.Shape.{per_page_power}
 use Rattle.geometry.specs.Bounds.{product_le}
 use Rattle.geometry.proofs.areas.item_place.Goals as goal
 
 pub in_full_pages-requires : goal.in_full_pages-requires
-in_full_pages-requires c = c.requires.area_sound.power
+in_full_pages-requires c = per_page_power c.args.a
 
 pub block_address-requires : goal.block_address-requires
 block_address-requires c =
     let x = c.before.before.args in
-    (omega arith, omega (arith, product_le x.a.first x.g.chip.unit 8192 32 (omega arith) (omega arith)))
+    omega (arith, product_le x.a.first x.g.chip.unit 8192 32 (omega arith) (omega arith))
 
 pub overflow_mul-at : goal.overflow_mul-at
 overflow_mul-at c =
@@ -30,7 +31,7 @@ returns-then-j-in_full_pages c =
     rw (sym f.ensures, lt-ltb c.before.before.before.args.j f.result (omega arith), c.block_address.ensures)
 
 pub slot-requires : goal.slot-requires
-slot-requires c = c.before.before.requires.area_sound.power
+slot-requires c = per_page_power c.before.before.args.a
 
 -- an item's place in its page
 page_place : (c : goal.After-slot) → c.slot.result * c.before.before.before.args.a.size ≤ 512 * 16

@@ -9,7 +9,7 @@ pub overflow_mul-result : goal.overflow_mul-result
 overflow_mul-result c =
     let s = c.before in
     let q = c.deletions_per_page in
-    let two : 2 ≤ q.result = omega (arith, q.ensures, s.requires.unit.1.some) in
+    let two : 2 ≤ q.result = omega (arith, q.ensures, s.args.g.chip.power.some) in
     let E = euclid s.args.d q.result (omega (arith, two)) in
     omega (arith, mul-le-mul_left (s.args.d / q.result) two, E.whole)
 

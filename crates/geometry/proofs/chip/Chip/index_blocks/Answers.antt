@@ -4,7 +4,7 @@ use Rattle.geometry.proofs.chip.Chip.index_blocks.Goals as goal
 
 -- the blocks of the places
 sets : (c : goal.After-side_blocks-side) → c.before.args.places * c.side_blocks-side.result ≤ 1024
-sets c = rw c.side_blocks-side.ensures c.before.requires.1
+sets c = rw c.side_blocks-side.ensures c.before.requires
 
 pub overflow_mul-result-2 : goal.overflow_mul-result-2
 overflow_mul-result-2 c = omega (arith, sets c)

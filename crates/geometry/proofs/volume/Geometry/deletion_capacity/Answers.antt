@@ -2,7 +2,7 @@ use mathlib.Core.Path.{ap}
 use Prim.Native.Nat.{ℕ, ◌*◌}
 use native.Mathlib.Omega.{arith}
 use Rattle.geometry.specs.Bounds.{product_le}
-use Rattle.geometry.proofs.Geometry.deletion_capacity.Goals as goal
+use Rattle.geometry.proofs.volume.Geometry.deletion_capacity.Goals as goal
 
 pub overflow_mul-result-2 : goal.overflow_mul-result-2
 overflow_mul-result-2 c =

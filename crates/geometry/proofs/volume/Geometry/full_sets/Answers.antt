@@ -1,4 +1,4 @@
-use Rattle.geometry.proofs.Geometry.full_sets.Goals as goal
+use Rattle.geometry.proofs.volume.Geometry.full_sets.Goals as goal
 
 pub returns : goal.returns
 returns c = rw c.before.filter_bits.ensures
