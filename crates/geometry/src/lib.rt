@@ -4,6 +4,7 @@
 pub mod area;
 pub mod areas;
 pub mod chip;
+pub mod index;
 pub mod sets;
 pub mod table;
 pub mod volume;

@@ -8,6 +8,7 @@ ghost use Rattle.layout.specs.Index.{filters_per_flush, in_ska, set_pages, set_w
 ghost use Rattle.geometry.specs.Shape.{shape};
 ghost use Rattle.geometry.specs.Indexes.{index_of, index_for, deletion_index_for};
 
+pub use crate::index::Index;
 use crate::{Chip, Geometry};
 
 // "Eight filters fill the SKA page".
@@ -28,16 +29,9 @@ pub fn fills_ska(filters: usize) -> bool
     filters % FILTERS_PER_FLUSH + 1 == FILTERS_PER_FLUSH
 }
 
-// An index: its first block and its SKA page in RAM.
-#[derive(Clone, Copy)]
-pub struct Index {
-    pub first: usize,
-    pub ska: usize,
-}
-
 // The index over the entries.
 pub fn key_index(g: Geometry) -> Index
-    ensures { result ≡ index_for (shape g) }
+    ensures { result ≡ index_for g }
 {
     Index {
         first: g.index_block(),
@@ -55,7 +49,7 @@ pub fn deletion_filters(g: Geometry, d: usize) -> usize
 
 // The index over the deletions.
 pub fn deletion_index(g: Geometry) -> Index
-    ensures { result ≡ deletion_index_for (shape g) }
+    ensures { result ≡ deletion_index_for g }
 {
     Index {
         first: g.deletion_index_block(),
@@ -112,7 +106,6 @@ pub fn set_width(chip: Chip, c: usize) -> usize
 
 // First block of the set of c rounds.
 pub fn side_block(chip: Chip, ix: Index, c: usize) -> usize
-    requires { ix.first ≤ 20000 }
     ensures { (result ≡ side_block chip.unit (index_of ix) c) × (result ≤ 20129) }
 {
     if c % 2 == 1 {
@@ -123,7 +116,7 @@ pub fn side_block(chip: Chip, ix: Index, c: usize) -> usize
 
 // First block of full set k.
 pub fn full_block(chip: Chip, ix: Index, k: usize) -> usize
-    requires { (ix.first ≤ 20000) × (k ≤ 2048) }
+    requires { k ≤ 2048 }
     ensures { (result ≡ full_block chip.unit (index_of ix) k) × (result ≤ 300000) }
 {
     let side = chip.side_blocks();
@@ -132,8 +125,7 @@ pub fn full_block(chip: Chip, ix: Index, k: usize) -> usize
 
 // First block of the set that comes next.
 pub fn set_block(chip: Chip, set: Set) -> usize
-    requires first_bound { set.index.first ≤ 20000 }
-    requires full_sets_bound { (set.full_sets ≤ 1024) × (set.rounds < side_blocks chip.unit) }
+    requires { (set.full_sets ≤ 1024) × (set.rounds < side_blocks chip.unit) }
     ensures { (result ≡ set_block chip.unit (index_of set.index) set.full_sets set.rounds) × (result ≤ 300000) }
 {
     let c = set.rounds + 1;

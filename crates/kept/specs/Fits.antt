@@ -9,7 +9,7 @@ use Rattle.geometry.specs.declared.areas.Area.{Area}
 use Rattle.geometry.specs.declared.Geometry.{Geometry}
 use Rattle.geometry.specs.Shape.{shape, Sound, area, AreaSound}
 use Rattle.geometry.specs.Indexes.{index_of}
-use Rattle.geometry.specs.declared.sets.Index.{Index}
+use Rattle.geometry.specs.declared.index.Index.{Index}
 use Rattle.plan.specs.Plans.{record_in, entry_in}
 use Rattle.memory.specs.Booleans.{cond_pos, cond_neg}
 use Rattle.kept.specs.Kept.{filters_kept, entered}

@@ -13,7 +13,7 @@ use Rattle.geometry.specs.declared.Geometry.{Geometry}
 use Rattle.geometry.specs.Shape.{shape, chip_of, Sound}
 use Rattle.geometry.specs.Bounds.{index_le, deletion_index_le}
 use Rattle.geometry.specs.Indexes.{index_of, index_for, deletion_index_for}
-use Rattle.geometry.specs.declared.sets.Index.{Index as CodeIndex}
+use Rattle.geometry.specs.declared.index.Index.{Index as CodeIndex}
 use Rattle.plan.specs.declared.Segment.{Segment}
 use Rattle.plan.specs.declared.Summary.{Summary}
 use Rattle.plan.specs.Fits.{PageFits, FlushFits, NextFits, WipeFits}

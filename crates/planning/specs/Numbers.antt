@@ -6,7 +6,7 @@ use Rattle.layout.specs.Index.{in_ska, in_l1, in_set, in_full, filters_per_flush
 use Rattle.layout.specs.Calls.{key_filters, deletion_filters}
 use Rattle.geometry.specs.Shape.{chip_of}
 use Rattle.geometry.specs.Indexes.{index_of, index_for, deletion_index_for}
-use Rattle.geometry.specs.declared.sets.Index.{Index}
+use Rattle.geometry.specs.declared.index.Index.{Index}
 use Rattle.plan.specs.declared.Plan.{Plan}
 use Rattle.plan.specs.declared.Segment.{Segment}
 use Rattle.plan.specs.declared.Summary.{Summary}

@@ -18,7 +18,7 @@ use Rattle.layout.specs.Calls.{key_index, key_filters, new_filter, summarized, i
 use Rattle.layout.specs.Calls.{deletion_index, deletion_filters, new_half, first_half, second_half, deletion_plan}
 use Rattle.laws.specs.ItemLaws.{length_entry, length_deletion}
 use Rattle.laws.specs.SetLaws.{first_of_pair}
-use Rattle.geometry.specs.declared.sets.Index.{Index}
+use Rattle.geometry.specs.declared.index.Index.{Index}
 use Rattle.geometry.specs.Indexes.{index_of, index_for, deletion_index_for}
 use Rattle.filter.specs.Fourths.{FourthsOf, with_fourths, one_filter, two_filters}
 use Rattle.plan.specs.declared.Summary.{Summary}

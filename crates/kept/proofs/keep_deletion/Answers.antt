@@ -3,7 +3,7 @@ use mathlib.Core.Path.{sym, ap, ◌∙◌}
 use Rattle.memory.specs.Lists.{length_part}
 use Rattle.layout.specs.Items.{DA}
 use Rattle.layout.specs.Calls.{deletion_index, deletion_filters}
-use Rattle.geometry.specs.declared.sets.Index.{Index}
+use Rattle.geometry.specs.declared.index.Index.{Index}
 use Rattle.geometry.specs.Shape.{shape}
 use Rattle.geometry.specs.Indexes.{index_of}
 use Rattle.plan.specs.Plans.{deletion_fourths}

@@ -5,7 +5,7 @@ use Rattle.memory.specs.Lists.{length_part}
 use Rattle.layout.specs.Items as items
 use Rattle.layout.specs.Items.{Ra, KA}
 use Rattle.layout.specs.Calls.{key_index, key_filters}
-use Rattle.geometry.specs.declared.sets.Index.{Index}
+use Rattle.geometry.specs.declared.index.Index.{Index}
 use Rattle.geometry.specs.Shape.{shape}
 use Rattle.geometry.specs.Indexes.{index_of}
 use Rattle.plan.specs.Plans.{entry_fourths}

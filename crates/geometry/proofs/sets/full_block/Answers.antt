@@ -7,7 +7,7 @@ use Rattle.geometry.proofs.sets.full_block.Goals as goal
 sets : (c : goal.After-struct_known-1) → c.before.before.args.k * c.before.side_blocks-side.result ≤ 2048 * 128
 sets c =
     let x = c.before.before in
-    omega (arith, mul-le-mul_right c.before.side_blocks-side.result x.requires.1)
+    omega (arith, mul-le-mul_right c.before.side_blocks-side.result x.requires)
 
 pub overflow_mul-result-2 : goal.overflow_mul-result-2
 overflow_mul-result-2 c = omega (arith, sets c)
