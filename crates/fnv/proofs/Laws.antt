@@ -1,8 +1,8 @@
 -- Steps of FNV-1a over a list, and the positions of a key.
-use Rattle.std.proofs.Common.{◌≡◌, ℕ, ◌+◌, ◌-◌, ◌*◌, ◌%◌, ◌^◌, ◌<◌, ◌≤◌, List, [], ◌∷◌, ◌++◌, length, get_or, drop, set, replicate, sym, ap, ◌∙◌, add-one, arith, length-append, drop_of_length-le, drop-cons, get_or-set_other, get_or-set_same, get_or-append-add, ext_get_or}
+use Rattle.std.proofs.Common.{◌≡◌, ℕ, ◌+◌, ◌-◌, ◌*◌, ◌%◌, ◌^◌, ◌<◌, ◌≤◌, List, ◌++◌, length, get_or, drop, replicate, sym, ap, ◌∙◌, add-one, arith, length-append, drop_of_length-le, drop-cons, get_or-append-add, ext_get_or}
 use lib.Bits.{bit_xor}
 use lib.ListN.{length-replicate, get_or-replicate, get_or-append}
-use Rattle.memory.specs.Cases.{either, lt?, eq?}
+use Rattle.memory.specs.Cases.{either, lt?}
 use Rattle.memory.specs.Lists.{tabulate, length_tabulate, get_d_tabulate}
 use Rattle.memory.specs.Power.{PowerOfTwo}
 use Rattle.layout.specs.Hash.{fnv_from, Family, positions}
@@ -18,17 +18,6 @@ fnv_more h i l p = rw (add-one, drop-cons l i 0)
 pub fnv_end : (h i : ℕ) (l : List ℕ) → length l ≤ i → fnv_from h (drop i l) ≡ h
 unfolding fnv_from
 fnv_end h i l p = rw drop_of_length-le
-
--- one step after another over five bytes is the hash of the five
-pub fnv_five : (h x a b c d : ℕ) {r₀ r₁ r₂ r₃ r₄ : ℕ}
-    → r₀ ≡ bit_xor h x * 16777619 % 2 ^ 32
-    → r₁ ≡ bit_xor r₀ a * 16777619 % 2 ^ 32
-    → r₂ ≡ bit_xor r₁ b * 16777619 % 2 ^ 32
-    → r₃ ≡ bit_xor r₂ c * 16777619 % 2 ^ 32
-    → r₄ ≡ bit_xor r₃ d * 16777619 % 2 ^ 32
-    → r₄ ≡ fnv_from h (x ∷ a ∷ b ∷ c ∷ d ∷ [])
-unfolding fnv_from
-fnv_five h x a b c d e₀ e₁ e₂ e₃ e₄ = rw (e₄, e₃, e₂, e₁, e₀)
 
 -- a fourth of a filter has as many bits as a sector has bytes
 pub fourth_power : (u size : ℕ) → UnitSound u → size ≡ 16 * u → PowerOfTwo size
@@ -57,15 +46,3 @@ filled f k u l ps few long front rest =
     ∙ sym (ap (λ (x : ℕ). get_or (tabulate k (position f u l) ++ replicate (8 - k) 0) x 0) (sym d)
     ∙ get_or-append-add (tabulate k (position f u l)) (replicate (8 - k) 0) (i - k) 0
     ∙ get_or-replicate {A = ℕ} (8 - k) (i - k) 0 0 (omega (arith, a.1)))))
-
--- one more element in an array of eight
-pub more : (P : ℕ → ℕ → Type 0) (ps : List ℕ) (i x : ℕ) → i < 8 → length ps ≡ 8 → P i x → ((j : ℕ) → j < i → P j (get_or ps j 0))
-    → ((j : ℕ) → i ≤ j → j < 8 → get_or ps j 0 ≡ 0)
-    → ((j : ℕ) → j < i + 1 → P j (get_or (set ps i x) j 0)) × ((j : ℕ) → i + 1 ≤ j → j < 8 → get_or (set ps i x) j 0 ≡ 0)
-more P ps i x small long new old rest = (
-  λ j l.
-      either (eq? j i)
-      (λ e. let q : j ≡ i = e.1 in rw (q, get_or-set_same ps i x 0 (omega arith)) new)
-      (λ e. rw (get_or-set_other ps i j x 0 e.1) (old j (omega (arith, e.1)))),
-  λ j l h. rw (get_or-set_other ps i j x 0 (λ e. omega arith)) (rest j (omega arith) h),
-)

@@ -23,7 +23,7 @@ fn add_shifted(acc: u32, x: u32, k: u32) -> u32
     requires { k < 32 }
     ensures { result ≡ (acc + x * 2 ^ k) % 2 ^ 32 }
 {
-    std::num::wrapping_add_u32(acc, x << k)
+    acc.wrapping_add(x << k)
 }
 
 // x times the prime 2^24 + 2^8 + 2^7 + 2^4 + 2 + 1, modulo 2^32, by wrapping adds and shifts.
@@ -41,7 +41,7 @@ pub fn times_prime(x: u32) -> u32
 pub fn absorb(h: u32, byte: u8) -> u32
     ensures { result ≡ bit_xor h byte * 16777619 % 2 ^ 32 }
 {
-    times_prime(h ^ byte as u32)
+    times_prime(h ^ u32::from(byte))
 }
 
 // FNV-1a of a slice.
@@ -49,22 +49,14 @@ pub fn fnv1a(bytes: &[u8]) -> u32
     ensures { result ≡ fnv1a bytes.now }
 {
     let mut h = START;
-    let mut i = 0;
-    while i < bytes.len() {
-        h = absorb(h, bytes[i]);
-        i += 1;
+    for byte in bytes {
+        h = absorb(h, *byte);
     }
     h
 }
 
-// A step of FNV-1a with the lowest byte of a number.
-fn absorb_low(h: u32, x: u32) -> u32
-    ensures { result ≡ bit_xor h (x % 256) * 16777619 % 2 ^ 32 }
-{
-    absorb(h, (x % 256) as u8)
-}
-
-// What is hashed behind j: the four bytes of a number.
+// What is hashed behind j: the four bytes of a number. Made by two named functions, since `Hashed::from(j)` would be no plainer than
+// `of_number(j)`, which says what is hashed.
 #[derive(Clone, Copy)]
 pub struct Hashed {
     pub number: u32,
@@ -88,15 +80,8 @@ pub fn of_number(j: u32) -> Hashed
 pub fn hash(j: u8, x: Hashed) -> u32
     ensures { result ≡ fnv_family j (bytes_of x) }
 {
-    let x0 = x.number;
-    let x1 = x0 / 256;
-    let x2 = x1 / 256;
-    let x3 = x2 / 256;
-    let a = absorb(START, j);
-    let b = absorb_low(a, x0);
-    let c = absorb_low(b, x1);
-    let d = absorb_low(c, x2);
-    absorb_low(d, x3)
+    let [a, b, c, d] = x.number.to_le_bytes();
+    fnv1a(&[j, a, b, c, d])
 }
 
 // The first bit of the fourth of a filter that a hash picks; a fourth has `size` bits.
@@ -141,10 +126,8 @@ pub fn positions(chip: Chip, count: usize, x: Hashed) -> [u32; 8]
 {
     let start = fourth_of(chip, x);
     let mut ps = [0u32; 8];
-    let mut i = 0;
-    while i < count {
+    for i in 0..count {
         ps[i] = position(chip, start, i, x);
-        i += 1;
     }
     ps
 }

@@ -13,11 +13,7 @@ pub fn get32(s: &[u8], at: usize) -> u32
     requires { at + 4 ≤ length s.now }
     ensures { result ≡ word s.now at }
 {
-    let a = numbers::u32_of_byte(s[at]);
-    let b = numbers::u32_of_byte(s[at + 1]);
-    let c = numbers::u32_of_byte(s[at + 2]);
-    let d = numbers::u32_of_byte(s[at + 3]);
-    a + b * 256 + c * 65536 + d * 16777216
+    u32::from_le_bytes([s[at], s[at + 1], s[at + 2], s[at + 3]])
 }
 
 // The four bytes of x from `at` on, the lowest first.
@@ -25,13 +21,7 @@ pub fn put32(s: &mut [u8], at: usize, x: u32)
     requires { at + 4 ≤ length s.old }
     ensures { s.new ≡ write s.old at (bytes4 x) }
 {
-    let y = x / 256;
-    let z = y / 256;
-    let w = z / 256;
-    s[at] = (x % 256) as u8;
-    s[at + 1] = (y % 256) as u8;
-    s[at + 2] = (z % 256) as u8;
-    s[at + 3] = (w % 256) as u8;
+    copy_at(s, at, &u32::to_le_bytes(x));
 }
 
 // The bytes of words from `at` on, one word after another.
@@ -39,10 +29,8 @@ pub fn put_words(s: &mut [u8], at: usize, ws: &[u32])
     requires { at + length ws.now * 4 ≤ length s.old }
     ensures { s.new ≡ write s.old at (words_bytes ws.now) }
 {
-    let mut i = 0;
-    while i < ws.len() {
-        put32(s, at + i * 4, ws[i]);
-        i += 1;
+    for (i, w) in ws.iter().enumerate() {
+        put32(s, at + i * 4, *w);
     }
 }
 
@@ -51,7 +39,16 @@ pub fn get64(s: &[u8], at: usize) -> u64
     requires { at + 8 ≤ length s.now }
     ensures { Word64 s.now at result }
 {
-    numbers::u64_of_u32(get32(s, at)) + numbers::u64_of_u32(get32(s, at + 4)) * 4294967296
+    u64::from_le_bytes([
+        s[at],
+        s[at + 1],
+        s[at + 2],
+        s[at + 3],
+        s[at + 4],
+        s[at + 5],
+        s[at + 6],
+        s[at + 7],
+    ])
 }
 
 // The eight bytes of x from `at` on, the lowest first.
@@ -59,21 +56,7 @@ pub fn put64(s: &mut [u8], at: usize, x: u64)
     requires { at + 8 ≤ length s.old }
     ensures { s.new ≡ write s.old at (bytes8 x) }
 {
-    let b = x / 256;
-    let c = b / 256;
-    let d = c / 256;
-    let e = d / 256;
-    let f = e / 256;
-    let g = f / 256;
-    let h = g / 256;
-    s[at] = (x % 256) as u8;
-    s[at + 1] = (b % 256) as u8;
-    s[at + 2] = (c % 256) as u8;
-    s[at + 3] = (d % 256) as u8;
-    s[at + 4] = (e % 256) as u8;
-    s[at + 5] = (f % 256) as u8;
-    s[at + 6] = (g % 256) as u8;
-    s[at + 7] = (h % 256) as u8;
+    copy_at(s, at, &u64::to_le_bytes(x));
 }
 
 // dst becomes src.
@@ -104,8 +87,7 @@ pub fn copy_at(dst: &mut [u8], at: usize, src: &[u8])
     requires { at + length src.now ≤ length dst.old }
     ensures { dst.new ≡ write dst.old at src.now }
 {
-    let e = at + src.len();
-    copy(&mut dst[at..e], src);
+    dst[at..at + src.len()].copy_from_slice(src);
 }
 
 // n bytes of dst from `at` on become v.
@@ -113,6 +95,5 @@ pub fn fill_at(dst: &mut [u8], at: usize, n: usize, v: u8)
     requires { at + n ≤ length dst.old }
     ensures { dst.new ≡ write dst.old at (replicate n v) }
 {
-    let e = at + n;
-    fill(&mut dst[at..e], v);
+    dst[at..at + n].fill(v);
 }

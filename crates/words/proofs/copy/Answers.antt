@@ -1,8 +1,7 @@
 use native.Mathlib.Omega.{arith}
-use Prim.Native.Nat.{◌-◌}
 use mathlib.Core.Path.{refl, ◌∙◌}
 use mathlib.Core.List.{append-nil}
-use lib.ListN.{length, take, drop, length-set, drop_of_length-le}
+use lib.ListN.{length-set, drop_of_length-le}
 use lib.Seq.{take_all}
 use Rattle.words.proofs.Laws.{copy_more}
 use Rattle.words.proofs.copy.Goals as goal
