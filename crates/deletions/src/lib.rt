@@ -55,21 +55,11 @@ fn filters(t: Deletions) -> Filters
     requires { Sound t.g }
     ensures { result ≡ deletion_filters_of t }
 {
-    let chip = t.g.chip;
-    let index = sets::deletion_index(t.g);
     Filters {
-        chip,
-        index,
+        chip: t.g.chip,
+        index: sets::deletion_index(t.g),
         count: sets::deletion_filters(t.g, t.d),
     }
-}
-
-// What was found in a block of pages: whether the number was met in it, the pages opened, and the block's first page.
-#[derive(Clone, Copy)]
-struct BlockTest {
-    met: bool,
-    opened: u32,
-    start: usize,
 }
 
 // The pages of a word of filters, newest first; their bytes are from `start` on. It is a function because its loop calls nothing that stays
@@ -92,8 +82,8 @@ fn in_word(chip: Chip, start: usize, bits: u64, j: u32, main: &[u8]) -> Tested
     Tested { met: false, opened }
 }
 
-// The full pages below page `below` whose filters are of one block, newest first. A word of the block has the filters of 32 pages; words
-// past the last filter are not looked at.
+// The full pages below page `below` whose filters are of one block, newest first, and the block's first page. A word of the block has the
+// filters of 32 pages; words past the last filter are not looked at.
 fn in_block(
     t: Deletions,
     j: u32,
@@ -102,36 +92,26 @@ fn in_block(
     below: usize,
     main: &[u8],
     ram: &[u8],
-) -> BlockTest
+) -> (Tested, usize)
     requires deletions_fit { DeletionsFit t main.now ram.now × Low t.g.chip.unit count ps }
     requires below_nonzero { (0 < below) × (below ≤ t.d0 / deletions_per_page t.g.chip.unit) }
-    ensures start { result.start < below }
+    ensures start { result.1 < below }
     ensures found { test_below t main.now ram.now j (take count ps) below
-        ≡ onward (test_stop j result.met) result.opened (test_below t main.now ram.now j (take count ps) result.start) }
+        ≡ onward (test_stop j result.0.met) result.0.opened (test_below t main.now ram.now j (take count ps) result.1) }
 {
     let b = filter::block_below(filters(t), 2 * below, ps, count, main, ram);
     let first = b.start / 2;
     let start = t.g.chip.block_address(t.g.da_block());
     let mut opened: u32 = 0;
-    let mut w = (below - first + 31) / 32;
-    while w > 0 {
-        w -= 1;
+    for w in (0..(below - first + 31) / 32).rev() {
         let at = start + t.g.chip.page_address(first + w * 32);
         let r = in_word(t.g.chip, at, b.words[w], j, main);
         opened += r.opened;
         if r.met {
-            return BlockTest {
-                met: true,
-                opened,
-                start: first,
-            };
+            return (Tested { met: true, opened }, first);
         }
     }
-    BlockTest {
-        met: false,
-        opened,
-        start: first,
-    }
+    (Tested { met: false, opened }, first)
 }
 
 // Full pages, a block of filters after another, the newest first, for any `count` positions, 1 to 8.
@@ -142,13 +122,14 @@ fn in_pages(t: Deletions, j: u32, ps: [u32; 8], count: usize, main: &[u8], ram: 
 {
     let mut opened: u32 = 0;
     let mut below = t.d0 / t.g.deletions_per_page();
+    // a `while`, for its step is not one page but a block of filters, whose first page the block tells
     while below > 0 {
-        let w = in_block(t, j, ps, count, below, main, ram);
-        opened += w.opened;
-        if w.met {
+        let (r, first) = in_block(t, j, ps, count, below, main, ram);
+        opened += r.opened;
+        if r.met {
             return Tested { met: true, opened };
         }
-        below = w.start;
+        below = first;
     }
     Tested { met: false, opened }
 }

@@ -4,7 +4,7 @@ use mathlib.Core.Bool.{Bool, true, false}
 use mathlib.Core.Option.{Option, none}
 use mathlib.Core.List.{List}
 use Prim.Native.Nat.{ℕ, ◌+◌, ◌*◌, ◌-◌, ◌/◌, ◌≤◌, ◌<◌}
-use lib.ListN.{take, get_or}
+use lib.ListN.{get_or}
 use Rattle.layout.specs.Geometry as layout
 use Rattle.layout.specs.Calls.{deletion_index, deletion_filters, maybe_deleted}
 use Rattle.layout.specs.Search.{Stop, found, reply, search_pages}
@@ -23,14 +23,11 @@ use Rattle.deletions.proofs.in_block.Goals as goal
 
 -- What is left of the search at each word of a block.
 
-module _ {t : Deletions} {main ram : List ℕ} (R : DeletionsFit t main ram) (j below : ℕ) (ps : List ℕ) (b : Block)
+module _ {t : Deletions} {main ram : List ℕ} (R : DeletionsFit t main ram) {below : ℕ} {ps : List ℕ} {b : Block}
     (B : BlockAt t.g.chip.unit (deletion_index (shape t.g)) main ram (deletion_filters (shape t.g) t.d) (2 * below) ps b)
     (then : below ≤ pages_then t) where
   abbrev gate_at : ℕ → Bool
   gate_at = maybe_deleted (shape t.g) (held t main ram) ps
-
-  abbrev try_at : ℕ → Option Stop
-  try_at = try_held t main ram j
 
   abbrev first : ℕ
   first = b.start / 2
@@ -46,7 +43,10 @@ module _ {t : Deletions} {main ram : List ℕ} (R : DeletionsFit t main ram) (j 
   block_lt : first < below
   block_lt = first_lt t main ram below ps b B
 
-  module _ (opened w : ℕ) (I : Words try_at free (per_page t) either_bit 32 first below b.words opened 0 w) where
+  module _ (j : ℕ) {opened w : ℕ} (I : Words (try_held t main ram j) free (per_page t) either_bit 32 first below b.words opened 0 w) where
+    abbrev try_at : ℕ → Option Stop
+    try_at = try_held t main ram j
+
     -- no word is left
     ended : w ≤ 0 → test_below t main ram j ps below ≡ onward none opened (test_below t main ram j ps first)
     ended h = (words_end I gate_at shows h block_lt).found
@@ -68,20 +68,24 @@ module _ {t : Deletions} {main ram : List ℕ} (R : DeletionsFit t main ram) (j 
           → Pages gate try_at free (per_page t) below opened 0 (lesser (from + 32) below)
       left gate s = words_left I gate s some
 
-      -- the first byte of its pages
-      module _ (at : ℕ) (at_is : at ≡ page_at t from) where
-        pages_in : WordPagesIn t.g.chip.unit at (get_or b.words (w - 1) 0) main
+      -- its pages, by their first byte
+      module _ {block start at : ℕ} (area : block ≡ layout.da_block (shape t.g)) (area_start : start ≡ block * layout.block t.g.chip.unit)
+          (page_start : at ≡ from * layout.page t.g.chip.unit) where
+        first_byte : start + at ≡ page_at t from
+        first_byte = let z = rw area at area_start in omega (arith, z, page_start)
+
+        pages_in : WordPagesIn t.g.chip.unit (start + at) (get_or b.words (w - 1) 0) main
         pages_in = record {
           page_in = λ k h s.
               let l = word_in first below b.words (w - 1) word_lt_8 gate_at shows k h s in
-              omega (arith, at_is, page_in R (from + k) (omega (arith, l, below_le)));
+              omega (arith, first_byte, page_in R (from + k) (omega (arith, l, below_le)));
         }
 
-        module _ (met : Bool) (k : ℕ)
-            (e : reply (test_stop j met) k ≡ search_pages (either_bit (get_or b.words (w - 1) 0)) (try_word main at j) (per_page t) 32) where
+        module _ (met : Bool) {k : ℕ}
+            (e : reply (test_stop j met) k ≡ search_pages (either_bit (get_or b.words (w - 1) 0)) (try_word main (start + at) j) (per_page t) 32) where
           part : (gate : ℕ → Bool) → Shown either_bit 32 first below b.words gate
               → Part gate try_at free (per_page t) (lesser (from + 32) below) from k 0 (test_stop j met)
-          part gate s = word_part first below b.words (w - 1) word_lt_8 gate s t main ram j below_le from_lt at at_is met k e
+          part gate s = word_part first below b.words (w - 1) word_lt_8 gate s t main ram j below_le from_lt (start + at) first_byte met k e
 
           opened_few : opened + k ≤ below
           opened_few = part_few (left gate_at shows) (part gate_at shows)
@@ -105,62 +109,33 @@ block_below-b-requires-clause-by_index c =
       omega (arith, c.requires.below_nonzero.1, pages_then_lem R),
     )
 
--- the first byte of all pages
-first_byte : (t : Deletions) (block start : ℕ) → block ≡ layout.da_block (shape t.g) → start ≡ block * layout.block t.g.chip.unit
-    → (p at : ℕ) → at ≡ p * layout.page t.g.chip.unit → start + at ≡ page_at t p
-first_byte t block start e s p at a = let z = rw e at s in omega (arith, z, a)
-
 pub in_word-r-requires : goal.in_word-r-requires
 in_word-r-requires c =
-    let x = c.args in
-    let R = c.requires.deletions_fit.0 in
-    let b = c.block_below-b.result in (
+    let R = c.requires.deletions_fit.0 in (
       R.sound.unit,
-      pages_in R x.j x.below (take x.count x.ps) b (rw c.filters.ensures at c.block_below-b.ensures) c.requires.below_nonzero.1
-          c.loop-w.opened c.loop-w.w c.loop-w.invariant c.loop-w-test.true
-          (c.block_address-start.result + c.page_address.result)
-          (first_byte x.t c.da_block.result c.block_address-start.result c.da_block.ensures c.block_address-start.ensures
-          (b.start / 2 + (c.loop-w.w - 1) * 32) c.page_address.result c.page_address.ensures),
+      pages_in R (rw c.filters.ensures at c.block_below-b.ensures) c.requires.below_nonzero.1 c.args.j c.loop-w.invariant c.loop-w-test.true
+          c.da_block.ensures c.block_address-start.ensures c.page_address.ensures,
     )
 
 pub overflow_add-opened : goal.overflow_add-opened
 overflow_add-opened c =
-    let x = c.args in
     let R = c.requires.deletions_fit.0 in
-    let b = c.block_below-b.result in
-    let few = opened_few R x.j x.below (take x.count x.ps) b (rw c.filters.ensures at c.block_below-b.ensures) c.requires.below_nonzero.1
-    c.loop-w.opened c.loop-w.w c.loop-w.invariant c.loop-w-test.true
-    (c.block_address-start.result + c.page_address.result)
-    (first_byte x.t c.da_block.result c.block_address-start.result c.da_block.ensures c.block_address-start.ensures
-    (b.start / 2 + (c.loop-w.w - 1) * 32) c.page_address.result c.page_address.ensures)
-    c.in_word-r.result.met c.in_word-r.result.opened c.in_word-r.ensures in
+    let few = opened_few R (rw c.filters.ensures at c.block_below-b.ensures) c.requires.below_nonzero.1 c.args.j c.loop-w.invariant c.loop-w-test.true
+    c.da_block.ensures c.block_address-start.ensures c.page_address.ensures c.in_word-r.result.met c.in_word-r.ensures in
     omega (arith, few, c.requires.below_nonzero.1, pages_then_lem R, pages_few R)
 
 pub returns-then-r-clause-found : goal.returns-then-r-clause-found
 returns-then-r-clause-found c =
-    let x = c.args in
-    let b = c.block_below-b.result in
-    found_in c.requires.deletions_fit.0 x.j x.below (take x.count x.ps) b (rw c.filters.ensures at c.block_below-b.ensures) c.requires.below_nonzero.1
-    c.loop-w.opened c.loop-w.w c.loop-w.invariant c.loop-w-test.true
-    (c.block_address-start.result + c.page_address.result)
-    (first_byte x.t c.da_block.result c.block_address-start.result c.da_block.ensures c.block_address-start.ensures
-    (b.start / 2 + (c.loop-w.w - 1) * 32) c.page_address.result c.page_address.ensures)
-    c.in_word-r.result.met c.in_word-r.result.opened c.in_word-r.ensures c.if-r.true
+    found_in c.requires.deletions_fit.0 (rw c.filters.ensures at c.block_below-b.ensures) c.requires.below_nonzero.1 c.args.j c.loop-w.invariant
+    c.loop-w-test.true c.da_block.ensures c.block_address-start.ensures c.page_address.ensures c.in_word-r.result.met c.in_word-r.ensures c.if-r.true
 
 pub loop-w-preserved : goal.loop-w-preserved
 loop-w-preserved c =
-    let x = c.args in
-    let b = c.block_below-b.result in
-    next c.requires.deletions_fit.0 x.j x.below (take x.count x.ps) b (rw c.filters.ensures at c.block_below-b.ensures) c.requires.below_nonzero.1
-    c.loop-w.opened c.loop-w.w c.loop-w.invariant c.loop-w-test.true
-    (c.block_address-start.result + c.page_address.result)
-    (first_byte x.t c.da_block.result c.block_address-start.result c.da_block.ensures c.block_address-start.ensures
-    (b.start / 2 + (c.loop-w.w - 1) * 32) c.page_address.result c.page_address.ensures)
-    c.in_word-r.result.met c.in_word-r.result.opened c.in_word-r.ensures c.if-r.false
+    next c.requires.deletions_fit.0 (rw c.filters.ensures at c.block_below-b.ensures) c.requires.below_nonzero.1 c.args.j c.loop-w.invariant
+    c.loop-w-test.true c.da_block.ensures c.block_address-start.ensures c.page_address.ensures c.in_word-r.result.met c.in_word-r.ensures c.if-r.false
 
 -- no word is left
 pub returns-clause-found : goal.returns-clause-found
 returns-clause-found c =
-    let x = c.args in
-    ended c.requires.deletions_fit.0 x.j x.below (take x.count x.ps) c.block_below-b.result (rw c.filters.ensures at c.block_below-b.ensures)
-    c.requires.below_nonzero.1 c.loop-w.opened c.loop-w.w c.loop-w.invariant (omega arith)
+    ended c.requires.deletions_fit.0 (rw c.filters.ensures at c.block_below-b.ensures) c.requires.below_nonzero.1 c.args.j c.loop-w.invariant
+    (omega arith)

@@ -8,6 +8,3 @@ use Rattle.deletions.proofs.in_block.Given as goal
 abbrev pub invariant-loop-w : goal.invariant-loop-w
 invariant-loop-w l =
     Words (try_held l.t l.main l.ram l.j) free (per_page l.t) either_bit 32 (l.b.start / 2) l.below l.b.words l.opened 0 l.w
-
-abbrev pub decreases-loop-w : goal.decreases-loop-w
-decreases-loop-w l = l.w

@@ -14,14 +14,14 @@ use Rattle.deletions.proofs.in_pages.Goals as goal
 pub overflow_add-opened : goal.overflow_add-opened
 overflow_add-opened c =
     let x = c.args in
-    let part = part_free (maybe_deleted (shape x.t.g) (held x.t x.main.now x.ram.now) (take x.count x.ps)) (try_held x.t x.main.now x.ram.now x.j) (per_page x.t) c.in_block-w.ensures.found in
+    let part = part_free (maybe_deleted (shape x.t.g) (held x.t x.main.now x.ram.now) (take x.count x.ps)) (try_held x.t x.main.now x.ram.now x.j) (per_page x.t) c.in_block-first.ensures.found in
     omega (arith, part_few c.loop-below.invariant part, pages_then_lem c.requires.0, pages_few c.requires.0)
 
 pub loop-below-preserved : goal.loop-below-preserved
 loop-below-preserved c =
     let x = c.args in
-    let part = part_free (maybe_deleted (shape x.t.g) (held x.t x.main.now x.ram.now) (take x.count x.ps)) (try_held x.t x.main.now x.ram.now x.j) (per_page x.t) c.in_block-w.ensures.found in
-    part_next c.loop-below.invariant part (ap (test_stop x.j) c.if-w.false) (omega (arith, c.in_block-w.ensures.start))
+    let part = part_free (maybe_deleted (shape x.t.g) (held x.t x.main.now x.ram.now) (take x.count x.ps)) (try_held x.t x.main.now x.ram.now x.j) (per_page x.t) c.in_block-first.ensures.found in
+    part_next c.loop-below.invariant part (ap (test_stop x.j) c.if-r.false) (omega (arith, c.in_block-first.ensures.start))
 
 pub returns : goal.returns
 returns c = sym (pages_none c.loop-below.invariant (omega arith)).0

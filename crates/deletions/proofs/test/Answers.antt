@@ -1,4 +1,3 @@
-use native.Mathlib.Omega.{arith}
 use mathlib.Core.Path.{◌∙◌}
 use mathlib.Core.Bool.{true, false}
 use Rattle.memory.specs.Words.{bytes4}
@@ -21,16 +20,6 @@ returns-then-t-deletions_per_page c =
     let e = rw c.if-in_open.false at c.in_open.ensures in
     test_open x.t x.main.now x.ram.now x.j (page_some c.requires)
     (rw c.deletions_per_page.ensures at c.if-t-deletions_per_page.true) e
-
-pub positions-ps-requires : goal.positions-ps-requires
-positions-ps-requires c =
-    let sound = c.requires.sound in
-    (sound.unit, omega (arith, sound.k_most))
-
-pub in_pages-requires : goal.in_pages-requires
-in_pages-requires c =
-    let sound = c.requires.sound in
-    (c.requires, record { some = omega (arith, sound.k_some); few = omega (arith, sound.k_most); within = c.positions-ps.ensures.below })
 
 pub returns : goal.returns
 returns c =
