@@ -10,8 +10,8 @@ use Rattle.layout.specs.Geometry as layout
 use Rattle.layout.specs.Flash.{Flash}
 use Rattle.layout.specs.Calls.{Volume, bad_state, too_short}
 use Rattle.laws.specs.Lengths.{long_of}
-use Rattle.geometry.specs.Shape.{geometry_for, shape, Sound, shaped_by, shaped_of, GoodSound}
-use Rattle.geometry.specs.declared.Geometry.{Geometry}
+use Rattle.geometry.specs.Shape.{geometry_for, shape, shaped_by, shaped_of}
+use Rattle.geometry.specs.declared.volume.Geometry.{Geometry}
 use Rattle.std.specs.Prelude.{Option, Some, None, Result, Ok, Err, is_some, unwrap_or, ok_or}
 use Rattle.std.specs.Result.{result_ok}
 use Rattle.std.proofs.Common.{subst}
@@ -34,7 +34,7 @@ shaped_some false sizes r g p q =
     let z : false ≡ true = ap is_some (sym p ∙ q) in
     (z, cc)
 
--- what `ok_or` leaves of an answer to sizes: where it is an error they are not allowed, where it is a geometry it is theirs, and sound
+-- what `ok_or` leaves of an answer to sizes: where it is an error they are not allowed, where it is a geometry it is theirs
 module _ (sizes : layout.Sizes) (r : Option Geometry) (k : Result Geometry Refusal) (is : r ≡ shaped_of sizes) (ok : r ≡ result_ok k) where
   pub not_shaped : (i : Refusal) → k ≡ Err i → layout.allowed sizes ≡ false
   not_shaped i was = shaped_none (layout.allowed sizes) sizes r is (ok ∙ ap result_ok was)
@@ -44,11 +44,8 @@ module _ (sizes : layout.Sizes) (r : Option Geometry) (k : Result Geometry Refus
       let none : r ≡ None = ok ∙ ap result_ok was in
       ap (λ a. err_or e a) (sym was ∙ value ∙ ap (λ o. ok_or o e) none)
 
-  pub is_shaped : (g : Geometry) → k ≡ Ok g → GoodSound r → (layout.allowed sizes ≡ true) × (g ≡ geometry_for sizes) × Sound g
-  is_shaped g was sound =
-      let some : r ≡ Some g = ok ∙ ap result_ok was in
-      let a = shaped_some (layout.allowed sizes) sizes r g is some in
-      (a.0, a.1, subst (λ o. GoodSound o) some sound)
+  pub is_shaped : (g : Geometry) → k ≡ Ok g → (layout.allowed sizes ≡ true) × (g ≡ geometry_for sizes)
+  is_shaped g was = shaped_some (layout.allowed sizes) sizes r g is (ok ∙ ap result_ok was)
 
 -- n or d above its capacity, or d above n
 abbrev pub counts : Geometry → layout.State → Bool
@@ -89,12 +86,11 @@ module _ (v : Volume) where
         let e : judgement_of v ≡ Ok named = rw (bad_is q, at_state false c, short_at false t) in
         ap Ok p ∙ sym e
 
-    pub fits_of : Sound g → counts g v.state ≡ false → too_short (shape g) v.flash v.ram ≡ false → VolumeFits v g
-    fits_of ok c t =
+    pub fits_of : counts g v.state ≡ false → too_short (shape g) v.flash v.ram ≡ false → VolumeFits v g
+    fits_of c t =
         let a = (or_eq_false_iff (ltb (layout.record_capacity (shape g)) v.state.records) _).0 c in
         let b = (or_eq_false_iff (ltb (layout.deletion_capacity (shape g)) v.state.deletions) _).0 a.1 in
         record {
-          sound = ok;
           is = p;
           good = bad_is q ∙ at_state false c;
           long = long_of (shape g) v.flash v.ram t;
@@ -104,5 +100,5 @@ module _ (v : Volume) where
         }
 
 module _ (sizes : layout.Sizes) (flash : Flash) (ram : List ℕ) (g : Geometry) (q : layout.allowed sizes ≡ true) (p : g ≡ geometry_for sizes) where
-  pub new_of : Sound g → too_short (shape g) flash ram ≡ false → FormatFits sizes flash ram g
-  new_of ok t = record { sound = ok; is = p; can = q; long = long_of (shape g) flash ram t }
+  pub new_of : too_short (shape g) flash ram ≡ false → FormatFits sizes flash ram g
+  new_of t = record { is = p; can = q; long = long_of (shape g) flash ram t }

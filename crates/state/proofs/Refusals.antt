@@ -8,7 +8,7 @@ use Rattle.layout.specs.Refusals as refusal
 use Rattle.layout.specs.Calls.{Volume, Result, refuse, too_short, judge_first, format, formatted}
 use Rattle.laws.specs.Lengths.{not_short}
 use Rattle.geometry.specs.Shape.{geometry_for, shape}
-use Rattle.geometry.specs.declared.Geometry.{Geometry}
+use Rattle.geometry.specs.declared.volume.Geometry.{Geometry}
 use Rattle.state.specs.Contract.{number_of}
 use Rattle.state.specs.Judge.{judgement_of_new, VolumeFits}
 use Rattle.state.specs.declared.Refusal.{Refusal}

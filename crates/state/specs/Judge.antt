@@ -1,12 +1,12 @@
--- Refusals 1 and 2 as one answer: the refusal, or the sound geometry of the state.
+-- Refusals 1 and 2 as one answer: the refusal, or the geometry of the state.
 use Rattle.std.specs.Prelude.{◌≡◌, true, false, cond, List, ℕ, ◌≤◌, Result, Ok, Err}
 use Prim.{Unit}
 use Rattle.layout.specs.Geometry as layout
 use Rattle.layout.specs.Flash.{Flash}
 use Rattle.layout.specs.Calls.{Volume, bad_state, too_short}
 use Rattle.laws.specs.Lengths.{Long}
-use Rattle.geometry.specs.Shape.{geometry_for, shape, Sound}
-use Rattle.geometry.specs.declared.Geometry.{Geometry}
+use Rattle.geometry.specs.Shape.{geometry_for, shape}
+use Rattle.geometry.specs.declared.volume.Geometry.{Geometry}
 use Rattle.state.specs.declared.Refusal.{Refusal}
 use Rattle.state.specs.declared.Refusal.TheVariants.{BadState, TooShort}
 
@@ -25,7 +25,6 @@ judgement_of_new sizes flash ram =
 
 -- what a call knows of a volume that is not refused
 pub record VolumeFits (v : Volume) (g : Geometry) : Type 0 where
-  pub sound : Sound g
   pub is : g ≡ geometry_for v.state.sizes
   pub good : bad_state v.state ≡ false
   pub long : Long (shape g) v.flash.main v.flash.spare v.ram
@@ -40,7 +39,6 @@ GoodFits v (Err i) = Unit
 
 -- what a format knows of sizes and lent bytes that are not refused
 pub record FormatFits (sizes : layout.Sizes) (flash : Flash) (ram : List ℕ) (g : Geometry) : Type 0 where
-  pub sound : Sound g
   pub is : g ≡ geometry_for sizes
   pub can : layout.allowed sizes ≡ true
   pub long : Long (shape g) flash.main flash.spare ram

@@ -113,7 +113,6 @@ pub fn cut_after(p: Progress, old: State, new: State) -> Cut
 
 // Is n or d above its capacity, or d above n?
 fn counts_bad(g: Geometry, n: u32, d: u32) -> bool
-    requires { Sound g }
     ensures { result ≡ (ltb (record_capacity (shape g)) n || (ltb (deletion_capacity (shape g)) d || ltb n d)) }
 {
     g.record_capacity() < n as usize || g.deletion_capacity() < d as usize || n < d
@@ -121,7 +120,6 @@ fn counts_bad(g: Geometry, n: u32, d: u32) -> bool
 
 // Are the lent bytes too few for the volume and the header?
 fn too_short(g: Geometry, main: &[u8], spare: &[u8], ram: &[u8]) -> bool
-    requires { Sound g }
     ensures { result ≡ too_short (shape g) (flash_of main.now spare.now) (pages ram.now) }
 {
     main.len() < g.main_size() || spare.len() < g.spare_size() || ram.len() < g.ram_size() + TAIL_SIZE

@@ -9,5 +9,5 @@ pub returns-clause-fits : goal.returns-clause-fits
 returns-clause-fits c =
     let x = c.args in
     let sizes = sizes_is x.sizes in
-    let a = is_shaped sizes c.geometry_for.result c.ok_or.result c.geometry_for.ensures.equal c.ok_or.ensures.ok_part c.in_ok-g.g c.in_ok-g.was c.geometry_for.ensures.sound in
-    new_of sizes (flash_of x.main.now x.spare.now) (pages x.ram.now) c.in_ok-g.g a.0 a.1 a.2 (sym c.too_short.ensures ∙ c.if-too_short.false)
+    let a = is_shaped sizes c.geometry_for.result c.ok_or.result c.geometry_for.ensures c.ok_or.ensures.ok_part c.in_ok-g.g c.in_ok-g.was in
+    new_of sizes (flash_of x.main.now x.spare.now) (pages x.ram.now) c.in_ok-g.g a.0 a.1 (sym c.too_short.ensures ∙ c.if-too_short.false)

@@ -11,26 +11,26 @@ use Rattle.layout.specs.Calls.{too_short}
 use Rattle.layout.specs.Flash.{flash_of}
 use Rattle.layout.specs.Header.{pages, header_size}
 use Rattle.laws.specs.HeaderLaws.{longer_ram}
-use Rattle.geometry.specs.Shape.{shape, Sound}
-use Rattle.geometry.specs.declared.Geometry.{Geometry}
+use Rattle.geometry.specs.Shape.{shape}
+use Rattle.geometry.specs.declared.volume.Geometry.{Geometry}
 use Rattle.state.proofs.too_short.Goals as goal
 use Rattle.state.proofs.too_short.Goals.{then-main-main_size, else-main-main_size}
 
 pub overflow_add-result : goal.overflow_add-result
-overflow_add-result c = rw c.ram_size.ensures (omega (arith, c.requires.unit.1))
+overflow_add-result c = rw c.ram_size.ensures (omega arith)
 
 -- the three tests, of a geometry's sizes
-module _ (g : Geometry) (ok : Sound g) (main spare ram : List ℕ) where
+module _ (g : Geometry) (main spare ram : List ℕ) where
   tests : too_short (shape g) (flash_of main spare) (pages ram)
       ≡ (ltb (length main) (main_size (shape g)) || (ltb (length spare) (spare_size (shape g)) || ltb (length ram) (ram_size (shape g) + header_size)))
-  tests = longer_ram (shape g) (flash_of main spare) ram (omega (arith, ok.unit.1))
+  tests = longer_ram (shape g) (flash_of main spare) ram (omega (arith, g.chip.power.most))
 
 pub returns-then-spare-spare_size : goal.returns-then-spare-spare_size
 returns-then-spare-spare_size c =
     let x = c.args in
     let t = c.if-spare-spare_size.true in
     let size = main_size (shape x.g) in
-    rw (tests x.g c.requires x.main.now x.spare.now x.ram.now, t)
+    rw (tests x.g x.main.now x.spare.now x.ram.now, t)
     (elim c.if-main-main_size.branch [
       then-main-main_size w ↦ let a : length x.main.now < size = rw c.main_size.ensures at w.if-main-main_size.true in rw (lt-ltb _ _ a) refl
     | else-main-main_size w ↦
@@ -43,7 +43,7 @@ returns-else-spare-spare_size c =
     let x = c.args in
     let f = c.if-spare-spare_size.false in
     let size = main_size (shape x.g) in
-    rw (tests x.g c.requires x.main.now x.spare.now x.ram.now, c.ram_size.ensures)
+    rw (tests x.g x.main.now x.spare.now x.ram.now, c.ram_size.ensures)
     (elim c.if-main-main_size.branch [
       then-main-main_size w ↦ absurd (false≢true (sym f ∙ w.value-is ∙ lt-ltb _ _ w.if-main-main_size.true))
     | else-main-main_size w ↦
