@@ -122,7 +122,9 @@ fn counts_bad(g: Geometry, n: u32, d: u32) -> bool
 fn too_short(g: Geometry, main: &[u8], spare: &[u8], ram: &[u8]) -> bool
     ensures { result ≡ too_short (shape g) (flash_of main.now spare.now) (pages ram.now) }
 {
-    main.len() < g.main_size() || spare.len() < g.spare_size() || ram.len() < g.ram_size() + TAIL_SIZE
+    main.len() < g.main_size()
+        || spare.len() < g.spare_size()
+        || ram.len() < g.ram_size() + TAIL_SIZE
 }
 
 // Judges a state that is handed in: its geometry, or refusal 1 or 2.
