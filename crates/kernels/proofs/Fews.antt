@@ -2,56 +2,44 @@
 use mathlib.Core.Path.{◌≡◌, refl, sym, ap, ◌∙◌}
 use mathlib.Core.Bool.{Bool, ◌&&◌}
 use mathlib.Core.List.{List}
-use Prim.Native.Nat.{ℕ, ◌+◌, ◌*◌, ◌-◌, ◌/◌, ◌%◌, ◌≤◌, ◌<◌}
+use Prim.Native.Nat.{ℕ, ◌+◌, ◌*◌, ◌/◌, ◌%◌, ◌≤◌, ◌<◌, min}
 use native.Mathlib.Omega.{arith}
+use Rattle.std.specs.Prelude.{◌⊎◌}
+use Rattle.std.proofs.Math.Logic.{inl, inr}
 use lib.Dec.{ltb}
 use lib.ListN.{length, length-set, get_or, set}
 use lib.Seq.{get_or-set_same, get_or-set_other}
 use borrow.Author.Tests.{le-ltb}
 use Rattle.memory.specs.Bits.{bit}
 use Rattle.memory.specs.Cases.{either, lt?, eq?}
-use Rattle.kernels.specs.Rows.{all_in, Words}
+use Rattle.kernels.specs.Rows.{row_of, all_in, Words}
+use Rattle.kernels.specs.declared.Row.{Row}
 use Rattle.kernels.specs.Blocks.{Shows, Upto, OpenBlock}
 use Rattle.kernels.proofs.Eights.{noughts}
-use Rattle.kernels.proofs.Folds.{filter_at}
+use Rattle.kernels.proofs.Filters.{all_from}
 
--- ---- a word of filters
+-- ---- a word of filters, w bits of each, out of w words
 
--- word q has the filters from `from` + `off` on, which r has from bit `off` on
-piece : (bytes at low : List ℕ) (count w per from off q y r : ℕ) → per * w ≡ 64 → ((i : ℕ) → i < count → get_or low i 0 < w)
-    → q * per ≡ from + off → Words bytes at low count q y → ((u : ℕ) → u < per → bit r (off + u) ≡ bit y (u * w))
-    → (i : ℕ) → off ≤ i → i < off + per → bit r i ≡ all_in bytes at low w count (from + i)
-piece bytes at low count w per from off q y r word lows s W R i h l =
-    let e : off + (i - off) ≡ i = omega arith in
-    let f : q * per + (i - off) ≡ from + i = omega arith in
-    (rw e at (R (i - off) (omega arith))) ∙ (filter_at bytes at low count w per q y (i - off) word lows W (omega arith) ∙ ap (all_in bytes at low w count) f)
+fits : (w i low : ℕ) → (w ≡ 2) ⊎ (w ≡ 4) → low < w → low + i * w % 64 < 64
+fits w i low (inl e) h = let l : low < 2 = rw e at h in let r : low + i * 2 % 64 < 64 = omega (arith, l) in rw e r
+fits w i low (inr e) h = let l : low < 4 = rw e at h in let r : low + i * 4 % 64 < 64 = omega (arith, l) in rw e r
+
+within : (w i k : ℕ) → (w ≡ 2) ⊎ (w ≡ 4) → k + w ≤ 8 → i < 64 → k + i * w / 64 < 8
+within w i k (inl e) h l = let t : k + 2 ≤ 8 = rw e at h in let r : k + i * 2 / 64 < 8 = omega (arith, t, l) in rw e r
+within w i k (inr e) h l = let t : k + 4 ≤ 8 = rw e at h in let r : k + i * 4 / 64 < 8 = omega (arith, t, l) in rw e r
 
 -- words k and so on of the block from word Q on make r
-module _ (bytes at low : List ℕ) (count from r : ℕ) (f : List ℕ) (Q k : ℕ) (W : (j : ℕ) → j < 8 → Words bytes at low count (Q + j) (get_or f j 0)) where
-  pub of_two : ((i : ℕ) → i < count → get_or low i 0 < 2) → (Q + k) * 32 ≡ from → k + 2 ≤ 8
-      → ((i : ℕ) → i < 32 → (bit r i ≡ bit (get_or f k 0) (i * 2)) × (bit r (32 + i) ≡ bit (get_or f (k + 1) 0) (i * 2)))
-      → Shows (all_in bytes at low 2 count) from 64 r
-  unfolding Shows
-  of_two lows first in_block R i h =
-      either (lt? i 32)
-      (λ l. piece bytes at low count 2 32 from 0 (Q + k) (get_or f k 0) r refl lows (omega arith) (W k (omega arith)) (λ u t. let e : 0 + u ≡ u = omega arith in rw e (R u t).0) i (omega arith) (omega (arith, l.1)))
-      (λ l. piece bytes at low count 2 32 from 32 (Q + (k + 1)) (get_or f (k + 1) 0) r refl lows (omega arith) (W (k + 1) (omega arith)) (λ u t. (R u t).1) i l.1 (omega arith))
-
-  pub of_four : ((i : ℕ) → i < count → get_or low i 0 < 4) → (Q + k) * 16 ≡ from → k + 4 ≤ 8
-      → ((i : ℕ) → i < 16 → (bit r i ≡ bit (get_or f k 0) (i * 4)) × (bit r (16 + i) ≡ bit (get_or f (k + 1) 0) (i * 4))
-      × (bit r (32 + i) ≡ bit (get_or f (k + 2) 0) (i * 4)) × (bit r (48 + i) ≡ bit (get_or f (k + 3) 0) (i * 4)))
-      → Shows (all_in bytes at low 4 count) from 64 r
-  unfolding Shows
-  of_four lows first in_block R i h =
-      either (lt? i 16)
-      (λ l. piece bytes at low count 4 16 from 0 (Q + k) (get_or f k 0) r refl lows (omega arith) (W k (omega arith)) (λ u t. let e : 0 + u ≡ u = omega arith in rw e (R u t).0) i (omega arith) (omega (arith, l.1)))
-      (λ l.
-      either (lt? i 32)
-      (λ m. piece bytes at low count 4 16 from 16 (Q + (k + 1)) (get_or f (k + 1) 0) r refl lows (omega arith) (W (k + 1) (omega arith)) (λ u t. (R u t).1) i l.1 (omega (arith, m.1)))
-      (λ m.
-      either (lt? i 48)
-      (λ n. piece bytes at low count 4 16 from 32 (Q + (k + 2)) (get_or f (k + 2) 0) r refl lows (omega arith) (W (k + 2) (omega arith)) (λ u t. (R u t).2) i m.1 (omega (arith, n.1)))
-      (λ n. piece bytes at low count 4 16 from 48 (Q + (k + 3)) (get_or f (k + 3) 0) r refl lows (omega arith) (W (k + 3) (omega arith)) (λ u t. (R u t).3) i n.1 (omega arith))))
+pub of_words : (bytes : List ℕ) (rows : List Row) (w from r : ℕ) (f : List ℕ) (Q k : ℕ) → (w ≡ 2) ⊎ (w ≡ 4) → k + w ≤ 8
+    → ((j : ℕ) → j < length rows → (row_of rows j).low < w) → from * w ≡ (Q + k) * 64
+    → ((j : ℕ) → j < 8 → Words bytes rows (Q + j) (get_or f j 0))
+    → ((i : ℕ) → i < 64 → bit r i ≡ bit (get_or f (k + i * w / 64) 0) (i * w % 64)) → Shows (all_in bytes rows w) from 64 r
+unfolding Shows Words
+of_words bytes rows w from r f Q k two_or_four in_block lows first W R i h =
+    let t = i * w / 64 in
+    let u = i * w % 64 in
+    let e : (Q + (k + t)) * 64 + u ≡ (from + i) * w = omega (arith, first) in
+    R i h ∙ (W (k + t) (within w i k two_or_four in_block h) u (omega arith) (λ j l. fits w i (row_of rows j).low two_or_four (lows j l))
+    ∙ (ap (all_in bytes rows 1) e ∙ sym (all_from bytes rows w (from + i))))
 
 -- ---- the first j of eight words
 
@@ -86,12 +74,57 @@ filled_part gate first n j f l h F U k a i b =
     ap (λ (z : Bool). z && bit (get_or f k 0) i) (le-ltb (k * 64 + i) n t.1)
     ∙ sym (ap (λ (z : Bool). z && gate (first + (k * 64 + i))) (le-ltb (k * 64 + i) n t.1)))
 
--- ---- the block of the rows' words that has the filters of words j to j + 1, of four bits in each row, or j to j + 3, of two
+-- ---- the block of the rows' words from word q on
 
-pub inside_4 : (A first n j len : ℕ) → first % 512 ≡ 0 → j % 2 ≡ 0 → j < (n + 63) / 64 → A + ((first + n) * 4 + 511) / 512 * 64 ≤ len
-    → A + (first / 64 + j) * 4 * 8 + 64 ≤ len
-inside_4 A first n j len f e h l = omega arith
+inside_two : (A first n b len : ℕ) → first % 512 ≡ 0 → b < n * 2 / 512 + min 1 (n * 2 % 512) → A + ((first + n) * 2 + 511) / 512 * 64 ≤ len
+    → A + (first / 64 * 2 + b * 8) * 8 + 64 ≤ len
+inside_two A first n b len f h l = omega arith
 
-pub inside_2 : (A first n j len : ℕ) → first % 512 ≡ 0 → j % 4 ≡ 0 → j < (n + 63) / 64 → A + ((first + n) * 2 + 511) / 512 * 64 ≤ len
-    → A + (first / 64 + j) * 2 * 8 + 64 ≤ len
-inside_2 A first n j len f e h l = omega arith
+inside_four : (A first n b len : ℕ) → first % 512 ≡ 0 → b < n * 4 / 512 + min 1 (n * 4 % 512) → A + ((first + n) * 4 + 511) / 512 * 64 ≤ len
+    → A + (first / 64 * 4 + b * 8) * 8 + 64 ≤ len
+inside_four A first n b len f h l = omega arith
+
+-- what block b and its word k are, at both widths
+pub record Word (w first n b k : ℕ) : Type 0 where
+  pub inside : (A len : ℕ) → A + ((first + n) * w + 511) / 512 * 64 ≤ len → A + (first / 64 * w + b * 8) * 8 + 64 ≤ len
+  pub below : b * (8 / w) + k < 8
+  pub next : (b + 1) * (8 / w) ≡ b * (8 / w) + 8 / w
+  pub in_block : k * w + w ≤ 8
+  pub is : (first + (b * (8 / w) + k) * 64) * w ≡ (first / 64 * w + b * 8 + k * w) * 64
+
+pub word_two : (first n b k : ℕ) → n ≤ 512 → first % 512 ≡ 0 → b < n * 2 / 512 + min 1 (n * 2 % 512) → k < 4 → Word 2 first n b k
+word_two first n b k some f h l =
+    record {
+      inside = λ A len t. inside_two A first n b len f h t;
+      below = omega arith;
+      next = omega arith;
+      in_block = omega arith;
+      is = omega arith;
+    }
+
+pub word_four : (first n b k : ℕ) → n ≤ 512 → first % 512 ≡ 0 → b < n * 4 / 512 + min 1 (n * 4 % 512) → k < 2 → Word 4 first n b k
+word_four first n b k some f h l =
+    record {
+      inside = λ A len t. inside_four A first n b len f h t;
+      below = omega arith;
+      next = omega arith;
+      in_block = omega arith;
+      is = omega arith;
+    }
+
+pub word_at : (w first n b k : ℕ) → (w ≡ 2) ⊎ (w ≡ 4) → n ≤ 512 → first % 512 ≡ 0 → b < n * w / 512 + min 1 (n * w % 512) → k < 8 / w → Word w first n b k
+word_at w first n b k (inl e) some f h l = let t = rw e at h in let u = rw e at l in rw e (word_two first n b k some f t u)
+word_at w first n b k (inr e) some f h l = let t = rw e at h in let u = rw e at l in rw e (word_four first n b k some f t u)
+
+-- eight bytes' bits have a place for each of the filters
+pub enough : (w n : ℕ) → (w ≡ 2) ⊎ (w ≡ 4) → n ≤ (n * w / 512 + min 1 (n * w % 512)) * (8 / w) * 64
+enough w n (inl e) = let t : n ≤ (n * 2 / 512 + min 1 (n * 2 % 512)) * 4 * 64 = omega arith in rw e t
+enough w n (inr e) = let t : n ≤ (n * 4 / 512 + min 1 (n * 4 % 512)) * 2 * 64 = omega arith in rw e t
+
+pub small_width : (w : ℕ) → (w ≡ 2) ⊎ (w ≡ 4) → (1 < w) × (w < 8) × (0 < 8 / w)
+small_width w (inl e) = rw e (omega arith, omega arith, omega arith)
+small_width w (inr e) = rw e (omega arith, omega arith, omega arith)
+
+pub four : (w : ℕ) → (w ≡ 2) ⊎ (w ≡ 4) → (w ≡ 2 → ⊥) → w ≡ 4
+four w (inl e) h = absurd (h e)
+four w (inr e) h = e

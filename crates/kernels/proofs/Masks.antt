@@ -5,7 +5,8 @@ use mathlib.Core.Bool.{Bool, true, false, ◌&&◌, not, or-false, not-not}
 use mathlib.Core.List.{List}
 use Prim.Native.Nat.{ℕ, zero, suc, ◌+◌, ◌*◌, ◌-◌, ◌/◌, ◌%◌, ◌^◌, ◌<◌}
 use native.Mathlib.Omega.{arith}
-use lib.Bits.{bit_and, bit_or, bit_xor, and_lt}
+use mir.Val.{bool_byte}
+use lib.Bits.{bit_and, bit_or, and_lt}
 use lib.Dec.{ltb}
 use borrow.Author.Tests.{lt-ltb, le-ltb}
 use Rattle.memory.specs.Bits.{bit, bit_in, bit_ext, bit_or_lem, bit_shr, bit_and_lem, bit_shl, bit_shl_low}
@@ -19,8 +20,8 @@ use Rattle.kernels.proofs.Flips.{flip}
 
 -- ---- the bits of a mask that a word lacks
 
-pub missed : (x m i : ℕ) → i < 64 → bit (bit_and m (bit_xor 18446744073709551615 x)) i ≡ (bit m i && not (bit x i))
-missed x m i h = bit_and_lem m (bit_xor 18446744073709551615 x) i ∙ ap (λ (t : Bool). bit m i && t) (flip 64 x i h)
+pub missed : (x m i : ℕ) → x < 2 ^ 64 → i < 64 → bit (bit_and m (18446744073709551615 - x)) i ≡ (bit m i && not (bit x i))
+missed x m i f h = bit_and_lem m (18446744073709551615 - x) i ∙ ap (λ (t : Bool). bit m i && t) (flip 64 x i f h)
 
 -- none, just if the conjunction is the mask
 kept_bit : (s t : Bool) → (s && t) ≡ t → (t && not s) ≡ false
@@ -46,6 +47,12 @@ not_kept x m hx hm n =
     (λ t. t)
     (λ t. absurd (n (bit_ext 64 (bit_and x m) m (and_lt 64 x m hx hm) hm
     (λ i l. bit_and_lem x m i ∙ lacked_bit (bit x i) (bit m i) (no_any (λ b. bit m b && not (bit x b)) 64 i t l)))))
+
+-- a bool's number
+pub bool_bit : (b : Bool) → (bool_byte b < 2) × (bit (bool_byte b) 0 ≡ b)
+unfolding bit
+bool_bit true = (omega arith, refl)
+bool_bit false = (omega arith, refl)
 
 -- ---- four filters of 16 bits in a word
 

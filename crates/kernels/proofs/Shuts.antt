@@ -3,7 +3,6 @@ use mathlib.Core.Path.{◌≡◌, sym, ap, ◌∙◌}
 use mathlib.Core.Bool.{Bool, ◌&&◌, not, not-not}
 use Prim.Native.Nat.{ℕ, ◌+◌, ◌*◌, ◌-◌, ◌/◌, ◌%◌, ◌^◌, ◌≤◌, ◌<◌}
 use native.Mathlib.Omega.{arith}
-use lib.Bits.{bit_xor}
 use lib.Dec.{ltb}
 use borrow.Author.Tests.{le-ltb}
 use Rattle.memory.specs.Bits.{bit, bit_shr}
@@ -12,9 +11,9 @@ use Rattle.kernels.specs.Blocks.{Open}
 use Rattle.kernels.specs.Masks.{Shut}
 use Rattle.kernels.proofs.Flips.{flip}
 
-module _ (gate : ℕ → Bool) (n x r v : ℕ) (most : n ≤ 64) (S : Shut gate ((n + 3) / 4) x)
+module _ (gate : ℕ → Bool) (n x r v : ℕ) (most : n ≤ 64) (fits : r < 2 ^ 64) (S : Shut gate ((n + 3) / 4) x)
     (R : (i j : ℕ) → i < 4 → j < 16 → bit r (4 * j + i) ≡ bit (x / 2 ^ (16 - (n + 3) / 4)) (16 * i + j))
-    (C : (i : ℕ) → i < 64 → bit v i ≡ (ltb i n && bit (bit_xor 18446744073709551615 r) i)) where
+    (C : (i : ℕ) → i < 64 → bit v i ≡ (ltb i n && bit (18446744073709551615 - r) i)) where
   shut_at : (i j : ℕ) → i < 4 → 4 * j + i < n → bit r (4 * j + i) ≡ not (gate (4 * j + i))
   unfolding Shut
   shut_at i j h l =
@@ -36,5 +35,5 @@ module _ (gate : ℕ → Bool) (n x r v : ℕ) (most : n ≤ 64) (S : Shut gate 
       let e : 4 * (i / 4) + i % 4 ≡ i = omega arith in
       let f : i ≡ 0 + i = omega arith in
       let b : bit r i ≡ not (gate i) = rw e at (shut_at (i % 4) (i / 4) (omega arith) (omega (arith, t.1))) in
-      ap (λ (z : Bool). ltb i n && z) (flip 64 r i h ∙ (ap not b ∙ (not-not (gate i) ∙ ap gate f))))
-      (λ t. ap (λ (z : Bool). z && bit (bit_xor 18446744073709551615 r) i) (le-ltb i n t.1) ∙ sym (ap (λ (z : Bool). z && gate (0 + i)) (le-ltb i n t.1)))
+      ap (λ (z : Bool). ltb i n && z) (flip 64 r i fits h ∙ (ap not b ∙ (not-not (gate i) ∙ ap gate f))))
+      (λ t. ap (λ (z : Bool). z && bit (18446744073709551615 - r) i) (le-ltb i n t.1) ∙ sym (ap (λ (z : Bool). z && gate (0 + i)) (le-ltb i n t.1)))

@@ -2,17 +2,17 @@
 use mathlib.Core.Path.{◌≡◌, sym, ap, ◌∙◌}
 use mathlib.Core.Bool.{Bool, ◌&&◌}
 use mathlib.Core.List.{List}
-use Prim.Native.Nat.{ℕ, ◌+◌, ◌*◌, ◌-◌, ◌/◌, ◌%◌, ◌^◌, ◌≤◌, ◌<◌, min}
+use Prim.Native.Nat.{ℕ, ◌+◌, ◌*◌, ◌-◌, ◌/◌, ◌%◌, ◌≤◌, ◌<◌, min}
 use native.Mathlib.Nat.{mul-le-mul_right}
 use native.Mathlib.Omega.{arith}
 use lib.Dec.{ltb}
 use lib.ListN.{length, get_or, set}
 use lib.Seq.{get_or-set_same, get_or-set_other}
-use lib.Pow.{pow_pos}
 use borrow.Author.Tests.{lt-ltb, le-ltb}
 use Rattle.memory.specs.Bits.{bit, bit_zero}
 use Rattle.memory.specs.Cases.{either, lt?, eq?}
-use Rattle.kernels.specs.Rows.{all_in, Words}
+use Rattle.kernels.specs.Rows.{row_of, all_in, Words}
+use Rattle.kernels.specs.declared.Row.{Row}
 use Rattle.kernels.specs.Blocks.{Upto, GroupIn}
 
 same : (a b c d : ℕ) → (a < b → c < d) → (b ≤ a → d ≤ c) → ltb a b ≡ ltb c d
@@ -20,13 +20,13 @@ same a b c d f g = either (lt? a b) (λ h. lt-ltb a b h.1 ∙ sym (lt-ltb c d (f
 
 module _ (G : ℕ → ℕ → Bool) where
   pub upto_more : (n j y : ℕ) (r : List ℕ) → j * 64 < n → j < 8 → length r ≡ 8 → Upto G (min (j * 64) n) r
-      → ((i : ℕ) → i < 64 → bit y i ≡ (ltb i (min 64 (n - j * 64)) && G j i)) → Upto G (min ((j + 1) * 64) n) (set r j y)
+      → ((i : ℕ) → i < 64 → bit y i ≡ (ltb i (min (n - j * 64) 64) && G j i)) → Upto G (min ((j + 1) * 64) n) (set r j y)
   unfolding Upto
   upto_more n j y r h l e R Y k a i b =
       either (eq? k j)
       (λ t.
       let q : k ≡ j = t.1 in
-      rw (q, get_or-set_same r j y 0 (omega arith)) (Y i b ∙ ap (λ (z : Bool). z && G j i) (same i (min 64 (n - j * 64)) (j * 64 + i) (min ((j + 1) * 64) n) (λ u. omega arith) (λ u. omega arith))))
+      rw (q, get_or-set_same r j y 0 (omega arith)) (Y i b ∙ ap (λ (z : Bool). z && G j i) (same i (min (n - j * 64) 64) (j * 64 + i) (min ((j + 1) * 64) n) (λ u. omega arith) (λ u. omega arith))))
       (λ t.
       let ne = t.1 in
       rw (get_or-set_other r j k y 0 ne) (R k a i b ∙ ap (λ (z : Bool). z && G k i) (same (k * 64 + i) (min (j * 64) n) (k * 64 + i) (min ((j + 1) * 64) n) (λ u. omega arith) (λ u. omega arith))))
@@ -35,13 +35,11 @@ module _ (G : ℕ → ℕ → Bool) where
   upto_end n m r e R = rw e at R
 
 -- fewer filters
-pub group_fewer : (at low : List ℕ) (count w n m len : ℕ) → m ≤ n → GroupIn at low count w n len → GroupIn at low count w m len
-group_fewer at low count w n m len h G =
+pub group_fewer : (rows : List Row) (w n m len : ℕ) → m ≤ n → GroupIn rows w n len → GroupIn rows w m len
+group_fewer rows w n m len h G =
     let t = mul-le-mul_right w h in
     record {
       some = G.some;
-      firsts = G.firsts;
-      lows = G.lows;
       power = G.power;
       low_lt = G.low_lt;
       blocks_in = λ k l. omega (arith, G.blocks_in k l, t);
@@ -64,13 +62,10 @@ unfolding Upto
 upto_all G n r e R j l i h = R j l i h ∙ ap (λ (t : Bool). t && G j i) (sym (lt-ltb (j * 64 + i) n (omega arith)))
 
 -- one bit for a filter in each row
-pub single : (bytes at low : List ℕ) (count w first : ℕ) (f : List ℕ) → w ≡ 1 → first % 512 ≡ 0 → ((k : ℕ) → k < count → get_or low k 0 < w)
-    → ((j : ℕ) → j < 8 → Words bytes at low count (first / 64 + j) (get_or f j 0))
-    → (j : ℕ) → j < 8 → (i : ℕ) → i < 64 → bit (get_or f j 0) i ≡ all_in bytes at low w count (first + (j * 64 + i))
+pub single : (bytes : List ℕ) (rows : List Row) (first : ℕ) (f : List ℕ) → first % 512 ≡ 0 → ((k : ℕ) → k < length rows → (row_of rows k).low < 1)
+    → ((j : ℕ) → j < 8 → Words bytes rows (first / 64 + j) (get_or f j 0))
+    → (j : ℕ) → j < 8 → (i : ℕ) → i < 64 → bit (get_or f j 0) i ≡ all_in bytes rows 1 (first + (j * 64 + i))
 unfolding Words
-single bytes at low count w first f o m lows W j l i h =
+single bytes rows first f m lows W j l i h =
     let e : (first / 64 + j) * 64 + i ≡ first + (j * 64 + i) = omega arith in
-    W j l i (λ k t. omega (arith, lows k t)) ∙ (ap (all_in bytes at low 1 count) e ∙ ap (λ (z : ℕ). all_in bytes at low z count (first + (j * 64 + i))) (sym o))
-
-pub one : (e w : ℕ) → w ≡ 2 ^ e → w ≤ 1 → w ≡ 1
-one e w c h = omega (arith, pow_pos e)
+    W j l i h (λ k t. omega (arith, lows k t)) ∙ ap (all_in bytes rows 1) e

@@ -15,9 +15,9 @@ sixty_four (suc (suc (suc (suc (suc zero))))) w a b c x y z u v = absurd (v c)
 sixty_four (suc (suc (suc (suc (suc (suc zero)))))) w a b c x y z u v = c
 sixty_four (suc (suc (suc (suc (suc (suc (suc e))))))) w a b c x y z u v = absurd (omega arith)
 
--- of 2 and 4 the one that is not 4
-pub two : (e w : ℕ) → 1 < w → w < 8 → w ≡ 2 ^ e → (w ≡ 4 → ⊥) → w ≡ 2
-two zero w a b c n = absurd (omega arith)
-two (suc zero) w a b c n = c
-two (suc (suc zero)) w a b c n = absurd (n c)
-two (suc (suc (suc e))) w a b c n = absurd (omega (arith, pow_pos e))
+-- the widths but 1, 2 and 4
+pub wide : (e w : ℕ) → w ≡ 2 ^ e → (w ≡ 1 → ⊥) → (w ≡ 2 → ⊥) → (w ≡ 4 → ⊥) → 7 < w
+wide zero w a x y z = absurd (x a)
+wide (suc zero) w a x y z = absurd (y a)
+wide (suc (suc zero)) w a x y z = absurd (z a)
+wide (suc (suc (suc e))) w a x y z = omega (arith, pow_pos e)

@@ -3,6 +3,8 @@ use Rattle.std.specs.Prelude.{◌≡◌, Bool, ◌&&◌, List, ℕ, ◌+◌, ◌
 use Rattle.std.proofs.Common.{sym, ap, ◌∙◌, arith, le-ltb}
 use Rattle.memory.specs.Bits.{bit, bit_zero}
 use Rattle.memory.specs.Cases.{either, lt?}
+use Rattle.kernels.specs.Rows.{row_of}
+use Rattle.kernels.specs.declared.Row.{Row}
 
 -- bit i of r, i below m: is filter `from` + i open
 unfoldable pub Shows : (ℕ → Bool) → ℕ → ℕ → ℕ → Type 0
@@ -25,21 +27,16 @@ unfoldable pub Squeezed : ℕ → ℕ → ℕ → Type 0
 Squeezed w x r = (i : ℕ) → i < 64 → bit r i ≡ (ltb (i * w) 64 && bit x (i * w))
 
 -- the rows' words q to q + 7 lie within `len` bytes
-pub record BlockIn (at low : List ℕ) (count q len : ℕ) : Type 0 where
-  pub some : 0 < count
-  pub firsts : count ≤ length at
-  pub lows : count ≤ length low
-  pub row_in : (k : ℕ) → k < count → get_or at k 0 + q * 8 + 64 ≤ len
-  pub low_lt : (k : ℕ) → k < count → get_or low k 0 < 64
+pub record BlockIn (rows : List Row) (q len : ℕ) : Type 0 where
+  pub row_in : (k : ℕ) → k < length rows → (row_of rows k).at + q * 8 + 64 ≤ len
+  pub low_lt : (k : ℕ) → k < length rows → (row_of rows k).low < 64
 
 -- rows of n filters with w bits each, up to 64, lie within `len` bytes in whole blocks of 64
-pub record GroupIn (at low : List ℕ) (count w n len : ℕ) : Type 0 where
-  pub some : 0 < count
-  pub firsts : count ≤ length at
-  pub lows : count ≤ length low
+pub record GroupIn (rows : List Row) (w n len : ℕ) : Type 0 where
+  pub some : 0 < length rows
   pub power : (e : ℕ) × (e < 7) × (w ≡ 2 ^ e)
-  pub low_lt : (k : ℕ) → k < count → get_or low k 0 < w
-  pub blocks_in : (k : ℕ) → k < count → get_or at k 0 + (n * w + 511) / 512 * 64 ≤ len
+  pub low_lt : (k : ℕ) → k < length rows → (row_of rows k).low < w
+  pub blocks_in : (k : ℕ) → k < length rows → (row_of rows k).at + (n * w + 511) / 512 * 64 ≤ len
   pub small : n * w < 2 ^ 60
 
 -- ---- words of which filters are open

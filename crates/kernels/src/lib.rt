@@ -1,25 +1,24 @@
 // Fast passes over rows of bits: which filters have all of their bits, as the bits of words.
 #![tactic(auto)]
 
-ghost use Rattle.std.specs.Prelude.{◌≡◌, true, false, ◌&&◌, ◌||◌, not, ◌≢◌, ℕ, ◌+◌, ◌-◌, ◌*◌, ◌/◌, ◌%◌, ◌^◌, ◌≤◌, ◌<◌, ltb, eqb, length, get_or};
+ghost use Rattle.std.specs.Prelude.{◌≡◌, true, false, ◌&&◌, ◌||◌, not, ◌≢◌, ◌⊎◌, ℕ, ◌+◌, ◌-◌, ◌*◌, ◌/◌, ◌%◌, ◌^◌, ◌≤◌, ◌<◌, ltb, eqb, length, get_or};
 ghost use Rattle.std.specs.Int.Bits.{bit_and, bit_or};
-ghost use Rattle.std.specs.Int.Count.{count_leading_zeros};
 ghost use Rattle.memory.specs.Bits.{bit, bit_in};
 ghost use Rattle.memory.specs.Ranges.{any};
-ghost use Rattle.kernels.specs.Rows.{all_in, Words};
+ghost use Rattle.kernels.specs.Rows.{row_of, all_in, Words};
 ghost use Rattle.kernels.specs.Blocks.{Shows, Open, Upto, OpenBlock, Squeezed, BlockIn, GroupIn};
 ghost use Rattle.kernels.specs.Masks.{has_mask, Had, Lacked};
 
-use words::{bits, numbers};
+use words::bits;
+
+// A row of bits: its first byte, and the bit that counts among those that a filter has in it.
+#[derive(Clone, Copy)]
+pub struct Row {
+    pub at: usize,
+    pub low: usize,
+}
 
 // ---- words of 64 bits
-
-// The zero bits above the highest set bit.
-fn zeros(y: u64) -> usize
-    ensures { result ≡ count_leading_zeros 64 y }
-{
-    u64::leading_zeros(y) as usize
-}
 
 // The lowest m bits.
 pub fn lowest(x: u64, m: usize) -> u64
@@ -42,7 +41,7 @@ pub fn top(bits: u64) -> usize
     requires { 0 < bits }
     ensures { (result < 64) × (bit bits result ≡ true) × ((i : ℕ) → result < i → i < 64 → bit bits i ≡ false) }
 {
-    63 - zeros(bits)
+    bits.ilog2() as usize
 }
 
 // The bits without bit f.
@@ -50,7 +49,7 @@ pub fn without(bits: u64, f: usize) -> u64
     requires { f < 64 }
     ensures { (i : ℕ) → i < 64 → bit result i ≡ (not (eqb i f) && bit bits i) }
 {
-    bits & (0xffff_ffff_ffff_ffff ^ (1 << f))
+    bits & !(1 << f)
 }
 
 // ---- permutations of a word's bits
@@ -65,7 +64,7 @@ fn interleaved(x: u64) -> u64
     bits::exchanged(c, 12, 0x0000_f0f0_0000_f0f0)
 }
 
-// Bit 4 i + j becomes bit 16 j + i.
+// Bit 4 i + j becomes bit 16 j + i. The exchanges of `interleaved` from the last to the first: one function for both would test the order.
 fn by_fours(x: u64) -> u64
     ensures { (i j : ℕ) → i < 16 → j < 4 → bit result (16 * j + i) ≡ bit x (4 * i + j) }
 {
@@ -80,8 +79,8 @@ pub fn having(x: u64, n: usize) -> u64
     requires { (0 < n) × (n ≤ 64) }
     ensures { Had x n result }
 {
-    let r = interleaved(x >> (16 - (n + 3) / 4));
-    lowest(0xffff_ffff_ffff_ffff ^ r, n)
+    let r = interleaved(x >> (16 - n.div_ceil(4)));
+    lowest(!r, n)
 }
 
 // ---- filters of whole bytes: a bit out of each
@@ -94,40 +93,18 @@ fn masked(at: usize, mask: u64, bytes: &[u8]) -> u64
     bytes[at] as u64 & mask
 }
 
-// Bit `low` of a byte out of each of n, `step` bytes from one to the next. The offset falls, so that no product is left in the loop.
+// Bit `low` of a byte out of each of n, `step` bytes from one to the next.
 pub fn byte_bits(at: usize, low: usize, step: usize, n: usize, bytes: &[u8]) -> u64
-    requires { (n ≤ 8) × (0 < step) × (at + n * step < 2 ^ 64)
-        × ((i : ℕ) → i < n → at + i * step < length bytes.now) }
+    requires { (n ≤ 8) × ((i : ℕ) → i < n → at + i * step < length bytes.now) }
     ensures { (result < 2 ^ n) × ((i : ℕ) → i < n → bit result i ≡ bit (get_or bytes.now (at + i * step) 0) (low % 8)) }
 {
-    let s = numbers::bit_place(low);
-    let mask: u64 = 1 << s;
+    let s = low % 8;
     let mut r: u64 = 0;
-    let mut o = at + n * step;
-    while o > at {
-        o -= step;
-        let b = masked(o, mask, bytes);
+    for k in (0..n).rev() {
+        let b = masked(at + k * step, 1 << s, bytes);
         r = r * 2 + b;
     }
     r >> s
-}
-
-// Bit `low` of a byte out of each of eight, `step` bytes from one to the next.
-fn eight_bits(at: usize, low: usize, step: usize, bytes: &[u8]) -> u64
-    requires { at + 7 * step < length bytes.now }
-    ensures { (result < 256) × ((i : ℕ) → i < 8 → bit result i ≡ bit (get_or bytes.now (at + i * step) 0) (low % 8)) }
-{
-    let s = numbers::bit_place(low);
-    let mask: u64 = 1 << s;
-    let h = masked(at + 7 * step, mask, bytes);
-    let g = masked(at + 6 * step, mask, bytes);
-    let f = masked(at + 5 * step, mask, bytes);
-    let e = masked(at + 4 * step, mask, bytes);
-    let d = masked(at + 3 * step, mask, bytes);
-    let c = masked(at + 2 * step, mask, bytes);
-    let b = masked(at + step, mask, bytes);
-    let a = masked(at, mask, bytes);
-    (((((((h * 2 + g) * 2 + f) * 2 + e) * 2 + d) * 2 + c) * 2 + b) * 2 + a) >> s
 }
 
 // The same of n times eight bytes, below the bits of `above`.
@@ -137,10 +114,8 @@ pub fn row_bits(above: u64, at: usize, low: usize, step: usize, n: usize, bytes:
         × ((i : ℕ) → n * 8 + i < 64 → bit result (n * 8 + i) ≡ bit above i) }
 {
     let mut r = above;
-    let mut j = n;
-    while j > 0 {
-        j -= 1;
-        let b = eight_bits(at + j * 8 * step, low, step, bytes);
+    for j in (0..n).rev() {
+        let b = byte_bits(at + j * 8 * step, low, step, 8, bytes);
         r = (r << 8) | b;
     }
     r
@@ -162,26 +137,26 @@ fn squeeze(x: u64, w: usize) -> u64
     requires { ((e : ℕ) × (0 < e) × (e < 7) × (w ≡ 2 ^ e)) × (w ≢ 4) }
     ensures { Squeezed w x result }
 {
-    if w == 2 {
-        let a = join(x & 0x5555_5555_5555_5555, 1, 0x3333_3333_3333_3333);
-        let b = join(a, 2, 0x0f0f_0f0f_0f0f_0f0f);
-        let c = join(b, 4, 0x00ff_00ff_00ff_00ff);
-        let d = join(c, 8, 0x0000_ffff_0000_ffff);
-        return join(d, 16, 0x0000_0000_ffff_ffff);
+    match w {
+        2 => {
+            let a = join(x & 0x5555_5555_5555_5555, 1, 0x3333_3333_3333_3333);
+            let b = join(a, 2, 0x0f0f_0f0f_0f0f_0f0f);
+            let c = join(b, 4, 0x00ff_00ff_00ff_00ff);
+            let d = join(c, 8, 0x0000_ffff_0000_ffff);
+            join(d, 16, 0x0000_0000_ffff_ffff)
+        }
+        8 => {
+            let a = join(x & 0x0101_0101_0101_0101, 7, 0x0003_0003_0003_0003);
+            let b = join(a, 14, 0x0000_000f_0000_000f);
+            join(b, 28, 0x0000_0000_0000_00ff)
+        }
+        16 => {
+            let a = join(x & 0x0001_0001_0001_0001, 15, 0x0000_0003_0000_0003);
+            join(a, 30, 0x0000_0000_0000_000f)
+        }
+        32 => join(x & 0x0000_0001_0000_0001, 31, 0x0000_0000_0000_0003),
+        _ => x & 1,
     }
-    if w == 8 {
-        let a = join(x & 0x0101_0101_0101_0101, 7, 0x0003_0003_0003_0003);
-        let b = join(a, 14, 0x0000_000f_0000_000f);
-        return join(b, 28, 0x0000_0000_0000_00ff);
-    }
-    if w == 16 {
-        let a = join(x & 0x0001_0001_0001_0001, 15, 0x0000_0003_0000_0003);
-        return join(a, 30, 0x0000_0000_0000_000f);
-    }
-    if w == 32 {
-        return join(x & 0x0000_0001_0000_0001, 31, 0x0000_0000_0000_0003);
-    }
-    x & 1
 }
 
 // Every second bit of two words, side by side: those of the first lowest.
@@ -211,88 +186,55 @@ pub fn pairs(bits: u64) -> u64
     join(bits, 1, 0x5555_5555_5555_5555)
 }
 
-// A row's word, moved down by `low`.
-fn field_at(at: usize, low: usize, bytes: &[u8]) -> u64
-    requires { (at + 8 ≤ length bytes.now) × (low < 64) }
-    ensures { (i : ℕ) → low + i < 64 → bit result i ≡ bit_in bytes.now at (low + i) }
-{
-    words::get64(bytes, at) >> low
+impl Row {
+    // The word from byte o of the row on, moved down by `low`.
+    fn word(self, o: usize, bytes: &[u8]) -> u64
+        requires { (self.at + o + 8 ≤ length bytes.now) × (self.low < 64) }
+        ensures { (i : ℕ) → self.low + i < 64 → bit result i ≡ bit_in bytes.now (self.at + o) (self.low + i) }
+    {
+        words::get64(bytes, self.at + o) >> self.low
+    }
 }
 
-// Eight words of a row.
-fn row_block(at: usize, low: usize, bytes: &[u8]) -> [u64; 8]
-    requires { (at + 64 ≤ length bytes.now) × (low < 64) }
-    ensures { (length result ≡ 8)
-        × ((j : ℕ) → j < 8 → (i : ℕ) → low + i < 64 → bit (get_or result j 0) i ≡ bit_in bytes.now (at + j * 8) (low + i)) }
+// Eight words, each without the bits that word q + j of a row, moved down, lacks.
+fn and_row(f: [u64; 8], row: Row, q: usize, bytes: &[u8]) -> [u64; 8]
+    requires { (row.at + q * 8 + 64 ≤ length bytes.now) × (row.low < 64) }
+    ensures { (j : ℕ) → j < 8 → (i : ℕ) → row.low + i < 64
+        → bit (get_or result j 0) i ≡ (bit_in bytes.now (row.at + (q + j) * 8) (row.low + i) && bit (get_or f j 0) i) }
 {
-    let a = field_at(at, low, bytes);
-    let b = field_at(at + 8, low, bytes);
-    let c = field_at(at + 16, low, bytes);
-    let d = field_at(at + 24, low, bytes);
-    let e = field_at(at + 32, low, bytes);
-    let f = field_at(at + 40, low, bytes);
-    let g = field_at(at + 48, low, bytes);
-    let h = field_at(at + 56, low, bytes);
-    [a, b, c, d, e, f, g, h]
-}
-
-// Eight conjunctions.
-fn and_eight(x: [u64; 8], y: [u64; 8]) -> [u64; 8]
-    ensures { (j : ℕ) → j < 8 → get_or result j 0 ≡ bit_and (get_or x j 0) (get_or y j 0) }
-{
-    let a = x[0] & y[0];
-    let b = x[1] & y[1];
-    let c = x[2] & y[2];
-    let d = x[3] & y[3];
-    let e = x[4] & y[4];
-    let f = x[5] & y[5];
-    let g = x[6] & y[6];
-    let h = x[7] & y[7];
-    [a, b, c, d, e, f, g, h]
+    let mut r = f;
+    for j in 0..8 {
+        r[j] &= row.word((q + j) * 8, bytes);
+    }
+    r
 }
 
 // Words q to q + 7 of all rows, each moved down by its `low`. The loop over the rows is the outer one, so that the words stay in registers.
-fn field_block(q: usize, count: usize, at: &[usize], low: &[usize], bytes: &[u8]) -> [u64; 8]
-    requires { BlockIn at.now low.now count q (length bytes.now) }
-    ensures { (j : ℕ) → j < 8 → Words bytes.now at.now low.now count (q + j) (get_or result j 0) }
+fn field_block(q: usize, rows: &[Row], bytes: &[u8]) -> [u64; 8]
+    requires { BlockIn rows.now q (length bytes.now) }
+    ensures { (j : ℕ) → j < 8 → Words bytes.now rows.now (q + j) (get_or result j 0) }
 {
-    let o = q * 8;
-    let mut r = row_block(at[0] + o, low[0], bytes);
-    let mut i = 1;
-    while i < count {
-        let y = row_block(at[i] + o, low[i], bytes);
-        let z = and_eight(r, y);
-        r = z;
-        i += 1;
+    let mut r = [u64::MAX; 8];
+    for row in rows {
+        let f = and_row(r, *row, q, bytes);
+        r = f;
     }
     r
 }
 
 // Filters of w = 8 to 64 bits in each row: those of the n blocks from word q on.
-fn more_words(
-    w: usize,
-    q: usize,
-    n: usize,
-    count: usize,
-    at: &[usize],
-    low: &[usize],
-    bytes: &[u8],
-) -> u64
+fn more_words(w: usize, q: usize, n: usize, rows: &[Row], bytes: &[u8]) -> u64
     requires sizes { ((e : ℕ) × (2 < e) × (e < 7) × (w ≡ 2 ^ e)) × (64 / w * w ≡ 64)
         × (n * 8 * (64 / w) ≤ 64) × (n ≤ 8) × (q < 2 ^ 60) }
-    requires rows { ((b : ℕ) → b < n → BlockIn at.now low.now count (q + b * 8) (length bytes.now))
-        × ((i : ℕ) → i < count → get_or low.now i 0 < w) }
-    ensures { Shows (all_in bytes.now at.now low.now w count) (q * (64 / w)) (n * 8 * (64 / w)) result }
+    requires rows { ((b : ℕ) → b < n → BlockIn rows.now (q + b * 8) (length bytes.now))
+        × ((k : ℕ) → k < length rows.now → (row_of rows.now k).low < w) }
+    ensures { Shows (all_in bytes.now rows.now w) (q * (64 / w)) (n * 8 * (64 / w)) result }
 {
     let per = 64 / w;
     let mut r: u64 = 0;
-    let mut b = n;
-    while b > 0 {
-        b -= 1;
-        let f = field_block(q + b * 8, count, at, low, bytes);
-        let mut j = 8;
-        while j > 0 {
-            j -= 1;
+    for b in (0..n).rev() {
+        let f = field_block(q + b * 8, rows, bytes);
+        for j in (0..8).rev() {
             let s = squeeze(f[j], w);
             r = (r << per) | s;
         }
@@ -301,44 +243,24 @@ fn more_words(
 }
 
 // Which of the filters `from` to `from` + m - 1 have all bits, at w = 8 and more; `from` is a multiple of 64.
-fn passed(
-    w: usize,
-    from: usize,
-    m: usize,
-    count: usize,
-    at: &[usize],
-    low: &[usize],
-    bytes: &[u8],
-) -> u64
+fn passed(w: usize, from: usize, m: usize, rows: &[Row], bytes: &[u8]) -> u64
     requires { (7 < w) × (0 < m) × (m ≤ 64) × (from % 64 ≡ 0)
-        × GroupIn at.now low.now count w (from + m) (length bytes.now) }
-    ensures { Open (all_in bytes.now at.now low.now w count) from m result }
+        × GroupIn rows.now w (from + m) (length bytes.now) }
+    ensures { Open (all_in bytes.now rows.now w) from m result }
 {
-    let n = (m * w + 511) / 512;
-    let a = more_words(w, from / 64 * w, n, count, at, low, bytes);
+    let n = (m * w).div_ceil(512);
+    let a = more_words(w, from / 64 * w, n, rows, bytes);
     lowest(a, m)
 }
 
 // Eight words: n filters from `first` on, at w = 8 and more, 64 of them to a word.
-fn wide_block(
-    w: usize,
-    first: usize,
-    n: usize,
-    count: usize,
-    at: &[usize],
-    low: &[usize],
-    bytes: &[u8],
-) -> [u64; 8]
-    requires { (7 < w) × (n ≤ 512) × (first % 64 ≡ 0) × GroupIn at.now low.now count w (first + n) (length bytes.now) }
-    ensures { OpenBlock (all_in bytes.now at.now low.now w count) first n result }
+fn wide_block(w: usize, first: usize, n: usize, rows: &[Row], bytes: &[u8]) -> [u64; 8]
+    requires { (7 < w) × (n ≤ 512) × (first % 64 ≡ 0) × GroupIn rows.now w (first + n) (length bytes.now) }
+    ensures { OpenBlock (all_in bytes.now rows.now w) first n result }
 {
     let mut r = [0u64; 8];
-    let mut j = 0;
-    while j < (n + 63) / 64 {
-        let m = numbers::lesser(64, n - j * 64);
-        let y = passed(w, first + j * 64, m, count, at, low, bytes);
-        r[j] = y;
-        j += 1;
+    for j in 0..n.div_ceil(64) {
+        r[j] = passed(w, first + j * 64, (n - j * 64).min(64), rows, bytes);
     }
     r
 }
@@ -349,116 +271,54 @@ fn part(f: [u64; 8], n: usize) -> [u64; 8]
     ensures { Upto (λ j i. bit (get_or f j 0) i) n result }
 {
     let mut r = [0u64; 8];
-    let mut j = 0;
-    while j < (n + 63) / 64 {
-        let m = numbers::lesser(64, n - j * 64);
-        let y = lowest(f[j], m);
-        r[j] = y;
-        j += 1;
+    for j in 0..n.div_ceil(64) {
+        r[j] = lowest(f[j], (n - j * 64).min(64));
     }
     r
 }
 
-// Eight words: n filters from `first` on, of two bits in each row. A block of the rows has those of four words.
-fn two_block(
-    first: usize,
-    n: usize,
-    count: usize,
-    at: &[usize],
-    low: &[usize],
-    bytes: &[u8],
-) -> [u64; 8]
-    requires { (n ≤ 512) × (first % 512 ≡ 0) × GroupIn at.now low.now count 2 (first + n) (length bytes.now) }
-    ensures { OpenBlock (all_in bytes.now at.now low.now 2 count) first n result }
+// A word of filters out of W = 2 or 4 of eight, from the k-th on: every W-th bit of them, side by side.
+fn packed<const W: usize>(f: [u64; 8], k: usize) -> u64
+    requires { ((W ≡ 2) ⊎ (W ≡ 4)) × (k + W ≤ 8) }
+    ensures { (i : ℕ) → i < 64 → bit result i ≡ bit (get_or f (k + i * W / 64) 0) (i * W % 64) }
+{
+    if W == 2 {
+        return halves(f[k], f[k + 1]);
+    }
+    quarters(f[k], f[k + 1], f[k + 2], f[k + 3])
+}
+
+// Eight words: n filters from `first` on, of W = 2 or 4 bits in each row. A block of the rows has those of 8 / W words.
+fn few_block<const W: usize>(first: usize, n: usize, rows: &[Row], bytes: &[u8]) -> [u64; 8]
+    requires { ((W ≡ 2) ⊎ (W ≡ 4)) × (n ≤ 512) × (first % 512 ≡ 0) × GroupIn rows.now W (first + n) (length bytes.now) }
+    ensures { OpenBlock (all_in bytes.now rows.now W) first n result }
 {
     let mut r = [0u64; 8];
-    let mut j = 0;
-    while j < (n + 63) / 64 {
-        let f = field_block((first / 64 + j) * 2, count, at, low, bytes);
-        let a = halves(f[0], f[1]);
-        let b = halves(f[2], f[3]);
-        let c = halves(f[4], f[5]);
-        let d = halves(f[6], f[7]);
-        r[j] = a;
-        r[j + 1] = b;
-        r[j + 2] = c;
-        r[j + 3] = d;
-        j += 4;
+    for b in 0..(n * W).div_ceil(512) {
+        let f = field_block(first / 64 * W + b * 8, rows, bytes);
+        for k in 0..8 / W {
+            r[b * (8 / W) + k] = packed::<W>(f, k * W);
+        }
     }
     part(r, n)
 }
 
-// The same of four bits in each row. A block of the rows has those of two words.
-fn four_block(
-    first: usize,
-    n: usize,
-    count: usize,
-    at: &[usize],
-    low: &[usize],
-    bytes: &[u8],
-) -> [u64; 8]
-    requires { (n ≤ 512) × (first % 512 ≡ 0) × GroupIn at.now low.now count 4 (first + n) (length bytes.now) }
-    ensures { OpenBlock (all_in bytes.now at.now low.now 4 count) first n result }
-{
-    let mut r = [0u64; 8];
-    let mut j = 0;
-    while j < (n + 63) / 64 {
-        let f = field_block((first / 64 + j) * 4, count, at, low, bytes);
-        let a = quarters(f[0], f[1], f[2], f[3]);
-        let b = quarters(f[4], f[5], f[6], f[7]);
-        r[j] = a;
-        r[j + 1] = b;
-        j += 2;
-    }
-    part(r, n)
-}
-
-// Eight words: n filters from `first` on, of w = 2 or 4 bits in each row, 64 of them to a word.
-fn few_block(
-    w: usize,
-    first: usize,
-    n: usize,
-    count: usize,
-    at: &[usize],
-    low: &[usize],
-    bytes: &[u8],
-) -> [u64; 8]
-    requires { (1 < w) × (w < 8) × (n ≤ 512) × (first % 512 ≡ 0)
-        × GroupIn at.now low.now count w (first + n) (length bytes.now) }
-    ensures { OpenBlock (all_in bytes.now at.now low.now w count) first n result }
-{
-    if w == 4 {
-        return four_block(first, n, count, at, low, bytes);
-    }
-    two_block(first, n, count, at, low, bytes)
-}
-
-// Which of the n filters from `first` on, 512 at the most, have all bits of their `count` rows, 64 to a word. A row has w bits of each
-// filter, 64 at the most, of which `low` counts, and is read in whole blocks of 64 bytes; `first` is a multiple of 512.
-pub fn block(
-    w: usize,
-    first: usize,
-    n: usize,
-    count: usize,
-    at: &[usize],
-    low: &[usize],
-    bytes: &[u8],
-) -> [u64; 8]
+// Which of the n filters from `first` on, 512 at the most, have all bits of their rows, 64 to a word. A row has w bits of each filter, 64 at
+// the most, of which `low` counts, and is read in whole blocks of 64 bytes; `first` is a multiple of 512.
+pub fn block(w: usize, first: usize, n: usize, rows: &[Row], bytes: &[u8]) -> [u64; 8]
     requires { (0 < n) × (n ≤ 512) × (first % 512 ≡ 0)
-        × GroupIn at.now low.now count w (first + n) (length bytes.now) }
-    ensures { OpenBlock (all_in bytes.now at.now low.now w count) first n result }
+        × GroupIn rows.now w (first + n) (length bytes.now) }
+    ensures { OpenBlock (all_in bytes.now rows.now w) first n result }
 {
-    if w > 7 {
-        return wide_block(w, first, n, count, at, low, bytes);
+    match w {
+        1 => {
+            let f = field_block(first / 64, rows, bytes);
+            if n == 512 { f } else { part(f, n) }
+        }
+        2 => few_block::<2>(first, n, rows, bytes),
+        4 => few_block::<4>(first, n, rows, bytes),
+        _ => wide_block(w, first, n, rows, bytes),
     }
-    if w > 1 {
-        return few_block(w, first, n, count, at, low, bytes);
-    }
-    let f = field_block(first / 64, count, at, low, bytes);
-    if n == 512 {
-        return f;
-    }
-    part(f, n)
 }
 
 // ---- filters that have all bits of a mask
@@ -467,7 +327,7 @@ pub fn block(
 fn missing(x: u64, m: u64) -> u64
     ensures { (i : ℕ) → i < 64 → bit result i ≡ (bit m i && not (bit x i)) }
 {
-    m & (0xffff_ffff_ffff_ffff ^ x)
+    m & !x
 }
 
 // The highest bit of each field of 16 bits that is not 0: the sum carries into it if a lower one is set.
@@ -493,24 +353,19 @@ pub fn lacking(start: u64, m: u64, at: usize, n: usize, bytes: &[u8]) -> u64
 {
     let mask = four_times(m);
     let mut r = start;
-    let mut j = 0;
-    while j < n {
+    for j in 0..n {
         let d = missing(words::get64(bytes, at + j * 8), mask);
         let z = nonzero(d);
         r = (r >> 1) | z;
-        j += 1;
     }
     r
 }
 
-// 1 if a word has all bits of a mask.
-fn has_mask(x: u64, m: u64) -> u64
-    ensures { (result < 2) × (bit result 0 ≡ not (any (λ b. bit m b && not (bit x b)) 64)) }
+// Has a word all bits of a mask?
+fn has_mask(x: u64, m: u64) -> bool
+    ensures { result ≡ not (any (λ b. bit m b && not (bit x b)) 64) }
 {
-    if x & m == m {
-        return 1;
-    }
-    0
+    x & m == m
 }
 
 // Which of the n words from byte `at` on have all bits of a mask.
@@ -519,11 +374,9 @@ pub fn words_with(m: u64, at: usize, n: usize, bytes: &[u8]) -> u64
     ensures { Open (has_mask bytes.now at 64 m) 0 n result }
 {
     let mut r: u64 = 0;
-    let mut k = n;
-    while k > 0 {
-        k -= 1;
+    for k in (0..n).rev() {
         let b = has_mask(words::get64(bytes, at + k * 8), m);
-        r = (r << 1) | b;
+        r = (r << 1) | u64::from(b);
     }
     r
 }

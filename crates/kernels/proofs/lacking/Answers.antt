@@ -9,7 +9,7 @@ use Rattle.kernels.proofs.lacking.Goals as goal
 -- A word more each turn.
 
 pub loop-j-init : goal.loop-j-init
-loop-j-init c = (omega arith, omega arith, λ gate q h S G. let e : q + 0 ≡ q = omega arith in rw e S)
+loop-j-init c = (omega arith, λ gate q h S G. let e : q + 0 ≡ q = omega arith in rw e S)
 
 pub loop-j-preserved : goal.loop-j-preserved
 loop-j-preserved c =
@@ -19,11 +19,10 @@ loop-j-preserved c =
     let l = c.loop-j in
     let f = c.four_times-mask in
     let x = c.args in (
-      omega arith,
-      or_lt 64 (l.r / 2) z.result (omega (arith, l.invariant.1)) (omega arith),
+      or_lt 64 (l.r / 2) z.result (omega (arith, l.invariant.0)) (omega arith),
       λ gate q h S G.
           let e : q + l.j + 1 ≡ q + (l.j + 1) = omega arith in
-          rw e at (shut_more gate (q + l.j) l.r z.result l.invariant.1 (omega arith) (l.invariant.2 gate q h S G)
+          rw e at (shut_more gate (q + l.j) l.r z.result l.invariant.0 (omega arith) (l.invariant.1 gate q h S G)
           (λ i t.
           let g : 4 * (q + l.j) + i ≡ 4 * q + (4 * l.j + i) = omega arith in
           lacks x.bytes.now x.at x.m f.result w.result d.result z.result l.j
@@ -37,4 +36,4 @@ returns c gate q h S G =
     let l = c.loop-j in
     let x = c.args in
     let z : l.j ≡ x.n = omega arith in
-    rw z at (l.invariant.2 gate q h S G)
+    rw z at (l.invariant.1 gate q h S G)

@@ -20,24 +20,18 @@ pub loop-b-init : goal.loop-b-init
 loop-b-init c =
     let x = c.args in
     let z : (x.n - x.n) * 8 ≡ 0 = omega arith in
-    (omega arith, shows_none (all_in x.bytes.now x.at.now x.low.now x.w x.count) _ _ 0 (ap (λ (y : ℕ). y * (64 / x.w)) z ∙ omega arith))
-
-pub overflow_mul-b : goal.overflow_mul-b
-overflow_mul-b c = omega (arith, c.requires.sizes.3, c.loop-b.invariant.0)
-
-pub overflow_add-q : goal.overflow_add-q
-overflow_add-q c = omega (arith, c.requires.sizes.3, c.requires.sizes.4, c.loop-b.invariant.0)
+    shows_none (all_in x.bytes.now x.rows.now x.w) _ _ 0 (ap (λ (y : ℕ). y * (64 / x.w)) z ∙ omega arith)
 
 pub field_block-f-requires : goal.field_block-f-requires
-field_block-f-requires c = c.requires.rows.0 (c.loop-b.b - 1) (omega (arith, c.loop-b.invariant.0))
+field_block-f-requires c = c.requires.rows.0 (c.loop-b.b - 1) (omega (arith))
 
 pub loop-j-init : goal.loop-j-init
 loop-j-init c =
     let x = c.args in
     let l = c.loop-b in
     let a : x.q + (l.b - 1) * 8 + 8 ≡ x.q + l.b * 8 = omega arith in
-    let d : (x.n - (l.b - 1)) * 8 - 8 ≡ (x.n - l.b) * 8 = omega (arith, l.invariant.0) in
-    (omega arith, rw (a, d) l.invariant.1)
+    let d : (x.n - (l.b - 1)) * 8 - 8 ≡ (x.n - l.b) * 8 = omega arith in
+    rw (a, d) l.invariant
 
 pub loop-b-preserved : goal.loop-b-preserved
 loop-b-preserved c =
@@ -46,13 +40,7 @@ loop-b-preserved c =
     let k = c.loop-j in
     let a : x.q + (l.b - 1) * 8 + k.j ≡ x.q + (l.b - 1) * 8 = omega arith in
     let d : (x.n - (l.b - 1)) * 8 - k.j ≡ (x.n - (l.b - 1)) * 8 = omega arith in
-    (omega (arith, l.invariant.0), rw (a, d) at k.invariant.1)
-
-pub offset_bounds-f-j : goal.offset_bounds-f-j
-offset_bounds-f-j c = omega (arith, c.loop-j.invariant.0)
-
-pub bounds-f-j : goal.bounds-f-j
-bounds-f-j c = omega (arith, c.loop-j.invariant.0)
+    rw (a, d) at k.invariant
 
 pub squeeze-s-requires : goal.squeeze-s-requires
 squeeze-s-requires c =
@@ -72,13 +60,11 @@ loop-j-preserved c =
     let p = c.requires.sizes in
     let j = k.j - 1 in
     let Q = x.q + (l.b - 1) * 8 + j in
-    let N = (x.n - (l.b - 1)) * 8 - k.j in (
-      omega (arith, k.invariant.0),
-      word_more x.bytes.now x.at.now x.low.now x.count x.w ((64 / x.w)) Q N k.r (get_or c.field_block-f.result j 0) c.squeeze-s.result
-          (omega (arith, eight_le p.0.0 x.w p.0.1 p.0.3)) p.1 c.requires.rows.1 (c.field_block-f.ensures j (omega (arith, k.invariant.0))) c.squeeze-s.ensures
-          (x.q + (l.b - 1) * 8 + k.j) ((x.n - (l.b - 1)) * 8 - j) (omega arith) (omega (arith, k.invariant.0, l.invariant.0))
-          (omega (arith, mul-le-mul_right ((64 / x.w)) (most x.n (l.b - 1) j), p.2)) k.invariant.1,
-    )
+    let N = (x.n - (l.b - 1)) * 8 - k.j in
+    word_more x.bytes.now x.rows.now x.w ((64 / x.w)) Q N k.r (get_or c.field_block-f.result j 0) c.squeeze-s.result
+    (omega (arith, eight_le p.0.0 x.w p.0.1 p.0.3)) p.1 c.requires.rows.1 (c.field_block-f.ensures j (omega arith)) c.squeeze-s.ensures
+    (x.q + (l.b - 1) * 8 + k.j) ((x.n - (l.b - 1)) * 8 - j) (omega arith) (omega arith)
+    (omega (arith, mul-le-mul_right ((64 / x.w)) (most x.n (l.b - 1) j), p.2)) k.invariant
 
 pub returns : goal.returns
 returns c =
@@ -86,4 +72,4 @@ returns c =
     let x = c.args in
     let a : x.q + l.b * 8 ≡ x.q = omega arith in
     let d : (x.n - l.b) * 8 ≡ x.n * 8 = omega arith in
-    rw (a, d) at l.invariant.1
+    rw (a, d) at l.invariant

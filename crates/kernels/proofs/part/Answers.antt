@@ -12,13 +12,13 @@ use Rattle.kernels.proofs.part.Goals as goal
 -- A word more each turn.
 
 pub loop-j-init : goal.loop-j-init
-loop-j-init c = (omega arith, refl, upto_none _ _ _ (omega arith) nought)
+loop-j-init c = (refl, upto_none _ _ _ (omega arith) nought)
 
 pub bounds-f-j : goal.bounds-f-j
 bounds-f-j c = omega (arith, c.requires)
 
-pub lowest-y-requires : goal.lowest-y-requires
-lowest-y-requires c = (omega (arith, c.lesser-m.ensures), omega (arith, c.lesser-m.ensures))
+pub lowest-requires : goal.lowest-requires
+lowest-requires c = (omega (arith, c.min.ensures), omega (arith, c.min.ensures))
 
 pub bounds-r-j : goal.bounds-r-j
 bounds-r-j c = omega (arith, c.requires)
@@ -27,13 +27,12 @@ pub loop-j-preserved : goal.loop-j-preserved
 loop-j-preserved c =
     let l = c.loop-j in
     let x = c.args in (
-      omega arith,
-      length-set l.r l.j c.lowest-y.result ∙ l.invariant.1,
-      upto_more (λ k i. bit (get_or x.f k 0) i) x.n l.j c.lowest-y.result l.r (omega arith) (omega (arith, c.requires)) l.invariant.1 l.invariant.2
-          (λ i h. c.lowest-y.ensures i h ∙ ap (λ (z : ℕ). ltb i z && bit (get_or x.f l.j 0) i) c.lesser-m.ensures),
+      length-set l.r l.j c.lowest.result ∙ l.invariant.0,
+      upto_more (λ k i. bit (get_or x.f k 0) i) x.n l.j c.lowest.result l.r (omega arith) (omega (arith, c.requires)) l.invariant.0 l.invariant.1
+          (λ i h. c.lowest.ensures i h ∙ ap (λ (z : ℕ). ltb i z && bit (get_or x.f l.j 0) i) c.min.ensures),
     )
 
 pub returns : goal.returns
 returns c =
     let l = c.loop-j in
-    upto_end _ _ _ _ (omega arith) l.invariant.2
+    upto_end _ _ _ _ (omega arith) l.invariant.1

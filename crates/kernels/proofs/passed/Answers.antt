@@ -1,7 +1,7 @@
 use native.Mathlib.Omega.{arith}
 use native.Mathlib.Nat.{mul-le-mul_right}
 use mathlib.Core.Path.{◌≡◌, refl}
-use Prim.Native.Nat.{ℕ, ◌+◌, ◌/◌, ◌^◌, ◌≤◌, ◌<◌}
+use Prim.Native.Nat.{ℕ, ◌+◌, ◌*◌, ◌/◌, ◌^◌, ◌≤◌, ◌<◌}
 use lib.Pow.{pow_mono}
 use Rattle.kernels.specs.Rows.{all_in}
 use Rattle.kernels.specs.Blocks.{open_lowest}
@@ -25,13 +25,22 @@ more_words-a-requires c =
     let x = c.args in
     let G = c.requires.4 in
     let W = most G.power.0 x.w G.power.2 G.power.1 in
-    let F = more G.power.0 x.w x.from x.m _ G.power.2 c.requires.0 (omega (arith, W)) c.requires.3 c.requires.1 c.requires.2 G.small refl in record { sizes = ((G.power.0, F.low_e, F.high_e, G.power.2), F.word, F.fits, F.n_le, F.q_lt); rows = (λ y l. record { some = G.some; firsts = G.firsts; lows = G.lows; row_in = λ k h. omega (arith, F.in_block y l, G.blocks_in k h); low_lt = λ k h. omega (arith, G.low_lt k h, W) }, G.low_lt) }
+    let e : c.div_ceil-n.result ≡ (x.m * x.w + 511) / 512 = omega (arith, c.div_ceil-n.ensures) in
+    let F = more G.power.0 x.w x.from x.m c.div_ceil-n.result G.power.2 c.requires.0 (omega (arith, W)) c.requires.3 c.requires.1 c.requires.2 G.small e in
+    record {
+      sizes = ((G.power.0, F.low_e, F.high_e, G.power.2), F.word, F.fits, F.n_le, F.q_lt);
+      rows = (
+        λ y l. record { row_in = λ k h. omega (arith, F.in_block y l, G.blocks_in k h); low_lt = λ k h. omega (arith, G.low_lt k h, W) },
+        G.low_lt,
+      );
+    }
 
 pub returns : goal.returns
 returns c =
     let x = c.args in
     let G = c.requires.4 in
     let W = most G.power.0 x.w G.power.2 G.power.1 in
-    let F = more G.power.0 x.w x.from x.m _ G.power.2 c.requires.0 (omega (arith, W)) c.requires.3 c.requires.1 c.requires.2 G.small refl in
-    open_lowest (all_in x.bytes.now x.at.now x.low.now x.w x.count) x.from x.m x.m _ c.more_words-a.result c.lowest.result refl F.enough
+    let e : c.div_ceil-n.result ≡ (x.m * x.w + 511) / 512 = omega (arith, c.div_ceil-n.ensures) in
+    let F = more G.power.0 x.w x.from x.m c.div_ceil-n.result G.power.2 c.requires.0 (omega (arith, W)) c.requires.3 c.requires.1 c.requires.2 G.small e in
+    open_lowest (all_in x.bytes.now x.rows.now x.w) x.from x.m x.m _ c.more_words-a.result c.lowest.result refl F.enough
     (rw F.first at c.more_words-a.ensures) c.lowest.ensures

@@ -9,32 +9,29 @@ use Rattle.kernels.proofs.row_bits.Goals as goal
 
 -- Eight bits more each turn.
 
--- the last of the eight
-last : (at step j n len : ℕ) → j < n → ((i : ℕ) → i < n * 8 → at + i * step < len) → at + j * 8 * step + 7 * step < len
-last at step j n len h p = let e : (j * 8 + 7) * step ≡ j * 8 * step + 7 * step = omega arith in omega (arith, p (j * 8 + 7) (omega arith), e)
+-- each of the eight
+inside : (at step j n len : ℕ) → j < n → ((i : ℕ) → i < n * 8 → at + i * step < len) → (i : ℕ) → i < 8 → at + j * 8 * step + i * step < len
+inside at step j n len h p i l = let e : (j * 8 + i) * step ≡ j * 8 * step + i * step = omega arith in omega (arith, p (j * 8 + i) (omega arith), e)
 
 pub loop-j-init : goal.loop-j-init
 loop-j-init c =
     let x = c.args in
-    (omega arith, λ i h. absurd (omega arith), λ i h. (let e : (x.n - x.n) * 8 + i ≡ i = omega arith in ap (bit x.above) e))
-
-pub overflow_mul-j : goal.overflow_mul-j
-overflow_mul-j c = omega (arith, c.requires.0, c.loop-j.invariant.0)
+    (λ i h. absurd (omega arith), λ i h. (let e : (x.n - x.n) * 8 + i ≡ i = omega arith in ap (bit x.above) e))
 
 pub overflow_mul-j-in-loop-j : goal.overflow_mul-j-in-loop-j
 overflow_mul-j-in-loop-j c =
     let x = c.args in
-    omega (arith, last x.at x.step (c.loop-j.j - 1) x.n (length x.bytes.now) (omega (arith, c.loop-j.invariant.0)) c.requires.1)
+    omega (arith, inside x.at x.step (c.loop-j.j - 1) x.n (length x.bytes.now) (omega arith) c.requires.1 0 (omega arith))
 
 pub overflow_add-at : goal.overflow_add-at
 overflow_add-at c =
     let x = c.args in
-    omega (arith, last x.at x.step (c.loop-j.j - 1) x.n (length x.bytes.now) (omega (arith, c.loop-j.invariant.0)) c.requires.1)
+    omega (arith, inside x.at x.step (c.loop-j.j - 1) x.n (length x.bytes.now) (omega arith) c.requires.1 0 (omega arith))
 
-pub eight_bits-b-requires : goal.eight_bits-b-requires
-eight_bits-b-requires c =
+pub byte_bits-b-requires : goal.byte_bits-b-requires
+byte_bits-b-requires c =
     let x = c.args in
-    last x.at x.step (c.loop-j.j - 1) x.n (length x.bytes.now) (omega (arith, c.loop-j.invariant.0)) c.requires.1
+    (omega arith, inside x.at x.step (c.loop-j.j - 1) x.n (length x.bytes.now) (omega arith) c.requires.1)
 
 pub loop-j-preserved : goal.loop-j-preserved
 loop-j-preserved c =
@@ -42,15 +39,14 @@ loop-j-preserved c =
     let x = c.args in
     let f : ℕ → Bool = λ k. bit (get_or x.bytes.now (x.at + k * x.step) 0) (x.low % 8) in
     let e : (l.j - 1) * 8 + 8 ≡ l.j * 8 = omega arith in (
-      omega (arith, l.invariant.0),
-      λ i h. eight_more f ((l.j - 1) * 8) ((x.n - l.j) * 8) l.r c.eight_bits-b.result (omega (arith, c.requires.0, l.invariant.0)) c.eight_bits-b.ensures.0
+      λ i h. eight_more f ((l.j - 1) * 8) ((x.n - l.j) * 8) l.r c.byte_bits-b.result (omega (arith, c.requires.0)) c.byte_bits-b.ensures.0
           (λ k t.
           let d : x.at + (l.j - 1) * 8 * x.step + k * x.step ≡ x.at + ((l.j - 1) * 8 + k) * x.step = omega arith in
-          c.eight_bits-b.ensures.1 k t ∙ ap (λ (z : ℕ). bit (get_or x.bytes.now z 0) (x.low % 8)) d)
-          (λ k t. rw e (l.invariant.1 k t)) i (omega (arith, l.invariant.0)),
+          c.byte_bits-b.ensures.1 k t ∙ ap (λ (z : ℕ). bit (get_or x.bytes.now z 0) (x.low % 8)) d)
+          (λ k t. rw e (l.invariant.0 k t)) i (omega arith),
       λ i h.
-          let d : (x.n - (l.j - 1)) * 8 + i ≡ 8 + ((x.n - l.j) * 8 + i) = omega (arith, l.invariant.0) in
-          rw d (above_eight l.r c.eight_bits-b.result ((x.n - l.j) * 8 + i) (omega (arith, d, h)) c.eight_bits-b.ensures.0 ∙ l.invariant.2 i (omega (arith, d, h))),
+          let d : (x.n - (l.j - 1)) * 8 + i ≡ 8 + ((x.n - l.j) * 8 + i) = omega arith in
+          rw d (above_eight l.r c.byte_bits-b.result ((x.n - l.j) * 8 + i) (omega (arith, d, h)) c.byte_bits-b.ensures.0 ∙ l.invariant.1 i (omega (arith, d, h))),
     )
 
 pub returns : goal.returns
@@ -58,6 +54,6 @@ returns c =
     let l = c.loop-j in
     let x = c.args in
     let m : x.n - l.j ≡ x.n = omega arith in (
-      λ i h. (let e : l.j * 8 + i ≡ i = omega arith in rw e at (l.invariant.1 i (omega arith))),
-      λ i h. rw m at (l.invariant.2 i (omega arith)),
+      λ i h. (let e : l.j * 8 + i ≡ i = omega arith in rw e at (l.invariant.0 i (omega arith))),
+      λ i h. rw m at (l.invariant.1 i (omega arith)),
     )

@@ -24,20 +24,20 @@ of_open gate first j m k y e R i h =
     R i h ∙ (ap (λ (t : ℕ). ltb i t && gate (first + j * 64 + i)) e ∙ ap (λ (t : ℕ). ltb i k && gate t) z)
 
 pub loop-j-init : goal.loop-j-init
-loop-j-init c = (omega arith, refl, upto_none _ _ _ (omega arith) nought)
+loop-j-init c = (refl, upto_none _ _ _ (omega arith) nought)
 
 pub overflow_add-first : goal.overflow_add-first
 overflow_add-first c = omega (arith, small (length c.args.bytes.now) c.args.first c.args.n c.args.w c.requires.0 c.requires.3.small)
 
-pub passed-y-requires : goal.passed-y-requires
-passed-y-requires c =
+pub passed-requires : goal.passed-requires
+passed-requires c =
     let x = c.args in
     let l = c.loop-j in (
       c.requires.0,
-      omega (arith, c.lesser-m.ensures),
-      omega (arith, c.lesser-m.ensures),
+      omega (arith, c.min.ensures),
+      omega (arith, c.min.ensures),
       omega (arith, c.requires.2),
-      group_fewer x.at.now x.low.now x.count x.w (x.first + x.n) (x.first + l.j * 64 + c.lesser-m.result) (length x.bytes.now) (omega (arith, c.lesser-m.ensures)) c.requires.3,
+      group_fewer x.rows.now x.w (x.first + x.n) (x.first + l.j * 64 + c.min.result) (length x.bytes.now) (omega (arith, c.min.ensures)) c.requires.3,
     )
 
 pub bounds-r-j : goal.bounds-r-j
@@ -47,14 +47,13 @@ pub loop-j-preserved : goal.loop-j-preserved
 loop-j-preserved c =
     let l = c.loop-j in
     let x = c.args in
-    let m = c.lesser-m in (
-      omega arith,
-      length-set l.r l.j c.passed-y.result ∙ l.invariant.1,
-      upto_more (λ k i. all_in x.bytes.now x.at.now x.low.now x.w x.count (x.first + (k * 64 + i))) x.n l.j c.passed-y.result l.r (omega arith) (omega (arith, c.requires.1)) l.invariant.1 l.invariant.2
-          (λ i h. of_open (all_in x.bytes.now x.at.now x.low.now x.w x.count) x.first l.j m.result (min 64 (x.n - l.j * 64)) c.passed-y.result m.ensures c.passed-y.ensures i h),
+    let m = c.min in (
+      length-set l.r l.j c.passed.result ∙ l.invariant.0,
+      upto_more (λ k i. all_in x.bytes.now x.rows.now x.w (x.first + (k * 64 + i))) x.n l.j c.passed.result l.r (omega arith) (omega (arith, c.requires.1)) l.invariant.0 l.invariant.1
+          (λ i h. of_open (all_in x.bytes.now x.rows.now x.w) x.first l.j m.result (min (x.n - l.j * 64) 64) c.passed.result m.ensures c.passed.ensures i h),
     )
 
 pub returns : goal.returns
 returns c =
     let l = c.loop-j in
-    upto_end _ _ _ _ (omega arith) l.invariant.2
+    upto_end _ _ _ _ (omega arith) l.invariant.1

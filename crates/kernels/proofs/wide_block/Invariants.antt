@@ -1,5 +1,5 @@
 use mathlib.Core.Path.{◌≡◌}
-use Prim.Native.Nat.{◌+◌, ◌-◌, ◌*◌, ◌/◌, ◌≤◌, min}
+use Prim.Native.Nat.{◌+◌, ◌*◌, min}
 use lib.ListN.{length}
 use Rattle.kernels.specs.Rows.{all_in}
 use Rattle.kernels.specs.Blocks.{Upto}
@@ -7,7 +7,4 @@ use Rattle.kernels.proofs.wide_block.Given as goal
 
 abbrev pub invariant-loop-j : goal.invariant-loop-j
 invariant-loop-j l =
-    (l.j ≤ (l.n + 63) / 64) × (length l.r ≡ 8) × Upto (λ k i. all_in l.bytes l.at l.low l.w l.count (l.first + (k * 64 + i))) (min (l.j * 64) l.n) l.r
-
-abbrev pub decreases-loop-j : goal.decreases-loop-j
-decreases-loop-j l = (l.n + 63) / 64 - l.j
+    (length l.r ≡ 8) × Upto (λ k i. all_in l.bytes l.rows l.w (l.first + (k * 64 + i))) (min (l.j * 64) l.n) l.r
