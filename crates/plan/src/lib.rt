@@ -23,7 +23,6 @@ ghost use Rattle.plan.specs.Done.{index_done, deletion_done, record_done};
 
 use geometry::sets::Set;
 use geometry::{Chip, Geometry, areas, sets};
-use words::numbers;
 
 // ---- a plan
 
@@ -82,12 +81,9 @@ impl Span {
     fn among(self, n: usize) -> Span
         ensures { result ≡ among self n }
     {
-        if self.to < n {
-            return self;
-        }
         Span {
             from: self.from,
-            to: n,
+            to: self.to.min(n),
         }
     }
 
@@ -96,8 +92,8 @@ impl Span {
         ensures { result ≡ behind self n }
     {
         Span {
-            from: numbers::less(self.from, n),
-            to: numbers::less(self.to, n),
+            from: self.from.saturating_sub(n),
+            to: self.to.saturating_sub(n),
         }
     }
 }
@@ -229,11 +225,7 @@ fn at_once(chip: Chip) -> usize
     requires { UnitSound chip.unit }
     ensures { (result ≡ at_once chip.unit) × Steps result × (result * sector chip.unit ≤ buffer_size) }
 {
-    let n = BUFFER_SIZE / chip.sector_size();
-    if n < Chip::SECTORS_PER_PAGE {
-        return n;
-    }
-    Chip::SECTORS_PER_PAGE
+    Chip::SECTORS_PER_PAGE.min(BUFFER_SIZE / chip.sector_size())
 }
 
 // Of sectors j to `end` - 1 those that come before the next multiple of n.
