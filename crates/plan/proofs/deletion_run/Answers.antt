@@ -8,11 +8,6 @@ use Rattle.plan.specs.Fits.{PageFits, at_numbers}
 use Rattle.plan.specs.Plans.{SummaryFits, deletion_of, deletion_run, none_run}
 use Rattle.plan.proofs.deletion_run.Goals as goal
 
-pub returns-then-part-eq0 : goal.returns-then-part-eq0
-returns-then-part-eq0 c =
-    let x = c.args in
-    none_run x.p.chip.unit (deletion_of x.p x.new.now x.filters.now x.ram.now) x.part _ c.if-part-eq0.true
-
 pub returns : goal.returns
 returns c =
     let x = c.args in

@@ -16,9 +16,3 @@ loop-j-preserved g c =
       so_far = turn (S.unit x.sectors.now) (S.planned x.sectors.now) x.part.from l.j (flash_of x.main.now x.spare.now)
           {y = flash_of r.main r.spare} l.auto.j l.invariant.so_far c.program.ensures;
     }
-
-pub returns : goal.returns
-returns g c =
-    let l = c.loop-j in
-    let all : l.j - c.args.part.from ≡ c.args.part.to - c.args.part.from = omega arith in
-    rw all at l.invariant.so_far

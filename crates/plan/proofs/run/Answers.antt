@@ -5,9 +5,6 @@ use Rattle.plan.specs.Fits.{at_lengths}
 use Rattle.plan.specs.Plans.{PlanFits, deletion_fits, whole_run}
 use Rattle.plan.proofs.run.Goals as goal
 
-pub deletion_count-n-requires : goal.deletion_count-n-requires
-deletion_count-n-requires c = omega (arith, deletion_fits c.args.p _ _ _ c.requires (omega arith))
-
 pub returns : goal.returns
 returns c =
     let x = c.args in
