@@ -29,7 +29,7 @@ buffer_size = 512
 
 -- sectors of a page made at once
 abbrev pub at_once : ℕ → ℕ
-at_once u = cond (ltb (buffer_size / sector u) sectors_per_page) (buffer_size / sector u) sectors_per_page
+at_once u = min sectors_per_page (buffer_size / sector u)
 
 -- a page has whole steps of n sectors
 abbrev pub Steps : ℕ → Type 0

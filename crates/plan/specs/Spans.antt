@@ -19,7 +19,6 @@ among s n = record { from = s.from; to = min s.to n }
 abbrev pub behind : Span → ℕ → Span
 behind s n = record { from = s.from - n; to = s.to - n }
 
--- what code computes of them
 pub among_less : (s : Span) (n : ℕ) → s.to < n → s ≡ among s n
 among_less s n h = let e : min s.to n ≡ s.to = omega arith in rw e
 

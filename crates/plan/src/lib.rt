@@ -5,7 +5,7 @@
 ghost use Rattle.std.specs.Prelude.{◌≡◌, List, ℕ, ◌+◌, ◌*◌, ◌/◌, ◌^◌, ◌<◌, ◌≤◌, length};
 ghost use Rattle.layout.specs.Geometry.{sectors_per_page, sector};
 ghost use Rattle.layout.specs.Index.{set_width};
-ghost use Rattle.layout.specs.Flash.{Flash, plan_ops, all_fresh, flash_of};
+ghost use Rattle.layout.specs.Flash.{Flash, Planned, plan_ops, all_fresh, flash_of};
 ghost use Rattle.laws.specs.Units.{UnitSound};
 ghost use Rattle.geometry.specs.Indexes.{index_of};
 ghost use Rattle.partition.specs.Sources.{page_source};
@@ -15,7 +15,7 @@ ghost use Rattle.plan.specs.Spans.{span, among, behind, run_of};
 ghost use Rattle.plan.specs.Segments.{filled_page, flushed, next_set, wiped};
 ghost use Rattle.plan.specs.Groups.{buffer_size, at_once, Steps, up_to, OfPage, Beside};
 ghost use Rattle.plan.specs.Fits.{PageFits, FlushFits, NextFits, WipeFits};
-ghost use Rattle.plan.specs.Plans.{new_length, filters_length, build_of, summary_of, summary_count, deletion_of, deletion_count, record_of};
+ghost use Rattle.plan.specs.Plans.{build_of, summary_of, summary_count, deletion_of, deletion_count, record_of};
 ghost use Rattle.plan.specs.Plans.{planned, planned_count, whole_of, BuildFits, SummaryFits, PlanFits, IndexSpareFits, SpareFits};
 ghost use Rattle.laws.specs.Done.{done_count};
 ghost use Rattle.plan.specs.Fresh.{index_fresh};
@@ -23,7 +23,6 @@ ghost use Rattle.plan.specs.Done.{index_done, deletion_done, record_done};
 
 use geometry::sets::Set;
 use geometry::{Chip, Geometry, areas, sets};
-use words::numbers;
 
 // ---- a plan
 
@@ -82,12 +81,9 @@ impl Span {
     fn among(self, n: usize) -> Span
         ensures { result ≡ among self n }
     {
-        if self.to < n {
-            return self;
-        }
         Span {
             from: self.from,
-            to: n,
+            to: self.to.min(n),
         }
     }
 
@@ -96,8 +92,8 @@ impl Span {
         ensures { result ≡ behind self n }
     {
         Span {
-            from: numbers::less(self.from, n),
-            to: numbers::less(self.to, n),
+            from: self.from.saturating_sub(n),
+            to: self.to.saturating_sub(n),
         }
     }
 }
@@ -122,105 +118,86 @@ pub struct Flush {
     pub piece: usize,
 }
 
-// Sector j of a page that an item fills: its bytes are those of the RAM page, those of the last one end with the item.
-fn page_step(
-    chip: Chip,
-    page: Page,
-    j: usize,
-    item: &[u8],
-    main: &mut [u8],
-    spare: &mut [u8],
-    ram: &[u8],
-)
-    requires page_fits { PageFits chip.unit page (length main.old) (length spare.old) (length ram.now) }
-    requires j_lt_sectors_per_page { (j < sectors_per_page) × (length item.now ≤ sector chip.unit) }
-    ensures { flash_of main.new spare.new
-        ≡ done_one chip.unit (filled_page chip.unit page item.now ram.now j) (flash_of main.old spare.old) }
-{
-    let size = chip.sector_size();
-    let s = page.sector + j;
-    let from = page.at + chip.sector_address(j);
-    if j + 1 < Chip::SECTORS_PER_PAGE {
-        let to = from + size;
-        flash::program_sector(chip, s, &ram[from..to], main, spare);
-        return;
-    }
-    let to = from + (size - item.len());
-    flash::program_joined(chip, s, &ram[from..to], item, main, spare);
+// Sectors that are programmed one after another, out of bytes that are lent.
+trait Sectors {
+    ghost unit: { Self → ℕ };
+    ghost planned: { Self → ℕ → Planned };
+    ghost Fits: { Self → ℕ → ℕ → Type 0 };
+
+    // Sector j of them.
+    fn program(&self, j: usize, main: &mut [u8], spare: &mut [u8])
+        requires { Fits self.now (length main.old) (length spare.old) × (j < sectors_per_page) }
+        ensures { flash_of main.new spare.new ≡ done_one (unit self.now) (planned self.now j) (flash_of main.old spare.old) };
 }
 
-// A span of the sectors of such a page.
-fn page_run(
+// A page that an item fills: the bytes are those of the RAM page, those of the last sector end with the item.
+#[derive(Clone, Copy)]
+struct FilledPage<'a> {
     chip: Chip,
     page: Page,
-    part: Span,
-    item: &[u8],
-    main: &mut [u8],
-    spare: &mut [u8],
-    ram: &[u8],
-)
-    requires page_fits { PageFits chip.unit page (length main.old) (length spare.old) (length ram.now) }
-    requires to_le_sectors_per_page { (part.to ≤ sectors_per_page) × (length item.now ≤ sector chip.unit) }
-    ensures { flash_of main.new spare.new
-        ≡ run_of chip.unit (filled_page chip.unit page item.now ram.now) part (flash_of main.old spare.old) }
-{
-    let mut j = part.from;
-    while j < part.to {
-        page_step(chip, page, j, item, main, spare, ram);
-        j += 1;
+    item: &'a [u8],
+    ram: &'a [u8],
+}
+
+impl<'a> Sectors for FilledPage<'a> {
+    ghost unit = { λ s. s.chip.unit };
+    ghost planned = { λ s. filled_page s.chip.unit s.page s.item.now s.ram.now };
+    ghost Fits = { λ s m n. PageFits s.chip.unit s.page m n (length s.ram.now) × (length s.item.now ≤ sector s.chip.unit) };
+
+    fn program(&self, j: usize, main: &mut [u8], spare: &mut [u8]) {
+        let chip = self.chip;
+        let size = chip.sector_size();
+        let s = self.page.sector + j;
+        let from = self.page.at + chip.sector_address(j);
+        if j + 1 < Chip::SECTORS_PER_PAGE {
+            flash::program_sector(chip, s, &self.ram[from..from + size], main, spare);
+            return;
+        }
+        let to = from + (size - self.item.len());
+        flash::program_joined(chip, s, &self.ram[from..to], self.item, main, spare);
     }
 }
 
-// Sector j of a flush: its bytes are those of the SKA page, and at its end those of the new fourths.
-fn flush_step(
+// A flush: the bytes are those of the SKA page, and at the end of each sector those of the new fourths.
+#[derive(Clone, Copy)]
+struct FlushedPage<'a> {
     chip: Chip,
-    f: Flush,
-    j: usize,
-    fourths: &[u8],
-    main: &mut [u8],
-    spare: &mut [u8],
-    ram: &[u8],
-)
-    requires flush_fits { FlushFits chip.unit f (length fourths.now) (length main.old) (length spare.old) (length ram.now) }
-    requires j_lt_sectors_per_page { j < sectors_per_page }
-    ensures { flash_of main.new spare.new
-        ≡ done_one chip.unit (flushed chip.unit f fourths.now ram.now j) (flash_of main.old spare.old) }
-{
-    let size = chip.sector_size();
-    let piece = f.piece;
-    let from = f.at + chip.sector_address(j);
-    let to = from + (size - piece);
-    let lo = j * piece;
-    let hi = lo + piece;
-    flash::program_joined(
-        chip,
-        f.sector + j * sets::FLUSHES_PER_ROUND,
-        &ram[from..to],
-        &fourths[lo..hi],
-        main,
-        spare,
-    );
+    flush: Flush,
+    fourths: &'a [u8],
+    ram: &'a [u8],
 }
 
-// A span of the sectors of a flush.
-fn flush_run(
-    chip: Chip,
-    f: Flush,
-    part: Span,
-    fourths: &[u8],
-    main: &mut [u8],
-    spare: &mut [u8],
-    ram: &[u8],
-)
-    requires flush_fits { FlushFits chip.unit f (length fourths.now) (length main.old) (length spare.old) (length ram.now) }
-    requires to_le_sectors_per_page { part.to ≤ sectors_per_page }
+impl<'a> Sectors for FlushedPage<'a> {
+    ghost unit = { λ s. s.chip.unit };
+    ghost planned = { λ s. flushed s.chip.unit s.flush s.fourths.now s.ram.now };
+    ghost Fits = { λ s m n. FlushFits s.chip.unit s.flush (length s.fourths.now) m n (length s.ram.now) };
+
+    fn program(&self, j: usize, main: &mut [u8], spare: &mut [u8]) {
+        let chip = self.chip;
+        let piece = self.flush.piece;
+        let from = self.flush.at + chip.sector_address(j);
+        let to = from + (chip.sector_size() - piece);
+        let lo = j * piece;
+        let hi = lo + piece;
+        flash::program_joined(
+            chip,
+            self.flush.sector + j * sets::FLUSHES_PER_ROUND,
+            &self.ram[from..to],
+            &self.fourths[lo..hi],
+            main,
+            spare,
+        );
+    }
+}
+
+// A span of such sectors.
+fn program_span<S: Sectors>(sectors: &S, part: Span, main: &mut [u8], spare: &mut [u8])
+    requires { S.Fits sectors.now (length main.old) (length spare.old) × (part.to ≤ sectors_per_page) }
     ensures { flash_of main.new spare.new
-        ≡ run_of chip.unit (flushed chip.unit f fourths.now ram.now) part (flash_of main.old spare.old) }
+        ≡ run_of (S.unit sectors.now) (S.planned sectors.now) part (flash_of main.old spare.old) }
 {
-    let mut j = part.from;
-    while j < part.to {
-        flush_step(chip, f, j, fourths, main, spare, ram);
-        j += 1;
+    for j in part.from..part.to {
+        sectors.program(j, main, spare);
     }
 }
 
@@ -229,11 +206,7 @@ fn at_once(chip: Chip) -> usize
     requires { UnitSound chip.unit }
     ensures { (result ≡ at_once chip.unit) × Steps result × (result * sector chip.unit ≤ buffer_size) }
 {
-    let n = BUFFER_SIZE / chip.sector_size();
-    if n < Chip::SECTORS_PER_PAGE {
-        return n;
-    }
-    Chip::SECTORS_PER_PAGE
+    Chip::SECTORS_PER_PAGE.min(BUFFER_SIZE / chip.sector_size())
 }
 
 // Of sectors j to `end` - 1 those that come before the next multiple of n.
@@ -372,20 +345,17 @@ fn index_run(
         return;
     }
     let later = part.behind(s.flush.count);
-    let f = Flush {
-        sector: s.flush.first,
-        at: s.next.index.ska,
-        piece: s.piece,
-    };
-    flush_run(
+    let page = FlushedPage {
         chip,
-        f,
-        part.among(s.flush.count),
+        flush: Flush {
+            sector: s.flush.first,
+            at: s.next.index.ska,
+            piece: s.piece,
+        },
         fourths,
-        main,
-        spare,
         ram,
-    );
+    };
+    program_span(&page, part.among(s.flush.count), main, spare);
     if later.to == 0 {
         return; // nothing is built where the run ends before
     }
@@ -398,14 +368,13 @@ fn index_run(
 fn deletion_run(
     p: Plan,
     part: Span,
-    new: &[u8],
-    filters: &[u8],
+    new: &[u8; NEW_SIZE],
+    filters: &[u8; FILTERS_SIZE],
     main: &mut [u8],
     spare: &mut [u8],
     ram: &[u8],
 )
-    requires plan_fits { PlanFits p (length main.old) (length spare.old) (length ram.now) }
-    requires len { (length new.now ≡ new_length) × (length filters.now ≡ filters_length) }
+    requires { PlanFits p (length main.old) (length spare.old) (length ram.now) }
     ensures { flash_of main.new spare.new
         ≡ done p.chip.unit (span (deletion_of p new.now filters.now ram.now) part) (flash_of main.old spare.old) }
 {
@@ -413,20 +382,17 @@ fn deletion_run(
         return;
     }
     let chip = p.chip;
-    let da = Page {
-        sector: p.da.first,
-        at: chip.page_address(Geometry::DA_PAGE),
+    let da = FilledPage {
+        chip,
+        page: Page {
+            sector: p.da.first,
+            at: chip.page_address(Geometry::DA_PAGE),
+        },
+        item: &new[0..RECORD_AT],
+        ram,
     };
     let second = part.behind(p.da.count);
-    page_run(
-        chip,
-        da,
-        part.among(p.da.count),
-        &new[0..RECORD_AT],
-        main,
-        spare,
-        ram,
-    );
+    program_span(&da, part.among(p.da.count), main, spare);
     index_run(
         chip,
         p.da_index,
@@ -442,46 +408,39 @@ fn deletion_run(
 fn record_run(
     p: Plan,
     part: Span,
-    new: &[u8],
-    filters: &[u8],
+    new: &[u8; NEW_SIZE],
+    filters: &[u8; FILTERS_SIZE],
     main: &mut [u8],
     spare: &mut [u8],
     ram: &[u8],
 )
-    requires plan_fits { PlanFits p (length main.old) (length spare.old) (length ram.now) }
-    requires len { (length new.now ≡ new_length) × (length filters.now ≡ filters_length) }
+    requires { PlanFits p (length main.old) (length spare.old) (length ram.now) }
     ensures { flash_of main.new spare.new
         ≡ done p.chip.unit (span (record_of p new.now filters.now ram.now) part) (flash_of main.old spare.old) }
 {
     let chip = p.chip;
-    let ra = Page {
-        sector: p.ra.first,
-        at: chip.page_address(Geometry::RA_PAGE),
+    let ra = FilledPage {
+        chip,
+        page: Page {
+            sector: p.ra.first,
+            at: chip.page_address(Geometry::RA_PAGE),
+        },
+        item: &new[RECORD_AT..ENTRY_AT],
+        ram,
     };
-    let ka = Page {
-        sector: p.ka.first,
-        at: chip.page_address(Geometry::KA_PAGE),
+    let ka = FilledPage {
+        chip,
+        page: Page {
+            sector: p.ka.first,
+            at: chip.page_address(Geometry::KA_PAGE),
+        },
+        item: &new[ENTRY_AT..NEW_SIZE],
+        ram,
     };
     let second = part.behind(p.ra.count);
     let third = second.behind(p.ka.count);
-    page_run(
-        chip,
-        ra,
-        part.among(p.ra.count),
-        &new[RECORD_AT..ENTRY_AT],
-        main,
-        spare,
-        ram,
-    );
-    page_run(
-        chip,
-        ka,
-        second.among(p.ka.count),
-        &new[ENTRY_AT..NEW_SIZE],
-        main,
-        spare,
-        ram,
-    );
+    program_span(&ra, part.among(p.ra.count), main, spare);
+    program_span(&ka, second.among(p.ka.count), main, spare);
     index_run(
         chip,
         p.ka_index,
@@ -518,14 +477,13 @@ pub fn whole(p: Plan) -> Span
 pub fn run(
     p: Plan,
     part: Span,
-    new: &[u8],
-    filters: &[u8],
+    new: &[u8; NEW_SIZE],
+    filters: &[u8; FILTERS_SIZE],
     main: &mut [u8],
     spare: &mut [u8],
     ram: &[u8],
 )
-    requires plan_fits { PlanFits p (length main.old) (length spare.old) (length ram.now) }
-    requires len { (length new.now ≡ new_length) × (length filters.now ≡ filters_length) }
+    requires { PlanFits p (length main.old) (length spare.old) (length ram.now) }
     ensures { flash_of main.new spare.new
         ≡ done p.chip.unit (span (planned p new.now filters.now ram.now) part)
         (flash_of main.old spare.old) }

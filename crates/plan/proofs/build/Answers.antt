@@ -12,22 +12,6 @@ set_run-requires c =
     fewer x.chip.unit x.s.next x.s.set.first x.s.set.count _ _ c.requires.set c.among.result.to
     (among_le _ _ _ _ c.among.ensures (le_refl x.s.set.count))
 
-pub wipe_run-requires : goal.wipe_run-requires
-wipe_run-requires c =
-    let x = c.args in (
-      at_lengths (λ m n. WipeFits x.chip.unit x.s.l1 m n) _ _ _ _
-          (omega arith) (omega arith) c.requires.l1,
-      among_le _ _ _ _ c.among-2.ensures (le_refl x.s.l1.count),
-    )
-
-pub wipe_run-requires-2 : goal.wipe_run-requires-2
-wipe_run-requires-2 c =
-    let x = c.args in (
-      at_lengths (λ m n. WipeFits x.chip.unit x.s.old m n) _ _ _ _
-          (omega arith) (omega arith) c.requires.old,
-      among_le _ _ _ _ c.among-3.ensures (le_refl x.s.old.count),
-    )
-
 pub returns : goal.returns
 returns c =
     let x = c.args in

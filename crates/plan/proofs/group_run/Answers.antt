@@ -12,38 +12,12 @@ use Rattle.plan.specs.Segments.{next_set}
 use Rattle.plan.specs.Groups.{turn_of, turn_span, steps_few, few_sectors, next_part, of_page, shared_at}
 use Rattle.plan.proofs.group_run.Goals as goal
 
-pub at_once-n-requires : goal.at_once-n-requires
-at_once-n-requires c = c.requires.next_fits.0.unit
-
-pub slice_bounds-shared_bytes-end : goal.slice_bounds-shared_bytes-end
-slice_bounds-shared_bytes-end c = refl
-
-pub shared_bytes-requires : goal.shared_bytes-requires
-shared_bytes-requires c =
-    let P = c.requires.next_fits.0 in
-    record { unit_sound = (P.unit, P.rounds, P.near); p_bound = omega (arith, P.sectors, c.requires.next_fits.1); unit_in_bounds = P.sides; out_len = refl }
-
-pub loop-j-init : goal.loop-j-init
-loop-j-init c =
-    let z : c.args.part.from - c.args.part.from ≡ 0 = omega arith in (
-      le_refl _,
-      omega (arith, c.requires.next_fits.1),
-      refl,
-      refl,
-      rw z refl,
-      subst (λ (v : List ℕ). Shares c.args.main.now (page_source c.args.chip.unit (index_of c.args.set.index) c.args.set.rounds (c.args.part.from / 4)) v)
-          (sym c.shared_bytes.ensures) (shares_made c.args.main.now _ _ refl),
-    )
-
 pub up_to-some-requires : goal.up_to-some-requires
 up_to-some-requires c =
     let n = c.at_once-n in
     let f = steps_few n.result n.ensures.1 in
     let l = few_sectors c.args.chip.unit c.args.set c.args.s c.args.part.to _ _ c.requires.next_fits.0 in
     (f.0, f.1, omega (arith, l), omega arith)
-
-pub slice_bounds-page_part-end : goal.slice_bounds-page_part-end
-slice_bounds-page_part-end c = omega (arith, c.loop-j.invariant.5.size)
 
 pub page_part-requires : goal.page_part-requires
 page_part-requires c =
@@ -61,11 +35,6 @@ page_part-requires c =
           l.invariant.0 h (c.requires.beside l.j l.invariant.0 h) l.invariant.4 l.invariant.5);
     }
 
-pub loop-j-smaller : goal.loop-j-smaller
-loop-j-smaller c =
-    let T = turn_of c.loop-j.j c.at_once-n.result c.args.part.to c.up_to-some.result (steps_few c.at_once-n.result c.at_once-n.ensures.1).0 (omega arith) c.up_to-some.ensures in
-    omega (arith, T.more, T.most)
-
 pub loop-j-preserved : goal.loop-j-preserved
 loop-j-preserved c =
     let T = turn_of c.loop-j.j c.at_once-n.result c.args.part.to c.up_to-some.result (steps_few c.at_once-n.result c.at_once-n.ensures.1).0 (omega arith) c.up_to-some.ensures in
@@ -79,9 +48,3 @@ loop-j-preserved c =
           T.first l.invariant.0 (omega (arith, T.more)) l.invariant.4 c.page_part.ensures,
       l.invariant.5,
     )
-
-pub returns : goal.returns
-returns c =
-    let l = c.loop-j in
-    let k : l.j ≡ c.args.part.to = omega arith in
-    rw k at l.invariant.4

@@ -5,31 +5,16 @@ use Rattle.plan.specs.Fits.{at_lengths}
 use Rattle.plan.specs.Plans.{BuildFits, summary_of, build_of, index_run, none_run}
 use Rattle.plan.proofs.index_run.Goals as goal
 
-pub returns-then-part-eq0 : goal.returns-then-part-eq0
-returns-then-part-eq0 c =
-    let x = c.args in
-    none_run x.chip.unit (summary_of x.chip.unit x.s x.fourths.now x.ram.now) x.part _ c.if-part-eq0.true
-
-pub flush_run-requires : goal.flush_run-requires
-flush_run-requires c =
-    record { flush_fits = c.requires.flush; to_le_sectors_per_page = among_le _ _ _ 4 c.among.ensures c.requires.flush_count }
-
 pub returns-then-later-eq0 : goal.returns-then-later-eq0
 returns-then-later-eq0 c =
     let x = c.args in
     let u = x.chip.unit in
     index_run u x.s x.part c.behind-later.result (flash_of x.main.now x.spare.now) x.fourths.now x.ram.now
-    c.among.result c.behind-later.ensures c.among.ensures c.flush_run.ensures
+    c.among.result c.behind-later.ensures c.among.ensures c.program_span.ensures
     (none_run u (build_of u x.s) c.behind-later.result _ c.if-later-eq0.true)
-
-pub build-requires : goal.build-requires
-build-requires c =
-    let x = c.args in
-    at_lengths (λ m n. BuildFits x.chip.unit x.s m n) _ _ _ _
-    (omega arith) (omega arith) c.requires.build
 
 pub returns : goal.returns
 returns c =
     let x = c.args in
     index_run x.chip.unit x.s x.part c.behind-later.result (flash_of x.main.now x.spare.now) x.fourths.now x.ram.now
-    c.among.result c.behind-later.ensures c.among.ensures c.flush_run.ensures c.build.ensures
+    c.among.result c.behind-later.ensures c.among.ensures c.program_span.ensures c.build.ensures

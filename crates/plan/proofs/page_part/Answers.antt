@@ -16,16 +16,6 @@ set_sectors-requires c =
 made : (buffer out : List ℕ) (f : ℕ → ℕ) (n : ℕ) → out ≡ tabulate (length (take (n - 0) (drop 0 buffer))) f → n ≤ length buffer → length out ≡ n
 made buffer out f n e h = ap length e ∙ (length_tabulate _ _ ∙ made_size buffer n h)
 
-pub slice_bounds-program_sectors-end : goal.slice_bounds-program_sectors-end
-slice_bounds-program_sectors-end c =
-    made_in c.set_sectors.new.out _ c.sector_address-n.result (made _ _ _ c.sector_address-n.result c.set_sectors.ensures (omega (arith, c.sector_address-n.ensures, c.requires.of_page.small)))
-
-pub program_sectors-requires : goal.program_sectors-requires
-program_sectors-requires c =
-    let P = c.requires.next_fits.0 in
-    let n = c.sector_address-n in
-    let e : c.args.s + c.args.part.from + (c.args.part.to - c.args.part.from) ≡ c.args.s + c.args.part.to = omega (arith, c.requires.next_fits.1) in record { unit_bound = (P.unit.1.most, ap length (made_are c.set_sectors.new.out _ n.result (made _ _ _ c.sector_address-n.result c.set_sectors.ensures (omega (arith, c.sector_address-n.ensures, c.requires.of_page.small)))) ∙ (made _ _ _ c.sector_address-n.result c.set_sectors.ensures (omega (arith, c.sector_address-n.ensures, c.requires.of_page.small)) ∙ n.ensures)); unit_in_bounds = (rw e P.in_main, rw e P.in_spare) }
-
 pub returns : goal.returns
 returns c =
     let n = c.sector_address-n in

@@ -13,23 +13,10 @@ overflow_add-result-then-in_index-gt0 c =
     let x = c.args in
     omega (arith, c.index_done-in_index.ensures, index_done_le x.p.ka_index x.spare.now, c.requires.1)
 
-pub returns-then-in_index-gt0 : goal.returns-then-in_index-gt0
-returns-then-in_index-gt0 c =
-    let x = c.index_done-in_index.result in
-    let k = c.args.p.ka.count in
-    later (k + x) _ _ _ (later x k _ _ c.index_done-in_index.ensures c.if-in_index-gt0.true) (omega (arith, c.if-in_index-gt0.true))
-
 pub overflow_add-result-then-in_ka-gt0 : goal.overflow_add-result-then-in_ka-gt0
 overflow_add-result-then-in_ka-gt0 c =
     let x = c.args in
     omega (arith, c.last_programmed-in_ka.ensures, last_le x.spare.now 1 x.p.ka.first x.p.ka.count, c.requires.1)
-
-pub returns-then-in_ka-gt0 : goal.returns-then-in_ka-gt0
-returns-then-in_ka-gt0 c =
-    let y = c.last_programmed-in_ka.result in
-    later y _ _ _
-    (earlier c.index_done-in_index.result y _ _ _ c.index_done-in_index.ensures (omega (arith, c.if-in_index-gt0.false)) c.last_programmed-in_ka.ensures)
-    c.if-in_ka-gt0.true
 
 pub returns : goal.returns
 returns c =

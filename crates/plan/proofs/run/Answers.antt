@@ -5,15 +5,6 @@ use Rattle.plan.specs.Fits.{at_lengths}
 use Rattle.plan.specs.Plans.{PlanFits, deletion_fits, whole_run}
 use Rattle.plan.proofs.run.Goals as goal
 
-pub deletion_count-n-requires : goal.deletion_count-n-requires
-deletion_count-n-requires c =
-    omega (arith, deletion_fits c.args.p _ _ _ c.requires.plan_fits (omega arith))
-
-pub record_run-requires : goal.record_run-requires
-record_run-requires c =
-    let x = c.args in
-    let k = length x.ram.now in record { plan_fits = at_lengths (λ m s. PlanFits x.p m s k) _ _ _ _ (omega arith) (omega arith) c.requires.plan_fits; len = c.requires.len }
-
 pub returns : goal.returns
 returns c =
     let x = c.args in

@@ -8,24 +8,6 @@ use Rattle.plan.specs.Segments.{next_set}
 use Rattle.plan.specs.Groups.{turn_of, turn_span, few_sectors, next_part, beside}
 use Rattle.plan.proofs.set_run.Goals as goal
 
-pub pages_together-n-requires : goal.pages_together-n-requires
-pages_together-n-requires c = let P = c.requires in (P.unit, P.rounds)
-
-pub overflow_mul-n : goal.overflow_mul-n
-overflow_mul-n c = omega (arith, c.pages_together-n.ensures.2)
-
-pub loop-j-init : goal.loop-j-init
-loop-j-init c =
-    let x = c.args in
-    let z : x.part.from - x.part.from ≡ 0 = omega arith in
-    (le_refl _, omega arith, refl, refl, rw z refl)
-
-pub up_to-some-requires : goal.up_to-some-requires
-up_to-some-requires c =
-    let p = c.pages_together-n in
-    let l = few_sectors c.args.chip.unit c.args.set c.args.s c.args.part.to _ _ c.requires in
-    (omega (arith, p.ensures.1), omega (arith, p.ensures.2), omega (arith, l), omega arith)
-
 pub group_run-requires : goal.group_run-requires
 group_run-requires c =
     let l = c.loop-j in
@@ -39,11 +21,6 @@ group_run-requires c =
       beside = rw (c.up_to-some.ensures, ← p.ensures.0) (beside l.j p.result c.args.part.to p.ensures.1 (omega arith));
     }
 
-pub loop-j-smaller : goal.loop-j-smaller
-loop-j-smaller c =
-    let T = turn_of c.loop-j.j (c.pages_together-n.result * 4) c.args.part.to c.up_to-some.result (omega (arith, c.pages_together-n.ensures.1)) (omega arith) c.up_to-some.ensures in
-    omega (arith, T.more, T.most)
-
 pub loop-j-preserved : goal.loop-j-preserved
 loop-j-preserved c =
     let T = turn_of c.loop-j.j (c.pages_together-n.result * 4) c.args.part.to c.up_to-some.result (omega (arith, c.pages_together-n.ensures.1)) (omega arith) c.up_to-some.ensures in
@@ -56,11 +33,3 @@ loop-j-preserved c =
       turn_span u (next_set u c.args.set c.args.s) c.args.part.from l.j c.up_to-some.result (flash_of c.args.main.now c.args.spare.now)
           T.first l.invariant.0 (omega (arith, T.more)) l.invariant.4 c.group_run.ensures,
     )
-
-pub returns : goal.returns
-returns c =
-    let l = c.loop-j in
-    let x = c.args in
-    let u = x.chip.unit in
-    let k : l.j - x.part.from ≡ x.part.to - x.part.from = omega arith in
-    l.invariant.4 ∙ ap (λ (n : ℕ). done u (planned_from (next_set u x.set x.s) x.part.from n) (flash_of x.main.now x.spare.now)) k
