@@ -3,7 +3,6 @@ use mathlib.Core.Path.{◌≡◌, sym, ap, ◌∙◌}
 use mathlib.Core.Bool.{Bool, true, false, not, ◌&&◌, and-true, and_assoc}
 use mathlib.Core.List.{List}
 use Prim.Native.Nat.{ℕ, zero, suc, ◌+◌, ◌-◌, ◌*◌, ◌/◌, ◌%◌, ◌^◌, ◌≤◌, ◌<◌}
-use native.Mathlib.Nat.{mul-le-mul_right}
 use native.Mathlib.Omega.{arith}
 use lib.Count.{ones, ones_in, ones_step}
 use lib.ListN.{get_or}
@@ -13,12 +12,6 @@ use Rattle.flash.specs.Fresh.{fresh_run, last_programmed}
 -- ---- erasing
 
 module _ (u b : ℕ) where
-  pub erase_start : (k : ℕ) (c : Flash) → apply_all u (erases b k) c ≡ apply_all u (erases (b + 0) (k - 0)) c
-  erase_start k c =
-      let e : b + 0 ≡ b = omega arith in
-      let f : k - 0 ≡ k = omega arith in
-      rw (e, f)
-
   -- one of k blocks more is erased
   pub erase_more : (k i : ℕ) (c after : Flash) → i < k → after ≡ apply u (erase (b + i)) c
       → apply_all u (erases (b + i) (k - i)) c ≡ apply_all u (erases (b + (i + 1)) (k - (i + 1))) after
@@ -27,16 +20,7 @@ module _ (u b : ℕ) where
       let f : b + (i + 1) ≡ suc (b + i) = omega arith in
       rw (e, f, done)
 
-  pub erase_end : (k i : ℕ) (c : Flash) → k ≤ i → apply_all u (erases (b + i) (k - i)) c ≡ c
-  erase_end k i c h =
-      let e : k - i ≡ 0 = omega arith in
-      rw e
-
 -- ---- freshness
-
--- the turns of a loop over sectors in reach stay in reach
-pub turn_lt : (s d i k n : ℕ) → i < k → s + k * d < n + d → s + i * d < n
-turn_lt s d i k n h fits = omega (arith, mul-le-mul_right d h)
 
 -- the ones of a number below 2 ^ d are those of its d bits
 pub ones_in_lem : (d n : ℕ) → n < 2 ^ d → ones n ≡ ones_in d n
@@ -48,12 +32,6 @@ module _ (spare : List ℕ) (s d : ℕ) where
   -- when i marks are tested and `all` says whether they are fresh, the rest of k is left
   abbrev pub left_fresh : ℕ → Bool → ℕ → Bool
   left_fresh k all i = all && fresh_run spare d (s + i * d) (k - i)
-
-  pub fresh_start : (k : ℕ) → fresh_run spare d s k ≡ left_fresh k true 0
-  fresh_start k =
-      let e : s + 0 * d ≡ s = omega arith in
-      let f : k - 0 ≡ k = omega arith in
-      rw (e, f)
 
   pub fresh_more : (k i : ℕ) (all is : Bool) → i < k → is ≡ fresh (get_or spare (s + i * d) 0)
       → left_fresh k all i ≡ left_fresh k (all && is) (i + 1)

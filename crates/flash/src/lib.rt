@@ -23,7 +23,7 @@ const FRESH_ONES: u32 = 5;
 fn is_fresh(byte: u8) -> bool
     ensures { result ≡ fresh byte }
 {
-    u8::count_ones(byte) >= FRESH_ONES
+    byte.count_ones() >= FRESH_ONES
 }
 
 // One sector operation: sector s gets the bytes of src.
@@ -84,10 +84,8 @@ pub fn erase_blocks(chip: Chip, b: usize, k: usize, main: &mut [u8], spare: &mut
     requires sectors_per_block_in_bounds { (b + k) * sectors_per_block ≤ length spare.old }
     ensures { flash_of main.new spare.new ≡ apply_all chip.unit (erases b k) (flash_of main.old spare.old) }
 {
-    let mut i = 0;
-    while i < k {
+    for i in 0..k {
         erase_block(chip, b + i, main, spare);
-        i += 1;
     }
 }
 
@@ -97,10 +95,8 @@ pub fn all_fresh(s: usize, stride: usize, k: usize, spare: &[u8]) -> bool
     ensures { result ≡ fresh_run spare.now stride s k }
 {
     let mut all = true;
-    let mut i = 0;
-    while i < k {
-        all = all & is_fresh(spare[s + i * stride]);
-        i += 1;
+    for i in 0..k {
+        all &= is_fresh(spare[s + i * stride]);
     }
     all
 }
@@ -111,12 +107,10 @@ pub fn last_programmed(first: usize, step: usize, count: usize, spare: &[u8]) ->
     requires { first + count * step < length spare.now + step }
     ensures { result ≡ last_programmed spare.now step first count }
 {
-    let mut k = count;
-    while 0 < k {
-        if !is_fresh(spare[first + (k - 1) * step]) {
-            return k;
+    for k in (0..count).rev() {
+        if !is_fresh(spare[first + k * step]) {
+            return k + 1;
         }
-        k -= 1;
     }
     0
 }

@@ -1,17 +1,10 @@
-use mathlib.Core.Path.{ap, ◌∙◌}
-use mathlib.Core.List.{List, ◌++◌}
-use Prim.Native.Nat.{ℕ, ◌+◌}
-use lib.ListN.{length, set}
-use Rattle.memory.specs.Lists.{write}
-use Rattle.layout.specs.Flash.{flash_of}
+use Rattle.std.proofs.Common.{◌*◌}
 use Rattle.memory.specs.Lists.{write_append}
+use Rattle.layout.specs.Geometry.{sector}
 use Rattle.flash.proofs.program_joined.Goals as goal
 
 pub returns : goal.returns
 returns c =
-    let x = c.before.before.before.before.before.before.before.before.before.before.before.before.before.args in
-    ap (λ (m : List ℕ). flash_of m (set x.spare.now x.s 0))
-    (c.before.before.copy_at-2.ensures
-    ∙ ap (λ (m : List ℕ). write m (c.before.before.before.before.before.before.before.before.sector_address-at.result + length x.a.now) x.b.now) c.before.before.before.before.before.before.copy_at.ensures
-    ∙ write_append x.main.now c.before.before.before.before.before.before.before.before.sector_address-at.result x.a.now x.b.now
-    ∙ ap (λ (at : ℕ). write x.main.now at (x.a.now ++ x.b.now)) c.before.before.before.before.before.before.before.before.sector_address-at.ensures)
+    let x = c.args in
+    let e = write_append x.main.now (x.s * sector x.chip.unit) x.a.now x.b.now in
+    cc
