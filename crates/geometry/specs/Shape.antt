@@ -17,6 +17,7 @@ use Rattle.geometry.specs.declared.volume.Geometry.{Geometry}
 use Rattle.geometry.specs.declared.table.SizeRow.{SizeRow}
 use Rattle.geometry.specs.declared.area.Area.{Area}
 use Rattle.geometry.specs.declared.areas.Place.{Place}
+use Rattle.geometry.specs.declared.areas.Place.TheVariants.{Ram, Flash}
 use Rattle.geometry.specs.Rows.{row_for}
 
 abbrev pub sizes_is : Sizes → layout.Sizes
@@ -173,7 +174,8 @@ abbrev pub area : Area → items.Area
 area a = record { size = a.size; per_page = a.per_page; first = a.first; ram = a.ram }
 
 abbrev pub place : Place → items.Place
-place p = record { in_ram = p.in_ram; at = p.at }
+place (Ram at) = record { in_ram = true; at = at }
+place (Flash at) = record { in_ram = false; at = at }
 
 -- items of a page of an area are a power of two
 pub per_page_power : (a : Area) → PowerOfTwo a.per_page
