@@ -8,7 +8,6 @@ ghost use Rattle.layout.specs.Index.{filters_per_flush, in_ska};
 ghost use Rattle.geometry.specs.Shape.{shape, Sound, area, AreaSound};
 ghost use Rattle.geometry.specs.Indexes.{index_of};
 ghost use Rattle.filter.specs.Fourths.{with_fourths};
-ghost use Rattle.plan.specs.Plans.{new_length, filters_length};
 ghost use Rattle.kept.specs.Kept.{filters_kept, deletion_kept, record_kept, kept};
 ghost use Rattle.kept.specs.Appended.{deletion_appended, record_appended, appended};
 
@@ -36,12 +35,10 @@ fn put_fourths(chip: Chip, at: usize, piece: usize, fourths: &[u8], ram: &mut [u
     requires piece_in_bounds { at + 3 * sector chip.unit + piece ≤ length ram.old }
     ensures { ram.new ≡ with_fourths chip.unit piece at fourths.now ram.old }
 {
-    let mut i = 0;
-    while i < Chip::SECTORS_PER_PAGE {
+    for i in 0..Chip::SECTORS_PER_PAGE {
         let lo = i * piece;
         let hi = lo + piece;
         words::copy_at(ram, at + chip.sector_address(i), &fourths[lo..hi]);
-        i += 1;
     }
 }
 
@@ -63,9 +60,8 @@ fn keep_filters(chip: Chip, ix: Index, first: usize, n: usize, fourths: &[u8], r
 // ---- the items of a change, out of its new bytes, and its new filters
 
 // Deletion d, and both filters of the page that it fills.
-fn keep_deletion(g: Geometry, d: usize, new: &[u8], filters: &[u8], ram: &mut [u8])
-    requires { Sound g × (length new.now ≡ new_length) × (length filters.now ≡ filters_length)
-        × (ram_size (shape g) ≤ length ram.old) }
+fn keep_deletion(g: Geometry, d: usize, new: &[u8; plan::NEW_SIZE], filters: &[u8; plan::FILTERS_SIZE], ram: &mut [u8])
+    requires { Sound g × (ram_size (shape g) ≤ length ram.old) }
     ensures { ram.new ≡ deletion_kept (shape g) d new.now filters.now ram.old }
 {
     let deletions = geometry::deletion_area(g);
@@ -84,9 +80,8 @@ fn keep_deletion(g: Geometry, d: usize, new: &[u8], filters: &[u8], ram: &mut [u
 }
 
 // Record n and its entry, and the filter of the page that the entry fills.
-fn keep_record(g: Geometry, n: usize, new: &[u8], filters: &[u8], ram: &mut [u8])
-    requires { Sound g × (length new.now ≡ new_length) × (length filters.now ≡ filters_length)
-        × (ram_size (shape g) ≤ length ram.old) }
+fn keep_record(g: Geometry, n: usize, new: &[u8; plan::NEW_SIZE], filters: &[u8; plan::FILTERS_SIZE], ram: &mut [u8])
+    requires { Sound g × (ram_size (shape g) ≤ length ram.old) }
     ensures { ram.new ≡ record_kept (shape g) n new.now filters.now ram.old }
 {
     let entries = geometry::entry_area(g);
@@ -150,16 +145,16 @@ fn append_item(a: Area, n: usize, item: &[u8], ram: &mut [u8])
 }
 
 // Deletion d.
-fn append_deletion(g: Geometry, d: usize, new: &[u8], ram: &mut [u8])
-    requires { Sound g × (length new.now ≡ new_length) × (ram_size (shape g) ≤ length ram.old) }
+fn append_deletion(g: Geometry, d: usize, new: &[u8; plan::NEW_SIZE], ram: &mut [u8])
+    requires { Sound g × (ram_size (shape g) ≤ length ram.old) }
     ensures { ram.new ≡ deletion_appended (shape g) d new.now ram.old }
 {
     append_item(geometry::deletion_area(g), d, &new[0..plan::RECORD_AT], ram);
 }
 
 // Record n, then its entry.
-fn append_record(g: Geometry, n: usize, new: &[u8], ram: &mut [u8])
-    requires { Sound g × (length new.now ≡ new_length) × (ram_size (shape g) ≤ length ram.old) }
+fn append_record(g: Geometry, n: usize, new: &[u8; plan::NEW_SIZE], ram: &mut [u8])
+    requires { Sound g × (ram_size (shape g) ≤ length ram.old) }
     ensures { ram.new ≡ record_appended (shape g) n new.now ram.old }
 {
     let records = geometry::record_area(g);
@@ -179,48 +174,35 @@ fn clear_work(g: Geometry, ram: &mut [u8])
 }
 
 // The RAM after a change, once the chip has all of it.
-pub fn finish(g: Geometry, e: Slots, new: &[u8], filters: &[u8], ram: &mut [u8])
-    requires { Sound g × (length new.now ≡ new_length) × (length filters.now ≡ filters_length)
-        × (ram_size (shape g) ≤ length ram.old) }
+pub fn finish(g: Geometry, e: Slots, new: &[u8; plan::NEW_SIZE], filters: &[u8; plan::FILTERS_SIZE], ram: &mut [u8])
+    requires { Sound g × (ram_size (shape g) ≤ length ram.old) }
     ensures { ram.new
         ≡ zero_page g.chip.unit (work_ram g.chip.unit) (kept (shape g) new.now filters.now ram.old e) }
 {
     match e {
-        Slots::Delete(d) => {
-            keep_deletion(g, d, new, filters, ram);
-            clear_work(g, ram);
-        }
-        Slots::Insert(n) => {
-            keep_record(g, n, new, filters, ram);
-            clear_work(g, ram);
-        }
+        Slots::Delete(d) => keep_deletion(g, d, new, filters, ram),
+        Slots::Insert(n) => keep_record(g, n, new, filters, ram),
         Slots::Update(d, n) => {
             keep_deletion(g, d, new, filters, ram);
             keep_record(g, n, new, filters, ram);
-            clear_work(g, ram);
         }
     }
+    clear_work(g, ram);
 }
 
 // The RAM after a change that fills no page.
-pub fn append(g: Geometry, e: Slots, new: &[u8], ram: &mut [u8])
-    requires { Sound g × (length new.now ≡ new_length) × (ram_size (shape g) ≤ length ram.old) }
+pub fn append(g: Geometry, e: Slots, new: &[u8; plan::NEW_SIZE], ram: &mut [u8])
+    requires { Sound g × (ram_size (shape g) ≤ length ram.old) }
     ensures { ram.new
         ≡ zero_page g.chip.unit (work_ram g.chip.unit) (appended (shape g) new.now ram.old e) }
 {
     match e {
-        Slots::Delete(d) => {
-            append_deletion(g, d, new, ram);
-            clear_work(g, ram);
-        }
-        Slots::Insert(n) => {
-            append_record(g, n, new, ram);
-            clear_work(g, ram);
-        }
+        Slots::Delete(d) => append_deletion(g, d, new, ram),
+        Slots::Insert(n) => append_record(g, n, new, ram),
         Slots::Update(d, n) => {
             append_deletion(g, d, new, ram);
             append_record(g, n, new, ram);
-            clear_work(g, ram);
         }
     }
+    clear_work(g, ram);
 }

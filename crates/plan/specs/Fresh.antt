@@ -1,5 +1,5 @@
 -- Are the sectors fresh that a plan programs: by its numbers alone.
-use Rattle.std.specs.Prelude.{◌≡◌, Bool, true, false, not, ◌&&◌, get_or}
+use Rattle.std.specs.Prelude.{◌≡◌, Bool, true, ◌&&◌, get_or}
 use Rattle.std.proofs.Math.Path.{refl, sym, ap}
 use Rattle.std.proofs.Common.{◌∙◌}
 use Rattle.std.proofs.Math.Bool.{and_assoc, and-true}
@@ -30,25 +30,6 @@ plan_fresh spare p =
     && (index_fresh p.da_index spare
     && (fresh_run spare 1 p.ra.first p.ra.count
     && (fresh_run spare 1 p.ka.first p.ka.count && index_fresh p.ka_index spare)))
-
--- ---- tests in a row
-
-pub stops : (r a rest : Bool) → r ≡ a → not r ≡ true → false ≡ (a && rest)
-stops true a rest e q = absurd (let z : ◌≡◌ {A = ℕ} 0 1 = cc in omega arith)
-stops false a rest e q = rw (← e)
-
-pub passes : (x r a rest : Bool) → r ≡ a → not r ≡ false → x ≡ rest → x ≡ (a && rest)
-passes x true a rest e q h = rw (← e) h
-passes x false a rest e q h = absurd (let z : ◌≡◌ {A = ℕ} 0 1 = cc in omega arith)
-
-pub plan_fresh_is : (spare : List ℕ) (p : Plan) (x : Bool)
-    → x ≡ (fresh_run spare 1 p.da.first p.da.count
-    && (index_fresh p.da_index spare
-    && (fresh_run spare 1 p.ra.first p.ra.count
-    && (fresh_run spare 1 p.ka.first p.ka.count && index_fresh p.ka_index spare))))
-    → x ≡ plan_fresh spare p
-unfolding plan_fresh
-plan_fresh_is spare p x h = h
 
 -- ---- the marks tell the same of a plan's operations, on whatever chip
 

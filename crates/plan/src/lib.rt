@@ -18,7 +18,7 @@ ghost use Rattle.plan.specs.Fits.{PageFits, FlushFits, NextFits, WipeFits};
 ghost use Rattle.plan.specs.Plans.{build_of, summary_of, summary_count, deletion_of, deletion_count, record_of};
 ghost use Rattle.plan.specs.Plans.{planned, planned_count, whole_of, BuildFits, SummaryFits, PlanFits, IndexSpareFits, SpareFits};
 ghost use Rattle.laws.specs.Done.{done_count};
-ghost use Rattle.plan.specs.Fresh.{index_fresh};
+ghost use Rattle.plan.specs.Fresh.{index_fresh, plan_fresh};
 ghost use Rattle.plan.specs.Done.{index_done, deletion_done, record_done};
 
 use geometry::sets::Set;
@@ -68,6 +68,11 @@ pub const NEW_SIZE: usize = ENTRY_AT + areas::ENTRY_SIZE;
 pub const ENTRY_FILTER_AT: usize = 512;
 
 pub const FILTERS_SIZE: usize = 768;
+
+// The new bytes of a change, and its new filters.
+pub type NewBytes = [u8; NEW_SIZE];
+
+pub type NewFilters = [u8; FILTERS_SIZE];
 
 // Operations `from` to `to` - 1 of a list.
 #[derive(Clone, Copy)]
@@ -121,7 +126,9 @@ pub struct Flush {
 // Sectors that are programmed one after another, out of bytes that are lent.
 trait Sectors {
     ghost unit: { Self → ℕ };
+
     ghost planned: { Self → ℕ → Planned };
+
     ghost Fits: { Self → ℕ → ℕ → Type 0 };
 
     // Sector j of them.
@@ -141,7 +148,9 @@ struct FilledPage<'a> {
 
 impl<'a> Sectors for FilledPage<'a> {
     ghost unit = { λ s. s.chip.unit };
+
     ghost planned = { λ s. filled_page s.chip.unit s.page s.item.now s.ram.now };
+
     ghost Fits = { λ s m n. PageFits s.chip.unit s.page m n (length s.ram.now) × (length s.item.now ≤ sector s.chip.unit) };
 
     fn program(&self, j: usize, main: &mut [u8], spare: &mut [u8]) {
@@ -169,7 +178,9 @@ struct FlushedPage<'a> {
 
 impl<'a> Sectors for FlushedPage<'a> {
     ghost unit = { λ s. s.chip.unit };
+
     ghost planned = { λ s. flushed s.chip.unit s.flush s.fourths.now s.ram.now };
+
     ghost Fits = { λ s m n. FlushFits s.chip.unit s.flush (length s.fourths.now) m n (length s.ram.now) };
 
     fn program(&self, j: usize, main: &mut [u8], spare: &mut [u8]) {
@@ -221,63 +232,79 @@ fn up_to(j: usize, n: usize, end: usize) -> Span
     rest.among(end)
 }
 
-// Sectors of one page of a set from sector s on, all made out of the flash before the first of them is programmed.
-fn page_part(
+// A set that is built from a sector on.
+#[derive(Clone, Copy)]
+struct NextSet {
     chip: Chip,
     set: Set,
-    s: usize,
-    part: Span,
-    shared: &[u8],
-    main: &mut [u8],
-    spare: &mut [u8],
-)
-    requires next_fits { NextFits chip.unit set s part.to (length main.old) (length spare.old) × (part.from < part.to) }
-    requires of_page { OfPage chip.unit part }
-    requires shares { Shares main.old (page_source chip.unit (index_of set.index) set.rounds (part.from / sectors_per_page))
-        shared.now }
-    ensures { flash_of main.new spare.new ≡ run_of chip.unit (next_set chip.unit set s) part (flash_of main.old spare.old) }
-{
-    let mut buf = [0u8; BUFFER_SIZE];
-    let k = part.to - part.from;
-    let n = chip.sector_address(k);
-    partition::set_sectors(chip, set, part.from, main, shared, &mut buf[0..n]);
-    flash::program_sectors(chip, s + part.from, k, &buf[0..n], main, spare);
+    sector: usize,
 }
 
-// Sectors of a set whose pages share their bytes of L1.
-fn group_run(chip: Chip, set: Set, s: usize, part: Span, main: &mut [u8], spare: &mut [u8])
-    requires next_fits { NextFits chip.unit set s part.to (length main.old) (length spare.old) × (part.from < part.to) }
-    requires beside { Beside (together (set_width chip.unit (set.rounds + 1))) part }
-    ensures { flash_of main.new spare.new ≡ run_of chip.unit (next_set chip.unit set s) part (flash_of main.old spare.old) }
-{
-    let mut shared = [0u8; sets::FILTERS_PER_ROUND];
-    let n = at_once(chip);
-    partition::shared_bytes(
-        chip,
-        set,
-        part.from / Chip::SECTORS_PER_PAGE,
-        main,
-        &mut shared,
-    );
-    let mut j = part.from;
-    while j < part.to {
-        let some = up_to(j, n, part.to);
-        page_part(chip, set, s, some, &shared, main, spare);
-        j = some.to;
+impl NextSet {
+    // Sectors of one page of it, all made out of the flash before the first of them is programmed.
+    fn program_in_page(self, part: Span, shared: &[u8], main: &mut [u8], spare: &mut [u8])
+        requires next_fits { NextFits self.chip.unit self.set self.sector part.to (length main.old) (length spare.old)
+            × (part.from < part.to) }
+        requires of_page { OfPage self.chip.unit part }
+        requires shares { Shares main.old (page_source self.chip.unit (index_of self.set.index) self.set.rounds
+            (part.from / sectors_per_page)) shared.now }
+        ensures { flash_of main.new spare.new
+            ≡ run_of self.chip.unit (next_set self.chip.unit self.set self.sector) part (flash_of main.old spare.old) }
+    {
+        let mut buf = [0u8; BUFFER_SIZE];
+        let k = part.to - part.from;
+        let n = self.chip.sector_address(k);
+        partition::set_sectors(self.chip, self.set, part.from, main, shared, &mut buf[0..n]);
+        flash::program_sectors(
+            self.chip,
+            self.sector + part.from,
+            k,
+            &buf[0..n],
+            main,
+            spare,
+        );
     }
-}
 
-// Sectors of a set from sector s on.
-fn set_run(chip: Chip, set: Set, s: usize, part: Span, main: &mut [u8], spare: &mut [u8])
-    requires { NextFits chip.unit set s part.to (length main.old) (length spare.old) }
-    ensures { flash_of main.new spare.new ≡ run_of chip.unit (next_set chip.unit set s) part (flash_of main.old spare.old) }
-{
-    let n = partition::pages_together(chip, set) * Chip::SECTORS_PER_PAGE;
-    let mut j = part.from;
-    while j < part.to {
-        let some = up_to(j, n, part.to);
-        group_run(chip, set, s, some, main, spare);
-        j = some.to;
+    // Sectors whose pages share their bytes of L1.
+    fn program_group(self, part: Span, main: &mut [u8], spare: &mut [u8])
+        requires next_fits { NextFits self.chip.unit self.set self.sector part.to (length main.old) (length spare.old)
+            × (part.from < part.to) }
+        requires beside { Beside (together (set_width self.chip.unit (self.set.rounds + 1))) part }
+        ensures { flash_of main.new spare.new
+            ≡ run_of self.chip.unit (next_set self.chip.unit self.set self.sector) part (flash_of main.old spare.old) }
+    {
+        let mut shared = [0u8; sets::FILTERS_PER_ROUND];
+        let n = at_once(self.chip);
+        partition::shared_bytes(
+            self.chip,
+            self.set,
+            part.from / Chip::SECTORS_PER_PAGE,
+            main,
+            &mut shared,
+        );
+        let mut j = part.from;
+        // no `step_by`: the first part ends at a multiple of n, wherever it begins
+        while j < part.to {
+            let some = up_to(j, n, part.to);
+            self.program_in_page(some, &shared, main, spare);
+            j = some.to;
+        }
+    }
+
+    // A span of its sectors.
+    fn program(self, part: Span, main: &mut [u8], spare: &mut [u8])
+        requires { NextFits self.chip.unit self.set self.sector part.to (length main.old) (length spare.old) }
+        ensures { flash_of main.new spare.new
+            ≡ run_of self.chip.unit (next_set self.chip.unit self.set self.sector) part (flash_of main.old spare.old) }
+    {
+        let n = partition::pages_together(self.chip, self.set) * Chip::SECTORS_PER_PAGE;
+        let mut j = part.from;
+        // no `step_by`: as above
+        while j < part.to {
+            let some = up_to(j, n, part.to);
+            self.program_group(some, main, spare);
+            j = some.to;
+        }
     }
 }
 
@@ -307,14 +334,12 @@ fn build(chip: Chip, s: Summary, part: Span, main: &mut [u8], spare: &mut [u8])
 {
     let second = part.behind(s.set.count);
     let third = second.behind(s.l1.count);
-    set_run(
+    let next = NextSet {
         chip,
-        s.next,
-        s.set.first,
-        part.among(s.set.count),
-        main,
-        spare,
-    );
+        set: s.next,
+        sector: s.set.first,
+    };
+    next.program(part.among(s.set.count), main, spare);
     wipe_run(chip, s.l1, second.among(s.l1.count), main, spare);
     wipe_run(chip, s.old, third.among(s.old.count), main, spare);
 }
@@ -368,8 +393,8 @@ fn index_run(
 fn deletion_run(
     p: Plan,
     part: Span,
-    new: &[u8; NEW_SIZE],
-    filters: &[u8; FILTERS_SIZE],
+    new: &NewBytes,
+    filters: &NewFilters,
     main: &mut [u8],
     spare: &mut [u8],
     ram: &[u8],
@@ -408,8 +433,8 @@ fn deletion_run(
 fn record_run(
     p: Plan,
     part: Span,
-    new: &[u8; NEW_SIZE],
-    filters: &[u8; FILTERS_SIZE],
+    new: &NewBytes,
+    filters: &NewFilters,
     main: &mut [u8],
     spare: &mut [u8],
     ram: &[u8],
@@ -477,8 +502,8 @@ pub fn whole(p: Plan) -> Span
 pub fn run(
     p: Plan,
     part: Span,
-    new: &[u8; NEW_SIZE],
-    filters: &[u8; FILTERS_SIZE],
+    new: &NewBytes,
+    filters: &NewFilters,
     main: &mut [u8],
     spare: &mut [u8],
     ram: &[u8],
@@ -499,10 +524,21 @@ fn index_fresh(s: Summary, spare: &[u8]) -> bool
     requires { IndexSpareFits s (length spare.now) }
     ensures { result ≡ index_fresh s spare.now }
 {
-    if !flash::all_fresh(s.flush.first, sets::FLUSHES_PER_ROUND, s.flush.count, spare) {
-        return false;
-    }
-    flash::all_fresh(s.set.first, 1, s.set.count, spare)
+    flash::all_fresh(s.flush.first, sets::FLUSHES_PER_ROUND, s.flush.count, spare)
+        && flash::all_fresh(s.set.first, 1, s.set.count, spare)
+}
+
+// Are those of a plan.
+#[tactic(auto, unfolding(crate::specs::Fresh::plan_fresh))]
+fn plan_fresh(p: Plan, spare: &[u8]) -> bool
+    requires { SpareFits p (length spare.now) }
+    ensures { result ≡ plan_fresh spare.now p }
+{
+    flash::all_fresh(p.da.first, 1, p.da.count, spare)
+        && index_fresh(p.da_index, spare)
+        && flash::all_fresh(p.ra.first, 1, p.ra.count, spare)
+        && flash::all_fresh(p.ka.first, 1, p.ka.count, spare)
+        && index_fresh(p.ka_index, spare)
 }
 
 // Are all sectors fresh that the plan programs, whatever the bytes.
@@ -511,19 +547,7 @@ pub fn fresh(p: Plan, spare: &[u8]) -> bool
     ensures { (new filters ram : List ℕ) (flash : Flash)
         → result ≡ all_fresh spare.now (plan_ops p.chip.unit (planned p new filters ram) flash) }
 {
-    if !flash::all_fresh(p.da.first, 1, p.da.count, spare) {
-        return false;
-    }
-    if !index_fresh(p.da_index, spare) {
-        return false;
-    }
-    if !flash::all_fresh(p.ra.first, 1, p.ra.count, spare) {
-        return false;
-    }
-    if !flash::all_fresh(p.ka.first, 1, p.ka.count, spare) {
-        return false;
-    }
-    index_fresh(p.ka_index, spare)
+    plan_fresh(p, spare)
 }
 
 // How many operations of an index count as done: the erases behind the last programmed sector do not.

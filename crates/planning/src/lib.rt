@@ -19,11 +19,7 @@ use plan::{Plan, Segment, Summary};
 
 // ---- segments
 
-fn nothing() -> Segment
-    ensures { result ≡ none }
-{
-    Segment { first: 0, count: 0 }
-}
+const NOTHING: Segment = Segment { first: 0, count: 0 };
 
 // The page of item n; its sectors count where the item fills it.
 fn page(a: Area, n: usize) -> Segment
@@ -46,13 +42,12 @@ fn page(a: Area, n: usize) -> Segment
 fn no_summary(index: Index, piece: usize) -> Summary
     ensures { result ≡ no_summary 0 piece index }
 {
-    let none = nothing();
     Summary {
         piece,
-        flush: none,
-        set: none,
-        l1: none,
-        old: none,
+        flush: NOTHING,
+        set: NOTHING,
+        l1: NOTHING,
+        old: NOTHING,
         next: Set {
             index,
             full_sets: 0,
@@ -73,9 +68,8 @@ fn flush_segment(index: Index, filters: usize) -> Segment
     requires { index.first ≤ 20000 }
     ensures { result ≡ flush_segment 0 0 index filters }
 {
-    let number = flush_number(filters);
     Segment {
-        first: Chip::first_sector(index.first) + number,
+        first: Chip::first_sector(index.first) + flush_number(filters),
         count: Chip::SECTORS_PER_PAGE,
     }
 }
@@ -85,9 +79,10 @@ fn flush_summary(index: Index, piece: usize, filters: usize) -> Summary
     requires { index.first ≤ 20000 }
     ensures { result ≡ flush_summary 0 piece index filters }
 {
-    let mut s = no_summary(index, piece);
-    s.flush = flush_segment(index, filters);
-    s
+    Summary {
+        flush: flush_segment(index, filters),
+        ..no_summary(index, piece)
+    }
 }
 
 // With the set that it completes, and the erases.
@@ -157,15 +152,14 @@ fn deletion_summary(g: Geometry, d: usize) -> Summary
     requires { Sound g × (d < deletion_capacity (shape g)) }
     ensures { result ≡ deletion_summary (shape g) d }
 {
-    if !deletion_fills(g, d) {
+    if !geometry::deletion_area(g).fills(d) {
         return no_deletions(g);
     }
-    let filters = sets::deletion_filters(g, d);
     summary(
         g.chip,
         sets::deletion_index(g),
         2 * g.chip.fourth_size(),
-        filters + 1,
+        sets::deletion_filters(g, d) + 1,
     )
 }
 
@@ -174,11 +168,15 @@ fn entry_summary(g: Geometry, n: usize) -> Summary
     requires { Sound g × (n < record_capacity (shape g)) }
     ensures { result ≡ entry_summary (shape g) n }
 {
-    if !entry_fills(g, n) {
+    if !geometry::entry_area(g).fills(n) {
         return no_entries(g);
     }
-    let filters = n / g.entries_per_page();
-    summary(g.chip, sets::key_index(g), g.chip.fourth_size(), filters)
+    summary(
+        g.chip,
+        sets::key_index(g),
+        g.chip.fourth_size(),
+        n / g.entries_per_page(),
+    )
 }
 
 // ---- plans
@@ -188,14 +186,12 @@ fn deletion(g: Geometry, d: usize) -> Plan
     requires { Sound g × (d < deletion_capacity (shape g)) }
     ensures { result ≡ deletion_numbers (shape g) d }
 {
-    let chip = g.chip;
-    let none = nothing();
     Plan {
-        chip,
+        chip: g.chip,
         da: page(geometry::deletion_area(g), d),
         da_index: deletion_summary(g, d),
-        ra: none,
-        ka: none,
+        ra: NOTHING,
+        ka: NOTHING,
         ka_index: no_entries(g),
     }
 }
@@ -205,10 +201,9 @@ fn insertion(g: Geometry, n: usize) -> Plan
     requires { Sound g × (n < record_capacity (shape g)) }
     ensures { result ≡ insertion_numbers (shape g) n }
 {
-    let chip = g.chip;
     Plan {
-        chip,
-        da: nothing(),
+        chip: g.chip,
+        da: NOTHING,
         da_index: no_deletions(g),
         ra: page(geometry::record_area(g), n),
         ka: page(geometry::entry_area(g), n),
@@ -221,10 +216,11 @@ fn update(g: Geometry, d: usize, n: usize) -> Plan
     requires { Sound g × (d < deletion_capacity (shape g)) × (n < record_capacity (shape g)) }
     ensures { result ≡ update_numbers (shape g) d n }
 {
-    let mut p = insertion(g, n);
-    p.da = page(geometry::deletion_area(g), d);
-    p.da_index = deletion_summary(g, d);
-    p
+    Plan {
+        da: page(geometry::deletion_area(g), d),
+        da_index: deletion_summary(g, d),
+        ..insertion(g, n)
+    }
 }
 
 // ---- the three changes
@@ -249,43 +245,14 @@ pub fn of(g: Geometry, e: Slots) -> Plan
     }
 }
 
-// Does deletion d fill its page.
-fn deletion_fills(g: Geometry, d: usize) -> bool
-    requires { Sound g }
-    ensures { result ≡ layout.fills (DA (shape g)) d }
-{
-    geometry::deletion_area(g).fills(d)
-}
-
-// Does record n fill its page.
-fn record_fills(g: Geometry, n: usize) -> bool
-    requires { Sound g }
-    ensures { result ≡ layout.fills (Ra (shape g)) n }
-{
-    geometry::record_area(g).fills(n)
-}
-
-// Does entry n fill its page.
-fn entry_fills(g: Geometry, n: usize) -> bool
-    requires { Sound g }
-    ensures { result ≡ layout.fills (KA (shape g)) n }
-{
-    geometry::entry_area(g).fills(n)
-}
-
 // Does a change program anything: an entry fills no page where its record fills none.
 pub fn programs(g: Geometry, e: Slots) -> bool
     requires { Sound g }
     ensures { result ≡ programs_in (shape g) e }
 {
     match e {
-        Slots::Delete(d) => deletion_fills(g, d),
-        Slots::Insert(n) => record_fills(g, n),
-        Slots::Update(d, n) => {
-            if deletion_fills(g, d) {
-                return true;
-            }
-            record_fills(g, n)
-        }
+        Slots::Delete(d) => geometry::deletion_area(g).fills(d),
+        Slots::Insert(n) => geometry::record_area(g).fills(n),
+        Slots::Update(d, n) => geometry::deletion_area(g).fills(d) || geometry::record_area(g).fills(n),
     }
 }

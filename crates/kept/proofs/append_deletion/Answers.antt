@@ -12,7 +12,7 @@ append_item-requires c =
     let x = c.args in
     let P = c.requires in
     append_fits x.g P.0 a.result (DA (shape x.g)) a.ensures.equal a.ensures.sound _ _
-    (length_part x.new.now 0 4 (omega (arith, P.1))) refl (omega arith) (omega arith) P.2
+    (length_part x.new.now 0 4 (omega arith)) refl (omega arith) (omega arith) P.1
 
 pub returns : goal.returns
 returns c =

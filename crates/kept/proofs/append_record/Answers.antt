@@ -12,7 +12,7 @@ append_item-requires c =
     let x = c.args in
     let P = c.requires in
     append_fits x.g P.0 a.result (Ra (shape x.g)) a.ensures.equal a.ensures.sound _ _
-    (length_part x.new.now 4 16 (omega (arith, P.1))) refl (omega arith) (omega arith) P.2
+    (length_part x.new.now 4 16 (omega arith)) refl (omega arith) (omega arith) P.1
 
 pub append_item-requires-2 : goal.append_item-requires-2
 append_item-requires-2 c =
@@ -20,7 +20,7 @@ append_item-requires-2 c =
     let x = c.args in
     let P = c.requires in
     append_fits x.g P.0 a.result (KA (shape x.g)) a.ensures.equal a.ensures.sound _ _
-    (length_part x.new.now 20 8 (omega (arith, P.1))) refl (omega arith) (omega arith) (omega arith)
+    (length_part x.new.now 20 8 (omega arith)) refl (omega arith) (omega arith) (omega arith)
 
 pub returns : goal.returns
 returns c =

@@ -16,7 +16,7 @@ keep_item-requires c =
     let x = c.args in
     let P = c.requires in
     let f = item_fits x.g P.0 a.result (DA (shape x.g)) a.ensures.equal a.ensures.sound _ _
-    (length_part x.new.now 0 4 (omega (arith, P.1))) (omega arith) (omega arith) P.3 in
+    (length_part x.new.now 0 4 (omega arith)) (omega arith) (omega arith) P.1 in
     record { area_sound = f.0; item_len = f.1 }
 
 pub returns-then-not-fills : goal.returns-then-not-fills
@@ -35,7 +35,7 @@ keep_filters-requires c =
     let P = c.requires in
     let s = ap (λ (i : Index). i.ska) c.deletion_index.ensures in
     let f = filters_fit x.g P.0 _ _ _ _ _ (omega (arith, s)) (omega arith) (omega arith) (omega arith)
-    (omega (arith, length_part x.filters.now 0 512 (omega (arith, P.2))))
+    (omega (arith, length_part x.filters.now 0 512 (omega arith)))
     (omega arith) in
     record { unit_bound = f.0; unit_in_bounds = f.1 }
 

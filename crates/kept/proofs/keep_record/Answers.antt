@@ -18,8 +18,8 @@ keep_item-requires c =
     let P = c.requires in
     let a = c.record_area in
     let f = item_fits x.g P.0 a.result (Ra (shape x.g)) a.ensures.equal a.ensures.sound
-    _ _ (length_part x.new.now 4 16 (omega (arith, P.1)))
-    (omega arith) (omega arith) P.3 in
+    _ _ (length_part x.new.now 4 16 (omega arith))
+    (omega arith) (omega arith) P.1 in
     record { area_sound = f.0; item_len = f.1 }
 
 pub keep_item-requires-2 : goal.keep_item-requires-2
@@ -28,7 +28,7 @@ keep_item-requires-2 c =
     let P = c.requires in
     let a = c.entry_area-entries in
     let f = item_fits x.g P.0 a.result (KA (shape x.g)) a.ensures.equal a.ensures.sound
-    _ _ (length_part x.new.now 20 8 (omega (arith, P.1)))
+    _ _ (length_part x.new.now 20 8 (omega arith))
     (omega arith) (omega arith) (omega arith) in
     record { area_sound = f.0; item_len = f.1 }
 
@@ -49,7 +49,7 @@ keep_filters-requires c =
     let P = c.requires in
     let s = ap (λ (i : Index). i.ska) c.key_index.ensures in
     let f = filters_fit x.g P.0 _ _ _ _ _ (omega (arith, s)) (omega arith) (omega arith) (omega arith)
-    (omega (arith, length_part x.filters.now 512 256 (omega (arith, P.2))))
+    (omega (arith, length_part x.filters.now 512 256 (omega arith)))
     (omega arith) in
     record { unit_bound = f.0; unit_in_bounds = f.1 }
 

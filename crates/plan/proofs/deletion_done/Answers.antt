@@ -1,5 +1,5 @@
 use native.Mathlib.Omega.{arith}
-use Rattle.plan.proofs.DoneLaws.{later, earlier, index_done_le}
+use Rattle.plan.proofs.DoneLaws.{index_done_le}
 use Rattle.plan.proofs.deletion_done.Goals as goal
 
 pub overflow_add-result : goal.overflow_add-result

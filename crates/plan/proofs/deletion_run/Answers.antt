@@ -1,11 +1,5 @@
-use native.Mathlib.Omega.{arith}
-use mathlib.Core.Path.{refl}
-use lib.ListN.{length}
-use Rattle.memory.specs.Lists.{length_part}
 use Rattle.layout.specs.Flash.{flash_of}
-use Rattle.plan.specs.Spans.{among_le}
-use Rattle.plan.specs.Fits.{PageFits, at_numbers}
-use Rattle.plan.specs.Plans.{SummaryFits, deletion_of, deletion_run, none_run}
+use Rattle.plan.specs.Plans.{deletion_run}
 use Rattle.plan.proofs.deletion_run.Goals as goal
 
 pub returns : goal.returns

@@ -1,5 +1,5 @@
 use native.Mathlib.Omega.{arith}
-use Rattle.plan.proofs.DoneLaws.{later, earlier, last_le}
+use Rattle.plan.proofs.DoneLaws.{last_le}
 use Rattle.plan.proofs.index_done.Goals as goal
 
 pub overflow_add-result : goal.overflow_add-result

@@ -1,8 +1,5 @@
-use native.Mathlib.Omega.{arith}
 use Rattle.layout.specs.Flash.{flash_of}
-use Rattle.plan.specs.Spans.{among_le}
-use Rattle.plan.specs.Fits.{at_lengths}
-use Rattle.plan.specs.Plans.{BuildFits, summary_of, build_of, index_run, none_run}
+use Rattle.plan.specs.Plans.{build_of, index_run, none_run}
 use Rattle.plan.proofs.index_run.Goals as goal
 
 pub returns-then-later-eq0 : goal.returns-then-later-eq0

@@ -1,6 +1,4 @@
 use native.Mathlib.Omega.{arith}
-use Prim.Native.Nat.{◌-◌}
-use mathlib.Core.Path.{◌≡◌}
 use Rattle.layout.specs.Flash.{flash_of}
 use Rattle.plan.specs.Runs.{turn}
 use Rattle.plan.proofs.program_span.Goals as goal

@@ -1,6 +1,5 @@
 use native.Mathlib.Omega.{arith}
-use Prim.Native.Nat.{◌+◌}
-use Rattle.plan.proofs.DoneLaws.{later, earlier, last_le, index_done_le}
+use Rattle.plan.proofs.DoneLaws.{earlier, last_le, index_done_le}
 use Rattle.plan.proofs.record_done.Goals as goal
 
 pub overflow_add-result : goal.overflow_add-result

@@ -1,11 +1,6 @@
 use native.Mathlib.Omega.{arith}
-use mathlib.Core.Path.{refl}
-use lib.ListN.{length}
-use Rattle.memory.specs.Lists.{length_part}
 use Rattle.layout.specs.Flash.{flash_of}
-use Rattle.plan.specs.Spans.{among_le}
-use Rattle.plan.specs.Fits.{PageFits, at_numbers}
-use Rattle.plan.specs.Plans.{SummaryFits, record_run}
+use Rattle.plan.specs.Plans.{record_run}
 use Rattle.plan.proofs.record_run.Goals as goal
 
 pub returns : goal.returns

@@ -1,8 +1,5 @@
-use native.Mathlib.Omega.{arith}
-use lib.ListN.{length}
 use Rattle.layout.specs.Flash.{flash_of}
-use Rattle.plan.specs.Fits.{at_lengths}
-use Rattle.plan.specs.Plans.{PlanFits, deletion_fits, whole_run}
+use Rattle.plan.specs.Plans.{whole_run}
 use Rattle.plan.proofs.run.Goals as goal
 
 pub returns : goal.returns

@@ -1,9 +1,7 @@
-use native.Mathlib.Omega.{arith}
 use Prim.Native.Nat.{◌-◌}
-use mathlib.Core.Path.{◌≡◌, refl, ◌∙◌}
+use mathlib.Core.Path.{◌∙◌}
 use Rattle.layout.specs.Flash.{flash_of}
 use Rattle.plan.specs.Runs.{done_wipes}
-use Rattle.plan.specs.Fits.{blocks_inside}
 use Rattle.plan.proofs.wipe_run.Goals as goal
 
 pub returns : goal.returns

@@ -3,4 +3,4 @@ use Rattle.layout.specs.Items.{Area, fills}
 use Rattle.planning.proofs.entry_fills.Goals as goal
 
 pub returns : goal.returns
-returns c = c.fills.ensures ∙ ap (λ (a : Area). fills a c.before.before.args.n) c.before.entry_area.ensures.equal
+returns c = c.fills.ensures ∙ ap (λ (a : Area). fills a c.args.n) c.entry_area.ensures.equal

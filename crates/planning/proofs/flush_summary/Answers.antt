@@ -3,7 +3,6 @@ use Rattle.planning.proofs.flush_summary.Goals as goal
 
 pub returns : goal.returns
 returns c =
-    let n = c.before in
-    let x = n.before.args in
-    flush_summary_is x.piece x.index x.filters n.no_summary-s.result c.flush_segment-s.result n.no_summary-s.ensures
+    let x = c.args in
+    flush_summary_is x.piece x.index x.filters c.no_summary-s.result c.flush_segment-s.result c.no_summary-s.ensures
     c.flush_segment-s.ensures

@@ -5,9 +5,7 @@ use Rattle.planning.proofs.no_deletions.Goals as goal
 
 pub returns : goal.returns
 returns c =
-    let p = c.before in
-    let i = p.before in
-    let x = i.before.args in
+    let x = c.args in
     c.no_summary.ensures
-    ∙ no_deletions_is (shape x.g) i.deletion_index.result p.fourth_size.result i.deletion_index.ensures
-    p.fourth_size.ensures
+    ∙ no_deletions_is (shape x.g) c.deletion_index.result c.fourth_size.result c.deletion_index.ensures
+    c.fourth_size.ensures

@@ -5,8 +5,6 @@ use Rattle.planning.proofs.no_entries.Goals as goal
 
 pub returns : goal.returns
 returns c =
-    let p = c.before in
-    let i = p.before in
-    let x = i.before.args in
+    let x = c.args in
     c.no_summary.ensures
-    ∙ no_entries_is (shape x.g) i.key_index.result p.fourth_size.result i.key_index.ensures p.fourth_size.ensures
+    ∙ no_entries_is (shape x.g) c.key_index.result c.fourth_size.result c.key_index.ensures c.fourth_size.ensures

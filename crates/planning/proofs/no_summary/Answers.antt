@@ -3,5 +3,5 @@ use Rattle.planning.proofs.no_summary.Goals as goal
 
 pub returns : goal.returns
 returns c =
-    let x = c.before.args in
+    let x = c.args in
     no_summary_is x.piece x.index c.nothing-none.result c.nothing-none.ensures

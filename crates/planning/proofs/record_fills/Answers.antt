@@ -3,4 +3,4 @@ use Rattle.layout.specs.Items.{Area, fills}
 use Rattle.planning.proofs.record_fills.Goals as goal
 
 pub returns : goal.returns
-returns c = c.fills.ensures ∙ ap (λ (a : Area). fills a c.before.before.args.n) c.before.record_area.ensures.equal
+returns c = c.fills.ensures ∙ ap (λ (a : Area). fills a c.args.n) c.record_area.ensures.equal

@@ -6,15 +6,11 @@ use Rattle.planning.proofs.update.Goals as goal
 
 pub page-p-requires : goal.page-p-requires
 page-p-requires c =
-    let s = c.before.before in
-    (c.deletion_area.ensures.sound, omega (arith, deletion_capacity_le s.args.g s.requires.0, s.requires.1))
+    (c.deletion_area.ensures.sound, omega (arith, deletion_capacity_le c.args.g c.requires.0, c.requires.1))
 
 pub returns : goal.returns
 returns c =
-    let b1 = c.before in
-    let b2 = b1.before in
-    let b3 = b2.before in
-    let x = b3.before.args in
-    update_is (shape x.g) x.d x.n b3.insertion-p.result b1.page-p.result (area b2.deletion_area.result)
-    c.deletion_summary-p.result b3.insertion-p.ensures b2.deletion_area.ensures.equal b1.page-p.ensures
+    let x = c.args in
+    update_is (shape x.g) x.d x.n c.insertion-p.result c.page-p.result (area c.deletion_area.result)
+    c.deletion_summary-p.result c.insertion-p.ensures c.deletion_area.ensures.equal c.page-p.ensures
     c.deletion_summary-p.ensures

@@ -1,16 +1,16 @@
 use native.Mathlib.Omega.{arith}
-use Prim.Native.Nat.{ℕ, ◌+◌, ◌-◌, ◌≤◌}
+use Prim.Native.Nat.{ℕ, ◌-◌, ◌≤◌}
 use mathlib.Core.Path.{◌≡◌, refl, ap, ◌∙◌}
 use lib.ListN.{length, take, drop}
 use mathlib.Core.List.{List}
 use Rattle.memory.specs.Lists.{tabulate, length_tabulate}
-use Rattle.plan.specs.Groups.{page_is, made_size, made_in, made_are, in_page}
-use Rattle.plan.proofs.page_part.Goals as goal
+use Rattle.plan.specs.Groups.{page_is, made_size, in_page}
+use Rattle.plan.proofs.NextSet.program_in_page.Goals as goal
 
 pub set_sectors-requires : goal.set_sectors-requires
 set_sectors-requires c =
     let P = c.requires.next_fits.0 in
-    let n = c.sector_address-n in record { unit_sound = (P.unit, P.rounds, P.near); j_bound = omega (arith, P.sectors, c.requires.next_fits.1); unit_in_bounds = P.sides; shares = c.requires.shares; in_page = in_page c.args.chip.unit n.result _ c.args.part c.requires.of_page n.ensures (made_size _ n.result (omega (arith, n.ensures, c.requires.of_page.small))) }
+    let n = c.sector_address-n in record { unit_sound = (P.unit, P.rounds, P.near); j_bound = omega (arith, P.sectors, c.requires.next_fits.1); unit_in_bounds = P.sides; shares = c.requires.shares; in_page = in_page c.args.self.chip.unit n.result _ c.args.part c.requires.of_page n.ensures (made_size _ n.result (omega (arith, n.ensures, c.requires.of_page.small))) }
 
 -- so many bytes are made
 made : (buffer out : List ℕ) (f : ℕ → ℕ) (n : ℕ) → out ≡ tabulate (length (take (n - 0) (drop 0 buffer))) f → n ≤ length buffer → length out ≡ n
@@ -20,6 +20,6 @@ pub returns : goal.returns
 returns c =
     let n = c.sector_address-n in
     let F = c.requires.next_fits.0 in
-    let u = c.args.chip.unit in
-    page_is u c.args.set c.args.s c.args.part.to _ _ F c.args.part refl c.requires.next_fits.1 c.args.main.now c.args.spare.now
+    let u = c.args.self.chip.unit in
+    page_is u c.args.self.set c.args.self.sector c.args.part.to _ _ F c.args.part refl c.requires.next_fits.1 c.args.main.now c.args.spare.now
     c.set_sectors.new.out _ _ n.result (made _ _ _ c.sector_address-n.result c.set_sectors.ensures (omega (arith, c.sector_address-n.ensures, c.requires.of_page.small))) n.ensures c.set_sectors.ensures c.program_sectors.ensures

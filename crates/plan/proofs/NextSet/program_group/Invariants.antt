@@ -7,13 +7,13 @@ use Rattle.partition.specs.Sources.{page_source}
 use Rattle.partition.specs.Shared.{Shares}
 use Rattle.plan.specs.Runs.{done}
 use Rattle.plan.specs.Segments.{next_set}
-use Rattle.plan.proofs.group_run.Given as goal
+use Rattle.plan.proofs.NextSet.program_group.Given as goal
 
 abbrev pub invariant-loop-j : goal.invariant-loop-j
 invariant-loop-j l =
     (l.part.from ≤ l.j) × (l.j ≤ l.part.to) × (length l.main ≡ length l.initial.main) × (length l.spare ≡ length l.initial.spare)
-    × (flash_of l.main l.spare ≡ done l.chip.unit (planned_from (next_set l.chip.unit l.set l.s) l.part.from (l.j - l.part.from)) (flash_of l.initial.main l.initial.spare))
-    × Shares l.initial.main (page_source l.chip.unit (index_of l.set.index) l.set.rounds (l.part.from / 4)) l.shared
+    × (flash_of l.main l.spare ≡ done l.self.chip.unit (planned_from (next_set l.self.chip.unit l.self.set l.self.sector) l.part.from (l.j - l.part.from)) (flash_of l.initial.main l.initial.spare))
+    × Shares l.initial.main (page_source l.self.chip.unit (index_of l.self.set.index) l.self.set.rounds (l.part.from / 4)) l.shared
 
 abbrev pub decreases-loop-j : goal.decreases-loop-j
 decreases-loop-j l = l.part.to - l.j
