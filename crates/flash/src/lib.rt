@@ -28,8 +28,8 @@ fn is_fresh(byte: u8) -> bool
 
 // One sector operation: sector s gets the bytes of src.
 pub fn program_sector(chip: Chip, s: usize, src: &[u8], main: &mut [u8], spare: &mut [u8])
-    requires unit_bound { length src.now ≡ sector chip.unit }
-    requires unit_in_bounds { (s * sector chip.unit + sector chip.unit ≤ length main.old) × (s < length spare.old) }
+    requires src_len { length src.now ≡ sector chip.unit }
+    requires in_bounds { (s * sector chip.unit + sector chip.unit ≤ length main.old) × (s < length spare.old) }
     ensures { flash_of main.new spare.new ≡ apply chip.unit (program s src.now) (flash_of main.old spare.old) }
 {
     words::copy_at(main, chip.sector_address(s), src);
@@ -45,8 +45,8 @@ pub fn program_sectors(
     main: &mut [u8],
     spare: &mut [u8],
 )
-    requires unit_bound { length src.now ≡ k * sector chip.unit }
-    requires unit_in_bounds { ((s + k) * sector chip.unit ≤ length main.old) × (s + k ≤ length spare.old) }
+    requires src_len { length src.now ≡ k * sector chip.unit }
+    requires in_bounds { ((s + k) * sector chip.unit ≤ length main.old) × (s + k ≤ length spare.old) }
     ensures { flash_of main.new spare.new ≡ programmed_row chip.unit s k src.now (flash_of main.old spare.old) }
 {
     words::copy_at(main, chip.sector_address(s), src);
@@ -55,8 +55,8 @@ pub fn program_sectors(
 
 // One sector out of two parts: sector s gets the bytes of a, then those of b.
 pub fn program_joined(chip: Chip, s: usize, a: &[u8], b: &[u8], main: &mut [u8], spare: &mut [u8])
-    requires unit_bound { length a.now + length b.now ≡ sector chip.unit }
-    requires unit_in_bounds { (s * sector chip.unit + sector chip.unit ≤ length main.old) × (s < length spare.old) }
+    requires parts_len { length a.now + length b.now ≡ sector chip.unit }
+    requires in_bounds { (s * sector chip.unit + sector chip.unit ≤ length main.old) × (s < length spare.old) }
     ensures { flash_of main.new spare.new
         ≡ apply chip.unit (program s (a.now ++ b.now)) (flash_of main.old spare.old) }
 {
@@ -68,8 +68,8 @@ pub fn program_joined(chip: Chip, s: usize, a: &[u8], b: &[u8], main: &mut [u8],
 
 // One block operation.
 fn erase_block(chip: Chip, b: usize, main: &mut [u8], spare: &mut [u8])
-    requires unit_bound { b * block chip.unit + block chip.unit ≤ length main.old }
-    requires sectors_per_block_in_bounds { b * sectors_per_block + sectors_per_block ≤ length spare.old }
+    requires in_main { b * block chip.unit + block chip.unit ≤ length main.old }
+    requires in_spare { b * sectors_per_block + sectors_per_block ≤ length spare.old }
     ensures { flash_of main.new spare.new ≡ apply chip.unit (erase b) (flash_of main.old spare.old) }
 {
     let at = chip.block_address(b);
@@ -80,8 +80,8 @@ fn erase_block(chip: Chip, b: usize, main: &mut [u8], spare: &mut [u8])
 
 // k blocks in a row.
 pub fn erase_blocks(chip: Chip, b: usize, k: usize, main: &mut [u8], spare: &mut [u8])
-    requires unit_bound { (b + k) * block chip.unit ≤ length main.old }
-    requires sectors_per_block_in_bounds { (b + k) * sectors_per_block ≤ length spare.old }
+    requires in_main { (b + k) * block chip.unit ≤ length main.old }
+    requires in_spare { (b + k) * sectors_per_block ≤ length spare.old }
     ensures { flash_of main.new spare.new ≡ apply_all chip.unit (erases b k) (flash_of main.old spare.old) }
 {
     for i in 0..k {
