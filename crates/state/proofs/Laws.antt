@@ -10,7 +10,7 @@ use Rattle.layout.specs.Geometry as layout
 use Rattle.layout.specs.Flash.{Flash}
 use Rattle.layout.specs.Calls.{Volume, bad_state, too_short}
 use Rattle.laws.specs.Lengths.{long_of}
-use Rattle.geometry.specs.Shape.{geometry_for, shape, shaped_by, shaped_of}
+use Rattle.geometry.specs.Shape.{geometry_for, shape, shape_is, shaped_by, shaped_of}
 use Rattle.geometry.specs.declared.volume.Geometry.{Geometry}
 use Rattle.std.specs.Prelude.{Option, Some, None, Result, Ok, Err, is_some, unwrap_or, ok_or}
 use Rattle.std.specs.Result.{result_ok}
@@ -18,7 +18,7 @@ use Rattle.std.proofs.Common.{subst}
 use Rattle.state.specs.declared.Refusal.{Refusal}
 use Rattle.state.specs.declared.Refusal.TheVariants.{BadState, TooShort}
 use Rattle.state.proofs.Refusals.{err_or}
-use Rattle.state.specs.Judge.{judgement_of, VolumeFits, FormatFits}
+use Rattle.state.specs.Judge.{judgement_of, judgement_of_new, VolumeFits, FormatFits}
 
 good_is : (t : Bool) (sizes : layout.Sizes) → is_some (shaped_by t sizes) ≡ t
 good_is true sizes = refl
@@ -48,10 +48,11 @@ module _ (sizes : layout.Sizes) (r : Option Geometry) (k : Result Geometry Refus
   is_shaped g was = shaped_some (layout.allowed sizes) sizes r g is (ok ∙ ap result_ok was)
 
 -- n or d above its capacity, or d above n
+abbrev counts_in : layout.Geometry → layout.State → Bool
+counts_in g s = ltb (layout.record_capacity g) s.records || (ltb (layout.deletion_capacity g) s.deletions || ltb s.records s.deletions)
+
 abbrev pub counts : Geometry → layout.State → Bool
-counts g s =
-    ltb (layout.record_capacity (shape g)) s.records
-    || (ltb (layout.deletion_capacity (shape g)) s.deletions || ltb s.records s.deletions)
+counts g s = counts_in (shape g) s
 
 module _ (v : Volume) where
   abbrev can : Bool
@@ -60,7 +61,7 @@ module _ (v : Volume) where
   abbrev named : Geometry
   named = geometry_for v.state.sizes
 
-  bad_is : can ≡ true → bad_state v.state ≡ counts named v.state
+  bad_is : can ≡ true → bad_state v.state ≡ counts_in (layout.geometry v.state.sizes) v.state
   unfolding bad_state
   bad_is q = rw q
 
@@ -69,11 +70,14 @@ module _ (v : Volume) where
   judge_shape q = rw q
 
   module _ (g : Geometry) (q : can ≡ true) (p : g ≡ named) where
-    at_state : (b : Bool) → counts g v.state ≡ b → counts named v.state ≡ b
-    at_state b c = rw p at c
+    in_shape : shape g ≡ layout.geometry v.state.sizes
+    in_shape = ap shape p ∙ shape_is v.state.sizes q
 
-    short_at : (b : Bool) → too_short (shape g) v.flash v.ram ≡ b → too_short (shape named) v.flash v.ram ≡ b
-    short_at b t = rw p at t
+    at_state : (b : Bool) → counts g v.state ≡ b → counts_in (layout.geometry v.state.sizes) v.state ≡ b
+    at_state b c = sym (ap (λ x. counts_in x v.state) in_shape) ∙ c
+
+    short_at : (b : Bool) → too_short (shape g) v.flash v.ram ≡ b → too_short (layout.geometry v.state.sizes) v.flash v.ram ≡ b
+    short_at b t = sym (ap (λ x. too_short x v.flash v.ram) in_shape) ∙ t
 
     pub judge_counts : counts g v.state ≡ true → judgement_of v ≡ Err BadState
     judge_counts c = rw (bad_is q, at_state true c)
@@ -100,5 +104,16 @@ module _ (v : Volume) where
         }
 
 module _ (sizes : layout.Sizes) (flash : Flash) (ram : List ℕ) (g : Geometry) (q : layout.allowed sizes ≡ true) (p : g ≡ geometry_for sizes) where
+  new_at : (b : Bool) → too_short (shape g) flash ram ≡ b → too_short (layout.geometry sizes) flash ram ≡ b
+  new_at b t = sym (ap (λ x. too_short x flash ram) (ap shape p ∙ shape_is sizes q)) ∙ t
+
+  pub new_short : too_short (shape g) flash ram ≡ true → Err TooShort ≡ judgement_of_new sizes flash ram
+  new_short t = rw (q, new_at true t)
+
+  pub new_good : too_short (shape g) flash ram ≡ false → Ok g ≡ judgement_of_new sizes flash ram
+  new_good t =
+      let e : judgement_of_new sizes flash ram ≡ Ok (geometry_for sizes) = rw (q, new_at false t) in
+      ap Ok p ∙ sym e
+
   pub new_of : too_short (shape g) flash ram ≡ false → FormatFits sizes flash ram g
   new_of t = record { is = p; can = q; long = long_of (shape g) flash ram t }

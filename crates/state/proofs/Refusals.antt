@@ -1,5 +1,5 @@
 -- Refusals 1 and 2 of the layout's calls, as the judge of a volume or of a format tells them.
-use mathlib.Core.Path.{◌≡◌, ap}
+use mathlib.Core.Path.{◌≡◌, ap, sym, ◌∙◌}
 use mathlib.Core.Bool.{Bool, true, false, cond, false≢true}
 use Rattle.std.specs.Prelude as std
 use Rattle.std.specs.Prelude.{Ok, Err, is_err}
@@ -10,7 +10,7 @@ use Rattle.laws.specs.Lengths.{not_short}
 use Rattle.geometry.specs.Shape.{geometry_for, shape}
 use Rattle.geometry.specs.declared.volume.Geometry.{Geometry}
 use Rattle.state.specs.Contract.{number_of}
-use Rattle.state.specs.Judge.{judgement_of_new, VolumeFits}
+use Rattle.state.specs.Judge.{judgement_of_new, VolumeFits, fits_shape}
 use Rattle.state.specs.declared.Refusal.{Refusal}
 use Rattle.state.specs.declared.Refusal.TheVariants.{BadState, TooShort}
 
@@ -49,7 +49,7 @@ format_refused v sizes i e = of_format v (formatted v sizes) i (layout.allowed s
 
 -- a volume that is not refused: its bytes are enough, and the call's own answer stands
 pub fits_enough : (v : Volume) (g : Geometry) → VolumeFits v g → too_short (layout.geometry v.state.sizes) v.flash v.ram ≡ false
-fits_enough v g f = rw f.is at (not_short (shape g) v.flash v.ram f.long)
+fits_enough v g f = sym (ap (λ x. too_short x v.flash v.ram) (fits_shape v g f)) ∙ not_short (shape g) v.flash v.ram f.long
 
 pub judge_fits : (v : Volume) (g : Geometry) (x : Result) → VolumeFits v g → judge_first v x ≡ x
 unfolding judge_first

@@ -1,11 +1,13 @@
 -- Refusals 1 and 2 as one answer: the refusal, or the geometry of the state.
-use Rattle.std.specs.Prelude.{◌≡◌, true, false, cond, List, ℕ, ◌≤◌, Result, Ok, Err}
+use Rattle.std.specs.Prelude.{◌≡◌, refl, Bool, true, false, cond, List, ℕ, ◌≤◌, Result, Ok, Err}
+use Rattle.std.proofs.Common.{ap, ◌∙◌}
+use mathlib.Core.Bool.{true≢false}
 use Prim.{Unit}
 use Rattle.layout.specs.Geometry as layout
 use Rattle.layout.specs.Flash.{Flash}
 use Rattle.layout.specs.Calls.{Volume, bad_state, too_short}
 use Rattle.laws.specs.Lengths.{Long}
-use Rattle.geometry.specs.Shape.{geometry_for, shape}
+use Rattle.geometry.specs.Shape.{geometry_for, shape, shape_is}
 use Rattle.geometry.specs.declared.volume.Geometry.{Geometry}
 use Rattle.state.specs.declared.Refusal.{Refusal}
 use Rattle.state.specs.declared.Refusal.TheVariants.{BadState, TooShort}
@@ -47,3 +49,19 @@ pub record FormatFits (sizes : layout.Sizes) (flash : Flash) (ram : List ℕ) (g
 abbrev pub NewFits : layout.Sizes → Flash → List ℕ → Result Geometry Refusal → Type 0
 NewFits sizes flash ram (Ok g) = FormatFits sizes flash ram g
 NewFits sizes flash ram (Err i) = Unit
+
+-- ---- a geometry that is judged good has the shape of the sizes
+
+pub is_allowed : (s : layout.State) → bad_state s ≡ false → layout.allowed s.sizes ≡ true
+unfolding bad_state
+is_allowed s e = by (layout.allowed s.sizes) refl
+  where
+    by : (t : Bool) → layout.allowed s.sizes ≡ t → layout.allowed s.sizes ≡ true
+    by true q = q
+    by false q = absurd (true≢false (rw q at e))
+
+pub fits_shape : (v : Volume) (g : Geometry) → VolumeFits v g → shape g ≡ layout.geometry v.state.sizes
+fits_shape v g f = ap shape f.is ∙ shape_is v.state.sizes (is_allowed v.state f.good)
+
+pub format_shape : (sizes : layout.Sizes) (flash : Flash) (ram : List ℕ) (g : Geometry) → FormatFits sizes flash ram g → shape g ≡ layout.geometry sizes
+format_shape sizes flash ram g f = ap shape f.is ∙ shape_is sizes f.can

@@ -1,8 +1,18 @@
-use native.Mathlib.Omega.{arith}
+use Rattle.std.proofs.Common.{arith, ◌*◌, ◌^◌, ◌≤◌, ◌<◌}
 use Rattle.laws.specs.Units.{unit_times}
 use Rattle.geometry.specs.Powers.{power_is}
 use Rattle.geometry.specs.Shape.{unit_sound}
 use Rattle.geometry.proofs.areas.entry_area.Goals as goal
+
+pub invariant_of-result : goal.invariant_of-result
+invariant_of-result c =
+    let g = c.args.g in
+    record {
+      small = omega arith;
+      power = power_is _ (rw c.entries_per_page.ensures (unit_times 3 g.chip.unit (unit_sound g.chip)));
+      page = (omega arith, omega arith);
+      near = (omega arith, omega arith);
+    }
 
 pub returns : goal.returns
 returns c = rw (c.before.before.entries_per_page.ensures, c.before.ka_block.ensures, c.ka_ram.ensures)
