@@ -8,21 +8,56 @@ ghost use Rattle.std.specs.Prelude.{◌*◌, ◌<◌, ◌≤◌, length};
 
 use std::io::Read;
 
+// The longest line that is not cut, and the most bytes that its digits make.
+const LINE: usize = 600;
+
+const BYTES: usize = LINE / 2;
+
+// The line that is being read: its first `filled` bytes.
+#[derive(Clone, Copy)]
+struct Line {
+    bytes: [u8; LINE],
+    filled: usize,
+    ghost within: { filled ≤ length bytes },
+}
+
+impl Line {
+    // A line of which nothing is read yet.
+    fn new() -> Line {
+        Line {
+            bytes: [0; LINE],
+            filled: 0,
+        }
+    }
+
+    // One byte more; a byte that finds no room is cut.
+    fn push(&mut self, b: u8) {
+        if self.filled < LINE {
+            self.bytes[self.filled] = b;
+            self.filled += 1;
+        }
+    }
+
+    // The next line begins.
+    fn clear(&mut self) {
+        self.filled = 0;
+    }
+
+    // What is read of the line.
+    fn text(&self) -> &[u8] {
+        &self.bytes[..self.filled]
+    }
+}
+
 // The value of a hexadecimal digit; of any other byte 0.
 fn digit(c: u8) -> u8
     ensures { result < 16 }
 {
-    if c >= b'0' {
-        if c <= b'9' {
-            return c - b'0';
-        }
+    match c {
+        b'0'..=b'9' => c - b'0',
+        b'a'..=b'f' => c - b'a' + 10,
+        _ => 0,
     }
-    if c >= b'a' {
-        if c <= b'f' {
-            return c - b'a' + 10;
-        }
-    }
-    0
 }
 
 // The byte that two digits make.
@@ -34,11 +69,7 @@ fn byte_of(high: u8, low: u8) -> u8 {
 fn pairs(text: &[u8], most: usize) -> usize
     ensures { (result ≤ most) × (result * 2 ≤ length text.now) }
 {
-    let n = text.len() / 2;
-    if n > most {
-        return most;
-    }
-    n
+    (text.len() / 2).min(most)
 }
 
 // Puts the bytes that a text gives in hexadecimal at the start of `out`, and answers how many there
@@ -47,102 +78,61 @@ fn decode(text: &[u8], out: &mut [u8]) -> usize
     ensures { result ≤ length out.new }
 {
     let n = pairs(text, out.len());
-    let mut i = 0;
-    while i < n {
-        out[i] = byte_of(text[i * 2], text[i * 2 + 1]);
-        i += 1;
+    for (i, b) in out[..n].iter_mut().enumerate() {
+        *b = byte_of(text[i * 2], text[i * 2 + 1]);
     }
     n
 }
 
-// The length of a line's first word.
-fn word_length(line: &[u8]) -> usize
-    ensures { result ≤ length line.now }
-{
-    let mut i = 0;
-    while i < line.len() {
-        if line[i] == b' ' {
-            return i;
-        }
-        i += 1;
+// A line's first word.
+fn first_word(line: &[u8]) -> &[u8] {
+    match line.iter().position(|c| *c == b' ') {
+        Some(n) => &line[..n],
+        None => line,
     }
-    i
 }
 
 // Writes a vector's bytes, as they were read, and their hash in eight digits. A write that fails is passed over.
 fn answer(rt: &impl Print, text: &[u8]) {
-    let mut bytes = [0u8; 300];
+    let mut bytes = [0u8; BYTES];
     let n = decode(text, &mut bytes);
-    let h = fnv::fnv1a(&bytes[0..n]);
+    let h = fnv::fnv1a(&bytes[..n]);
     let _ = rt.write_all(text);
     let _ = println!(rt; " {h:08x}");
 }
 
-// Whether a line has no vector: an empty line, or a comment.
-fn is_skipped(line: &[u8]) -> bool {
-    if line.len() == 0 {
-        return true;
-    }
-    line[0] == b'#'
-}
-
-// Answers a line that has a vector.
+// Answers a line that has a vector: neither an empty line nor a comment.
 fn handle(rt: &impl Print, line: &[u8]) {
-    if is_skipped(line) {
-        return;
+    match line.first() {
+        None | Some(b'#') => {}
+        Some(_) => answer(rt, first_word(line)),
     }
-    let n = word_length(line);
-    answer(rt, &line[0..n]);
 }
 
-// The bytes of a chunk go into the line buffer, of which `filled` bytes are in use; each whole line
-// is handled. The answer is how many bytes are in use afterwards.
-fn feed(rt: &impl Print, filled: usize, chunk: &[u8], line: &mut [u8]) -> usize
-    requires { filled ≤ length line.old }
-    ensures { result ≤ length line.old }
-{
-    let mut fill = filled;
-    let mut i = 0;
-    while i < chunk.len() {
-        let b = chunk[i];
-        if b == b'\n' {
-            handle(rt, &line[0..fill]);
-            fill = 0;
+// The bytes of a chunk go into the line; each whole line is handled.
+fn feed(rt: &impl Print, chunk: &[u8], line: &mut Line) {
+    for b in chunk {
+        if *b == b'\n' {
+            handle(rt, line.text());
+            line.clear();
         } else {
-            if fill < line.len() {
-                line[fill] = b;
-                fill += 1;
-            }
+            line.push(*b);
         }
-        i += 1;
     }
-    fill
 }
 
-// Reads to the end of the input. A proved loop ends, so it counts its reads down from a number that
-// no run uses up.
-fn pump(rt: &(impl Input + Print), line: &mut [u8], chunk: &mut [u8]) {
+// Reads to the end of the input. A proved loop ends, so it counts its reads up to a number that no
+// run uses up.
+fn main(rt: HostRuntime) {
     let mut input = rt.reader();
-    let mut fill = 0;
-    let mut left = u64::MAX;
-    while left > 0 {
-        left -= 1;
-        let n = match input.read(chunk) {
-            Ok(n) => n,
-            Err(_) => 0,
-        };
+    let mut line = Line::new();
+    let mut chunk = [0u8; 4096];
+    for _ in 0..u64::MAX {
+        let n = input.read(&mut chunk).unwrap_or(0);
         if n == 0 {
             break;
         }
-        fill = feed(rt, fill, &chunk[0..n], line);
+        feed(&rt, &chunk[..n], &mut line);
     }
-    if fill > 0 {
-        handle(rt, &line[0..fill]);
-    }
-}
-
-fn main(rt: HostRuntime) {
-    let mut line = [0u8; 600];
-    let mut chunk = [0u8; 4096];
-    pump(&rt, &mut line, &mut chunk);
+    handle(&rt, line.text());
 }

@@ -8,5 +8,5 @@ pub fn digit_value(c: u8) -> u64
     requires { (48 ≤ c) × (c ≤ 57) }
     ensures { (result ≡ c - 48) × (result < 10) }
 {
-    (c - b'0') as u64
+    u64::from(c - b'0')
 }
