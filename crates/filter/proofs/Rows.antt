@@ -8,13 +8,14 @@ use native.Mathlib.Omega.{arith}
 use borrow.Author.Tests.{lt-ltb, le-ltb}
 use lib.Bits.{bit_and}
 use lib.Dec.{ltb}
-use lib.ListN.{length, get_or, take}
+use lib.ListN.{length, length-set, get_or, set, take}
+use lib.Seq.{get_or-set_same, get_or-set_other}
 use Rattle.memory.specs.Bits.{bit, bit_in, pack, bit_pack, bit_zero, bit_high, bit_and_lem}
-use Rattle.memory.specs.Cases.{either, lt?}
-use Rattle.memory.specs.Lists.{Done}
+use Rattle.memory.specs.Cases.{either, lt?, eq?}
 use Rattle.memory.specs.Ranges.{all_of}
 use Rattle.layout.specs.Index.{Index, filter_bit}
-use Rattle.kernels.specs.Rows.{all_in}
+use Rattle.kernels.specs.Rows.{row_of, all_in}
+use Rattle.kernels.specs.declared.Row.{Row}
 use Rattle.kernels.specs.Blocks.{Shows, Upto}
 use Rattle.filter.specs.Groups.{row_at, level_has}
 use Rattle.filter.specs.Blocks.{BlockOf, BlockAt}
@@ -22,9 +23,29 @@ use Rattle.filter.specs.declared.groups.Block.{Block}
 use Rattle.filter.specs.declared.groups.Level.{Level}
 use Rattle.filter.proofs.Levels.{Lies, LevelAt}
 
--- the first i elements of an array are those of f
-abbrev pub Filled : (ℕ → ℕ) → ℕ → List ℕ → Type 0
-Filled f i l = (length l ≡ 8) × Done f l i
+-- the first i of eight rows are those of the positions
+pub record Filled (l : Level) (ps : List ℕ) (w i : ℕ) (rows : List Row) : Type 0 where
+  pub eight : length rows ≡ 8
+  pub at : (k : ℕ) → k < i → (row_of rows k).at ≡ row_at l (get_or ps k 0)
+  pub low : (k : ℕ) → k < i → (row_of rows k).low ≡ get_or ps k 0 % w
+
+pub filled_none : (l : Level) (ps : List ℕ) (w : ℕ) (rows : List Row) → length rows ≡ 8 → Filled l ps w 0 rows
+filled_none l ps w rows e = record { eight = e; at = λ k h. absurd (omega arith); low = λ k h. absurd (omega arith) }
+
+pub filled_more : (l : Level) (ps : List ℕ) (w i : ℕ) (rows : List Row) (y : Row) → i < 8 → y.at ≡ row_at l (get_or ps i 0) → y.low ≡ get_or ps i 0 % w
+    → Filled l ps w i rows → Filled l ps w (i + 1) (set rows i y)
+filled_more l ps w i rows y h a b F =
+    record {
+      eight = length-set rows i y ∙ F.eight;
+      at = λ k t.
+          either (eq? k i)
+          (λ s. let e : k ≡ i = s.1 in rw (e, get_or-set_same rows i y (record { at = 0; low = 0 }) (omega (arith, F.eight))) a)
+          (λ s. rw (get_or-set_other rows i k y (record { at = 0; low = 0 }) s.1) (F.at k (omega (arith, t, s.1))));
+      low = λ k t.
+          either (eq? k i)
+          (λ s. let e : k ≡ i = s.1 in rw (e, get_or-set_same rows i y (record { at = 0; low = 0 }) (omega (arith, F.eight))) b)
+          (λ s. rw (get_or-set_other rows i k y (record { at = 0; low = 0 }) s.1) (F.low k (omega (arith, t, s.1))));
+    }
 
 -- ---- the test of the first positions, from the last on
 
@@ -46,13 +67,15 @@ all_ext f g [] h = refl
 all_ext f g (x ∷ xs) h = rw (h x, all_ext f g xs h)
 
 -- a filter has all bits of its positions if it has them in its rows
-pub all_rows : (bytes at low : List ℕ) (w g : ℕ) (f : ℕ → Bool) (ps : List ℕ) (k : ℕ) → k ≤ length ps
-    → ((i : ℕ) → i < k → f (get_or ps i 0) ≡ bit_in bytes (get_or at i 0) (g * w + get_or low i 0))
-    → all_of f (take k ps) ≡ all_in bytes at low w k g
+pub all_rows : (bytes : List ℕ) (rows : List Row) (w g : ℕ) (f : ℕ → Bool) (ps : List ℕ) (k : ℕ) → k ≤ length ps → k ≤ length rows
+    → ((i : ℕ) → i < k → f (get_or ps i 0) ≡ bit_in bytes (row_of rows i).at (g * w + (row_of rows i).low))
+    → all_of f (take k ps) ≡ all_in bytes (take k rows) w g
 unfolding all_of all_in
-all_rows bytes at low w g f ps zero h same = refl
-all_rows bytes at low w g f ps (suc k) h same =
-    all_take f ps k h ∙ rw (same k (omega arith), all_rows bytes at low w g f ps k (omega arith) (λ i l. same i (omega arith)))
+all_rows bytes rows w g f ps zero h l same = refl
+all_rows bytes rows w g f [] (suc k) h l same = absurd (omega arith)
+all_rows bytes [] w g f (x ∷ xs) (suc k) h l same = absurd (omega arith)
+all_rows bytes (r ∷ rows) w g f (x ∷ xs) (suc k) h l same =
+    rw (same 0 (omega arith), all_rows bytes rows w g f xs k (omega arith) (omega arith) (λ i t. same (suc i) (omega arith))) refl
 
 -- ---- a position more: bit i of a word is the test of filter `first` + i
 

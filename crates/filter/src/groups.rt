@@ -17,6 +17,7 @@ ghost use Rattle.filter.specs.Recent.{MaskOf, OneRow, recent_has, RecentIn, Rece
 
 use geometry::sets::Index;
 use geometry::{Chip, sets};
+use kernels::Row;
 use words::numbers;
 
 // The filters of an index on a chip: so many.
@@ -268,24 +269,19 @@ fn block_by_words(l: Level, below: usize, ps: [u32; 8], count: usize, bytes: &[u
     requires by_index { (i : ℕ) → i < count → BlocksIn l (get_or ps i 0) (below - l.start) (length bytes.now) }
     ensures { BlockOf l bytes.now below (take count ps) result }
 {
-    let base = l.base;
-    let stride = l.stride;
-    let e = l.exponent;
-    let w = power(e);
-    let mut at = [0usize; 8];
-    let mut low = [0usize; 8];
-    let mut i = 0;
-    while i < count {
-        let x = numbers::usize_of_u32(ps[i]);
-        at[i] = base + shifted(x, e) * stride;
-        low[i] = x % w;
-        i += 1;
+    let w = power(l.exponent);
+    let mut rows = [Row { at: 0, low: 0 }; 8];
+    for i in 0..count {
+        rows[i] = Row {
+            at: row_of(l, ps[i]),
+            low: ps[i] as usize % w,
+        };
     }
     let n = below - l.start;
     let first = (n - 1) / 512 * 512;
     Block {
         start: l.start + first,
-        words: kernels::block(w, first, n - first, count, &at, &low, bytes),
+        words: kernels::block(w, first, n - first, &rows[..count], bytes),
     }
 }
 

@@ -1,73 +1,70 @@
 use native.Mathlib.Omega.{arith}
-use Prim.Native.Nat.{ℕ, ◌+◌, ◌-◌, ◌≤◌, ◌<◌}
+use Prim.Native.Nat.{ℕ, ◌+◌, ◌-◌, ◌*◌, ◌/◌, ◌≤◌}
 use mathlib.Core.List.{List}
-use mathlib.Core.Path.{◌≡◌, refl, sym, ap, ◌∙◌}
+use mathlib.Core.Path.{◌≡◌, ap, ◌∙◌}
 use lib.ListN.{length, get_or}
 use Rattle.fields.specs.Sources.{run_byte}
 use Rattle.memory.specs.Lists.{length_part}
-use Rattle.fields.specs.Lists.{done_all, part_length, part_more}
-use Rattle.fields.proofs.Strides.{first_at, first_in, turn_fits, turn_inside, turn_bytes, turn_next}
+use Rattle.fields.specs.Lists.{done_all, part_more}
+use Rattle.fields.proofs.Strides.{Turn, turn, all_runs, first_in}
 use Rattle.fields.proofs.whole_runs.Goals as goal
 
-pub nonzero_div-a : goal.nonzero_div-a
-nonzero_div-a c = c.requires.runs.0
+-- A run more each turn.
+
+pub overflow_mul-first : goal.overflow_mul-first
+overflow_mul-first g c =
+    let x = c.args in
+    omega (arith, first_in (length x.bytes.now) x.at x.stride g.row.N x.y (length x.out.now) c.requires.runs.2 c.requires.runs.1)
+
+pub overflow_add-first : goal.overflow_add-first
+overflow_add-first g c =
+    let x = c.args in
+    omega (arith, first_in (length x.bytes.now) x.at x.stride g.row.N x.y (length x.out.now) c.requires.runs.2 c.requires.runs.1)
 
 pub overflow_mul-a : goal.overflow_mul-a
-overflow_mul-a c =
-    omega (arith, first_in (length c.args.bytes.now) c.args.at c.args.stride c.args.n c.args.y (length c.args.out.now) c.requires.runs.3 c.requires.runs.2)
+overflow_mul-a g c =
+    let x = c.args in
+    let n = g.row.N in
+    omega (arith, (turn x.bytes.now x.at x.stride n x.y (length x.out.now) c.loop-k.k c.requires.runs.0 c.requires.runs.2 c.requires.whole.0 c.requires.whole.1 c.loop-k-test.true).inside)
+
+pub overflow_add-a-in-loop-k : goal.overflow_add-a-in-loop-k
+overflow_add-a-in-loop-k g c =
+    let x = c.args in
+    let n = g.row.N in
+    omega (arith, c.requires.runs.0, (turn x.bytes.now x.at x.stride n x.y (length x.out.now) c.loop-k.k c.requires.runs.0 c.requires.runs.2 c.requires.whole.0 c.requires.whole.1 c.loop-k-test.true).inside)
 
 pub overflow_add-a : goal.overflow_add-a
-overflow_add-a c =
-    omega (arith, first_in (length c.args.bytes.now) c.args.at c.args.stride c.args.n c.args.y (length c.args.out.now) c.requires.runs.3 c.requires.runs.2)
-
-pub loop-i-init : goal.loop-i-init
-loop-i-init c =
-    (omega arith, refl, λ k h. absurd (omega arith), first_at c.args.at c.args.stride c.args.n c.args.y c.requires.runs.0 c.requires.whole.0)
-
-pub overflow_add-e : goal.overflow_add-e
-overflow_add-e c = omega (arith, turn_fits c.args.bytes.now c.args.at c.args.stride c.args.n c.args.y (length c.args.out.now) c.loop-i.i c.loop-i.a c.requires.runs.0 c.requires.runs.3 c.requires.whole.0 c.requires.whole.1 (omega arith) c.loop-i.invariant.3)
-
-pub overflow_add-f : goal.overflow_add-f
-overflow_add-f c = omega (arith, turn_inside c.args.bytes.now c.args.at c.args.stride c.args.n c.args.y (length c.args.out.now) c.loop-i.i c.loop-i.a c.requires.runs.0 c.requires.runs.3 c.requires.whole.0 c.requires.whole.1 (omega arith) c.loop-i.invariant.3)
-
-pub slice_bounds-copy-end : goal.slice_bounds-copy-end
-slice_bounds-copy-end c = omega (arith, turn_fits c.args.bytes.now c.args.at c.args.stride c.args.n c.args.y (length c.args.out.now) c.loop-i.i c.loop-i.a c.requires.runs.0 c.requires.runs.3 c.requires.whole.0 c.requires.whole.1 (omega arith) c.loop-i.invariant.3, c.loop-i.invariant.1)
-
-pub slice_bounds-copy-end-in-loop-i : goal.slice_bounds-copy-end-in-loop-i
-slice_bounds-copy-end-in-loop-i c = omega (arith, turn_inside c.args.bytes.now c.args.at c.args.stride c.args.n c.args.y (length c.args.out.now) c.loop-i.i c.loop-i.a c.requires.runs.0 c.requires.runs.3 c.requires.whole.0 c.requires.whole.1 (omega arith) c.loop-i.invariant.3)
-
-pub copy-requires : goal.copy-requires
-copy-requires c =
-    let l = c.loop-i in
+overflow_add-a g c =
     let x = c.args in
-    length_part l.out l.i x.n (omega (arith, turn_fits c.args.bytes.now c.args.at c.args.stride c.args.n c.args.y (length c.args.out.now) c.loop-i.i c.loop-i.a c.requires.runs.0 c.requires.runs.3 c.requires.whole.0 c.requires.whole.1 (omega arith) c.loop-i.invariant.3, l.invariant.1)) ∙ sym (length_part x.bytes.now l.a x.n (turn_inside c.args.bytes.now c.args.at c.args.stride c.args.n c.args.y (length c.args.out.now) c.loop-i.i c.loop-i.a c.requires.runs.0 c.requires.runs.3 c.requires.whole.0 c.requires.whole.1 (omega arith) c.loop-i.invariant.3))
+    let n = g.row.N in
+    omega (arith, c.requires.runs.0, (turn x.bytes.now x.at x.stride n x.y (length x.out.now) c.loop-k.k c.requires.runs.0 c.requires.runs.2 c.requires.whole.0 c.requires.whole.1 c.loop-k-test.true).inside)
 
-pub overflow_add-a-in-loop-i : goal.overflow_add-a-in-loop-i
-overflow_add-a-in-loop-i c = omega (arith, turn_inside c.args.bytes.now c.args.at c.args.stride c.args.n c.args.y (length c.args.out.now) c.loop-i.i c.loop-i.a c.requires.runs.0 c.requires.runs.3 c.requires.whole.0 c.requires.whole.1 (omega arith) c.loop-i.invariant.3, c.requires.runs.1)
+pub slice_bounds-copy_from_slice-end-in-loop-k : goal.slice_bounds-copy_from_slice-end-in-loop-k
+slice_bounds-copy_from_slice-end-in-loop-k g c =
+    let x = c.args in
+    let n = g.row.N in
+    omega (arith, c.requires.runs.0, (turn x.bytes.now x.at x.stride n x.y (length x.out.now) c.loop-k.k c.requires.runs.0 c.requires.runs.2 c.requires.whole.0 c.requires.whole.1 c.loop-k-test.true).inside)
 
-pub loop-i-smaller : goal.loop-i-smaller
-loop-i-smaller c = omega (arith, turn_fits c.args.bytes.now c.args.at c.args.stride c.args.n c.args.y (length c.args.out.now) c.loop-i.i c.loop-i.a c.requires.runs.0 c.requires.runs.3 c.requires.whole.0 c.requires.whole.1 (omega arith) c.loop-i.invariant.3, c.requires.runs.0)
-
-pub loop-i-preserved : goal.loop-i-preserved
-loop-i-preserved c =
-    let l = c.loop-i in
-    let k = c.copy in
-    let n = c.args.n in
-    let h : l.i < length c.args.out.now = omega arith in
-    let fit : l.i + c.args.n ≤ length l.out = omega (arith, turn_fits c.args.bytes.now c.args.at c.args.stride c.args.n c.args.y (length c.args.out.now) c.loop-i.i c.loop-i.a c.requires.runs.0 c.requires.runs.3 c.requires.whole.0 c.requires.whole.1 (omega arith) c.loop-i.invariant.3, l.invariant.1) in
-    let size : length k.new.dst ≡ l.i + c.args.n - l.i = ap length k.ensures ∙ length_part c.args.bytes.now l.a c.args.n (turn_inside c.args.bytes.now c.args.at c.args.stride c.args.n c.args.y (length c.args.out.now) c.loop-i.i c.loop-i.a c.requires.runs.0 c.requires.runs.3 c.requires.whole.0 c.requires.whole.1 (omega arith) c.loop-i.invariant.3) ∙ omega arith in
-    let f : ℕ → ℕ = λ j. run_byte c.args.bytes.now c.args.at c.args.stride c.args.n (c.args.y + j) in (
-      turn_fits c.args.bytes.now c.args.at c.args.stride c.args.n c.args.y (length c.args.out.now) c.loop-i.i c.loop-i.a c.requires.runs.0 c.requires.runs.3 c.requires.whole.0 c.requires.whole.1 (omega arith) c.loop-i.invariant.3,
-      part_length l.out k.new.dst l.i (l.i + c.args.n) (omega arith) fit size ∙ l.invariant.1,
-      part_more l.out k.new.dst l.i (l.i + c.args.n) (omega arith) fit size f l.invariant.2 (λ j p.
-          ap (λ (v : List ℕ). get_or v j 0) k.ensures
-          ∙ turn_bytes c.args.bytes.now c.args.at c.args.stride c.args.n c.args.y (length c.args.out.now) l.i l.a c.requires.runs.0 c.requires.runs.3 c.requires.whole.0 c.requires.whole.1 h l.invariant.3 j (omega arith)),
-      turn_next c.args.bytes.now c.args.at c.args.stride c.args.n c.args.y (length c.args.out.now) l.i l.a c.requires.runs.0 c.requires.runs.3 c.requires.whole.0 c.requires.whole.1 h l.invariant.3,
-    )
+pub loop-k-preserved : goal.loop-k-preserved
+loop-k-preserved g c =
+    let x = c.args in
+    let n = g.row.N in
+    let l = c.loop-k in
+    let R = c.copy_from_slice in
+    let t : Turn x.bytes.now x.at x.stride n x.y (length x.out.now) l.k = turn x.bytes.now x.at x.stride n x.y (length x.out.now) c.loop-k.k c.requires.runs.0 c.requires.runs.2 c.requires.whole.0 c.requires.whole.1 c.loop-k-test.true in
+    let f : ℕ → ℕ = λ j. run_byte x.bytes.now x.at x.stride n (x.y + j) in
+    let i = l.k * n in
+    let a = x.at + x.y / n * x.stride + l.k * x.stride in
+    let fit : i + n ≤ length l.out = omega (arith, t.fits, l.auto.out) in
+    let size : length R.new.self ≡ i + n - i = ap length R.ensures.after ∙ length_part x.bytes.now a n t.inside ∙ omega arith in
+    let e : i + n ≡ (l.k + 1) * n = omega arith in
+    λ k h. part_more l.out R.new.self i (i + n) (omega arith) fit size f l.invariant
+    (λ j p. ap (λ (v : List ℕ). get_or v j 0) R.ensures.after ∙ t.copied j (omega arith)) k (omega (arith, e, h))
 
 pub returns : goal.returns
-returns c =
+returns g c =
     let x = c.args in
-    let l = c.loop-i in
-    let f : ℕ → ℕ = λ j. run_byte x.bytes.now x.at x.stride x.n (x.y + j) in
-    done_all f l.out (length x.out.now) l.i l.invariant.1 (omega arith) l.invariant.2
+    let l = c.loop-k in
+    let n = g.row.N in
+    let f : ℕ → ℕ = λ j. run_byte x.bytes.now x.at x.stride n (x.y + j) in
+    done_all f l.out (length x.out.now) (l.k * n) l.auto.out (all_runs n (length x.out.now) l.k c.requires.runs.0 c.requires.whole.1 (omega arith)) l.invariant

@@ -12,7 +12,6 @@ copy_runs-requires c =
     let n = length c.args.out.now in record {
       size = (
         run_size c.args.bytes.now c.args.s c.args.w c.args.y n c.requires.aligned.0 c.requires.aligned.1,
-        omega arith,
         c.requires.aligned.2,
         runs_in c.args.bytes.now c.args.s c.args.w c.args.y n c.requires.aligned.0 c.requires.aligned.1 c.requires.aligned.3,
       );

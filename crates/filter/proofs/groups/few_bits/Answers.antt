@@ -1,9 +1,8 @@
 use native.Mathlib.Nat.{mod-lt}
 use native.Mathlib.Omega.{arith}
-use Prim.Native.Nat.{◌/◌, ◌%◌, ◌≤◌}
+use Prim.Native.Nat.{◌/◌, ◌%◌}
 use lib.ListN.{length}
-use lib.Pow.{pow_mono}
-use Rattle.filter.proofs.Bytes.{eighth, few_in, few_fits, few_bit}
+use Rattle.filter.proofs.Bytes.{eighth, few_in, few_bit}
 use Rattle.filter.proofs.groups.few_bits.Goals as goal
 
 -- The byte of each filter, and its bit in it.
@@ -29,12 +28,8 @@ byte_bits-requires c =
     let P = c.before.before.power-w in
     let s = rw (← R.ensures, ← P.ensures.0) at b.requires.1.reach in
     let e = eighth x.l.exponent P.result P.ensures.0 b.requires.1.some in
-    let t : x.l.exponent ≤ 9 = omega (arith, b.requires.1.few) in
-    let m : P.result ≤ 512 = omega (arith, P.ensures.0, pow_mono t) in
     let low = mod-lt W.result P.ensures.1 in (
       b.requires.0,
-      omega (arith, e, P.ensures.1),
-      few_fits R.result P.result (P.result / 8) x.n (W.result % P.result) (length x.bytes.now) e s low m (omega arith),
       few_in R.result P.result (P.result / 8) x.n (W.result % P.result) (length x.bytes.now) e s low,
     )
 

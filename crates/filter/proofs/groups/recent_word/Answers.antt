@@ -12,8 +12,8 @@ use Rattle.memory.specs.Ranges.{all_of}
 use Rattle.filter.specs.Groups.{row_at}
 use Rattle.filter.specs.Recent.{recent_has}
 use Rattle.filter.proofs.Rows.{Tested, tested_none, tested_more}
-use Rattle.filter.proofs.RecentBytes.{has_recent, recent_is, shows_same, aligned, WordIn, steps, narrow, in_ram_lem, behind, top_le, n_le}
-use Rattle.filter.proofs.RecentBytes.{first_in, row_in, bytes_in, bytes_fit, recent_one}
+use Rattle.filter.proofs.RecentBytes.{has_recent, recent_is, shows_same, aligned, WordIn, narrow, in_ram_lem, behind, top_le, n_le}
+use Rattle.filter.proofs.RecentBytes.{first_in, row_in, bytes_in, recent_one}
 use Rattle.filter.proofs.groups.recent_word.Invariants.{bits}
 use Rattle.filter.proofs.groups.recent_word.Goals as goal
 
@@ -113,10 +113,9 @@ byte_bits-s-requires c =
     c.loop-i.i c.row_of-row.result c.row_of-other.result =
     word_in c.loop-i.i c.row_of-row.result c.row_of-other.result c.requires c.power-w.ensures.0 c.lesser-top.ensures c.lesser-n.ensures
     c.loop-i-test.true c.row_of-row.ensures c.row_of-other.ensures in
-    let ram_lt : length c.args.ram.now < 2 ^ 63 = omega arith in
     let low = c.usize_of_u32.result % c.power-w.result in
     let l = mod-lt c.usize_of_u32.result c.power-w.ensures.1 in
-    (behind Q, omega (arith, steps Q, c.power-w.ensures.1), bytes_fit Q low l ram_lt, λ i h. bytes_in Q low i l h)
+    (behind Q, λ i h. bytes_in Q low i l h)
 
 pub overflow_mul-first : goal.overflow_mul-first
 overflow_mul-first c =
