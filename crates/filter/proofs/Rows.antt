@@ -10,6 +10,7 @@ use lib.Bits.{bit_and}
 use lib.Dec.{ltb}
 use lib.ListN.{length, length-set, get_or, set, take}
 use lib.Seq.{get_or-set_same, get_or-set_other}
+use Rattle.std.proofs.lemmas.List.{get_or-take, length-take}
 use Rattle.memory.specs.Bits.{bit, bit_in, pack, bit_pack, bit_zero, bit_high, bit_and_lem}
 use Rattle.memory.specs.Cases.{either, lt?, eq?}
 use Rattle.memory.specs.Ranges.{all_of}
@@ -46,6 +47,16 @@ filled_more l ps w i rows y h a b F =
           (λ s. let e : k ≡ i = s.1 in rw (e, get_or-set_same rows i y (record { at = 0; low = 0 }) (omega (arith, F.eight))) b)
           (λ s. rw (get_or-set_other rows i k y (record { at = 0; low = 0 }) s.1) (F.low k (omega (arith, t, s.1))));
     }
+
+-- has filter g of a level position x
+abbrev pub has_position : Level → List ℕ → ℕ → ℕ → Bool
+has_position l bytes x g = bit_in bytes (row_at l x) (g * 2 ^ l.exponent + x % 2 ^ l.exponent)
+
+-- what holds of the first k positions holds of the slice with them
+pub front : (P : ℕ → Type 0) (ps : List ℕ) (k : ℕ) → ((i : ℕ) → i < k → P (get_or ps i 0)) → (i : ℕ) → i < length (take k ps) → P (get_or (take k ps) i 0)
+front P ps k H i h =
+    let l : i < k = omega (arith, length-take k ps) in
+    rw (get_or-take k ps i 0 l) (H i l)
 
 -- ---- the test of the first positions, from the last on
 
@@ -106,16 +117,6 @@ module _ (F : ℕ → ℕ → Bool) (ps : List ℕ) (first m : ℕ) where
   tested_more k h r y R Y i l =
       rw add-one (bit_and_lem r y i ∙ (and_comm (bit r i) (bit y i) ∙ rw (Y i l, R i l) (sym (all_take (λ x. F x (first + i)) ps k h))))
 
--- a number of n bits has no bit from n on
-pub bits_only : (n r i : ℕ) → r < 2 ^ n → bit r i ≡ (ltb i n && bit r i)
-bits_only n r i h =
-    either (lt? i n)
-    (λ t. rw (lt-ltb i n t.1))
-    (λ t.
-    let e : r ≡ 0 * 2 ^ n + r = omega arith in
-    let k : i ≡ n + (i - n) = omega (arith, t.1) in
-    rw (le-ltb i n t.1) (ap (λ (z : ℕ). bit z i) e ∙ (ap (bit (0 * 2 ^ n + r)) k ∙ (bit_high n 0 r (i - n) h ∙ bit_zero (i - n)))))
-
 -- ---- blocks
 
 -- only the first n bits count
@@ -169,11 +170,12 @@ module _ (l : Level) (bytes : List ℕ) (below : ℕ) (ps : List ℕ) where
       }
 
   -- one word of all the level's filters
-  pub few_block : (n r : ℕ) → below - l.start ≡ n → l.start < below → n ≤ 64 → r < 2 ^ n → Shows (level_has l bytes ps) 0 n r
-      → BlockOf l bytes below ps (record { start = l.start; words = r ∷ 0 ∷ 0 ∷ 0 ∷ 0 ∷ 0 ∷ 0 ∷ 0 ∷ [] })
-  few_block n r is lt few small R =
+  pub few_block : (n r y : ℕ) → below - l.start ≡ n → l.start < below → n ≤ 64 → Shows (level_has l bytes ps) 0 n r
+      → ((i : ℕ) → i < 64 → bit y i ≡ (ltb i n && bit r i))
+      → BlockOf l bytes below ps (record { start = l.start; words = y ∷ 0 ∷ 0 ∷ 0 ∷ 0 ∷ 0 ∷ 0 ∷ 0 ∷ [] })
+  few_block n r y is lt few R Y =
       let e : l.start + 0 ≡ l.start = omega arith in
-      rw e at (word_block 0 n n r r (omega arith) lt (omega arith) few (omega arith) (omega arith) R (λ i h. bits_only n r i small))
+      rw e at (word_block 0 n n r y (omega arith) lt (omega arith) few (omega arith) (omega arith) R Y)
 
   -- eight words
   pub words_block : (gate : ℕ → Bool) (first n : ℕ) (words : List ℕ) → below - l.start ≡ first + n → l.start < below → 0 < n → n ≤ 512 → first % 2 ≡ 0

@@ -9,8 +9,9 @@ use native.Mathlib.Numerals.{add-one}
 use native.Mathlib.Omega.{arith}
 use lib.Bits.{bit_or}
 use lib.Dec.{eqb, eqb-suc-suc}
-use lib.ListN.{length, get_or, set, replicate, get_or-replicate}
+use lib.ListN.{length, get_or, set, take, replicate, get_or-replicate}
 use lib.Pow.{pow-lt}
+use Rattle.std.proofs.lemmas.List.{get_or-take}
 use lib.Seq.{get_or-set_same, get_or-set_other}
 use borrow.Author.Tests.{eq-eqb, ne_eqb}
 use Rattle.memory.specs.Bits.{bit, bit_zero, bit_or_lem}
@@ -64,13 +65,13 @@ set_next f i o o₁ o₂ e₁ e₂ = rw (e₂, e₁, add-one) (join (f i) (any f
     join true b c = refl
     join false b c = refl
 
--- is x one of the first k of an array with the positions
+-- is x one of the first k of an array with the positions, the k of a slice
 pub any_position : (u k : ℕ) (bytes : List ℕ) (x : ℕ) (ps : List ℕ) → ps ≡ position_array fnv_family k u bytes
-    → any (λ i. eqb (get_or ps i 0) x) k ≡ key_bit u k bytes x
+    → any (λ i. eqb (get_or (take k ps) i 0) x) k ≡ key_bit u k bytes x
 any_position u k bytes x ps e =
     let l : List ℕ = positions fnv_family k u bytes in
-    any_ext (λ i. eqb (get_or ps i 0) x) (λ i. eqb (get_or l i 0) x) k
-    (λ i h. ap (λ (y : ℕ). eqb y x) (ap (λ (z : List ℕ). get_or z i 0) e ∙ position_at fnv_family k u bytes i h))
+    any_ext (λ i. eqb (get_or (take k ps) i 0) x) (λ i. eqb (get_or l i 0) x) k
+    (λ i h. ap (λ (y : ℕ). eqb y x) (get_or-take k ps i 0 h ∙ ap (λ (z : List ℕ). get_or z i 0) e ∙ position_at fnv_family k u bytes i h))
     ∙ ap (any (λ i. eqb (get_or l i 0) x)) (sym (length_positions fnv_family k u bytes)) ∙ any_memb x l
 
 -- no bit is set

@@ -1,4 +1,4 @@
-use Prim.Native.Nat.{ℕ, ◌-◌, ◌≤◌, min}
+use Prim.Native.Nat.{ℕ, ◌-◌, min}
 use Rattle.filter.specs.declared.groups.Recent.{Recent}
 use Rattle.filter.proofs.Rows.{Tested}
 use Rattle.filter.proofs.RecentBytes.{has_recent}
@@ -8,8 +8,5 @@ use Rattle.filter.proofs.groups.recent_word.Given as goal
 abbrev pub bits : Recent → ℕ → ℕ
 bits rs first = min (rs.below - rs.l1.start - first) 64
 
-abbrev pub invariant-loop-i : goal.invariant-loop-i
-invariant-loop-i l = (l.i ≤ l.count) × Tested (has_recent l.rs l.main l.ram) l.ps l.first (bits l.rs l.first) l.i l.r
-
-abbrev pub decreases-loop-i : goal.decreases-loop-i
-decreases-loop-i l = l.count - l.i
+abbrev pub invariant-loop-p : goal.invariant-loop-p
+invariant-loop-p l = Tested (has_recent l.rs l.main l.ram) l.ps l.first (bits l.rs l.first) l.p-index l.r
