@@ -1,5 +1,4 @@
 pub mod Numbers
-pub mod Computed
 pub mod Operations
 pub mod New
 pub mod Fits

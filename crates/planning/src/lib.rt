@@ -26,13 +26,13 @@ fn page(a: Area, n: usize) -> Segment
     requires { AreaSound a × (n < 4294967296) }
     ensures { result ≡ page_of (area a) n }
 {
-    let first = Chip::first_sector(a.first) + Chip::page_sectors(n / a.per_page);
-    if !a.fills(n) {
-        return Segment { first, count: 0 };
-    }
     Segment {
-        first,
-        count: Chip::SECTORS_PER_PAGE,
+        first: Chip::first_sector(a.first) + Chip::page_sectors(n / a.per_page),
+        count: if a.fills(n) {
+            Chip::SECTORS_PER_PAGE
+        } else {
+            0
+        },
     }
 }
 
@@ -118,6 +118,7 @@ fn set_summary(chip: Chip, index: Index, piece: usize, filters: usize) -> Summar
 }
 
 // What filter number `filters`, the last new one, adds: the flush where it is an eighth, and the set where that ends a round.
+#[tactic(auto, unfolding(crate::specs::Numbers::summary_at))]
 fn summary(chip: Chip, index: Index, piece: usize, filters: usize) -> Summary
     requires { UnitSound chip.unit × (index.first ≤ 20000) × (in_full chip.unit filters ≤ 1024) }
     ensures { result ≡ summary_at chip.unit piece index filters }
@@ -253,6 +254,7 @@ pub fn programs(g: Geometry, e: Slots) -> bool
     match e {
         Slots::Delete(d) => geometry::deletion_area(g).fills(d),
         Slots::Insert(n) => geometry::record_area(g).fills(n),
-        Slots::Update(d, n) => geometry::deletion_area(g).fills(d) || geometry::record_area(g).fills(n),
+        Slots::Update(d, n) => geometry::deletion_area(g).fills(d)
+            || geometry::record_area(g).fills(n),
     }
 }
