@@ -17,7 +17,7 @@ use Rattle.layout.specs.Geometry as layout
 use Rattle.layout.specs.Hash.{fnv_family}
 use Rattle.layout.specs.Items.{KA, item_word}
 use Rattle.layout.specs.Index.{in_full}
-use Rattle.layout.specs.Search.{Stop, Found, is_found, found, reply, ram_first, scan, search_pages, try_entry}
+use Rattle.layout.specs.Search.{Stop, Found, is_found, found, corrupt, reply, ram_first, scan, search_pages, try_entry}
 use Rattle.layout.specs.Search.{scan_cost, pages_cost, entry_cost, unless_ended}
 use Rattle.layout.specs.Calls.{key_index, key_positions, number_positions, maybe_deleted, try_deletion, test_deletion}
 use Rattle.layout.specs.Calls.{try_at, try_cost, maybe_in, search_at, da_pages_at}
@@ -25,7 +25,9 @@ use Rattle.laws.specs.SearchLaws.{opened_le, ram_first_most}
 use Rattle.laws.specs.WalkLaws.{scan_same, cost_same, cost_most, full_mono, pages_cost_lem, same_order, Shown}
 use Rattle.geometry.specs.Shape.{shape}
 use Rattle.geometry.specs.Bounds.{deletion_capacity_le, record_capacity_le}
+use Rattle.std.specs.Prelude.{Some, None}
 use Rattle.items.specs.Reading.{page_word, ram_word}
+use Rattle.items.specs.Scans.{last_entry, place_of}
 use Rattle.kernels.specs.Blocks.{Upto}
 use Rattle.filter.specs.Blocks.{BlockAt}
 use Rattle.filter.specs.declared.groups.Block.{Block}
@@ -36,7 +38,8 @@ use Rattle.deletions.specs.declared.Tested.{Tested}
 use Rattle.search.specs.declared.View.{View}
 use Rattle.search.specs.Find.{viewed, ViewFits, try_of, cost_of, try_in, cost_in, deleted_of, test_cost, pages_below, cost_below, deletions_of}
 use Rattle.search.specs.Tries.{page_start, entry_in}
-use Rattle.search.proofs.Entries.{Same, left_first, left_none}
+use Rattle.search.proofs.Places.{Place, past}
+use Rattle.search.proofs.Entries.{Same, Left, left_first, left_none, left_corrupt, left_most, left_found, left_next, left_less}
 
 -- ---- a view's entries
 
@@ -77,7 +80,7 @@ module _ (v : View) (main ram : List ℕ) (key : Key) where
       → (scan (try_of v main ram key) (p * per_page v) (per_page v) ≡ none) × (scan_cost (try_of v main ram key) (cost_of v main ram key) (p * per_page v) (per_page v) ≡ 0)
   vain_page p h z =
       let S = same_flash p (page_start v.g p) (per_page v) h (omega arith) refl in
-      let e = left_none (left_first S 0 0 (sym z)) (omega arith) in
+      let e = left_none (left_first S 0 None (ap place_of (sym z))) refl in
       (e.0, omega (arith, e.1))
 
   -- entries of the page that is not full
@@ -186,11 +189,43 @@ module _ (v : View) (main ram : List ℕ) (j : ℕ) (t : Deletions) (t_is : t �
   told : tested_of j r ≡ test_deletion fnv_family (shape v.g) (viewed v main ram) v.d0 j
   told = (rw t_is at is) ∙ test_viewed v main ram j
 
-  pub told_met : r.met ≡ deleted_of v main ram j
+  told_met : r.met ≡ deleted_of v main ram j
   told_met = tested_met v main ram j r told
 
-  pub told_opened : r.opened ≡ test_cost v main ram j
+  told_opened : r.opened ≡ test_cost v main ram j
   told_opened = tested_opened v main ram j r told
+
+-- ---- the next entry with the key of those in a row, with number j
+
+module _ (v : View) (main ram : List ℕ) {page : List ℕ} {start : ℕ} {key : Key} {count base : ℕ} {e : Place} {sum : ℕ}
+    (L : Left page start key (try_in v main ram key page start) (cost_in v main ram key page start) 0 count base e sum)
+    {k : ℕ} (here : e ≡ Some k) {j : ℕ} (number : j ≡ number_in (word page (start + k * 8 + 4))) where
+  abbrev row : Same page start count v.n0 key (deleted_of v main ram) (test_cost v main ram) (try_in v main ram key page start) (cost_in v main ram key page start) 0
+  row = same_bytes v main ram key page start count
+
+  pub row_corrupt : v.n0 ≤ j
+      → (scan (try_in v main ram key page start) 0 count ≡ some corrupt)
+      × (sum ≡ base + scan_cost (try_in v main ram key page start) (cost_in v main ram key page start) 0 count)
+  row_corrupt = left_corrupt row L here number
+
+  pub row_less : (n : Place) → n ≡ place_of (last_entry page start k key) → past n < past e
+  row_less = left_less row L here number
+
+  -- it is tested
+  module _ (below : j < v.n0) where
+    module _ {t : Deletions} (t_is : t ≡ deletions_of v) (r : Tested)
+        (is : tested_of j r ≡ test_deletion fnv_family (shape t.g) (tests.held t main ram) t.d0 j) where
+      pub row_paid : sum + r.opened ≤ base + scan_cost (try_in v main ram key page start) (cost_in v main ram key page start) 0 count
+      row_paid = omega (arith, left_most row L here number below, told_opened v main ram j t t_is r is)
+
+      pub row_found : r.met ≡ false
+          → (scan (try_in v main ram key page start) 0 count ≡ some (found j))
+          × (sum + r.opened ≡ base + scan_cost (try_in v main ram key page start) (cost_in v main ram key page start) 0 count)
+      row_found = left_found row L here number below r.met r.opened (told_met v main ram j t t_is r is) (told_opened v main ram j t t_is r is)
+
+      pub row_next : (n : Place) → r.met ≡ true → n ≡ place_of (last_entry page start k key)
+          → Left page start key (try_in v main ram key page start) (cost_in v main ram key page start) 0 count base n (sum + r.opened)
+      row_next = left_next row L here number below r.met r.opened (told_met v main ram j t t_is r is) (told_opened v main ram j t t_is r is)
 
 -- ---- a volume that fits
 

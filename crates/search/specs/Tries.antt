@@ -1,5 +1,5 @@
 -- The pages of a word of bits, opened from the newest on until one has an entry with the key.
-use Rattle.std.specs.Prelude.{◌≡◌, Bool, true, ◌&&◌, cond, List, ℕ, zero, suc, ◌+◌, ◌*◌, ◌-◌, ◌≤◌, ◌<◌, ltb, length}
+use Rattle.std.specs.Prelude.{◌≡◌, Bool, true, ◌&&◌, cond, List, ℕ, zero, suc, ◌+◌, ◌*◌, ◌-◌, ◌≤◌, ◌<◌, ltb, length, Option, Some, None}
 use Rattle.memory.specs.Bits.{bit}
 use Rattle.memory.specs.Candidate.{candidate}
 use Rattle.layout.specs.Keys.{Key}
@@ -7,8 +7,8 @@ use Rattle.layout.specs.Geometry as layout
 use Rattle.geometry.specs.declared.Geometry.{Geometry}
 use Rattle.geometry.specs.Shape.{shape}
 use Rattle.items.specs.Scans.{last_entry}
+use Rattle.search.specs.declared.Hit.{Hit}
 use Rattle.search.specs.declared.Opened.{Opened}
-use Rattle.search.specs.declared.Tried.{Tried}
 
 -- the first byte of page p of the entries on flash
 abbrev pub page_start : Geometry → ℕ → ℕ
@@ -46,17 +46,21 @@ pub record NewestAt (g : Geometry) (key : Key) (from bits : ℕ) (main : List �
   pub left : (i : ℕ) → i < 64 → bit rest i ≡ (ltb i (newest_in g key from bits main - 1) && bit bits i)
   pub opened : count ≡ opened_of (bit bits) (entry_of g key from main) 64
 
--- what came of them
-pub record OpenedAt (g : Geometry) (key : Key) (from bits : ℕ) (main : List ℕ) (r : Opened) : Type 0 where
-  pub pages : NewestAt g key from bits main r.bits r.opened
-  pub none : newest_in g key from bits main ≡ 0 → (r.bits ≡ 0) × (r.entry ≡ 0)
-  pub some : 0 < newest_in g key from bits main
-      → (r.page ≡ newest_in g key from bits main - 1) × (r.entry ≡ entry_of g key from main (newest_in g key from bits main - 1))
+-- the newest entry of the newest page, the page as it is told
+abbrev pub hit_of : (ℕ → ℕ) → (ℕ → ℕ) → ℕ → Option Hit
+hit_of place entry zero = None
+hit_of place entry (suc i) = Some (record { page = place i; entry = entry i - 1 })
 
--- the same by the first byte of the newest
-pub record TriedAt (g : Geometry) (key : Key) (from bits : ℕ) (main : List ℕ) (r : Tried) : Type 0 where
+-- what came of them, with the page's number i told as `place i`
+pub record HitAt (place : ℕ → ℕ) (g : Geometry) (key : Key) (from bits : ℕ) (main : List ℕ) (r : Opened) : Type 0 where
   pub pages : NewestAt g key from bits main r.bits r.opened
-  pub none : newest_in g key from bits main ≡ 0 → (r.bits ≡ 0) × (r.start ≡ 0) × (r.entry ≡ 0)
-  pub some : 0 < newest_in g key from bits main
-      → (r.start ≡ page_start g (from + (newest_in g key from bits main - 1)))
-      × (r.entry ≡ entry_of g key from main (newest_in g key from bits main - 1))
+  pub none : newest_in g key from bits main ≡ 0 → r.bits ≡ 0
+  pub hit : r.hit ≡ hit_of place (entry_of g key from main) (newest_in g key from bits main)
+
+-- by its number
+abbrev pub OpenedAt : Geometry → Key → ℕ → ℕ → List ℕ → Opened → Type 0
+OpenedAt g key from bits main r = HitAt (λ i. i) g key from bits main r
+
+-- by its first byte
+abbrev pub TriedAt : Geometry → Key → ℕ → ℕ → List ℕ → Opened → Type 0
+TriedAt g key from bits main r = HitAt (λ i. page_start g (from + i)) g key from bits main r

@@ -21,7 +21,6 @@ use deletions::Deletions;
 use filter::Filters;
 use geometry::{Geometry, areas, sets};
 use keys::Key;
-use words::numbers;
 
 // What is searched: of the n records and d deletions of a volume the first n0 and the first d0. Where they lie goes
 // by n and d.
@@ -47,8 +46,9 @@ pub fn all(g: Geometry, n: usize, d: usize) -> View
     }
 }
 
-// Where a search ends: nowhere, at a live entry, with its record number, or at a number that is no record's.
-#[derive(Clone, Copy)]
+// Where a search ends: nowhere, at a live entry, with its record number, or at a number that is no record's. An enum and no Result, since
+// the pages opened are told of each of the three: no `?` would hand one on, and `Nothing` says more than `Ok(None)`.
+#[derive(Clone, Copy, Debug, PartialEq, Eq)]
 pub enum End {
     Nothing,
     Live(u32),
@@ -77,9 +77,8 @@ fn number_at(at: usize, k: usize, s: &[u8]) -> u32
 fn deletions_of(v: View) -> Deletions
     ensures { result ≡ deletions_of v }
 {
-    let g = v.g;
     Deletions {
-        g,
+        g: v.g,
         d: v.d,
         d0: v.d0,
     }
@@ -87,14 +86,7 @@ fn deletions_of(v: View) -> Deletions
 
 // ---- entries past the last full page
 
-// Where the search of entries in a row ended, and the pages of deletions opened.
-#[derive(Clone, Copy)]
-struct Ended {
-    end: End,
-    da_pages: u64,
-}
-
-// The newest live one of `count` entries, which lie in `page` from byte `start` on.
+// The newest live one of `count` entries, which lie in `page` from byte `start` on. It opens no page.
 fn in_page(
     v: View,
     key: Key,
@@ -103,35 +95,38 @@ fn in_page(
     page: &[u8],
     main: &[u8],
     ram: &[u8],
-) -> Ended
+) -> Found
     requires { ViewFits v main.now ram.now × (start + count * entry_size ≤ length page.now) × (count ≤ v.n0) }
     ensures end_value { stop_of result.end ≡ scan (try_in v main.now ram.now (key_is key) page.now start) 0 count }
+    ensures opened { result.opened ≡ 0 }
     ensures pages { result.da_pages ≡ scan_cost (try_in v main.now ram.now (key_is key) page.now start)
         (cost_in v main.now ram.now (key_is key) page.now start) 0 count }
 {
     let mut da_pages: u64 = 0;
     let mut e = items::find_entry(start, count, key, page);
-    while e > 0 {
-        let k = e - 1;
+    while let Some(k) = e {
         let j = number_at(start, k, page);
-        if numbers::usize_of_u32(j) >= v.n0 {
-            return Ended {
+        if j as usize >= v.n0 {
+            return Found {
                 end: End::Corrupt,
+                opened: 0,
                 da_pages,
             };
         }
         let seen = deletions::test(deletions_of(v), j, main, ram);
         da_pages += seen.opened as u64;
         if !seen.met {
-            return Ended {
+            return Found {
                 end: End::Live(j),
+                opened: 0,
                 da_pages,
             };
         }
         e = items::find_entry(start, k, key, page);
     }
-    Ended {
+    Found {
         end: End::Nothing,
+        opened: 0,
         da_pages,
     }
 }
@@ -145,10 +140,11 @@ fn page_start(g: Geometry, p: usize) -> usize
 }
 
 // Those of the page that n0 records do not fill: in RAM, unless it has been filled since.
-fn in_open(v: View, key: Key, main: &[u8], ram: &[u8]) -> Ended
+fn in_open(v: View, key: Key, main: &[u8], ram: &[u8]) -> Found
     requires { ViewFits v main.now ram.now }
     ensures end_value { stop_of result.end ≡ scan (try_of v main.now ram.now (key_is key))
         (v.n0 / entries_per_page v.g.chip.unit * entries_per_page v.g.chip.unit) (v.n0 % entries_per_page v.g.chip.unit) }
+    ensures opened { result.opened ≡ 0 }
     ensures pages { result.da_pages
         ≡ scan_cost (try_of v main.now ram.now (key_is key)) (cost_of v main.now ram.now (key_is key))
         (v.n0 / entries_per_page v.g.chip.unit * entries_per_page v.g.chip.unit) (v.n0 % entries_per_page v.g.chip.unit) }
@@ -171,37 +167,30 @@ fn key_filters(v: View) -> Filters
     requires { Sound v.g }
     ensures { result ≡ filters_of v }
 {
-    let chip = v.g.chip;
-    let index = sets::key_index(v.g);
     Filters {
-        chip,
-        index,
+        chip: v.g.chip,
+        index: sets::key_index(v.g),
         count: v.n / v.g.entries_per_page(),
     }
 }
 
-// What was found in a block of pages: where the search ended in it, the pages of entries and of deletions opened, and the block's
-// first page.
+// An entry with the key: its page, by its number or its first byte, and its place among the entries of the page.
 #[derive(Clone, Copy)]
-struct BlockFound {
-    end: End,
-    opened: u32,
-    da_pages: u64,
-    start: usize,
-}
-
-// What came of the pages of a word: the bits of those left, the pages opened, and the number and the newest entry with the key, plus one,
-// of the page that has one; 0 and 0 if none has.
-#[derive(Clone, Copy)]
-struct Opened {
-    bits: u64,
-    opened: u32,
+struct Hit {
     page: usize,
     entry: usize,
 }
 
-// The newest page with an entry of the key, of those from page `from` on whose bits are set; the pages before it are
-// opened in vain. It is a function because its loop calls nothing that stays a call, and so keeps its values in registers.
+// What came of the pages of a word: the bits of those left, the pages opened, and the newest entry with the key of the page that has one.
+#[derive(Clone, Copy)]
+struct Opened {
+    bits: u64,
+    opened: u32,
+    hit: Option<Hit>,
+}
+
+// The newest page with an entry of the key, of those from page `from` on whose bits are set, by its number among them; the pages before it
+// are opened in vain. It is a function because its loop calls nothing that stays a call, and so keeps its values in registers.
 fn next_page(g: Geometry, key: Key, from: usize, bits: u64, main: &[u8]) -> Opened
     requires { Sound g × (from ≤ 32768) × PagesIn g from bits main.now }
     ensures { OpenedAt g (key_is key) from bits main.now result }
@@ -212,62 +201,39 @@ fn next_page(g: Geometry, key: Key, from: usize, bits: u64, main: &[u8]) -> Open
         let f = kernels::top(left);
         left = kernels::without(left, f);
         opened += 1;
-        let start = page_start(g, from + f);
-        let entry = items::find_in_page(g.chip, start, key, main);
-        if entry > 0 {
+        if let Some(entry) = items::find_in_page(g.chip, page_start(g, from + f), key, main) {
             return Opened {
                 bits: left,
                 opened,
-                page: f,
-                entry,
+                hit: Some(Hit { page: f, entry }),
             };
         }
     }
     Opened {
         bits: 0,
         opened,
-        page: 0,
-        entry: 0,
+        hit: None,
     }
 }
 
-// The same with the first byte of that page in place of its number.
-#[derive(Clone, Copy)]
-struct Tried {
-    bits: u64,
-    opened: u32,
-    start: usize,
-    entry: usize,
-}
-
-// The newest page with an entry of the key, by its first byte: that is made again here, since the loop would have to keep it for each page.
-fn next_with_key(g: Geometry, key: Key, from: usize, bits: u64, main: &[u8]) -> Tried
+// The same by its first byte: that is made again here, since the loop would have to keep it for each page.
+fn next_with_key(g: Geometry, key: Key, from: usize, bits: u64, main: &[u8]) -> Opened
     requires { Sound g × (from ≤ 32768) × PagesIn g from bits main.now }
     ensures { TriedAt g (key_is key) from bits main.now result }
 {
     let p = next_page(g, key, from, bits, main);
-    let opened = p.opened;
-    let entry = p.entry;
-    if entry == 0 {
-        return Tried {
-            bits: 0,
-            opened,
-            start: 0,
-            entry: 0,
-        };
-    }
-    let start = page_start(g, from + p.page);
-    let bits = p.bits;
-    Tried {
-        bits,
-        opened,
-        start,
-        entry,
+    let Some(hit) = p.hit else {
+        return p;
+    };
+    let page = page_start(g, from + hit.page);
+    Opened {
+        hit: Some(Hit { page, ..hit }),
+        ..p
     }
 }
 
-// The full pages below page `below` whose filters are of one block, newest first, and the entries of each that is
-// opened, newest first. A word of the block has 64 filters; words past the last filter are not looked at.
+// The full pages below page `below` whose filters are of one block, newest first, the entries of each that is opened, newest first, and the
+// block's first page. A word of the block has 64 filters; words past the last filter are not looked at.
 fn in_block(
     v: View,
     key: Key,
@@ -276,35 +242,33 @@ fn in_block(
     below: usize,
     main: &[u8],
     ram: &[u8],
-) -> BlockFound
+) -> (Found, usize)
     requires view_fits { ViewFits v main.now ram.now × Low v.g.chip.unit count ps }
     requires below_nonzero { (0 < below) × (below ≤ v.n0 / entries_per_page v.g.chip.unit) }
-    ensures start { result.start < below }
+    ensures start { result.1 < below }
     ensures found { pages_below v main.now ram.now (key_is key) (take count ps) below
-        ≡ onward (stop_of result.end) result.opened (pages_below v main.now ram.now (key_is key) (take count ps) result.start) }
+        ≡ onward (stop_of result.0.end) result.0.opened (pages_below v main.now ram.now (key_is key) (take count ps) result.1) }
     ensures pages { cost_below v main.now ram.now (key_is key) (take count ps) below
-        ≡ result.da_pages + unless_ended (stop_of result.end) (cost_below v main.now ram.now (key_is key) (take count ps) result.start) }
+        ≡ result.0.da_pages + unless_ended (stop_of result.0.end) (cost_below v main.now ram.now (key_is key) (take count ps) result.1) }
 {
     let b = filter::block_below(key_filters(v), below, ps, count, main, ram);
-    let first = b.start;
     let mut end = End::Nothing;
     let mut opened: u32 = 0;
     let mut da_pages: u64 = 0;
-    let mut w = (below - first + 63) / 64;
-    'filters: while w > 0 {
-        w -= 1;
-        let from = first + w * 64;
+    'filters: for w in (0..(below - b.start + 63) / 64).rev() {
+        let from = b.start + w * 64;
         let mut bits = b.words[w];
         'bits: while bits != 0 {
             let t = next_with_key(v.g, key, from, bits, main);
             bits = t.bits;
             opened += t.opened;
-            let start = t.start;
-            let mut e = t.entry;
-            'entries: while e > 0 {
-                let k = e - 1;
-                let j = number_at(start, k, main);
-                if numbers::usize_of_u32(j) >= v.n0 {
+            let Some(hit) = t.hit else {
+                continue;
+            };
+            let mut e = Some(hit.entry);
+            'entries: while let Some(k) = e {
+                let j = number_at(hit.page, k, main);
+                if j as usize >= v.n0 {
                     end = End::Corrupt;
                     break 'filters;
                 }
@@ -314,16 +278,16 @@ fn in_block(
                     end = End::Live(j);
                     break 'filters;
                 }
-                e = items::find_entry(start, k, key, main);
+                e = items::find_entry(hit.page, k, key, main);
             }
         }
     }
-    BlockFound {
+    let found = Found {
         end,
         opened,
         da_pages,
-        start: first,
-    }
+    };
+    (found, b.start)
 }
 
 // Full pages, a block of filters after another, the newest first, for any `count` positions, 1 to 8.
@@ -337,29 +301,19 @@ fn in_pages(v: View, key: Key, ps: [u32; 8], count: usize, main: &[u8], ram: &[u
     let mut opened: u32 = 0;
     let mut da_pages: u64 = 0;
     let mut below = v.n0 / v.g.entries_per_page();
+    // a `while`, for its step is not one page but a block of filters, whose first page the block tells
     while below > 0 {
-        let w = in_block(v, key, ps, count, below, main, ram);
-        opened += w.opened;
-        da_pages += w.da_pages;
-        let end = w.end;
-        match end {
-            End::Nothing => {}
-            End::Live(j) => {
-                return Found {
-                    end: End::Live(j),
-                    opened,
-                    da_pages,
-                };
-            }
-            End::Corrupt => {
-                return Found {
-                    end: End::Corrupt,
-                    opened,
-                    da_pages,
-                };
-            }
+        let (f, first) = in_block(v, key, ps, count, below, main, ram);
+        opened += f.opened;
+        da_pages += f.da_pages;
+        if f.end != End::Nothing {
+            return Found {
+                end: f.end,
+                opened,
+                da_pages,
+            };
         }
-        below = w.start;
+        below = first;
     }
     Found {
         end: End::Nothing,
@@ -378,41 +332,17 @@ pub fn search(v: View, key: Key, main: &[u8], ram: &[u8]) -> Found
         ≡ da_pages_at fnv_family (shape v.g) (viewed v main.now ram.now) v.n0 v.d0 (key_is key) }
 {
     let o = in_open(v, key, main, ram);
-    let da_pages = o.da_pages;
-    let end = o.end;
-    match end {
-        End::Nothing => {
-            if v.n0 < v.g.entries_per_page() {
-                return Found {
-                    end: End::Nothing,
-                    opened: 0,
-                    da_pages,
-                }; // without a full page there is no filter, and the key is not hashed
-            }
-            let count = v.g.hashes;
-            let ps = fnv::positions(v.g.chip, count, fnv::of_key(key));
-            let f = in_pages(v, key, ps, count, main, ram);
-            let end = f.end;
-            let opened = f.opened;
-            return Found {
-                end,
-                opened,
-                da_pages: da_pages + f.da_pages,
-            };
-        }
-        End::Live(j) => {
-            return Found {
-                end: End::Live(j),
-                opened: 0,
-                da_pages,
-            };
-        }
-        End::Corrupt => {
-            return Found {
-                end: End::Corrupt,
-                opened: 0,
-                da_pages,
-            };
-        }
+    if o.end != End::Nothing {
+        return o;
+    }
+    if v.n0 < v.g.entries_per_page() {
+        return o; // without a full page there is no filter, and the key is not hashed
+    }
+    let count = v.g.hashes;
+    let ps = fnv::positions(v.g.chip, count, fnv::of_key(key));
+    let f = in_pages(v, key, ps, count, main, ram);
+    Found {
+        da_pages: o.da_pages + f.da_pages,
+        ..f
     }
 }

@@ -22,6 +22,7 @@ returns-then-p-v c =
     record {
       end_value = open_on_flash c.requires q.result q.ensures c.if-p-v.true c.page_start.result c.page_start.ensures (key_is c.args.key)
           (stop_of c.in_page.result.end) c.in_page.ensures.end_value;
+      opened = c.in_page.ensures.opened;
       pages = cost_on_flash c.requires q.result q.ensures c.if-p-v.true c.page_start.result c.page_start.ensures (key_is c.args.key)
           c.in_page.result.da_pages c.in_page.ensures.pages;
     }
@@ -40,6 +41,7 @@ returns c =
     record {
       end_value = open_on_ram c.requires q.result q.ensures c.ka_ram.result c.ka_ram.ensures none_filled (key_is c.args.key)
           (stop_of c.in_page-2.result.end) c.in_page-2.ensures.end_value;
+      opened = c.in_page-2.ensures.opened;
       pages = cost_on_ram c.requires q.result q.ensures c.ka_ram.result c.ka_ram.ensures none_filled (key_is c.args.key)
           c.in_page-2.result.da_pages c.in_page-2.ensures.pages;
     }

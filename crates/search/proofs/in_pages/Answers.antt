@@ -14,17 +14,17 @@ use Rattle.search.proofs.in_pages.Goals as goal
 pub overflow_add-opened : goal.overflow_add-opened
 overflow_add-opened c =
     let x = c.args in
-    let w = c.in_block-w.result in
-    let part : Part (maybe_in (shape x.v.g) (viewed x.v x.main.now x.ram.now) (take x.count x.ps)) (try_of x.v x.main.now x.ram.now (key_is x.key)) (cost_of x.v x.main.now x.ram.now (key_is x.key)) (per_page x.v) c.loop-below.below w.start w.opened w.da_pages (stop_of w.end)
-    = record { found = c.in_block-w.ensures.found; price = c.in_block-w.ensures.pages } in
+    let w = c.in_block-first.result in
+    let part : Part (maybe_in (shape x.v.g) (viewed x.v x.main.now x.ram.now) (take x.count x.ps)) (try_of x.v x.main.now x.ram.now (key_is x.key)) (cost_of x.v x.main.now x.ram.now (key_is x.key)) (per_page x.v) c.loop-below.below w.1 w.0.opened w.0.da_pages (stop_of w.0.end)
+    = record { found = c.in_block-first.ensures.found; price = c.in_block-first.ensures.pages } in
     omega (arith, part_few c.loop-below.invariant part, pages_then_lem c.requires.0, pages_few c.requires.0)
 
 pub overflow_add-da_pages : goal.overflow_add-da_pages
 overflow_add-da_pages c =
     let x = c.args in
-    let w = c.in_block-w.result in
-    let part : Part (maybe_in (shape x.v.g) (viewed x.v x.main.now x.ram.now) (take x.count x.ps)) (try_of x.v x.main.now x.ram.now (key_is x.key)) (cost_of x.v x.main.now x.ram.now (key_is x.key)) (per_page x.v) c.loop-below.below w.start w.opened w.da_pages (stop_of w.end)
-    = record { found = c.in_block-w.ensures.found; price = c.in_block-w.ensures.pages } in
+    let w = c.in_block-first.result in
+    let part : Part (maybe_in (shape x.v.g) (viewed x.v x.main.now x.ram.now) (take x.count x.ps)) (try_of x.v x.main.now x.ram.now (key_is x.key)) (cost_of x.v x.main.now x.ram.now (key_is x.key)) (per_page x.v) c.loop-below.below w.1 w.0.opened w.0.da_pages (stop_of w.0.end)
+    = record { found = c.in_block-first.ensures.found; price = c.in_block-first.ensures.pages } in
     omega (
       arith,
       part_most c.loop-below.invariant part,

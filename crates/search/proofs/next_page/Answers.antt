@@ -10,7 +10,9 @@ use Rattle.layout.specs.Keys.{Key}
 use Rattle.laws.specs.TopBits.{cleared_less, top_left}
 use Rattle.geometry.specs.declared.Geometry.{Geometry}
 use Rattle.keys.specs.Key.{key_is}
-use Rattle.items.specs.Scans.{last_entry}
+use Rattle.std.specs.Prelude.{Some, None}
+use Rattle.items.specs.Scans.{last_entry, place_of, place_some, place_none}
+use Rattle.search.proofs.Places.{Place}
 use Rattle.search.specs.Tries.{page_start, entry_of}
 use Rattle.search.proofs.Tries.{vain_first, vain_few, vain_next, vain_newest, vain_opened, some_newest, some_opened}
 use Rattle.search.proofs.next_page.Goals as goal
@@ -25,28 +27,37 @@ loop-left-init c = vain_first c.args.bits (entry_of c.args.g (key_is c.args.key)
 pub overflow_add-opened : goal.overflow_add-opened
 overflow_add-opened c = omega (arith, vain_few c.loop-left.invariant)
 
--- its newest entry
-entry_is : (g : Geometry) (key : Key) (from : ℕ) (main : List ℕ) (f start entry : ℕ) → start ≡ page_start g (from + f)
-    → entry ≡ last_entry main start (entries_per_page g.chip.unit) key → entry ≡ entry_of g key from main f
-entry_is g key from main f start entry s e = rw s at e
+module _ (g : Geometry) (key : Key) (from : ℕ) (main : List ℕ) (f : ℕ) {r : Place} {start : ℕ} (start_is : start ≡ page_start g (from + f))
+    (is : r ≡ place_of (last_entry main start (entries_per_page g.chip.unit) key)) where
+  -- its newest entry
+  there : r ≡ place_of (entry_of g key from main f)
+  there = rw start_is at is
 
-pub returns-then-entry-gt0 : goal.returns-then-entry-gt0
-returns-then-entry-gt0 c =
+  has_one : (e : ℕ) → r ≡ Some e → entry_of g key from main f ≡ suc e
+  has_one e s = place_some _ e (rw s at there)
+
+  has_none : r ≡ None → entry_of g key from main f ≡ 0
+  has_none s = place_none _ (rw s at there)
+
+pub returns-in-Some : goal.returns-in-Some
+returns-in-Some c =
     let x = c.args in
     let I = c.loop-left.invariant in
     let f = c.top-f.result in
     let top = c.top-f.ensures in
-    let e = entry_is x.g (key_is x.key) x.from x.main.now f c.page_start-start.result c.find_in_page-entry.result c.page_start-start.ensures c.find_in_page-entry.ensures in
-    let h : 0 < entry_of x.g (key_is x.key) x.from x.main.now f = omega (arith, e, c.if-entry-gt0.true) in
+    let k = c.in-Some.entry in
+    let e = has_one x.g (key_is x.key) x.from x.main.now f c.page_start.ensures c.find_in_page.ensures k c.in-Some.is in
+    let h : 0 < entry_of x.g (key_is x.key) x.from x.main.now f = omega (arith, e) in
     let n = some_newest I f top h in
     let s : suc f - 1 ≡ f = omega arith in
+    let z : k ≡ entry_of x.g (key_is x.key) x.from x.main.now f - 1 = omega (arith, e) in
     record {
       pages = record {
         left = rw (n, s) (top_left I.shown f top c.without-left.result c.without-left.ensures).shown;
         opened = some_opened I f top h;
       };
       none = λ z. absurd (omega (arith, n));
-      some = λ p. rw (n, s) (refl, e);
+      hit = rw n (ap (λ (y : ℕ). Some (record { page = f; entry = y })) z);
     }
 
 pub loop-left-smaller : goal.loop-left-smaller
@@ -56,9 +67,8 @@ loop-left-smaller c =
 pub loop-left-preserved : goal.loop-left-preserved
 loop-left-preserved c =
     let x = c.args in
-    let f = c.top-f.result in
-    let e = entry_is x.g (key_is x.key) x.from x.main.now f c.page_start-start.result c.find_in_page-entry.result c.page_start-start.ensures c.find_in_page-entry.ensures in
-    vain_next c.loop-left.invariant f c.top-f.ensures c.without-left.result c.without-left.ensures (omega (arith, e, c.if-entry-gt0.false))
+    vain_next c.loop-left.invariant c.top-f.result c.top-f.ensures c.without-left.result c.without-left.ensures
+    (has_none x.g (key_is x.key) x.from x.main.now c.top-f.result c.page_start.ensures c.find_in_page.ensures c.in_default.is)
 
 -- none is left
 pub returns : goal.returns
@@ -71,6 +81,6 @@ returns c =
         left = λ i k. rw n (bit_zero i ∙ sym (ap (λ (t : Bool). t && bit c.args.bits i) (le-ltb i 0 (omega arith))));
         opened = vain_opened I z;
       };
-      none = λ h. (refl, refl);
-      some = λ h. absurd (omega (arith, n));
+      none = λ h. refl;
+      hit = rw n refl;
     }
