@@ -1,5 +1,5 @@
 -- The code's edit as the layout's: its parts, the places that it takes, and whether there is room for it.
-use Rattle.std.specs.Prelude.{cond, ◌&&◌, ℕ, leb}
+use Rattle.std.specs.Prelude.{cond, ◌&&◌, Option, Some, None, ℕ, leb}
 use Rattle.std.proofs.Math.Option.{none, some}
 use Rattle.layout.specs.Geometry.{Geometry, record_capacity, deletion_capacity}
 use Rattle.layout.specs.Refusals as refusal
@@ -18,6 +18,17 @@ edit_is (Delete j) = record { deletes = some j; inserts = none }
 edit_is (Replace j r) = record { deletes = some j; inserts = some (record_is r) }
 
 -- ---- its parts
+
+-- the number of the record that it deletes, and the record that it inserts, as the code's options
+abbrev pub deleted : Edit → Option ℕ
+deleted (Insert r) = None
+deleted (Delete j) = Some j
+deleted (Replace j r) = Some j
+
+abbrev pub inserted : Edit → Option Record
+inserted (Insert r) = Some r
+inserted (Delete j) = None
+inserted (Replace j r) = Some r
 
 -- the number of the record that it deletes; 0 where it deletes none
 abbrev pub old_number : Edit → ℕ
