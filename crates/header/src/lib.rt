@@ -10,9 +10,9 @@ ghost use Rattle.state.specs.Contract.{state_is, call_of, volume};
 ghost use Rattle.state.specs.Judge.{GoodFits};
 ghost use Rattle.header.specs.Header.{idle_judgement, pending_is, call_words};
 
-use geometry::{Sizes, areas};
+use geometry::{Geometry, Sizes, areas};
 use keys::Key;
-use state::{Judgement, Record, Request, State};
+use state::{Record, Refusal, Request, State};
 
 // Its words: the state's are S, R, D, k, n, d.
 const KIND: usize = 6;
@@ -122,21 +122,15 @@ pub fn pending_in(ram: &[u8]) -> Pending
 }
 
 // Judges a state that is handed in: refusals 1 and 2, then 10 where a call is pending.
-pub fn judge(s: State, main: &[u8], spare: &[u8], ram: &[u8]) -> Judgement
+pub fn judge(s: State, main: &[u8], spare: &[u8], ram: &[u8]) -> Result<Geometry, Refusal>
     ensures equal { result ≡ idle_judgement (volume s main.now spare.now ram.now) }
     ensures fits { GoodFits (on_pages (volume s main.now spare.now ram.now)) result }
 {
-    match state::judge(s, main, spare, ram) {
-        Judgement::Refused(i) => {
-            return Judgement::Refused(i);
-        }
-        Judgement::Good(g) => {
-            if word(ram, KIND) != NONE {
-                return Judgement::Refused(state::PENDING);
-            }
-            return Judgement::Good(g);
-        }
+    let g = state::judge(s, main, spare, ram)?;
+    if word(ram, KIND) != NONE {
+        return Err(Refusal::Pending);
     }
+    Ok(g)
 }
 
 // ---- what is stored
