@@ -2,14 +2,14 @@
 #![tactic(auto)]
 
 ghost use Rattle.std.specs.Prelude.{◌≡◌, false, List, ℕ, ◌<◌, ◌≤◌, length, replicate};
-ghost use Rattle.layout.specs.Geometry.{record_capacity, deletion_capacity, spare_size, ram_size};
+ghost use Rattle.layout.specs.Geometry.{spare_size, ram_size};
 ghost use Rattle.laws.specs.Done.{done_count};
 ghost use Rattle.geometry.specs.Shape.{shape, Sound};
 ghost use Rattle.keys.specs.Key.{key_is};
 ghost use Rattle.state.specs.Judge.{VolumeFits};
 ghost use Rattle.planning.specs.Edits.{Room, programs_in};
 ghost use Rattle.changes.specs.Edits.{edit_is, deleted, inserted, counted_state};
-ghost use Rattle.changes.specs.Edits.{full_at, deletions_full_at, room_refusal};
+ghost use Rattle.changes.specs.Edits.{room_refusal};
 ghost use Rattle.changes.specs.Filters.{DeletionFilters, EntryFilter};
 ghost use Rattle.changes.specs.Tasks.{change_refusal, Carried, HasRoom, Prepared, task_on, task_slots, task_bytes, TaskFilters, task_plan, task_result};
 ghost use Rattle.layout.specs.Flash.{flash_of};
@@ -18,7 +18,7 @@ use geometry::{Geometry, areas};
 use keys::Key;
 use plan::{Plan, Span};
 use planning::Slots;
-use state::{Progress, Record, State};
+use state::{Progress, Record, Refusal, State};
 
 // What a change does: it inserts a record, deletes the record of a number, or both.
 #[derive(Clone, Copy)]
@@ -77,44 +77,18 @@ fn slots(t: Task) -> Slots
 
 // ---- refusals 5 and 6
 
-// 5 if there is no room for one more record.
-fn record_refusal(g: Geometry, n: u32) -> u32
-    requires { Sound g }
-    ensures { result ≡ full_at (record_capacity (shape g)) n }
-{
-    if g.record_capacity() <= n as usize {
-        return state::FULL;
-    }
-    state::ACCEPTED
-}
-
-// 6 if there is none for one more deletion.
-fn deletion_refusal(g: Geometry, d: u32) -> u32
-    requires { Sound g }
-    ensures { result ≡ deletions_full_at (deletion_capacity (shape g)) d }
-{
-    if g.deletion_capacity() <= d as usize {
-        return state::DELETIONS_FULL;
-    }
-    state::ACCEPTED
-}
-
 // 5, then 6, of what the edit adds; accepted where there is room for it.
-pub fn room_refusal(g: Geometry, s: State, e: Edit) -> u32
+pub fn room_refusal(g: Geometry, s: State, e: Edit) -> Result<(), Refusal>
     requires { Sound g }
     ensures { result ≡ room_refusal (shape g) s.records s.deletions (edit_is e) }
 {
-    match e {
-        Edit::Insert(_) => record_refusal(g, s.records),
-        Edit::Delete(_) => deletion_refusal(g, s.deletions),
-        Edit::Replace(_, _) => {
-            let i = record_refusal(g, s.records);
-            if i != state::ACCEPTED {
-                return i;
-            }
-            deletion_refusal(g, s.deletions)
-        }
+    if e.inserts().is_some() && g.record_capacity() <= s.records as usize {
+        return Err(Refusal::Full);
     }
+    if e.deletes().is_some() && g.deletion_capacity() <= s.deletions as usize {
+        return Err(Refusal::DeletionsFull);
+    }
+    Ok(())
 }
 
 // ---- the new bytes and the new filters
@@ -205,15 +179,15 @@ pub fn plan_of(t: Task) -> Plan
 }
 
 // 7 of a change by its plan, whatever the other bytes; accepted where all is fresh that it programs.
-pub fn fresh_refusal(t: Task, p: Plan, spare: &[u8]) -> u32
+pub fn fresh_refusal(t: Task, p: Plan, spare: &[u8]) -> Result<(), Refusal>
     requires { Sound t.g × Prepared t p × (spare_size (shape t.g) ≤ length spare.now) }
     ensures { (main ram : List ℕ) → ram_size (shape t.g) ≤ length ram
         → result ≡ change_refusal (shape t.g) (task_on t main spare.now ram) (edit_is t.edit) }
 {
     if !plan::fresh(p, spare) {
-        return state::NOT_FRESH;
+        return Err(Refusal::NotFresh);
     }
-    state::ACCEPTED
+    Ok(())
 }
 
 // How many operations of a change count as done, by its plan and the spare area alone.
