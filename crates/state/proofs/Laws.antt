@@ -10,10 +10,14 @@ use Rattle.layout.specs.Geometry as layout
 use Rattle.layout.specs.Flash.{Flash}
 use Rattle.layout.specs.Calls.{Volume, bad_state, too_short}
 use Rattle.laws.specs.Lengths.{long_of}
-use Rattle.geometry.specs.Shape.{geometry_for, shape, Sound, shaped_by}
+use Rattle.geometry.specs.Shape.{geometry_for, shape, Sound, shaped_by, shaped_of, GoodSound}
 use Rattle.geometry.specs.declared.Geometry.{Geometry}
-use Rattle.std.specs.Prelude.{Option, Some, None, Ok, Err, is_some, unwrap_or}
+use Rattle.std.specs.Prelude.{Option, Some, None, Result, Ok, Err, is_some, unwrap_or, ok_or}
+use Rattle.std.specs.Result.{result_ok}
+use Rattle.std.proofs.Common.{subst}
+use Rattle.state.specs.declared.Refusal.{Refusal}
 use Rattle.state.specs.declared.Refusal.TheVariants.{BadState, TooShort}
+use Rattle.state.proofs.Refusals.{err_or}
 use Rattle.state.specs.Judge.{judgement_of, VolumeFits, FormatFits}
 
 good_is : (t : Bool) (sizes : layout.Sizes) → is_some (shaped_by t sizes) ≡ t
@@ -29,6 +33,22 @@ shaped_some true sizes r g p q = (refl, ap (λ o. unwrap_or o g) (sym q ∙ p))
 shaped_some false sizes r g p q =
     let z : false ≡ true = ap is_some (sym p ∙ q) in
     (z, cc)
+
+-- what `ok_or` leaves of an answer to sizes: where it is an error they are not allowed, where it is a geometry it is theirs, and sound
+module _ (sizes : layout.Sizes) (r : Option Geometry) (k : Result Geometry Refusal) (is : r ≡ shaped_of sizes) (ok : r ≡ result_ok k) where
+  pub not_shaped : (i : Refusal) → k ≡ Err i → layout.allowed sizes ≡ false
+  not_shaped i was = shaped_none (layout.allowed sizes) sizes r is (ok ∙ ap result_ok was)
+
+  pub which_error : (e i : Refusal) → k ≡ ok_or r e → k ≡ Err i → i ≡ e
+  which_error e i value was =
+      let none : r ≡ None = ok ∙ ap result_ok was in
+      ap (λ a. err_or e a) (sym was ∙ value ∙ ap (λ o. ok_or o e) none)
+
+  pub is_shaped : (g : Geometry) → k ≡ Ok g → GoodSound r → (layout.allowed sizes ≡ true) × (g ≡ geometry_for sizes) × Sound g
+  is_shaped g was sound =
+      let some : r ≡ Some g = ok ∙ ap result_ok was in
+      let a = shaped_some (layout.allowed sizes) sizes r g is some in
+      (a.0, a.1, subst (λ o. GoodSound o) some sound)
 
 -- n or d above its capacity, or d above n
 abbrev pub counts : Geometry → layout.State → Bool
