@@ -5,7 +5,6 @@ use mathlib.Core.Path.{◌≡◌, refl, sym, ap, ◌∙◌}
 use mathlib.Core.Bool.{Bool, true, false, cond, ◌&&◌}
 use mathlib.Core.List.{List, []}
 use Prim.Native.Nat.{ℕ, ◌≤◌, ◌<◌}
-use native.Mathlib.Omega.{arith}
 use lib.ListN.{length}
 use Rattle.layout.specs.Geometry.{Geometry, ram_size}
 use Rattle.layout.specs.Flash.{Flash, Planned, plan_ops, all_fresh}
@@ -69,7 +68,7 @@ module _ (g : Geometry) (v : Volume) (e : Edit) where
   pub change_full : (i : Refusal) → Err i ≡ room_refusal g v.state.records v.state.deletions (edit_is e) → Err i ≡ change_refusal g v (edit_is e)
   change_full i is = by (one (edit_is e).inserts && no_room g v) (one (edit_is e).deletes && no_deletion g v) _ is
     where
-      by : (a b : Bool) (x : std.Result Unit Refusal) → Err i ≡ cond a (Err Full) (cond b (Err DeletionsFull) (Ok tt))
+      by : (a b : Bool) (x : std.Result Unit Refusal) → Err i ≡ cond a (Err Full) (cond b (Err DeletionsFull) (Ok (tt {0})))
           → Err i ≡ cond a (Err Full) (cond b (Err DeletionsFull) x)
       by true b x q = q
       by false true x q = q

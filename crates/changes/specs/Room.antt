@@ -1,6 +1,6 @@
 -- Whether there is room for a change, by the tests of 5 and of 6.
 use Rattle.std.specs.Prelude.{◌≡◌, refl, Bool, true, false, cond, ◌&&◌, Result, Ok, Err, ℕ, leb}
-use Rattle.std.proofs.Common.{arith, leb-false}
+use Rattle.std.proofs.Common.{leb-false}
 use Rattle.std.proofs.lemmas.Bool.{lt-leb}
 use Rattle.layout.specs.Geometry.{Geometry, record_capacity, deletion_capacity}
 use Rattle.layout.specs.Calls.{one}

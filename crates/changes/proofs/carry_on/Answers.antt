@@ -1,22 +1,16 @@
-use mathlib.Core.Path.{◌≡◌, refl, sym, ap, ◌∙◌}
+use mathlib.Core.Path.{◌≡◌, refl, ap, ◌∙◌}
 use mathlib.Core.List.{List}
 use Prim.Native.Nat.{ℕ, ◌+◌, ◌≤◌}
 use native.Mathlib.Omega.{arith}
 use lib.ListN.{length}
 use Rattle.geometry.specs.Shape.{shape}
-use Rattle.state.specs.Contract.{record_is}
 use Rattle.plan.specs.declared.Span.{Span}
 use Rattle.plan.specs.Plans.{PlanFits, count_fits, whole_of}
 use Rattle.plan.specs.declared.Plan.{Plan}
 use Rattle.planning.specs.declared.Slots.{Slots}
 use Rattle.changes.specs.declared.Task.{Task}
-use Rattle.changes.specs.Edits.{old_number, new_record, record_number}
-use Rattle.changes.specs.Filters.{FiltersOf}
-use Rattle.keys.specs.Key.{key_is}
-use Rattle.state.specs.declared.Record.{Record}
 use Rattle.state.specs.Judge.{VolumeFits}
-use Rattle.planning.specs.New.{new_bytes}
-use Rattle.planning.specs.Edits.{numbers_of, edit_fits}
+use Rattle.planning.specs.Edits.{edit_fits}
 use Rattle.changes.specs.Tasks.{task_on, task_slots, task_bytes, TaskFilters, task_plan, Prepared}
 use Rattle.changes.proofs.CarryLaws.{plan_as, Parts, total_is, carried_all, carried_some}
 use Rattle.changes.proofs.carry_on.Goals as goal

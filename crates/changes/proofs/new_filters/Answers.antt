@@ -1,4 +1,4 @@
-use Rattle.std.proofs.Common.{◌≡◌, Some, None, List, ℕ, sym, ap, ◌∙◌, arith, length, drop}
+use Rattle.std.proofs.Common.{◌≡◌, Some, None, List, ℕ, sym, ap, ◌∙◌, length, drop}
 use Rattle.geometry.specs.Shape.{shape}
 use Rattle.changes.proofs.NewLaws.{DeletionPart, deletion_put, no_deletion, parts_filled}
 use Rattle.changes.proofs.new_filters.Goals.{in-Some, in_default}
@@ -14,7 +14,7 @@ returns-in-Some-inserts c =
     let s = c.split_at_mut-of_deletion in
     let D : DeletionPart (shape t.g) t.state.deletions c.args.ram.now c.match-deletes.of_deletion c.deletes.result
     = elim c.match-deletes.branch [
-      in-Some w ↦ deletion_put (shape t.g) t.state.deletions c.args.ram.now w.in-Some.old _ _ _ w.in-Some.is w.of_deletion-is w.put_deletion_filters.ensures
+      | in-Some w ↦ deletion_put (shape t.g) t.state.deletions c.args.ram.now w.in-Some.old _ _ _ w.in-Some.is w.of_deletion-is w.put_deletion_filters.ensures
       | in_default w ↦ no_deletion (shape t.g) t.state.deletions c.args.ram.now _ _ w.in_default.is
     ] in
     let back : length c.put_entry_filter.new.out ≡ 256
@@ -29,7 +29,7 @@ returns-in_default-inserts c =
     let s = c.split_at_mut-of_deletion in
     let D : DeletionPart (shape t.g) t.state.deletions c.args.ram.now c.match-deletes.of_deletion c.deletes.result
     = elim c.match-deletes.branch [
-      in-Some w ↦ deletion_put (shape t.g) t.state.deletions c.args.ram.now w.in-Some.old _ _ _ w.in-Some.is w.of_deletion-is w.put_deletion_filters.ensures
+      | in-Some w ↦ deletion_put (shape t.g) t.state.deletions c.args.ram.now w.in-Some.old _ _ _ w.in-Some.is w.of_deletion-is w.put_deletion_filters.ensures
       | in_default w ↦ no_deletion (shape t.g) t.state.deletions c.args.ram.now _ _ w.in_default.is
     ] in
     let back : length s.result.1.now ≡ 256
