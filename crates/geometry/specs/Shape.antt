@@ -1,5 +1,5 @@
 -- The code's sizes, geometry, areas and places as the layout's, and what makes a geometry sound.
-use Rattle.std.specs.Prelude.{◌<◌, ◌≤◌, ◌≡◌, Bool, ◌&&◌, cond, Option, Some, None}
+use Rattle.std.specs.Prelude.{◌<◌, ◌≤◌, ◌≡◌, Bool, true, false, ◌&&◌, cond, Option, Some, None}
 use Prim.{Unit}
 use Rattle.memory.specs.Power.{PowerOfTwo}
 use Rattle.layout.specs.Geometry as layout
@@ -10,6 +10,7 @@ use Rattle.geometry.specs.declared.chip.Chip.{Chip}
 use Rattle.geometry.specs.declared.Geometry.{Geometry}
 use Rattle.geometry.specs.declared.areas.Area.{Area}
 use Rattle.geometry.specs.declared.areas.Place.{Place}
+use Rattle.geometry.specs.declared.areas.Place.TheVariants.{Ram, Flash}
 use Rattle.geometry.specs.Rows.{row_for}
 
 abbrev pub sizes_is : Sizes → layout.Sizes
@@ -69,7 +70,8 @@ abbrev pub area : Area → items.Area
 area a = record { size = a.size; per_page = a.per_page; first = a.first; ram = a.ram }
 
 abbrev pub place : Place → items.Place
-place p = record { in_ram = p.in_ram; at = p.at }
+place (Ram at) = record { in_ram = true; at = at }
+place (Flash at) = record { in_ram = false; at = at }
 
 -- sizes of an area of a sound geometry
 pub record AreaSound (a : Area) : Type 0 where

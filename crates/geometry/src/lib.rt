@@ -252,7 +252,9 @@ fn hashes_allowed(k: u32) -> bool
 fn rest_allowed(sizes: Sizes) -> bool
     ensures { result ≡ rest_allowed (sizes_is sizes) }
 {
-    blocks_allowed(sizes.ra_blocks) && blocks_allowed(sizes.da_blocks) && hashes_allowed(sizes.hash_count)
+    blocks_allowed(sizes.ra_blocks)
+        && blocks_allowed(sizes.da_blocks)
+        && hashes_allowed(sizes.hash_count)
 }
 
 // The geometry of these sizes, where they are allowed.

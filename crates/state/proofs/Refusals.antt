@@ -1,5 +1,5 @@
 -- Refusals 1 and 2 of the layout's calls, as the judge of a volume or of a format tells them.
-use mathlib.Core.Path.{◌≡◌, refl, ap}
+use mathlib.Core.Path.{◌≡◌, ap}
 use mathlib.Core.Bool.{Bool, true, false, cond, false≢true}
 use Rattle.std.specs.Prelude as std
 use Rattle.std.specs.Prelude.{Ok, Err, is_err}

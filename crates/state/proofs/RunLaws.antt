@@ -18,7 +18,7 @@ use Rattle.layout.specs.Budgets.{Step, store, Memory, memory, last_steps, taken_
 use Rattle.laws.specs.StepLaws.{last_cut, last_length}
 use Rattle.std.specs.Prelude as std
 use Rattle.std.specs.Prelude.{Ok, Err}
-use Rattle.state.specs.Contract.{CutEffect, cut_of, cut_by, state_is, number_of, outcome_of, volume, Effect, effect_of, change_effect, Ran}
+use Rattle.state.specs.Contract.{CutEffect, cut_of, cut_by, state_is, number_of, outcome_of, Effect, effect_of, change_effect, Ran}
 use Rattle.state.specs.declared.State.{State}
 use Rattle.state.specs.declared.Refusal.{Refusal}
 use Rattle.state.specs.declared.Cut.{Cut}

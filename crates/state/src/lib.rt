@@ -124,7 +124,9 @@ fn too_short(g: Geometry, main: &[u8], spare: &[u8], ram: &[u8]) -> bool
     requires { Sound g }
     ensures { result ≡ too_short (shape g) (flash_of main.now spare.now) (pages ram.now) }
 {
-    main.len() < g.main_size() || spare.len() < g.spare_size() || ram.len() < g.ram_size() + TAIL_SIZE
+    main.len() < g.main_size()
+        || spare.len() < g.spare_size()
+        || ram.len() < g.ram_size() + TAIL_SIZE
 }
 
 // Judges a state that is handed in: its geometry, or refusal 1 or 2.

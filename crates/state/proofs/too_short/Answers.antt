@@ -32,10 +32,10 @@ returns-then-spare-spare_size c =
     let size = main_size (shape x.g) in
     rw (tests x.g c.requires x.main.now x.spare.now x.ram.now, t)
     (elim c.if-main-main_size.branch [
-      then-main-main_size w ↦ let a : length x.main.now < size = rw c.main_size.ensures at w.if-main-main_size.true in rw (lt-ltb _ _ a) refl
-    | else-main-main_size w ↦
-        let a : size ≤ length x.main.now = rw c.main_size.ensures at w.if-main-main_size.false in
-        rw (le-ltb _ _ a, ← w.spare_size.ensures, ← w.value-is, t) refl
+      | then-main-main_size w ↦ let a : length x.main.now < size = rw c.main_size.ensures at w.if-main-main_size.true in rw (lt-ltb _ _ a) refl
+      | else-main-main_size w ↦
+          let a : size ≤ length x.main.now = rw c.main_size.ensures at w.if-main-main_size.false in
+          rw (le-ltb _ _ a, ← w.spare_size.ensures, ← w.value-is, t) refl
     ])
 
 pub returns-else-spare-spare_size : goal.returns-else-spare-spare_size
@@ -45,8 +45,8 @@ returns-else-spare-spare_size c =
     let size = main_size (shape x.g) in
     rw (tests x.g c.requires x.main.now x.spare.now x.ram.now, c.ram_size.ensures)
     (elim c.if-main-main_size.branch [
-      then-main-main_size w ↦ absurd (false≢true (sym f ∙ w.value-is ∙ lt-ltb _ _ w.if-main-main_size.true))
-    | else-main-main_size w ↦
-        let a : size ≤ length x.main.now = rw c.main_size.ensures at w.if-main-main_size.false in
-        rw (le-ltb _ _ a, ← w.spare_size.ensures, ← w.value-is, f) refl
+      | then-main-main_size w ↦ absurd (false≢true (sym f ∙ w.value-is ∙ lt-ltb _ _ w.if-main-main_size.true))
+      | else-main-main_size w ↦
+          let a : size ≤ length x.main.now = rw c.main_size.ensures at w.if-main-main_size.false in
+          rw (le-ltb _ _ a, ← w.spare_size.ensures, ← w.value-is, f) refl
     ])
