@@ -12,7 +12,7 @@ use Rattle.layout.specs.Calls.{key_index}
 use Rattle.laws.specs.Lengths.{Readable}
 use Rattle.laws.specs.Units.{UnitSound}
 use Rattle.geometry.specs.declared.Geometry.{Geometry}
-use Rattle.geometry.specs.Shape.{shape, Sound}
+use Rattle.geometry.specs.Shape.{shape, unit_sound}
 use Rattle.geometry.specs.Bounds.{index_le}
 
 -- bit x of an array of bytes; bit 0 is the lowest bit of a byte
@@ -43,12 +43,12 @@ pub record IndexFits (u : ℕ) (ix : Index) (Z : ℕ) (main ram : List ℕ) : Ty
   pub on_flash_lem : full_block u ix Z * block u ≤ length main
   pub in_ram_lem : ix.ska + page u ≤ length ram
 
--- the index over the entries, in lent bytes that hold the volume of a sound geometry
-pub index_fits : (g : Geometry) → Sound g → (main ram : List ℕ) → Readable (shape g) main ram
+-- the index over the entries, in lent bytes that hold the volume
+pub index_fits : (g : Geometry) → (main ram : List ℕ) → Readable (shape g) main ram
     → IndexFits g.chip.unit (key_index (shape g)) (full_sets (shape g)) main ram
-index_fits g sound main ram read = record {
-  unit = sound.unit;
-  near = omega (arith, index_le g sound);
+index_fits g main ram read = record {
+  unit = unit_sound g.chip;
+  near = omega (arith, index_le g);
   on_flash_lem = omega (arith, read.main_fits);
   in_ram_lem = omega (arith, read.ram_fits);
 }

@@ -88,7 +88,7 @@ fn shifted(x: usize, e: usize) -> usize
 // ---- the levels of an index, by the unit, which is 2 ^ e
 
 fn ska_level(chip: Chip, e: usize, ix: Index, flash: usize) -> Level
-    requires { (chip.unit ≤ 32) × (e < 6) }
+    requires { e < 6 }
     ensures { result ≡ ska_level chip.unit e (index_of ix) flash }
 {
     Level {
@@ -101,7 +101,7 @@ fn ska_level(chip: Chip, e: usize, ix: Index, flash: usize) -> Level
 
 // Sixteen flushes lie side by side, so that L1 is one group.
 fn l1_level(chip: Chip, e: usize, ix: Index, partitioned: usize) -> Level
-    requires { (chip.unit ≤ 32) × (e < 6) × (ix.first ≤ 20000) }
+    requires { e < 6 }
     ensures { result ≡ l1_level chip.unit e (index_of ix) partitioned }
 {
     Level {
@@ -114,7 +114,7 @@ fn l1_level(chip: Chip, e: usize, ix: Index, partitioned: usize) -> Level
 
 // The current set after c rounds.
 fn set_level(chip: Chip, e: usize, ix: Index, c: usize, full: usize) -> Level
-    requires { (chip.unit ≤ 32) × (e < 6) × (ix.first ≤ 20000) × (0 < c) × (c ≤ 128) × (log2up c ≤ e + 2) }
+    requires { (e < 6) × (0 < c) × (c ≤ 128) × (log2up c ≤ e + 2) }
     ensures { result ≡ set_level chip.unit e (index_of ix) c full }
 {
     Level {
@@ -127,7 +127,7 @@ fn set_level(chip: Chip, e: usize, ix: Index, c: usize, full: usize) -> Level
 
 // Full set k.
 fn full_level(chip: Chip, ix: Index, k: usize) -> Level
-    requires { (chip.unit ≤ 32) × (ix.first ≤ 20000) × (k ≤ 2048) }
+    requires { k ≤ 2048 }
     ensures { result ≡ full_level chip.unit (index_of ix) k }
 {
     Level {
@@ -155,7 +155,7 @@ fn stage_of(chip: Chip, e: usize, filters: usize) -> Stage
 
 // The set that has filter `below` - 1.
 fn level_in_sets(chip: Chip, e: usize, ix: Index, st: Stage, below: usize) -> Level
-    requires unit_is { UnitIs chip.unit e × (ix.first ≤ 20000) × (st.rounds < side_blocks chip.unit) }
+    requires unit_is { UnitIs chip.unit e × (st.rounds < side_blocks chip.unit) }
     requires below_bound { (below ≤ st.full + filters_per_round * st.rounds) × (0 < below) × (below ≤ 2 ^ 20) }
     ensures { result ≡ level_in_sets chip.unit e (index_of ix) st below }
 {

@@ -24,12 +24,12 @@ unit c = exponent_is c.args.fs.chip.unit c.exponent-e.result c.requires.by_index
 pub l1_level-l1-requires : goal.l1_level-l1-requires
 l1_level-l1-requires c =
     let U = unit (goal.at.l1_level-l1-requires c).After-exponent-e in
-    (U.most, U.small, c.requires.by_index.0.2.near)
+    U.small
 
 pub ska_level-ska-requires : goal.ska_level-ska-requires
 ska_level-ska-requires c =
     let U = unit (goal.at.ska_level-ska-requires c).After-exponent-e in
-    (U.most, U.small)
+    U.small
 
 pub recent_block-requires : goal.recent_block-requires
 recent_block-requires c =
@@ -65,7 +65,7 @@ level_in_sets-l-requires c =
     let U = unit (goal.at.level_in_sets-l-requires c).After-exponent-e in
     let E = euclid (x.fs.count / 8 / 16) (4 * x.fs.chip.unit) (omega (arith, U.some)) in
     record {
-      unit_is = (U, p.0.2.near, rw c.stage_of.ensures E.small);
+      unit_is = (U, rw c.stage_of.ensures E.small);
       below_bound = (
         rw c.stage_of.ensures (rw (rounds_are x.fs.chip.unit x.fs.count U.some) c.if-below-start.false),
         p.2,

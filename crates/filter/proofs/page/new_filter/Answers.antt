@@ -17,21 +17,21 @@ loop-i-init c = (
 
 pub overflow_mul-i : goal.overflow_mul-i
 overflow_mul-i c =
-    let P = c.requires.unit_sound in
+    let P = c.requires.count_bound in
     let l : c.loop-i.i < 8 * c.args.chip.unit - 1 = omega (arith, c.entries_per_page-last.ensures, c.loop-i-test.true) in
-    omega (arith, word_in c.args.chip.unit _ _ c.loop-i.i _ l P.2 P.3)
+    omega (arith, word_in c.args.chip.unit _ _ c.loop-i.i _ l P.1 P.2)
 
 pub overflow_add-at : goal.overflow_add-at
 overflow_add-at c =
-    let P = c.requires.unit_sound in
+    let P = c.requires.count_bound in
     let l : c.loop-i.i < 8 * c.args.chip.unit - 1 = omega (arith, c.entries_per_page-last.ensures, c.loop-i-test.true) in
-    omega (arith, word_in c.args.chip.unit _ _ c.loop-i.i _ l P.2 P.3)
+    omega (arith, word_in c.args.chip.unit _ _ c.loop-i.i _ l P.1 P.2)
 
 pub hashed_at-old-requires : goal.hashed_at-old-requires
 hashed_at-old-requires c =
-    let P = c.requires.unit_sound in
+    let P = c.requires.count_bound in
     let l : c.loop-i.i < 8 * c.args.chip.unit - 1 = omega (arith, c.entries_per_page-last.ensures, c.loop-i-test.true) in
-    word_in c.args.chip.unit _ _ c.loop-i.i _ l P.2 P.3
+    word_in c.args.chip.unit _ _ c.loop-i.i _ l P.1 P.2
 
 pub loop-i-preserved : goal.loop-i-preserved
 loop-i-preserved c =
