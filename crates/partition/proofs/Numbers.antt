@@ -1,9 +1,11 @@
 -- Numbers that the code computes: pages, widths and places of sets.
-use mathlib.Core.Path.{◌≡◌, refl}
-use Prim.Native.Nat.{ℕ, zero, suc, ◌+◌, ◌-◌, ◌*◌, ◌/◌, ◌%◌, ◌≤◌, ◌<◌}
+use mathlib.Core.Path.{◌≡◌, refl, ◌∙◌}
+use Prim.Native.Nat.{ℕ, zero, suc, ◌+◌, ◌-◌, ◌*◌, ◌/◌, ◌%◌, ◌≤◌, ◌<◌, max}
 use native.Mathlib.Nat.{mul-le-mul_right, mul-le-mul_left, div-mul-le_self, le-div_iff_mul-le}
 use native.Mathlib.Omega.{arith}
 use lib.Pow.{pow_mono}
+use borrow.Author.Tests.{lt-ltb, le-ltb}
+use Rattle.memory.specs.Cases.{either, lt?}
 use Rattle.memory.specs.Power.{log2up}
 use Rattle.memory.specs.Numbers.{euclid}
 use Rattle.layout.specs.Geometry.{sector, page, block}
@@ -13,6 +15,7 @@ use Rattle.laws.specs.Units.{UnitSound}
 use Rattle.partition.specs.Sources.{round_bytes, source_of, page_source}
 use Rattle.fields.specs.declared.Source.{Source}
 use Rattle.partition.specs.declared.PageSource.{PageSource}
+use Rattle.partition.specs.Shared.{together}
 use Rattle.partition.specs.Widths.{old_whole, sector_whole}
 
 -- a set's width and its bounds
@@ -23,10 +26,24 @@ width_of u c r U h e =
     rw e (refl, width_pos u U.0 U.1.power c h, rw w (omega (arith, pow_mono l)))
 
 -- so many fields in a byte
-pub few_pages : (w : ℕ) → 0 < w → w < 8 → (0 < 8 / w) × (8 / w ≤ 8)
+few_pages : (w : ℕ) → 0 < w → w < 8 → (0 < 8 / w) × (8 / w ≤ 8)
 few_pages w p h =
     let E = euclid 8 w p in
     ((le-div_iff_mul-le p).1 (omega arith), omega (arith, E.whole, mul-le-mul_left (8 / w) p))
+
+-- and one, if not a whole one
+pub pages_of : (w : ℕ) → 0 < w → (max (8 / w) 1 ≡ together w) × (max (8 / w) 1 ≤ 8)
+pages_of w p =
+    either (lt? w 8)
+    (λ t.
+    let F = few_pages w p t.1 in
+    let e : max (8 / w) 1 ≡ 8 / w = omega (arith, F.0) in
+    (e ∙ rw (lt-ltb w 8 t.1) refl, omega (arith, F.1)))
+    (λ t.
+    let E = euclid 8 w p in
+    let l : 8 / w ≤ 1 = omega (arith, E.whole, mul-le-mul_left (8 / w) t.1) in
+    let e : max (8 / w) 1 ≡ 1 = omega (arith, l) in
+    (e ∙ rw (le-ltb w 8 t.1) refl, omega (arith, l)))
 
 -- v / w shares of a field
 pub record Shares (v w p gap : ℕ) : Type 0 where

@@ -10,12 +10,11 @@ ghost use Rattle.geometry.specs.Indexes.{index_of};
 ghost use Rattle.fields.specs.Sources.{field_byte, Whole};
 ghost use Rattle.partition.specs.Sources.{page_byte, round_bytes, source_of, page_source};
 ghost use Rattle.partition.specs.Shared.{together, shared_bytes, Shares, set_bytes, InPage};
-ghost use Rattle.partition.specs.Reach.{SourceFits};
+ghost use Rattle.partition.specs.Reach.{SetSound, SourceFits};
 
 use fields::Source;
 use geometry::sets::Set;
 use geometry::{Chip, sets};
-use words::numbers;
 
 // Bytes that the filters of a round have in a page, for each bit of a filter there.
 const ROUND_BYTES: usize = sets::FILTERS_PER_ROUND / 8;
@@ -43,7 +42,7 @@ fn source_of(base: usize, gap: usize, v: usize, w: usize, p: usize) -> Source
 
 // Where page p of the next set takes its bits from.
 fn page_source(chip: Chip, set: Set, p: usize) -> PageSource
-    requires { UnitSound chip.unit × (set.rounds < side_blocks chip.unit) × (set.index.first ≤ 20000) × (p < 2048) }
+    requires { SetSound chip.unit set × (p < 2048) }
     ensures { result ≡ page_source chip.unit (index_of set.index) set.rounds p }
 {
     let c = set.rounds;
@@ -75,7 +74,7 @@ fn page_source(chip: Chip, set: Set, p: usize) -> PageSource
 fn below(e: usize, y: usize, n: usize) -> usize
     ensures { result ≡ min n (e - y) }
 {
-    numbers::lesser(n, numbers::less(e, y))
+    n.min(e.saturating_sub(y))
 }
 
 // ---- L1's bytes for pages that take less than a byte of each filter: made once for all that share that byte
@@ -86,15 +85,12 @@ pub fn pages_together(chip: Chip, set: Set) -> usize
     ensures { (result ≡ together (set_width chip.unit (set.rounds + 1))) × (0 < result) × (result ≤ 8) }
 {
     let w = sets::set_width(chip, set.rounds + 1);
-    if w < 8 {
-        return 8 / w;
-    }
-    1
+    (8 / w).max(1)
 }
 
 // The bytes that page p and those beside it share; where it shares none, `out` stays.
 pub fn shared_bytes(chip: Chip, set: Set, p: usize, main: &[u8], out: &mut [u8])
-    requires unit_sound { UnitSound chip.unit × (set.rounds < side_blocks chip.unit) × (set.index.first ≤ 20000) }
+    requires unit_sound { SetSound chip.unit set }
     requires p_bound { p < set_pages (set.rounds + 1) }
     requires unit_in_bounds { full_block chip.unit (index_of set.index) 0 * block chip.unit ≤ length main.now }
     requires out_len { length out.old ≡ 128 }
@@ -125,9 +121,9 @@ fn l1_bytes(r: PageSource, y: usize, main: &[u8], shared: &[u8], out: &mut [u8])
             low: s.low % 8 * 8,
         };
         fields::field_run(shared, lane, 8 * w, y, out);
-        return;
+    } else {
+        fields::field_run(main, s, w, y, out);
     }
-    fields::field_run(main, s, w, y, out);
 }
 
 // ---- pages of the next set
@@ -138,20 +134,18 @@ fn page_bytes(r: PageSource, y: usize, main: &[u8], shared: &[u8], out: &mut [u8
     requires whole { Whole r.w y × Whole r.w (length out.old) }
     ensures { out.new ≡ tabulate (length out.old) (λ (i : ℕ). page_byte main.now r (y + i)) }
 {
-    let w = r.w;
-    let old = r.old;
     let n = out.len();
     let a = below(r.split, y, n);
     let b = below(r.end, y, n);
-    let from = numbers::less(y, r.split);
-    fields::field_run(main, old, w, y, &mut out[0..a]);
+    let from = y.saturating_sub(r.split);
+    fields::field_run(main, r.old, r.w, y, &mut out[0..a]);
     l1_bytes(r, from, main, shared, &mut out[a..b]);
-    words::fill(&mut out[b..n], 0);
+    out[b..n].fill(0);
 }
 
 // Sectors of a page of the next set from sector j on, so many as `out` holds.
 pub fn set_sectors(chip: Chip, set: Set, j: usize, main: &[u8], shared: &[u8], out: &mut [u8])
-    requires unit_sound { UnitSound chip.unit × (set.rounds < side_blocks chip.unit) × (set.index.first ≤ 20000) }
+    requires unit_sound { SetSound chip.unit set }
     requires j_bound { j < set_pages (set.rounds + 1) * sectors_per_page }
     requires unit_in_bounds { full_block chip.unit (index_of set.index) 0 * block chip.unit ≤ length main.now }
     requires shares { Shares main.now (page_source chip.unit (index_of set.index) set.rounds (j / sectors_per_page)) shared.now }

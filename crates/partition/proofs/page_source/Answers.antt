@@ -7,45 +7,45 @@ use Rattle.partition.proofs.page_source.Goals as goal
 
 pub block_address-side-requires : goal.block_address-side-requires
 block_address-side-requires c =
-    (c.requires.0.1.most, omega (arith, mul-le-mul c.side_block.ensures.1 c.requires.0.1.most))
+    (c.requires.0.0.1.most, omega (arith, mul-le-mul c.side_block.ensures.1 c.requires.0.0.1.most))
 
 pub block_address-first-requires : goal.block_address-first-requires
 block_address-first-requires c =
-    (c.requires.0.1.most, omega (arith, mul-le-mul c.requires.2 c.requires.0.1.most))
+    (c.requires.0.0.1.most, omega (arith, mul-le-mul c.requires.0.2 c.requires.0.0.1.most))
 
 pub overflow_mul-split-2 : goal.overflow_mul-split-2
 overflow_mul-split-2 c =
-    let h : c.args.set.rounds + 1 ≤ 128 = omega (arith, c.requires.0.1.most, c.requires.1) in
-    omega (arith, mul-le-mul_right c.set_width-w.result h, (width_of c.args.chip.unit (c.args.set.rounds + 1) c.set_width-w.result c.requires.0 (omega (arith, c.requires.1)) c.set_width-w.ensures).2)
+    let h : c.args.set.rounds + 1 ≤ 128 = omega (arith, c.requires.0.0.1.most, c.requires.0.1) in
+    omega (arith, mul-le-mul_right c.set_width-w.result h, (width_of c.args.chip.unit (c.args.set.rounds + 1) c.set_width-w.result c.requires.0.0 (omega (arith, c.requires.0.1)) c.set_width-w.ensures).2)
 
 pub overflow_mul-end-2 : goal.overflow_mul-end-2
 overflow_mul-end-2 c =
-    let h : c.args.set.rounds + 1 ≤ 128 = omega (arith, c.requires.0.1.most, c.requires.1) in
-    omega (arith, mul-le-mul_right c.set_width-w.result h, (width_of c.args.chip.unit (c.args.set.rounds + 1) c.set_width-w.result c.requires.0 (omega (arith, c.requires.1)) c.set_width-w.ensures).2)
+    let h : c.args.set.rounds + 1 ≤ 128 = omega (arith, c.requires.0.0.1.most, c.requires.0.1) in
+    omega (arith, mul-le-mul_right c.set_width-w.result h, (width_of c.args.chip.unit (c.args.set.rounds + 1) c.set_width-w.result c.requires.0.0 (omega (arith, c.requires.0.1)) c.set_width-w.ensures).2)
 
 pub source_of-old-requires : goal.source_of-old-requires
 source_of-old-requires c =
-    let w = width_of c.args.chip.unit (c.args.set.rounds + 1) c.set_width-w.result c.requires.0 (omega (arith, c.requires.1)) c.set_width-w.ensures in
-    let v = width_of c.args.chip.unit c.args.set.rounds c.set_width-v.result c.requires.0 (omega (arith, c.requires.1)) c.set_width-v.ensures in
-    let l = c.requires.0.1.most in (
+    let w = width_of c.args.chip.unit (c.args.set.rounds + 1) c.set_width-w.result c.requires.0.0 (omega (arith, c.requires.0.1)) c.set_width-w.ensures in
+    let v = width_of c.args.chip.unit c.args.set.rounds c.set_width-v.result c.requires.0.0 (omega (arith, c.requires.0.1)) c.set_width-v.ensures in
+    let l = c.requires.0.0.1.most in (
       omega (arith, c.block_address-side.ensures, mul-le-mul c.side_block.ensures.1 l),
       omega (arith, c.page_size-page.ensures, l),
       w.1,
-      rw (w.0, v.0) (next_le c.args.chip.unit c.args.set.rounds c.requires.0 c.requires.1),
+      rw (w.0, v.0) (next_le c.args.chip.unit c.args.set.rounds c.requires.0.0 c.requires.0.1),
       omega (arith, v.2),
-      c.requires.3,
+      c.requires.1,
     )
 
 pub source_of-l1-requires : goal.source_of-l1-requires
 source_of-l1-requires c =
-    let w = width_of c.args.chip.unit (c.args.set.rounds + 1) c.set_width-w.result c.requires.0 (omega (arith, c.requires.1)) c.set_width-w.ensures in
-    let l = c.requires.0.1.most in (
-      omega (arith, c.block_address-first.ensures, mul-le-mul c.requires.2 l),
+    let w = width_of c.args.chip.unit (c.args.set.rounds + 1) c.set_width-w.result c.requires.0.0 (omega (arith, c.requires.0.1)) c.set_width-w.ensures in
+    let l = c.requires.0.0.1.most in (
+      omega (arith, c.block_address-first.ensures, mul-le-mul c.requires.0.2 l),
       omega (arith, c.page_address.ensures, l),
       w.1,
-      rw (w.0, c.sector_size.ensures) (sector_le c.args.chip.unit (c.args.set.rounds + 1) c.requires.0 (omega (arith, c.requires.1))),
+      rw (w.0, c.sector_size.ensures) (sector_le c.args.chip.unit (c.args.set.rounds + 1) c.requires.0.0 (omega (arith, c.requires.0.1))),
       omega (arith, c.sector_size.ensures, l),
-      c.requires.3,
+      c.requires.1,
     )
 
 pub returns : goal.returns

@@ -14,7 +14,7 @@ use Rattle.partition.proofs.set_sectors.Goals as goal
 pub page_source-r-requires : goal.page_source-r-requires
 page_source-r-requires c =
     let p = c.requires.unit_sound in
-    (p.0, p.1, p.2, omega (arith, c.requires.j_bound, pages_le c.args.chip.unit (c.args.set.rounds + 1) p.0 (omega (arith, p.1))))
+    (p, omega (arith, c.requires.j_bound, pages_le c.args.chip.unit (c.args.set.rounds + 1) p.0 (omega (arith, p.1))))
 
 pub page_bytes-requires : goal.page_bytes-requires
 page_bytes-requires c =

@@ -11,7 +11,7 @@ use Rattle.partition.proofs.shared_bytes.Goals as goal
 pub page_source-r-requires : goal.page_source-r-requires
 page_source-r-requires c =
     let p = c.requires.unit_sound in
-    (p.0, p.1, p.2, omega (arith, c.requires.p_bound, pages_le c.args.chip.unit (c.args.set.rounds + 1) p.0 (omega (arith, p.1))))
+    (p, omega (arith, c.requires.p_bound, pages_le c.args.chip.unit (c.args.set.rounds + 1) p.0 (omega (arith, p.1))))
 
 pub overflow_add-s : goal.overflow_add-s
 overflow_add-s c =
