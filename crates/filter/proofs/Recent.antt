@@ -17,9 +17,9 @@ use Rattle.layout.specs.Index.{Index, filter_bit, in_full, in_set}
 use Rattle.laws.specs.Units.{UnitIs}
 use Rattle.kernels.specs.Blocks.{Open, Upto}
 use Rattle.kernels.specs.Masks.{has_mask}
-use Rattle.filter.specs.Blocks.{BlockOf, BlockAt}
+use Rattle.filter.specs.Blocks.{BlockAt}
 use Rattle.filter.specs.Filter.{IndexFits}
-use Rattle.filter.specs.Groups.{row_at, level_has, ska_level, l1_level}
+use Rattle.filter.specs.Groups.{row_at, ska_level, l1_level}
 use Rattle.filter.specs.Recent.{MaskOf, OneRow, recent_has, RecentIn, RecentOf}
 use Rattle.filter.specs.declared.groups.Block.{Block}
 use Rattle.filter.specs.declared.groups.Recent.{Recent}
@@ -116,20 +116,6 @@ recent_two rs main ram ps a b lt le A B =
     }
 
 -- ---- the block of the index
-
--- the block of the SKA page, where L1 has none
-pub recent_few : (rs : Recent) (main ram ps : List ℕ) (b : Block) → rs.ska.start ≡ rs.l1.start
-    → BlockOf rs.ska ram rs.below ps b → RecentOf rs main ram ps b
-recent_few rs main ram ps b e B =
-    record {
-      start_le = omega (arith, B.start_le);
-      start_lt = B.start_lt;
-      few = B.few;
-      pairs = rw (← e) B.pairs;
-      shown = upto_same (λ j i. level_has rs.ska ram ps (b.start + (j * 64 + i) - rs.ska.start)) (λ j i. recent_has rs main ram ps (b.start + (j * 64 + i)))
-          (rs.below - b.start) b.words
-          (λ j i h. rw (le-ltb (b.start + (j * 64 + i)) rs.ska.start (omega (arith, B.start_le)))) B.shown;
-    }
 
 -- whole rounds are in sets
 pub rounds_are : (u F : ℕ) → 0 < u → in_full u F * (128 * (4 * u)) + 128 * in_set u F ≡ F / 128 * 128

@@ -132,9 +132,6 @@ module _ {rs : Recent} {first : ℕ} {ps : List ℕ} {main ram w top n k row oth
   pub behind : rs.below - top ≤ 8
   behind = omega (arith, Q.top_is, Q.recent.below_le)
 
-  pub top_le : top ≤ rs.below
-  top_le = omega (arith, Q.top_is)
-
   pub n_le : n ≤ 8
   n_le = omega (arith, Q.n_is)
 

@@ -1,5 +1,5 @@
 -- Filters of two bytes since the last round: the block out of the words of those that are shut, L1's and then those of the SKA page.
-use mathlib.Core.Path.{◌≡◌, refl, sym, ap, ◌∙◌}
+use mathlib.Core.Path.{◌≡◌, sym, ap, ◌∙◌}
 use mathlib.Core.Logic.{◌⊎◌, inl, inr}
 use mathlib.Core.Bool.{Bool, ◌&&◌, not}
 use mathlib.Core.List.{List, [], ◌∷◌}
@@ -114,17 +114,8 @@ module _ (rs : Recent) (ps : List ℕ) (main ram : ℕ) (R : RecentIn rs ps main
         (λ h. inr (parts_2 s t rs.below top words (omega (arith, h.1)) W R.flushes R.order R.below_le h.1))
         (λ h. inl (parts_1 s rs.below top words (omega (arith, h.1)) W))
 
-    pub few_more : (rs.below - top + 3) / 4 ≤ 2
-    few_more = omega (arith, R.below_le)
-
     pub few_words : words ≤ 31
     few_words = omega (arith, whole, R.round)
-
-  pub on_flash_256 : 0 < length ps → rs.l1.exponent ≡ 4 → row_at rs.l1 (get_or ps 0 0) + 256 ≤ main
-  on_flash_256 h four = let w : 2 ^ rs.l1.exponent ≡ 16 = rw four refl in omega (arith, R.on_flash_lem 0 h, w)
-
-  pub in_ram_16 : 0 < length ps → rs.l1.exponent ≡ 4 → row_at rs.ska (get_or ps 0 0) + 16 ≤ ram
-  in_ram_16 h four = let w : 2 ^ rs.l1.exponent ≡ 16 = rw four refl in omega (arith, R.in_ram_lem 0 h, w)
 
   pub size : (0 < rs.below - rs.l1.start) × (rs.below - rs.l1.start ≤ 128)
   size = (omega (arith, R.start_lt), omega (arith, R.below_le, R.round, R.flushes, R.order))

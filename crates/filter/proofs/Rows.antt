@@ -1,11 +1,11 @@
 -- Rows of several positions, one after another: filled in, and the test of all bits.
 use mathlib.Core.Path.{◌≡◌, refl, sym, ap, ◌∙◌}
-use mathlib.Core.Bool.{Bool, true, false, ◌&&◌, and_comm, and-true}
+use mathlib.Core.Bool.{Bool, true, false, ◌&&◌, and_comm}
 use mathlib.Core.List.{List, [], ◌∷◌}
 use Prim.Native.Nat.{ℕ, zero, suc, ◌+◌, ◌*◌, ◌-◌, ◌%◌, ◌^◌, ◌≤◌, ◌<◌}
 use native.Mathlib.Numerals.{add-one}
 use native.Mathlib.Omega.{arith}
-use borrow.Author.Tests.{lt-ltb, le-ltb}
+use borrow.Author.Tests.{le-ltb}
 use lib.Bits.{bit_and}
 use lib.Dec.{ltb}
 use lib.ListN.{length, length-set, get_or, set, take}
@@ -107,10 +107,6 @@ module _ (F : ℕ → ℕ → Bool) (ps : List ℕ) (first m : ℕ) where
   pub tested_none : m ≤ 64 → Tested 0 18446744073709551615
   unfolding Shows all_of
   tested_none h i l = all_ones i (omega arith)
-
-  pub tested_one : 0 < length ps → (r : ℕ) → One 0 r → Tested 1 r
-  unfolding Shows all_of
-  tested_one h r R i l = R i l ∙ sym (all_take (λ x. F x (first + i)) ps 0 h ∙ and-true (F (get_or ps 0 0) (first + i)))
 
   pub tested_more : (k : ℕ) → k < length ps → (r y : ℕ) → Tested k r → One k y → Tested (k + 1) (bit_and r y)
   unfolding Shows

@@ -3,8 +3,7 @@ use mathlib.Core.Path.{◌≡◌, refl, sym, ap, ◌∙◌}
 use mathlib.Core.Logic.{◌≢◌}
 use mathlib.Core.Bool.{Bool, true, false, ◌||◌, or_comm}
 use mathlib.Core.List.{List}
-use Prim.Native.Nat.{ℕ, zero, suc, ◌+◌, ◌-◌, ◌*◌, ◌/◌, ◌%◌, ◌^◌, ◌≤◌, ◌<◌}
-use native.Mathlib.Nat.{mul-le-mul_right}
+use Prim.Native.Nat.{ℕ, zero, suc, ◌+◌, ◌*◌, ◌/◌, ◌%◌, ◌^◌, ◌<◌}
 use native.Mathlib.Numerals.{add-one}
 use native.Mathlib.Omega.{arith}
 use lib.Bits.{bit_or}
@@ -83,7 +82,3 @@ none_set n x h = rw (get_or-replicate {A = ℕ} n (x / 8) 0 0 h) (bit_zero (x % 
 pub any_more : (f : ℕ → Bool) (n : ℕ) → (f n || any f n) ≡ any f (n + 1)
 unfolding any
 any_more f n = rw add-one
-
--- the first word of item i of those from byte `at` on, `step` bytes apart
-pub word_in : (u at step i len : ℕ) → i < 8 * u - 1 → 4 ≤ step → at + (8 * u - 1) * step ≤ len → at + i * step + 4 ≤ len
-word_in u at step i len h s fits = omega (arith, mul-le-mul_right step h, s, fits)

@@ -377,7 +377,7 @@ fn recent_16(rs: Recent, mask: u64, ps: &[u32], main: &[u8], ram: &[u8]) -> Bloc
 
 // Filters of whole bytes: which of the 64 from `first` on, L1's and those behind them, have all of the positions.
 fn recent_word(rs: Recent, first: usize, ps: &[u32], main: &[u8], ram: &[u8]) -> u64
-    requires { ((first ≡ 0) ⊎ (first ≡ 64)) × (rs.l1.start + first < rs.below) 
+    requires { ((first ≡ 0) ⊎ (first ≡ 64)) × (rs.l1.start + first < rs.below)
         × RecentIn rs ps.now (length main.now) (length ram.now) }
     ensures { Shows (λ g. recent_has rs main.now ram.now ps.now (rs.l1.start + g))
         first (min (rs.below - rs.l1.start - first) 64) result }

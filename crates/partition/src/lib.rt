@@ -81,7 +81,7 @@ fn below(e: usize, y: usize, n: usize) -> usize
 
 // How many pages share a byte of each filter.
 pub fn pages_together(chip: Chip, set: Set) -> usize
-    requires { UnitSound chip.unit × (set.rounds < side_blocks chip.unit) }
+    requires { set.rounds < side_blocks chip.unit }
     ensures { (result ≡ together (set_width chip.unit (set.rounds + 1))) × (0 < result) × (result ≤ 8) }
 {
     let w = sets::set_width(chip, set.rounds + 1);

@@ -1,7 +1,7 @@
 use borrow.Author.Rules.{rules}
 use native.Mathlib.Omega.{arith}
 use mathlib.Core.Path.{◌≡◌}
-use Prim.Native.Nat.{ℕ, ◌*◌, ◌-◌, ◌/◌, ◌≤◌, ◌<◌}
+use Prim.Native.Nat.{◌*◌, ◌-◌, ◌/◌, ◌<◌}
 use lib.ListN.{length, get_or, take}
 use Rattle.std.proofs.lemmas.List.{length-take-le}
 use Rattle.memory.specs.Numbers.{euclid}

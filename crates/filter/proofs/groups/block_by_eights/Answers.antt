@@ -1,5 +1,5 @@
 use native.Mathlib.Omega.{arith}
-use Prim.Native.Nat.{ℕ, ◌+◌, ◌*◌, ◌-◌, ◌/◌}
+use Prim.Native.Nat.{ℕ, ◌*◌, ◌-◌, ◌/◌}
 use Rattle.filter.proofs.Rows.{word_block}
 use Rattle.filter.proofs.groups.block_by_eights.Goals as goal
 

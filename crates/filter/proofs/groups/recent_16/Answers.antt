@@ -1,6 +1,6 @@
 use native.Mathlib.Omega.{arith}
 use mathlib.Core.Path.{◌≡◌}
-use Prim.Native.Nat.{ℕ, ◌+◌, ◌-◌, ◌/◌}
+use Prim.Native.Nat.{◌+◌, ◌-◌, ◌/◌}
 use Rattle.filter.proofs.RecentShut.{gate, shut_few, shut_many, recent_shown}
 use Rattle.filter.proofs.groups.recent_16.Goals as goal
 

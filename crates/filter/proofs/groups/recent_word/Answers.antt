@@ -1,12 +1,12 @@
 use native.Mathlib.Nat.{mod-lt}
 use native.Mathlib.Omega.{arith}
 use mathlib.Core.Path.{◌≡◌, refl}
-use Prim.Native.Nat.{ℕ, ◌+◌, ◌%◌, ◌^◌, ◌<◌}
+use Prim.Native.Nat.{◌+◌, ◌%◌, ◌^◌, ◌<◌}
 use lib.ListN.{length, get_or}
 use lib.Seq.{take-length}
 use Rattle.memory.specs.Ranges.{all_of}
 use Rattle.filter.specs.Recent.{recent_has}
-use Rattle.filter.proofs.Rows.{Tested, tested_none, tested_more}
+use Rattle.filter.proofs.Rows.{tested_none, tested_more}
 use Rattle.filter.proofs.RecentBytes.{has_recent, recent_is, shows_same, aligned, WordIn, behind, n_le}
 use Rattle.filter.proofs.RecentBytes.{row_in, bytes_in, recent_one}
 use Rattle.filter.proofs.groups.recent_word.Invariants.{bits}

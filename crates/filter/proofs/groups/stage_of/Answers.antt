@@ -1,6 +1,6 @@
 use native.Mathlib.Omega.{arith}
-use Prim.Native.Nat.{ℕ, ◌+◌, ◌*◌, ◌-◌, ◌/◌, ◌%◌, ◌^◌}
-use mathlib.Core.Path.{◌≡◌, ap}
+use Prim.Native.Nat.{ℕ, ◌*◌, ◌-◌, ◌/◌, ◌%◌}
+use mathlib.Core.Path.{◌≡◌}
 use Rattle.memory.specs.Numbers.{Euclid, euclid}
 use Rattle.filter.proofs.Levels.{power_2}
 use Rattle.filter.proofs.groups.stage_of.Goals as goal

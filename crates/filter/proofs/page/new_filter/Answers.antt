@@ -1,11 +1,11 @@
 use native.Mathlib.Omega.{arith}
-use Prim.Native.Nat.{ℕ, ◌+◌, ◌*◌, ◌-◌, ◌<◌}
+use Prim.Native.Nat.{ℕ, ◌+◌, ◌*◌, ◌-◌}
 use mathlib.Core.Path.{◌≡◌, ap, ◌∙◌}
 use mathlib.Core.List.{List}
 use lib.ListN.{length}
 use Rattle.memory.specs.Ranges.{any}
 use Rattle.filter.specs.Filter.{array_bit, key_bit, item_bytes}
-use Rattle.filter.proofs.Setting.{none_set, any_more, word_in}
+use Rattle.filter.proofs.Setting.{none_set, any_more}
 use Rattle.filter.proofs.page.new_filter.Goals as goal
 
 pub loop-i-init : goal.loop-i-init
@@ -14,24 +14,6 @@ loop-i-init c = (
   ap length c.requires.bits_value,
   λ x h. ap (λ (l : List ℕ). array_bit l x) c.requires.bits_value ∙ none_set 256 x (omega arith),
 )
-
-pub overflow_mul-i : goal.overflow_mul-i
-overflow_mul-i c =
-    let P = c.requires.count_bound in
-    let l : c.loop-i.i < 8 * c.args.chip.unit - 1 = omega (arith, c.entries_per_page-last.ensures, c.loop-i-test.true) in
-    omega (arith, word_in c.args.chip.unit _ _ c.loop-i.i _ l P.1 P.2)
-
-pub overflow_add-at : goal.overflow_add-at
-overflow_add-at c =
-    let P = c.requires.count_bound in
-    let l : c.loop-i.i < 8 * c.args.chip.unit - 1 = omega (arith, c.entries_per_page-last.ensures, c.loop-i-test.true) in
-    omega (arith, word_in c.args.chip.unit _ _ c.loop-i.i _ l P.1 P.2)
-
-pub hashed_at-old-requires : goal.hashed_at-old-requires
-hashed_at-old-requires c =
-    let P = c.requires.count_bound in
-    let l : c.loop-i.i < 8 * c.args.chip.unit - 1 = omega (arith, c.entries_per_page-last.ensures, c.loop-i-test.true) in
-    word_in c.args.chip.unit _ _ c.loop-i.i _ l P.1 P.2
 
 pub loop-i-preserved : goal.loop-i-preserved
 loop-i-preserved c =
