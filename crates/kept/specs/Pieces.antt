@@ -1,12 +1,10 @@
 -- New filters in a SKA page, sector after sector.
-use Rattle.std.specs.Prelude.{◌≡◌, List, ℕ, zero, suc, ◌+◌, ◌-◌, ◌*◌, ◌≤◌, ◌<◌, length, get_or, take, drop, replicate}
+use Rattle.std.specs.Prelude.{◌≡◌, List, ℕ, zero, suc, ◌+◌, ◌-◌, ◌*◌, ◌≤◌, ◌<◌, length, get_or, take, drop}
 use Rattle.std.proofs.Math.Path.{refl}
 use Rattle.std.proofs.Common.{sym, ap, ◌∙◌, mul-le-mul_right, arith}
 use Rattle.memory.specs.Lists.{pieces, tabulate, write, tabulate_part}
 use Rattle.layout.specs.Geometry.{sector, page, fourth_size}
-use Rattle.layout.specs.Items.{zero_page}
 use Rattle.layout.specs.Index.{in_ska}
-use Rattle.filter.specs.Fourths.{with_fourths}
 
 -- in the first k sectors
 abbrev pub pieces_of : ℕ → ℕ → ℕ → ℕ → List ℕ → List ℕ → List ℕ
@@ -21,10 +19,6 @@ pieces_more L d at (suc k) f l =
     let e : at + suc k * d ≡ at + d + k * d = omega arith in
     rw e (pieces_more L d (at + d) k (λ j. f (suc j)) (write l at (tabulate L (f zero))))
 
--- a page zeroed; `at` and `size` are what code computes
-pub zero_at : (u place at size : ℕ) (ram : List ℕ) → at ≡ place → size ≡ page u → write ram at (replicate size 0) ≡ zero_page u place ram
-zero_at u place at size ram e d = rw (e, d)
-
 module _ (u piece at : ℕ) where
   pub none_yet : (fourths ram : List ℕ) → ram ≡ pieces_of u piece at 0 fourths ram
   unfolding pieces
@@ -32,11 +26,6 @@ module _ (u piece at : ℕ) where
 
   pub in_fourths : (i fourths : ℕ) → i < 4 → 4 * piece ≤ fourths → i * piece + piece ≤ fourths
   in_fourths i fourths h fits = omega (arith, mul-le-mul_right piece h, fits)
-
-  pub in_page : (i ram : ℕ) → i < 4 → at + 3 * sector u + piece ≤ ram → at + i * sector u + piece ≤ ram
-  in_page i ram h fits =
-      let l : i ≤ 3 = omega arith in
-      omega (arith, mul-le-mul_right (sector u) l, fits)
 
   -- one turn; `off` is what code computes
   pub more_pieces : (i off : ℕ) → off ≡ i * sector u → (fourths ram₀ ram ram' : List ℕ) → i < 4 → 4 * piece ≤ length fourths
@@ -53,22 +42,7 @@ module _ (u piece at : ℕ) where
       rw s
       (b' ∙ ap (λ (l : List ℕ). write l (at + i * sector u) (tabulate piece (f i))) a ∙ sym (pieces_more piece (sector u) at i f ram₀))
 
-  pub all_pieces : (k : ℕ) (fourths ram₀ ram : List ℕ) → k ≡ 4 → ram ≡ pieces_of u piece at k fourths ram₀
-      → ram ≡ with_fourths u piece at fourths ram₀
-  all_pieces k fourths ram₀ ram h a = rw h at a
-
--- n filters from number F on in the SKA page; `fourth` is what code computes
-module _ (u fourth : ℕ) (fourth_is : fourth ≡ fourth_size u) (F n : ℕ) where
-  -- their bytes of each sector
-  pub slots_fit : (ska ram : ℕ) → in_ska F + n ≤ 8 → ska + page u ≤ ram → ska + in_ska F * fourth + 3 * sector u + n * fourth ≤ ram
-  slots_fit ska ram l h = rw fourth_is (omega (arith, mul-le-mul_right (2 * u) l, h))
-
-  pub piece_fits : n ≤ 2 → n * fourth ≤ sector u
-  piece_fits l = rw fourth_is (omega (arith, mul-le-mul_right (2 * u) l))
-
-  pub fourths_fit : (fourths : ℕ) → 4 * (n * fourth_size u) ≤ fourths → 4 * (n * fourth) ≤ fourths
-  fourths_fit fourths h = rw fourth_is h
-
-  pub filters_put : (ska : ℕ) (fourths ram : List ℕ) → with_fourths u (n * fourth) (ska + in_ska F * fourth) fourths ram
-      ≡ with_fourths u (n * fourth_size u) (ska + in_ska F * fourth_size u) fourths ram
-  filters_put ska fourths ram = rw fourth_is
+-- n filters from number F on in the SKA page; `fourth` is what code computes: their bytes of each sector
+pub slots_fit : (u fourth : ℕ) → fourth ≡ fourth_size u → (F n ska ram : ℕ) → in_ska F + n ≤ 8 → ska + page u ≤ ram
+    → ska + in_ska F * fourth + 3 * sector u + n * fourth ≤ ram
+slots_fit u fourth fourth_is F n ska ram l h = rw fourth_is (omega (arith, mul-le-mul_right (2 * u) l, h))

@@ -13,20 +13,42 @@ ghost use Rattle.kept.specs.Appended.{deletion_appended, record_appended, append
 
 use geometry::sets::Index;
 use geometry::{Area, Chip, Geometry, areas, sets};
+use plan::{NewBytes, NewFilters};
 use planning::Slots;
 
-// Item n: to its place, or, where it fills its page, the page zeroed.
+// dst becomes src, a word at a time: by `copy_from_slice` alone it is slower, since that asks first whether they overlap.
+fn copy_words(dst: &mut [u8], src: &[u8])
+    requires { (length dst.old ≡ length src.now) × (length src.now % 4 ≡ 0) }
+    ensures { dst.new ≡ src.now }
+{
+    for k in 0..src.len() / 4 {
+        let i = 4 * k;
+        let word = [src[i], src[i + 1], src[i + 2], src[i + 3]];
+        dst[i..i + 4].copy_from_slice(&word);
+    }
+}
+
+// Item n to its place.
+fn append_item(a: Area, n: usize, item: &[u8], ram: &mut [u8])
+    requires { AreaSound a × (length item.now ≡ a.size) × (a.size % 4 ≡ 0)
+        × (a.ram + a.per_page * a.size ≤ length ram.old) }
+    ensures { ram.new ≡ put (area a) n item.now ram.old }
+{
+    let at = a.ram + areas::slot(a.per_page, n) * a.size;
+    let end = at + item.len();
+    copy_words(&mut ram[at..end], item);
+}
+
+// Item n to its place, or, where it fills its page, the page zeroed.
 fn keep_item(chip: Chip, a: Area, n: usize, item: &[u8], ram: &mut [u8])
     requires area_sound { AreaSound a × (chip.unit ≤ 32) × (a.per_page * a.size ≡ page chip.unit) }
-    requires item_len { (length item.now ≡ a.size) × (a.ram + page chip.unit ≤ length ram.old) }
+    requires item_len { (length item.now ≡ a.size) × (a.size % 4 ≡ 0) × (a.ram + page chip.unit ≤ length ram.old) }
     ensures { ram.new ≡ item_ram chip.unit (area a) n item.now ram.old }
 {
-    let i = areas::slot(a.per_page, n);
-    words::copy_at(ram, a.ram + i * a.size, item);
-    if !a.fills(n) {
-        return;
+    append_item(a, n, item, ram);
+    if a.fills(n) {
+        words::fill_at(ram, a.ram, chip.page_size(), 0);
     }
-    words::fill_at(ram, a.ram, chip.page_size(), 0);
 }
 
 // The fourths of new filters, `piece` bytes in each sector of a page, from byte `at` of its first sector on.
@@ -51,36 +73,34 @@ fn keep_filters(chip: Chip, ix: Index, first: usize, n: usize, fourths: &[u8], r
     let slot = first % sets::FILTERS_PER_FLUSH;
     let fourth = chip.fourth_size();
     put_fourths(chip, ix.ska + slot * fourth, n * fourth, fourths, ram);
-    if !sets::fills_ska(first + (n - 1)) {
-        return;
+    if sets::fills_ska(first + (n - 1)) {
+        words::fill_at(ram, ix.ska, chip.page_size(), 0);
     }
-    words::fill_at(ram, ix.ska, chip.page_size(), 0);
 }
 
 // ---- the items of a change, out of its new bytes, and its new filters
 
 // Deletion d, and both filters of the page that it fills.
-fn keep_deletion(g: Geometry, d: usize, new: &[u8; plan::NEW_SIZE], filters: &[u8; plan::FILTERS_SIZE], ram: &mut [u8])
+fn keep_deletion(g: Geometry, d: usize, new: &NewBytes, filters: &NewFilters, ram: &mut [u8])
     requires { Sound g × (ram_size (shape g) ≤ length ram.old) }
     ensures { ram.new ≡ deletion_kept (shape g) d new.now filters.now ram.old }
 {
     let deletions = geometry::deletion_area(g);
     keep_item(g.chip, deletions, d, &new[0..plan::RECORD_AT], ram);
-    if !deletions.fills(d) {
-        return;
+    if deletions.fills(d) {
+        keep_filters(
+            g.chip,
+            sets::deletion_index(g),
+            sets::deletion_filters(g, d),
+            2,
+            &filters[0..plan::ENTRY_FILTER_AT],
+            ram,
+        );
     }
-    keep_filters(
-        g.chip,
-        sets::deletion_index(g),
-        sets::deletion_filters(g, d),
-        2,
-        &filters[0..plan::ENTRY_FILTER_AT],
-        ram,
-    );
 }
 
 // Record n and its entry, and the filter of the page that the entry fills.
-fn keep_record(g: Geometry, n: usize, new: &[u8; plan::NEW_SIZE], filters: &[u8; plan::FILTERS_SIZE], ram: &mut [u8])
+fn keep_record(g: Geometry, n: usize, new: &NewBytes, filters: &NewFilters, ram: &mut [u8])
     requires { Sound g × (ram_size (shape g) ≤ length ram.old) }
     ensures { ram.new ≡ record_kept (shape g) n new.now filters.now ram.old }
 {
@@ -99,53 +119,22 @@ fn keep_record(g: Geometry, n: usize, new: &[u8; plan::NEW_SIZE], filters: &[u8;
         &new[plan::ENTRY_AT..plan::NEW_SIZE],
         ram,
     );
-    if !entries.fills(n) {
-        return;
+    if entries.fills(n) {
+        keep_filters(
+            g.chip,
+            sets::key_index(g),
+            n / entries.per_page,
+            1,
+            &filters[plan::ENTRY_FILTER_AT..plan::FILTERS_SIZE],
+            ram,
+        );
     }
-    keep_filters(
-        g.chip,
-        sets::key_index(g),
-        n / entries.per_page,
-        1,
-        &filters[plan::ENTRY_FILTER_AT..plan::FILTERS_SIZE],
-        ram,
-    );
 }
 
 // ---- a change that fills no page
 
-// dst becomes src, a word at a time: the compiler makes four bytes one.
-fn copy_words(dst: &mut [u8], src: &[u8])
-    requires { (length dst.old ≡ length src.now) × (length src.now % 4 ≡ 0) }
-    ensures { dst.new ≡ src.now }
-{
-    let mut i = 0;
-    while i < src.len() {
-        let a = src[i];
-        let b = src[i + 1];
-        let c = src[i + 2];
-        let d = src[i + 3];
-        dst[i] = a;
-        dst[i + 1] = b;
-        dst[i + 2] = c;
-        dst[i + 3] = d;
-        i += 4;
-    }
-}
-
-// Item n to its place.
-fn append_item(a: Area, n: usize, item: &[u8], ram: &mut [u8])
-    requires { AreaSound a × (length item.now ≡ a.size) × (a.size % 4 ≡ 0)
-        × (a.ram + a.per_page * a.size ≤ length ram.old) }
-    ensures { ram.new ≡ put (area a) n item.now ram.old }
-{
-    let at = a.ram + areas::slot(a.per_page, n) * a.size;
-    let end = at + item.len();
-    copy_words(&mut ram[at..end], item);
-}
-
 // Deletion d.
-fn append_deletion(g: Geometry, d: usize, new: &[u8; plan::NEW_SIZE], ram: &mut [u8])
+fn append_deletion(g: Geometry, d: usize, new: &NewBytes, ram: &mut [u8])
     requires { Sound g × (ram_size (shape g) ≤ length ram.old) }
     ensures { ram.new ≡ deletion_appended (shape g) d new.now ram.old }
 {
@@ -153,7 +142,7 @@ fn append_deletion(g: Geometry, d: usize, new: &[u8; plan::NEW_SIZE], ram: &mut 
 }
 
 // Record n, then its entry.
-fn append_record(g: Geometry, n: usize, new: &[u8; plan::NEW_SIZE], ram: &mut [u8])
+fn append_record(g: Geometry, n: usize, new: &NewBytes, ram: &mut [u8])
     requires { Sound g × (ram_size (shape g) ≤ length ram.old) }
     ensures { ram.new ≡ record_appended (shape g) n new.now ram.old }
 {
@@ -174,7 +163,7 @@ fn clear_work(g: Geometry, ram: &mut [u8])
 }
 
 // The RAM after a change, once the chip has all of it.
-pub fn finish(g: Geometry, e: Slots, new: &[u8; plan::NEW_SIZE], filters: &[u8; plan::FILTERS_SIZE], ram: &mut [u8])
+pub fn finish(g: Geometry, e: Slots, new: &NewBytes, filters: &NewFilters, ram: &mut [u8])
     requires { Sound g × (ram_size (shape g) ≤ length ram.old) }
     ensures { ram.new
         ≡ zero_page g.chip.unit (work_ram g.chip.unit) (kept (shape g) new.now filters.now ram.old e) }
@@ -191,7 +180,7 @@ pub fn finish(g: Geometry, e: Slots, new: &[u8; plan::NEW_SIZE], filters: &[u8; 
 }
 
 // The RAM after a change that fills no page.
-pub fn append(g: Geometry, e: Slots, new: &[u8; plan::NEW_SIZE], ram: &mut [u8])
+pub fn append(g: Geometry, e: Slots, new: &NewBytes, ram: &mut [u8])
     requires { Sound g × (ram_size (shape g) ≤ length ram.old) }
     ensures { ram.new
         ≡ zero_page g.chip.unit (work_ram g.chip.unit) (appended (shape g) new.now ram.old e) }

@@ -45,36 +45,6 @@ pub record WipeFits (u : ℕ) (b : Segment) (main spare : ℕ) : Type 0 where
   pub in_main : (b.first + b.count) * block u ≤ main
   pub in_spare : (b.first + b.count) * sectors_per_block ≤ spare
 
--- the areas keep their lengths
-pub at_lengths : (F : ℕ → ℕ → Type 0) (m s m' s' : ℕ) → m' ≡ m → s' ≡ s → F m s → F m' s'
-at_lengths F m s m' s' e d p = rw (e, d) p
-
-pub at_numbers : (F : ℕ → ℕ → ℕ → Type 0) (a m s a' m' s' : ℕ) → a' ≡ a → m' ≡ m → s' ≡ s → F a m s → F a' m' s'
-at_numbers F a m s a' m' s' h e d p = rw (h, e, d) p
-
--- sector j of a page; `size` and `off` are what code computes
-module _ (u : ℕ) (p : Page) (main spare ram : ℕ) (F : PageFits u p main spare ram) (j : ℕ) (h : j < 4) where
-  pub page_on_flash : (p.sector + j) * sector u + sector u ≤ main
-  page_on_flash =
-      let s : p.sector + j + 1 ≤ p.sector + 4 = omega arith in
-      omega (arith, mul-le-mul_right (sector u) s, F.in_main)
-
-  pub page_in_ram : (size off : ℕ) → size ≡ sector u → off ≡ j * sector u → p.at + off + size ≤ ram
-  page_in_ram size off e o = rw (e, o) (omega (arith, mul-le-mul_right (sector u) h, F.in_ram_lem))
-
--- sector j of a flush; `size` and `off` are what code computes
-module _ (u : ℕ) (p : Flush) (fourths main spare ram : ℕ) (F : FlushFits u p fourths main spare ram) (j : ℕ) (h : j < 4) where
-  pub flush_on_flash : (p.sector + j * 16) * sector u + sector u ≤ main
-  flush_on_flash =
-      let s : p.sector + j * 16 + 1 ≤ p.sector + 49 = omega arith in
-      omega (arith, mul-le-mul_right (sector u) s, F.in_main)
-
-  pub flush_in_ram : (size off : ℕ) → size ≡ sector u → off ≡ j * sector u → p.at + off + size ≤ ram
-  flush_in_ram size off e o = rw (e, o) (omega (arith, mul-le-mul_right (sector u) h, F.in_ram_lem))
-
-  pub flush_in_fourths : j * p.piece + p.piece ≤ fourths
-  flush_in_fourths = omega (arith, mul-le-mul_right p.piece h, F.in_fourths)
-
 -- fewer sectors of the next set
 pub fewer : (u : ℕ) (set : Set) (s n main spare : ℕ) → NextFits u set s n main spare → (k : ℕ) → k ≤ n → NextFits u set s k main spare
 fewer u set s n main spare F k h =
@@ -89,10 +59,3 @@ fewer u set s n main spare F k h =
       in_main = omega (arith, mul-le-mul_right (sector u) l, F.in_main);
       in_spare = omega (arith, h, F.in_spare);
     }
-
--- k blocks of a segment from its f-th on
-pub blocks_inside : (u : ℕ) (b : Segment) (main spare : ℕ) → WipeFits u b main spare → (f k : ℕ) → f + k ≤ b.count
-    → ((u ≤ 32) × ((b.first + f + k) * block u ≤ main)) × ((b.first + f + k) * sectors_per_block ≤ spare)
-blocks_inside u b main spare F f k h =
-    let l : b.first + f + k ≤ b.first + b.count = omega arith in
-    ((F.small, omega (arith, mul-le-mul_right (block u) l, F.in_main)), omega (arith, l, F.in_spare))

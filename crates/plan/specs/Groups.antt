@@ -1,6 +1,6 @@
 -- Sectors of the next set that are made at once: the flash before them gives what the flash before each gives.
 use Rattle.std.specs.Prelude.{◌≡◌, refl, ◌⊎◌, List, [], ◌∷◌, ◌++◌, ℕ, zero, suc, ◌+◌, ◌-◌, ◌*◌, ◌/◌, ◌%◌, ◌^◌, ◌≤◌, ◌<◌, min, length, get_or, replicate, take, drop}
-use Rattle.std.proofs.Common.{sym, ap, ◌∙◌, inl, inr, mul-le-mul_right, arith, length-take, length-drop, length-append}
+use Rattle.std.proofs.Common.{sym, ap, ◌∙◌, inl, inr, mul-le-mul_right, arith, length-take, length-drop}
 use Rattle.std.proofs.Math.Nat.{div-div-eq-div-mul}
 use Rattle.memory.specs.Cases.{either}
 use Rattle.memory.specs.Lists.{tabulate, is_tabulate, tabulate_ext, length_tabulate, write, get_d_write_before, get_d_write_after}
@@ -206,9 +206,6 @@ at_once_is u r U e = let F = at_once_fits u U in rw e (refl, F.0, F.1)
 -- its first n bytes, once they are made
 pub made_size : (l : List ℕ) (n : ℕ) → n ≤ length l → length (take (n - 0) (drop 0 l)) ≡ n
 made_size l n h = simp (length-take, length-drop) (omega arith)
-
-pub made_in : (ys rest : List ℕ) (n : ℕ) → length ys ≡ n → n ≤ length (ys ++ rest)
-made_in ys rest n e = rw (length-append ys rest) (omega arith)
 
 pub made_are : (ys rest : List ℕ) (n : ℕ) → length ys ≡ n → take (n - 0) (drop 0 (ys ++ rest)) ≡ ys
 made_are ys rest n e =

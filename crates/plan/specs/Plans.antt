@@ -24,9 +24,6 @@ record_at = deletion_size
 abbrev pub entry_at : ℕ
 entry_at = record_at + record_size
 
-abbrev pub new_length : ℕ
-new_length = entry_at + entry_size
-
 abbrev pub deletion_in : List ℕ → List ℕ
 deletion_in new = take deletion_size (drop 0 new)
 

@@ -1,5 +1,5 @@
 -- A span of a list of planned operations: those from number `from` on up to, but without, number `to`.
-use Rattle.std.specs.Prelude.{◌≡◌, refl, List, [], ◌∷◌, ◌++◌, ℕ, zero, suc, ◌+◌, ◌-◌, ◌≤◌, ◌<◌, min, length, take, drop}
+use Rattle.std.specs.Prelude.{◌≡◌, refl, List, [], ◌∷◌, ◌++◌, ℕ, zero, suc, ◌+◌, ◌-◌, ◌≤◌, min, length, take, drop}
 use Rattle.std.proofs.Common.{sym, ap, ◌∙◌, append-nil, arith}
 use Rattle.layout.specs.Flash.{Flash, Planned, planned_from}
 use Rattle.plan.specs.declared.Span.{Span}
@@ -18,15 +18,6 @@ among s n = record { from = s.from; to = min s.to n }
 
 abbrev pub behind : Span → ℕ → Span
 behind s n = record { from = s.from - n; to = s.to - n }
-
-pub among_less : (s : Span) (n : ℕ) → s.to < n → s ≡ among s n
-among_less s n h = let e : min s.to n ≡ s.to = omega arith in rw e
-
-pub among_all : (s : Span) (n : ℕ) → n ≤ s.to → ◌≡◌ {A = Span} (record { from = s.from; to = n }) (among s n)
-among_all s n h = let e : min s.to n ≡ n = omega arith in rw e
-
-pub behind_is : (s : Span) (n f t : ℕ) → f ≡ s.from - n → t ≡ s.to - n → ◌≡◌ {A = Span} (record { from = f; to = t }) (behind s n)
-behind_is s n f t e d = rw (e, d)
 
 pub among_le : (s r : Span) (n m : ℕ) → r ≡ among s n → n ≤ m → r.to ≤ m
 among_le s r n m e h = rw e (omega arith)

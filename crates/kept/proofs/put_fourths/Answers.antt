@@ -1,5 +1,4 @@
-use native.Mathlib.Omega.{arith}
-use Rattle.kept.specs.Pieces.{none_yet, more_pieces, all_pieces}
+use Rattle.kept.specs.Pieces.{none_yet, more_pieces}
 use Rattle.kept.proofs.put_fourths.Goals as goal
 
 pub loop-i-init : goal.loop-i-init
@@ -14,9 +13,3 @@ loop-i-preserved c =
     let a = c.sector_address in
     more_pieces x.chip.unit x.piece x.at l.i a.result a.ensures x.fourths.now x.ram.now l.ram _
     c.loop-i-test.true c.requires.unit_bound.1 l.invariant c.copy_at.ensures
-
-pub returns : goal.returns
-returns c =
-    let l = c.loop-i in
-    let x = c.args in
-    all_pieces x.chip.unit x.piece x.at l.i x.fourths.now x.ram.now l.ram (omega arith) l.invariant
