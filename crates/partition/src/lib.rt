@@ -42,7 +42,7 @@ fn source_of(base: usize, gap: usize, v: usize, w: usize, p: usize) -> Source
 
 // Where page p of the next set takes its bits from.
 fn page_source(chip: Chip, set: Set, p: usize) -> PageSource
-    requires { SetSound chip.unit set × (p < 2048) }
+    requires { (set.rounds < side_blocks chip.unit) × (p < 2048) }
     ensures { result ≡ page_source chip.unit (index_of set.index) set.rounds p }
 {
     let c = set.rounds;
@@ -90,9 +90,9 @@ pub fn pages_together(chip: Chip, set: Set) -> usize
 
 // The bytes that page p and those beside it share; where it shares none, `out` stays.
 pub fn shared_bytes(chip: Chip, set: Set, p: usize, main: &[u8], out: &mut [u8])
-    requires unit_sound { SetSound chip.unit set }
+    requires rounds_bound { set.rounds < side_blocks chip.unit }
     requires p_bound { p < set_pages (set.rounds + 1) }
-    requires unit_in_bounds { full_block chip.unit (index_of set.index) 0 * block chip.unit ≤ length main.now }
+    requires in_main { full_block chip.unit (index_of set.index) 0 * block chip.unit ≤ length main.now }
     requires out_len { length out.old ≡ 128 }
     ensures { out.new
         ≡ shared_bytes main.now (page_source chip.unit (index_of set.index) set.rounds p) out.old }
@@ -145,9 +145,9 @@ fn page_bytes(r: PageSource, y: usize, main: &[u8], shared: &[u8], out: &mut [u8
 
 // Sectors of a page of the next set from sector j on, so many as `out` holds.
 pub fn set_sectors(chip: Chip, set: Set, j: usize, main: &[u8], shared: &[u8], out: &mut [u8])
-    requires unit_sound { SetSound chip.unit set }
+    requires rounds_bound { set.rounds < side_blocks chip.unit }
     requires j_bound { j < set_pages (set.rounds + 1) * sectors_per_page }
-    requires unit_in_bounds { full_block chip.unit (index_of set.index) 0 * block chip.unit ≤ length main.now }
+    requires in_main { full_block chip.unit (index_of set.index) 0 * block chip.unit ≤ length main.now }
     requires shares { Shares main.now (page_source chip.unit (index_of set.index) set.rounds (j / sectors_per_page)) shared.now }
     requires in_page { InPage (sector chip.unit) j (length out.old) }
     ensures { out.new ≡ tabulate (length out.old)
