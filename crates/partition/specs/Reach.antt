@@ -9,14 +9,9 @@ use Rattle.layout.specs.Index.{Index, set_pages, set_width, full_block}
 use Rattle.laws.specs.SetLaws.{width_is, width_pos, set_whole, blocks_fit, filters_fit, side_range}
 use Rattle.fields.specs.Sources.{Aligned, Near, Whole, Reaches}
 use Rattle.partition.specs.declared.PageSource.{PageSource}
-use Rattle.geometry.specs.declared.sets.Set.{Set}
-use Rattle.laws.specs.Units.{UnitIs, UnitSound}
+use Rattle.laws.specs.Units.{UnitIs}
 use Rattle.partition.specs.Widths.{old_whole, sector_whole, next_width}
 use Rattle.partition.specs.Sources.{old_of, l1_of, page_source, pages_pos, field_room}
-
--- the unit is sound, the set has fewer rounds than a full one, and its index begins among the first 20,000 blocks
-abbrev pub SetSound : ℕ → Set → Type 0
-SetSound u set = UnitSound u × (set.rounds < side_blocks u) × (set.index.first ≤ 20000)
 
 pub record SourceFits (len : ℕ) (r : PageSource) : Type 0 where
   pub order : r.split ≤ r.end

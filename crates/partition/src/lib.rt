@@ -5,12 +5,11 @@ ghost use Rattle.std.specs.Prelude.{◌≡◌, ℕ, ◌+◌, ◌-◌, ◌*◌, �
 ghost use Rattle.memory.specs.Lists.{tabulate};
 ghost use Rattle.layout.specs.Geometry.{sectors_per_page, sector, block, side_blocks};
 ghost use Rattle.layout.specs.Index.{set_pages, set_width, full_block};
-ghost use Rattle.laws.specs.Units.{UnitSound};
 ghost use Rattle.geometry.specs.Indexes.{index_of};
 ghost use Rattle.fields.specs.Sources.{field_byte, Whole};
 ghost use Rattle.partition.specs.Sources.{page_byte, round_bytes, source_of, page_source};
 ghost use Rattle.partition.specs.Shared.{together, shared_bytes, Shares, set_bytes, InPage};
-ghost use Rattle.partition.specs.Reach.{SetSound, SourceFits};
+ghost use Rattle.partition.specs.Reach.{SourceFits};
 
 use fields::Source;
 use geometry::sets::Set;
