@@ -242,7 +242,7 @@ struct NextSet {
 
 impl NextSet {
     // Sectors of one page of it, all made out of the flash before the first of them is programmed.
-    fn program_in_page(self, part: Span, shared: &[u8], main: &mut [u8], spare: &mut [u8])
+    fn page_part(self, part: Span, shared: &[u8], main: &mut [u8], spare: &mut [u8])
         requires next_fits { NextFits self.chip.unit self.set self.sector part.to (length main.old) (length spare.old)
             × (part.from < part.to) }
         requires of_page { OfPage self.chip.unit part }
@@ -266,7 +266,7 @@ impl NextSet {
     }
 
     // Sectors whose pages share their bytes of L1.
-    fn program_group(self, part: Span, main: &mut [u8], spare: &mut [u8])
+    fn group_run(self, part: Span, main: &mut [u8], spare: &mut [u8])
         requires next_fits { NextFits self.chip.unit self.set self.sector part.to (length main.old) (length spare.old)
             × (part.from < part.to) }
         requires beside { Beside (together (set_width self.chip.unit (self.set.rounds + 1))) part }
@@ -286,13 +286,13 @@ impl NextSet {
         // no `step_by`: the first part ends at a multiple of n, wherever it begins
         while j < part.to {
             let some = up_to(j, n, part.to);
-            self.program_in_page(some, &shared, main, spare);
+            self.page_part(some, &shared, main, spare);
             j = some.to;
         }
     }
 
     // A span of its sectors.
-    fn program(self, part: Span, main: &mut [u8], spare: &mut [u8])
+    fn set_run(self, part: Span, main: &mut [u8], spare: &mut [u8])
         requires { NextFits self.chip.unit self.set self.sector part.to (length main.old) (length spare.old) }
         ensures { flash_of main.new spare.new
             ≡ run_of self.chip.unit (next_set self.chip.unit self.set self.sector) part (flash_of main.old spare.old) }
@@ -302,7 +302,7 @@ impl NextSet {
         // no `step_by`: as above
         while j < part.to {
             let some = up_to(j, n, part.to);
-            self.program_group(some, main, spare);
+            self.group_run(some, main, spare);
             j = some.to;
         }
     }
@@ -339,7 +339,7 @@ fn build(chip: Chip, s: Summary, part: Span, main: &mut [u8], spare: &mut [u8])
         set: s.next,
         sector: s.set.first,
     };
-    next.program(part.among(s.set.count), main, spare);
+    next.set_run(part.among(s.set.count), main, spare);
     wipe_run(chip, s.l1, second.among(s.l1.count), main, spare);
     wipe_run(chip, s.old, third.among(s.old.count), main, spare);
 }

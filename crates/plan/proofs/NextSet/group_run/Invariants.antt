@@ -1,0 +1,23 @@
+use Prim.Native.Nat.{◌-◌, ◌/◌, ◌≤◌}
+use mathlib.Core.Path.{◌≡◌}
+use Rattle.layout.specs.Flash.{flash_of, planned_from}
+use Rattle.geometry.specs.Indexes.{index_of}
+use Rattle.partition.specs.Sources.{page_source}
+use Rattle.partition.specs.Shared.{Shares}
+use Rattle.plan.specs.Runs.{done}
+use Rattle.plan.specs.Segments.{next_set}
+use Rattle.plan.proofs.NextSet.group_run.Given as goal
+
+abbrev pub invariant-loop-j : goal.invariant-loop-j
+invariant-loop-j l =
+    let u = l.self.chip.unit in
+    let set = l.self.set in record {
+      begun : l.part.from ≤ l.j;
+      within : l.j ≤ l.part.to;
+      so_far : flash_of l.main l.spare
+          ≡ done u (planned_from (next_set u set l.self.sector) l.part.from (l.j - l.part.from)) (flash_of l.initial.main l.initial.spare);
+      shared : Shares l.initial.main (page_source u (index_of set.index) set.rounds (l.part.from / 4)) l.shared;
+    }
+
+abbrev pub decreases-loop-j : goal.decreases-loop-j
+decreases-loop-j l = l.part.to - l.j
