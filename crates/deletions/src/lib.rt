@@ -15,6 +15,7 @@ ghost use Rattle.deletions.specs.Walk.{test_stop, try_word, past_pages, test_bel
 
 use filter::Filters;
 use geometry::{Chip, Geometry, areas, sets};
+use kernels::ones::Ones;
 
 // Of the d deletions of a volume the first d0. Where they lie goes by d.
 #[derive(Clone, Copy)]
@@ -69,11 +70,9 @@ fn in_word(chip: Chip, start: usize, bits: u64, j: u32, main: &[u8]) -> Tested
     ensures { tested_of j result
         ≡ search_pages (either_bit bits) (try_word main.now start j) (deletions_per_page chip.unit) 32 }
 {
-    let mut left = kernels::pairs(bits);
     let mut opened: u32 = 0;
-    while left != 0 {
-        let f = kernels::top(left);
-        left = kernels::without(left, f);
+    let left = kernels::pairs(bits);
+    for f in (Ones { left }) {
         opened += 1;
         if items::page_has(chip, start + chip.page_address(f / 2), j, main) {
             return Tested { met: true, opened };

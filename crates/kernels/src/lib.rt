@@ -52,6 +52,9 @@ pub fn without(bits: u64, f: usize) -> u64
     bits & !(1 << f)
 }
 
+// The set bits of a word, the highest first.
+pub mod ones;
+
 // ---- permutations of a word's bits
 
 // Bit 16 i + j becomes bit 4 j + i.

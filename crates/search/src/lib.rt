@@ -20,6 +20,7 @@ ghost use Rattle.search.specs.Tries.{page_start, PagesIn, OpenedAt, TriedAt};
 use deletions::Deletions;
 use filter::Filters;
 use geometry::{Geometry, areas, sets};
+use kernels::ones::Ones;
 use keys::Key;
 
 // What is searched: of the n records and d deletions of a volume the first n0 and the first d0. Where they lie goes
@@ -195,15 +196,14 @@ fn next_page(g: Geometry, key: Key, from: usize, bits: u64, main: &[u8]) -> Open
     requires { Sound g × (from ≤ 32768) × PagesIn g from bits main.now }
     ensures { OpenedAt g (key_is key) from bits main.now result }
 {
-    let mut left = bits;
+    let mut pages = Ones { left: bits };
     let mut opened: u32 = 0;
-    while left != 0 {
-        let f = kernels::top(left);
-        left = kernels::without(left, f);
+    // no `for`, which would hold the iterator whose bits are handed back
+    while let Some(f) = pages.next() {
         opened += 1;
         if let Some(entry) = items::find_in_page(g.chip, page_start(g, from + f), key, main) {
             return Opened {
-                bits: left,
+                bits: pages.left,
                 opened,
                 hit: Some(Hit { page: f, entry }),
             };

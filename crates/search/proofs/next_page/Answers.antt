@@ -19,13 +19,13 @@ use Rattle.search.proofs.next_page.Goals as goal
 
 -- The pages above the highest bit left were opened in vain.
 
-pub loop-left-init : goal.loop-left-init
-loop-left-init c = vain_first c.args.bits (entry_of c.args.g (key_is c.args.key) c.args.from c.args.main.now)
+pub loop-f-init : goal.loop-f-init
+loop-f-init c = vain_first c.args.bits (entry_of c.args.g (key_is c.args.key) c.args.from c.args.main.now)
 
 -- ---- the page of the highest bit
 
 pub overflow_add-opened : goal.overflow_add-opened
-overflow_add-opened c = omega (arith, vain_few c.loop-left.invariant)
+overflow_add-opened c = omega (arith, vain_few c.loop-f.invariant)
 
 module _ (g : Geometry) (key : Key) (from : ℕ) (main : List ℕ) (f : ℕ) {r : Place} {start : ℕ} (start_is : start ≡ page_start g (from + f))
     (is : r ≡ place_of (last_entry main start (entries_per_page g.chip.unit) key)) where
@@ -39,42 +39,42 @@ module _ (g : Geometry) (key : Key) (from : ℕ) (main : List ℕ) (f : ℕ) {r 
   has_none : r ≡ None → entry_of g key from main f ≡ 0
   has_none s = place_none _ (rw s at there)
 
-pub returns-in-Some : goal.returns-in-Some
-returns-in-Some c =
+pub returns-in-Some-find_in_page : goal.returns-in-Some-find_in_page
+returns-in-Some-find_in_page c =
     let x = c.args in
-    let I = c.loop-left.invariant in
-    let f = c.top-f.result in
-    let top = c.top-f.ensures in
-    let k = c.in-Some.entry in
-    let e = has_one x.g (key_is x.key) x.from x.main.now f c.page_start.ensures c.find_in_page.ensures k c.in-Some.is in
+    let I = c.loop-f.invariant in
+    let f = c.in-Some.f in
+    let top = c.in-Some.ensures.steps.0 in
+    let k = c.in-Some-find_in_page.entry in
+    let e = has_one x.g (key_is x.key) x.from x.main.now f c.page_start.ensures c.find_in_page.ensures k c.in-Some-find_in_page.is in
     let h : 0 < entry_of x.g (key_is x.key) x.from x.main.now f = omega (arith, e) in
     let n = some_newest I f top h in
     let s : suc f - 1 ≡ f = omega arith in
     let z : k ≡ entry_of x.g (key_is x.key) x.from x.main.now f - 1 = omega (arith, e) in
     record {
       pages = record {
-        left = rw (n, s) (top_left I.shown f top c.without-left.result c.without-left.ensures).shown;
+        left = rw (n, s) (top_left I.shown f top c.next.new.self.left c.in-Some.ensures.steps.1).shown;
         opened = some_opened I f top h;
       };
       none = λ z. absurd (omega (arith, n));
       hit = rw n (ap (λ (y : ℕ). Some (record { page = f; entry = y })) z);
     }
 
-pub loop-left-smaller : goal.loop-left-smaller
-loop-left-smaller c =
-    cleared_less c.loop-left.left c.top-f.result c.top-f.ensures c.without-left.result c.without-left.ensures
+pub loop-f-smaller : goal.loop-f-smaller
+loop-f-smaller c =
+    cleared_less c.loop-f.pages.left c.in-Some.f c.in-Some.ensures.steps.0 c.next.new.self.left c.in-Some.ensures.steps.1
 
-pub loop-left-preserved : goal.loop-left-preserved
-loop-left-preserved c =
+pub loop-f-preserved : goal.loop-f-preserved
+loop-f-preserved c =
     let x = c.args in
-    vain_next c.loop-left.invariant c.top-f.result c.top-f.ensures c.without-left.result c.without-left.ensures
-    (has_none x.g (key_is x.key) x.from x.main.now c.top-f.result c.page_start.ensures c.find_in_page.ensures c.in_default.is)
+    vain_next c.loop-f.invariant c.in-Some.f c.in-Some.ensures.steps.0 c.next.new.self.left c.in-Some.ensures.steps.1
+    (has_none x.g (key_is x.key) x.from x.main.now c.in-Some.f c.page_start.ensures c.find_in_page.ensures c.in_default-find_in_page.is)
 
 -- none is left
 pub returns : goal.returns
 returns c =
-    let I = c.loop-left.invariant in
-    let z = c.loop-left-test.false in
+    let I = c.loop-f.invariant in
+    let z = c.in_default.ensures.steps.0 in
     let n = vain_newest I z in
     record {
       pages = record {
