@@ -30,8 +30,7 @@ fn copy_words(dst: &mut [u8], src: &[u8])
 
 // Item n to its place.
 fn append_item(a: Area, n: usize, item: &[u8], ram: &mut [u8])
-    requires { AreaSound a × (length item.now ≡ a.size) × (a.size % 4 ≡ 0)
-        × (a.ram + a.per_page * a.size ≤ length ram.old) }
+    requires { (length item.now ≡ a.size) × (a.size % 4 ≡ 0) × (a.ram + a.per_page * a.size ≤ length ram.old) }
     ensures { ram.new ≡ put (area a) n item.now ram.old }
 {
     let at = a.ram + areas::slot(a.per_page, n) * a.size;
@@ -41,7 +40,7 @@ fn append_item(a: Area, n: usize, item: &[u8], ram: &mut [u8])
 
 // Item n to its place, or, where it fills its page, the page zeroed.
 fn keep_item(chip: Chip, a: Area, n: usize, item: &[u8], ram: &mut [u8])
-    requires area_sound { AreaSound a × (chip.unit ≤ 32) × (a.per_page * a.size ≡ page chip.unit) }
+    requires area_sound { a.per_page * a.size ≡ page chip.unit }
     requires item_len { (length item.now ≡ a.size) × (a.size % 4 ≡ 0) × (a.ram + page chip.unit ≤ length ram.old) }
     ensures { ram.new ≡ item_ram chip.unit (area a) n item.now ram.old }
 {
@@ -53,7 +52,7 @@ fn keep_item(chip: Chip, a: Area, n: usize, item: &[u8], ram: &mut [u8])
 
 // The fourths of new filters, `piece` bytes in each sector of a page, from byte `at` of its first sector on.
 fn put_fourths(chip: Chip, at: usize, piece: usize, fourths: &[u8], ram: &mut [u8])
-    requires unit_bound { (chip.unit ≤ 32) × (4 * piece ≤ length fourths.now) × (piece ≤ sector chip.unit) }
+    requires unit_bound { (4 * piece ≤ length fourths.now) × (piece ≤ sector chip.unit) }
     requires piece_in_bounds { at + 3 * sector chip.unit + piece ≤ length ram.old }
     ensures { ram.new ≡ with_fourths chip.unit piece at fourths.now ram.old }
 {
@@ -66,7 +65,7 @@ fn put_fourths(chip: Chip, at: usize, piece: usize, fourths: &[u8], ram: &mut [u
 
 // n new filters, the first of them number `first`: to their places in the SKA page, or, where they fill that page, the page zeroed.
 fn keep_filters(chip: Chip, ix: Index, first: usize, n: usize, fourths: &[u8], ram: &mut [u8])
-    requires unit_bound { (chip.unit ≤ 32) × (1 ≤ n) × (n ≤ 2) × (in_ska first + n ≤ filters_per_flush) }
+    requires unit_bound { (1 ≤ n) × (n ≤ 2) × (in_ska first + n ≤ filters_per_flush) }
     requires unit_in_bounds { (4 * (n * fourth_size chip.unit) ≤ length fourths.now) × (ix.ska + page chip.unit ≤ length ram.old) }
     ensures { ram.new ≡ filters_kept chip.unit (index_of ix) first n fourths.now ram.old }
 {
@@ -82,7 +81,7 @@ fn keep_filters(chip: Chip, ix: Index, first: usize, n: usize, fourths: &[u8], r
 
 // Deletion d, and both filters of the page that it fills.
 fn keep_deletion(g: Geometry, d: usize, new: &NewBytes, filters: &NewFilters, ram: &mut [u8])
-    requires { Sound g × (ram_size (shape g) ≤ length ram.old) }
+    requires { ram_size (shape g) ≤ length ram.old }
     ensures { ram.new ≡ deletion_kept (shape g) d new.now filters.now ram.old }
 {
     let deletions = geometry::deletion_area(g);
@@ -101,7 +100,7 @@ fn keep_deletion(g: Geometry, d: usize, new: &NewBytes, filters: &NewFilters, ra
 
 // Record n and its entry, and the filter of the page that the entry fills.
 fn keep_record(g: Geometry, n: usize, new: &NewBytes, filters: &NewFilters, ram: &mut [u8])
-    requires { Sound g × (ram_size (shape g) ≤ length ram.old) }
+    requires { ram_size (shape g) ≤ length ram.old }
     ensures { ram.new ≡ record_kept (shape g) n new.now filters.now ram.old }
 {
     let entries = geometry::entry_area(g);
@@ -135,7 +134,7 @@ fn keep_record(g: Geometry, n: usize, new: &NewBytes, filters: &NewFilters, ram:
 
 // Deletion d.
 fn append_deletion(g: Geometry, d: usize, new: &NewBytes, ram: &mut [u8])
-    requires { Sound g × (ram_size (shape g) ≤ length ram.old) }
+    requires { ram_size (shape g) ≤ length ram.old }
     ensures { ram.new ≡ deletion_appended (shape g) d new.now ram.old }
 {
     append_item(geometry::deletion_area(g), d, &new[0..plan::RECORD_AT], ram);
@@ -143,7 +142,7 @@ fn append_deletion(g: Geometry, d: usize, new: &NewBytes, ram: &mut [u8])
 
 // Record n, then its entry.
 fn append_record(g: Geometry, n: usize, new: &NewBytes, ram: &mut [u8])
-    requires { Sound g × (ram_size (shape g) ≤ length ram.old) }
+    requires { ram_size (shape g) ≤ length ram.old }
     ensures { ram.new ≡ record_appended (shape g) n new.now ram.old }
 {
     let records = geometry::record_area(g);
@@ -156,7 +155,7 @@ fn append_record(g: Geometry, n: usize, new: &NewBytes, ram: &mut [u8])
 
 // The work page is zeroed.
 fn clear_work(g: Geometry, ram: &mut [u8])
-    requires { Sound g × (ram_size (shape g) ≤ length ram.old) }
+    requires { ram_size (shape g) ≤ length ram.old }
     ensures { ram.new ≡ zero_page g.chip.unit (work_ram g.chip.unit) ram.old }
 {
     words::fill_at(ram, g.work_ram(), g.chip.page_size(), 0);
@@ -164,7 +163,7 @@ fn clear_work(g: Geometry, ram: &mut [u8])
 
 // The RAM after a change, once the chip has all of it.
 pub fn finish(g: Geometry, e: Slots, new: &NewBytes, filters: &NewFilters, ram: &mut [u8])
-    requires { Sound g × (ram_size (shape g) ≤ length ram.old) }
+    requires { ram_size (shape g) ≤ length ram.old }
     ensures { ram.new
         ≡ zero_page g.chip.unit (work_ram g.chip.unit) (kept (shape g) new.now filters.now ram.old e) }
 {
@@ -181,7 +180,7 @@ pub fn finish(g: Geometry, e: Slots, new: &NewBytes, filters: &NewFilters, ram: 
 
 // The RAM after a change that fills no page.
 pub fn append(g: Geometry, e: Slots, new: &NewBytes, ram: &mut [u8])
-    requires { Sound g × (ram_size (shape g) ≤ length ram.old) }
+    requires { ram_size (shape g) ≤ length ram.old }
     ensures { ram.new
         ≡ zero_page g.chip.unit (work_ram g.chip.unit) (appended (shape g) new.now ram.old e) }
 {

@@ -6,7 +6,6 @@ ghost use Rattle.std.specs.Prelude.{◌≡◌, List, ℕ, ◌+◌, ◌*◌, ◌/
 ghost use Rattle.layout.specs.Geometry.{sectors_per_page, sector};
 ghost use Rattle.layout.specs.Index.{set_width};
 ghost use Rattle.layout.specs.Flash.{Flash, Planned, plan_ops, all_fresh, flash_of};
-ghost use Rattle.laws.specs.Units.{UnitSound};
 ghost use Rattle.geometry.specs.Indexes.{index_of};
 ghost use Rattle.partition.specs.Sources.{page_source};
 ghost use Rattle.partition.specs.Shared.{together, Shares};
@@ -214,7 +213,6 @@ fn program_span<S: Sectors>(sectors: &S, part: Span, main: &mut [u8], spare: &mu
 
 // How many sectors of a page are made at once: those that the buffer holds.
 fn at_once(chip: Chip) -> usize
-    requires { UnitSound chip.unit }
     ensures { (result ≡ at_once chip.unit) × Steps result × (result * sector chip.unit ≤ buffer_size) }
 {
     Chip::SECTORS_PER_PAGE.min(BUFFER_SIZE / chip.sector_size())

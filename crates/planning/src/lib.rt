@@ -23,7 +23,7 @@ const NOTHING: Segment = Segment { first: 0, count: 0 };
 
 // The page of item n; its sectors count where the item fills it.
 fn page(a: Area, n: usize) -> Segment
-    requires { AreaSound a × (n < 4294967296) }
+    requires { n < 4294967296 }
     ensures { result ≡ page_of (area a) n }
 {
     Segment {
@@ -65,7 +65,6 @@ fn flush_number(filters: usize) -> usize
 
 // Its sectors.
 fn flush_segment(index: Index, filters: usize) -> Segment
-    requires { index.first ≤ 20000 }
     ensures { result ≡ flush_segment 0 0 index filters }
 {
     Segment {
@@ -76,7 +75,6 @@ fn flush_segment(index: Index, filters: usize) -> Segment
 
 // That flush alone.
 fn flush_summary(index: Index, piece: usize, filters: usize) -> Summary
-    requires { index.first ≤ 20000 }
     ensures { result ≡ flush_summary 0 piece index filters }
 {
     Summary {
@@ -87,7 +85,7 @@ fn flush_summary(index: Index, piece: usize, filters: usize) -> Summary
 
 // With the set that it completes, and the erases.
 fn set_summary(chip: Chip, index: Index, piece: usize, filters: usize) -> Summary
-    requires { UnitSound chip.unit × (index.first ≤ 20000) × (in_full chip.unit filters ≤ 1024) }
+    requires { in_full chip.unit filters ≤ 1024 }
     ensures { result ≡ set_summary chip.unit piece index filters }
 {
     let rounds = filters / sets::FILTERS_PER_FLUSH / sets::FLUSHES_PER_ROUND;
@@ -120,7 +118,7 @@ fn set_summary(chip: Chip, index: Index, piece: usize, filters: usize) -> Summar
 // What filter number `filters`, the last new one, adds: the flush where it is an eighth, and the set where that ends a round.
 #[tactic(auto, unfolding(crate::specs::Numbers::summary_at))]
 fn summary(chip: Chip, index: Index, piece: usize, filters: usize) -> Summary
-    requires { UnitSound chip.unit × (index.first ≤ 20000) × (in_full chip.unit filters ≤ 1024) }
+    requires { in_full chip.unit filters ≤ 1024 }
     ensures { result ≡ summary_at chip.unit piece index filters }
 {
     if !sets::fills_ska(filters) {
@@ -135,14 +133,12 @@ fn summary(chip: Chip, index: Index, piece: usize, filters: usize) -> Summary
 // ---- both indexes: a page of deletions adds two filters, one of entries adds one
 
 fn no_deletions(g: Geometry) -> Summary
-    requires { Sound g }
     ensures { result ≡ no_deletions (shape g) }
 {
     no_summary(sets::deletion_index(g), 2 * g.chip.fourth_size())
 }
 
 fn no_entries(g: Geometry) -> Summary
-    requires { Sound g }
     ensures { result ≡ no_entries (shape g) }
 {
     no_summary(sets::key_index(g), g.chip.fourth_size())
@@ -150,7 +146,7 @@ fn no_entries(g: Geometry) -> Summary
 
 // What deletion d adds; the second of its page's filters is the last.
 fn deletion_summary(g: Geometry, d: usize) -> Summary
-    requires { Sound g × (d < deletion_capacity (shape g)) }
+    requires { d < deletion_capacity (shape g) }
     ensures { result ≡ deletion_summary (shape g) d }
 {
     if !geometry::deletion_area(g).fills(d) {
@@ -166,7 +162,7 @@ fn deletion_summary(g: Geometry, d: usize) -> Summary
 
 // What entry n adds.
 fn entry_summary(g: Geometry, n: usize) -> Summary
-    requires { Sound g × (n < record_capacity (shape g)) }
+    requires { n < record_capacity (shape g) }
     ensures { result ≡ entry_summary (shape g) n }
 {
     if !geometry::entry_area(g).fills(n) {
@@ -184,7 +180,7 @@ fn entry_summary(g: Geometry, n: usize) -> Summary
 
 // Deletion d.
 fn deletion(g: Geometry, d: usize) -> Plan
-    requires { Sound g × (d < deletion_capacity (shape g)) }
+    requires { d < deletion_capacity (shape g) }
     ensures { result ≡ deletion_numbers (shape g) d }
 {
     Plan {
@@ -199,7 +195,7 @@ fn deletion(g: Geometry, d: usize) -> Plan
 
 // Record n and its entry.
 fn insertion(g: Geometry, n: usize) -> Plan
-    requires { Sound g × (n < record_capacity (shape g)) }
+    requires { n < record_capacity (shape g) }
     ensures { result ≡ insertion_numbers (shape g) n }
 {
     Plan {
@@ -214,7 +210,7 @@ fn insertion(g: Geometry, n: usize) -> Plan
 
 // Deletion d, then record n and its entry.
 fn update(g: Geometry, d: usize, n: usize) -> Plan
-    requires { Sound g × (d < deletion_capacity (shape g)) × (n < record_capacity (shape g)) }
+    requires { (d < deletion_capacity (shape g)) × (n < record_capacity (shape g)) }
     ensures { result ≡ update_numbers (shape g) d n }
 {
     Plan {
@@ -236,7 +232,7 @@ pub enum Slots {
 
 // The plan of a change by the places that it takes.
 pub fn of(g: Geometry, e: Slots) -> Plan
-    requires { Sound g × Room (shape g) e }
+    requires { Room (shape g) e }
     ensures { result ≡ numbers_of (shape g) e }
 {
     match e {
@@ -248,7 +244,6 @@ pub fn of(g: Geometry, e: Slots) -> Plan
 
 // Does a change program anything: an entry fills no page where its record fills none.
 pub fn programs(g: Geometry, e: Slots) -> bool
-    requires { Sound g }
     ensures { result ≡ programs_in (shape g) e }
 {
     match e {

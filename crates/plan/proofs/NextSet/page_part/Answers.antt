@@ -13,9 +13,9 @@ set_sectors-requires c =
     let O = c.requires.of_page in
     let n = c.sector_address-n in
     record {
-      unit_sound = (P.unit, P.rounds, P.near);
+      rounds_bound = P.rounds;
       j_bound = omega (arith, P.sectors, c.requires.next_fits.1);
-      unit_in_bounds = P.sides;
+      in_main = P.sides;
       shares = c.requires.shares;
       in_page = in_page c.args.self.chip.unit n.result _ c.args.part O n.ensures (made_size _ n.result (omega (arith, n.ensures, O.small)));
     }
