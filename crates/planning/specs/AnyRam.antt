@@ -16,6 +16,8 @@ use Rattle.plan.specs.Plans.{deletion_fourths, entry_fourths, planned, planned_c
 use Rattle.planning.specs.declared.Slots.{Slots}
 use Rattle.planning.specs.declared.Slots.TheVariants.{Delete, Insert, Update}
 use Rattle.planning.specs.New.{new_bytes, deletion_part, record_part, entry_part}
+use Rattle.geometry.specs.declared.volume.Geometry.{Geometry as CodeGeometry}
+use Rattle.geometry.specs.Shape.{shape}
 use Rattle.planning.specs.Edits.{numbers_of, plan_of, Given, DeletionGiven, RecordGiven, edit_planned}
 
 -- ---- filters with given bits
@@ -63,8 +65,13 @@ module _ (u : ℕ) (B C : ℕ → ℕ → Bool) (most : u ≤ 32) where
 
 -- ---- a change with them
 
-module _ (h : Family) (g : Geometry) (pos : 0 < g.u) (most : g.u ≤ 32) (j : ℕ) (r : Record) (ram : List ℕ) (long : ram_size g ≤ length ram)
-  where
+module _ (h : Family) (c : CodeGeometry) (j : ℕ) (r : Record) (ram : List ℕ) (long : ram_size (shape c) ≤ length ram) where
+    abbrev g : Geometry
+    g = shape c
+
+    most : g.u ≤ 32
+    most = c.chip.power.most
+
     -- the bits of its new filters, and the number of its record
     abbrev first_bits : Slots → ℕ → ℕ → Bool
     first_bits (Delete d) = λ i. new_half h g d j i ram
@@ -109,29 +116,26 @@ module _ (h : Family) (g : Geometry) (pos : 0 < g.u) (most : g.u ≤ 32) (j : �
     all_given (Update d n) =
         (deletion_given d n (λ i. new_filter h g n r.key ram), record_given n (λ i. new_half h g d j i ram))
 
-    some_planned : (e : Slots) → planned (numbers_of g e) (some_new e) (some_filters e) ram ≡ plan_of g h j r.key (record_bytes r) ram e
-    some_planned e = edit_planned h g j r.key (record_bytes r) (some_new e) (some_filters e) ram pos long e (all_given e)
+    some_planned : (e : Slots) → planned (numbers_of c e) (some_new e) (some_filters e) ram ≡ plan_of g h j r.key (record_bytes r) ram e
+    some_planned e = edit_planned h c j r.key (record_bytes r) (some_new e) (some_filters e) ram long e (all_given e)
 
 -- whatever the RAM: there are new bytes and filters for which the code's plan is the layout's
-pub edit_some : (h : Family) (g : Geometry) → 0 < g.u → g.u ≤ 32 → (j : ℕ) (r : Record) (ram : List ℕ) → ram_size g ≤ length ram
-    → (e : Slots)
-    → (new : List ℕ) × (filters : List ℕ) × (planned (numbers_of g e) new filters ram ≡ plan_of g h j r.key (record_bytes r) ram e)
-edit_some h g pos most j r ram long e =
-    (some_new h g pos most j r ram long e, some_filters h g pos most j r ram long e, some_planned h g pos most j r ram long e)
+pub edit_some : (h : Family) (g : CodeGeometry) (j : ℕ) (r : Record) (ram : List ℕ) → ram_size (shape g) ≤ length ram → (e : Slots)
+    → (new : List ℕ) × (filters : List ℕ) × (planned (numbers_of g e) new filters ram ≡ plan_of (shape g) h j r.key (record_bytes r) ram e)
+edit_some h g j r ram long e = (some_new h g j r ram long e, some_filters h g j r ram long e, some_planned h g j r ram long e)
 
 -- the unit of its numbers
-pub unit_is : (g : Geometry) (e : Slots) → (numbers_of g e).chip.unit ≡ g.u
+pub unit_is : (g : CodeGeometry) (e : Slots) → (numbers_of g e).chip.unit ≡ g.chip.unit
 unit_is g (Delete d) = refl
 unit_is g (Insert n) = refl
 unit_is g (Update d n) = refl
 
-module _ (h : Family) (g : Geometry) (pos : 0 < g.u) (most : g.u ≤ 32) (j : ℕ) (r : Record) (ram : List ℕ) (long : ram_size g ≤ length ram)
-    (e : Slots) where
+module _ (h : Family) (g : CodeGeometry) (j : ℕ) (r : Record) (ram : List ℕ) (long : ram_size (shape g) ≤ length ram) (e : Slots) where
   abbrev plan : List Planned
-  plan = plan_of g h j r.key (record_bytes r) ram e
+  plan = plan_of (shape g) h j r.key (record_bytes r) ram e
 
   -- how many there are
   pub edit_length : length plan ≡ planned_count (numbers_of g e)
   edit_length =
-      let s = edit_some h g pos most j r ram long e in
+      let s = edit_some h g j r ram long e in
       ap length (sym s.2) ∙ planned_count_lem (numbers_of g e) s.0 s.1 ram

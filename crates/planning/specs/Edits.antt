@@ -12,8 +12,8 @@ use Rattle.layout.specs.Hash.{Family}
 use Rattle.layout.specs.Items.{Ra, KA, DA, fills, deletion_bytes, entry_bytes}
 use Rattle.layout.specs.Calls.{new_filter, new_half, deletion_plan, deletion_ram, insertion_plan, insertion_ram}
 use Rattle.laws.specs.Lengths.{Long}
-use Rattle.geometry.specs.declared.Geometry.{Geometry as CodeGeometry}
-use Rattle.geometry.specs.Shape.{shape, Sound}
+use Rattle.geometry.specs.declared.volume.Geometry.{Geometry as CodeGeometry}
+use Rattle.geometry.specs.Shape.{shape, sound_of}
 use Rattle.filter.specs.Fourths.{FourthsOf}
 use Rattle.plan.specs.declared.Plan.{Plan}
 use Rattle.plan.specs.Plans.{PlanFits, deletion_in, record_in, entry_in, deletion_fourths, entry_fourths, planned}
@@ -23,17 +23,17 @@ use Rattle.planning.specs.Numbers.{deletion_numbers, insertion_numbers, update_n
 use Rattle.planning.specs.Operations.{deletion_planned, insertion_planned, update_planned}
 use Rattle.planning.specs.Fits.{deletion_fits, insertion_fits, update_fits}
 
+abbrev pub numbers_of : CodeGeometry → Slots → Plan
+numbers_of g (Delete d) = deletion_numbers g d
+numbers_of g (Insert n) = insertion_numbers g n
+numbers_of g (Update d n) = update_numbers g d n
+
 module _ (g : Geometry) where
   -- there is room for it
   abbrev pub Room : Slots → Type 0
   Room (Delete d) = d < deletion_capacity g
   Room (Insert n) = n < record_capacity g
   Room (Update d n) = (d < deletion_capacity g) × (n < record_capacity g)
-
-  abbrev pub numbers_of : Slots → Plan
-  numbers_of (Delete d) = deletion_numbers g d
-  numbers_of (Insert n) = insertion_numbers g n
-  numbers_of (Update d n) = update_numbers g d n
 
   abbrev pub programs_in : Slots → Bool
   programs_in (Delete d) = fills (DA g) d
@@ -72,22 +72,23 @@ module _ (h : Family) (g : Geometry) (j : ℕ) (key : Key) (bytes new filters ra
   Given (Insert n) = RecordGiven h g n key bytes new filters ram
   Given (Update d n) = DeletionGiven h g d j new filters ram × RecordGiven h g n key bytes new filters ram
 
-  -- then the plan stands for the layout's
-  pub edit_planned : 0 < g.u → ram_size g ≤ length ram → (e : Slots) → Given e
-      → planned (numbers_of g e) new filters ram ≡ plan_of g h j key bytes ram e
-  edit_planned pos long (Delete d) G = deletion_planned h g d j new filters ram pos long G.number_is G.filters_are
-  edit_planned pos long (Insert n) G =
+-- then the plan stands for the layout's
+module _ (h : Family) (g : CodeGeometry) (j : ℕ) (key : Key) (bytes new filters ram : List ℕ) where
+  pub edit_planned : ram_size (shape g) ≤ length ram → (e : Slots) → Given h (shape g) j key bytes new filters ram e
+      → planned (numbers_of g e) new filters ram ≡ plan_of (shape g) h j key bytes ram e
+  edit_planned long (Delete d) G = deletion_planned h g d j new filters ram g.chip.power.some long G.number_is G.filters_are
+  edit_planned long (Insert n) G =
       insertion_planned h g n key bytes new filters ram G.size G.record_is_lem G.entry_is G.filter_is
-  edit_planned pos long (Update d n) G =
+  edit_planned long (Update d n) G =
       update_planned h g n key bytes new filters ram G.1.size G.1.record_is_lem G.1.entry_is G.1.filter_is
-      d j pos long G.0.number_is G.0.filters_are
+      d j g.chip.power.some long G.0.number_is G.0.filters_are
 
 -- and it fits
-pub edit_fits : (g : CodeGeometry) → Sound g → (main spare ram : List ℕ) → Long (shape g) main spare ram → (e : Slots) → Room (shape g) e
-    → PlanFits (numbers_of (shape g) e) (length main) (length spare) (length ram)
-edit_fits g S main spare ram L (Delete d) R = deletion_fits g S main spare ram L d R
-edit_fits g S main spare ram L (Insert n) R = insertion_fits g S main spare ram L n R
-edit_fits g S main spare ram L (Update d n) R = update_fits g S main spare ram L d n R.0 R.1
+pub edit_fits : (g : CodeGeometry) → (main spare ram : List ℕ) → Long (shape g) main spare ram → (e : Slots) → Room (shape g) e
+    → PlanFits (numbers_of g e) (length main) (length spare) (length ram)
+edit_fits g main spare ram L (Delete d) R = deletion_fits g (sound_of g) main spare ram L d R
+edit_fits g main spare ram L (Insert n) R = insertion_fits g (sound_of g) main spare ram L n R
+edit_fits g main spare ram L (Update d n) R = update_fits g (sound_of g) main spare ram L d n R.0 R.1
 
 -- ---- a change that fills no page of records or deletions plans nothing
 

@@ -9,8 +9,8 @@ use Rattle.layout.specs.Index.{Index, in_ska, in_l1, in_set, in_full, set_pages,
 use Rattle.layout.specs.Calls.{key_filters, deletion_filters}
 use Rattle.laws.specs.Lengths.{Long}
 use Rattle.laws.specs.SetLaws.{blocks_fit, side_range, places_suffice, deletion_places_suffice}
-use Rattle.geometry.specs.declared.Geometry.{Geometry}
-use Rattle.geometry.specs.Shape.{shape, chip_of, Sound}
+use Rattle.geometry.specs.declared.volume.Geometry.{Geometry}
+use Rattle.geometry.specs.Shape.{shape, sound_of, Sound}
 use Rattle.geometry.specs.Bounds.{index_le, deletion_index_le}
 use Rattle.geometry.specs.Indexes.{index_of, index_for, deletion_index_for}
 use Rattle.geometry.specs.declared.index.Index.{Index as CodeIndex}
@@ -113,9 +113,9 @@ module _ (g : Geometry) (S : Sound g) where
     pub in_sector : piece ≤ layout.sector u
     pub in_fourths : 4 * piece ≤ fourths
 
-  key_in : IndexIn (index_for G) (layout.full_sets G) (layout.fourth_size u) 256
+  key_in : IndexIn (index_for g) (layout.full_sets G) (layout.fourth_size u) 256
   key_in =
-      let i = index_le g S in
+      let i = index_le g in
       record {
         near = omega (arith, i);
         ends = omega arith;
@@ -124,9 +124,9 @@ module _ (g : Geometry) (S : Sound g) where
         in_fourths = omega (arith, S.unit.1.most);
       }
 
-  deletions_in_lem : IndexIn (deletion_index_for G) (layout.deletion_sets G) (2 * layout.fourth_size u) 512
+  deletions_in_lem : IndexIn (deletion_index_for g) (layout.deletion_sets G) (2 * layout.fourth_size u) 512
   deletions_in_lem =
-      let i = deletion_index_le g S in
+      let i = deletion_index_le g in
       record {
         near = omega (arith, i);
         ends = omega arith;
@@ -266,31 +266,31 @@ module _ (g : Geometry) (S : Sound g) where
         → SummaryFits u (cond b x y) fourths m s r
     by_page b x y fourths f n = either (bool? b) (λ e. rw e (f e)) (λ e. rw e n)
 
-    no_deletions_fit : SummaryFits u (no_deletions G) 512 m s r
-    no_deletions_fit = no_summary_fits (deletion_index_for G) (layout.deletion_sets G) (2 * layout.fourth_size u) 512 deletions_in_lem
+    no_deletions_fit : SummaryFits u (no_deletions g) 512 m s r
+    no_deletions_fit = no_summary_fits (deletion_index_for g) (layout.deletion_sets G) (2 * layout.fourth_size u) 512 deletions_in_lem
 
-    no_entries_fit : SummaryFits u (no_entries G) 256 m s r
-    no_entries_fit = no_summary_fits (index_for G) (layout.full_sets G) (layout.fourth_size u) 256 key_in
+    no_entries_fit : SummaryFits u (no_entries g) 256 m s r
+    no_entries_fit = no_summary_fits (index_for g) (layout.full_sets G) (layout.fourth_size u) 256 key_in
 
-    deletion_summary_fits : (d : ℕ) → d < layout.deletion_capacity G → SummaryFits u (deletion_summary G d) 512 m s r
+    deletion_summary_fits : (d : ℕ) → d < layout.deletion_capacity G → SummaryFits u (deletion_summary g d) 512 m s r
     deletion_summary_fits d h =
         by_page (fills (DA G) d) _ _ 512
         (λ full.
-        summary_fits (deletion_index_for G) (layout.deletion_sets G) (2 * layout.fourth_size u) 512 deletions_in_lem (deletion_filters G d + 1)
+        summary_fits (deletion_index_for g) (layout.deletion_sets G) (2 * layout.fourth_size u) 512 deletions_in_lem (deletion_filters G d + 1)
         (deletion_room d h full))
         no_deletions_fit
 
-    entry_summary_fits : (n : ℕ) → n < layout.record_capacity G → SummaryFits u (entry_summary G n) 256 m s r
+    entry_summary_fits : (n : ℕ) → n < layout.record_capacity G → SummaryFits u (entry_summary g n) 256 m s r
     entry_summary_fits n h =
         by_page (fills (KA G) n) _ _ 256
-        (λ full. summary_fits (index_for G) (layout.full_sets G) (layout.fourth_size u) 256 key_in (key_filters G n) (key_room n h full))
+        (λ full. summary_fits (index_for g) (layout.full_sets G) (layout.fourth_size u) 256 key_in (key_filters G n) (key_room n h full))
         no_entries_fit
 
     -- ---- the plans
 
     parts_fit : (da ra ka : Segment) (x y : Summary) → Inside da → Inside ra → Inside ka → SummaryFits u x 512 m s r
         → SummaryFits u y 256 m s r
-        → PlanFits (record { chip = chip_of G; da = da; da_index = x; ra = ra; ka = ka; ka_index = y }) m s r
+        → PlanFits (record { chip = g.chip; da = da; da_index = x; ra = ra; ka = ka; ka_index = y }) m s r
     parts_fit da ra ka x y in_da in_ra in_ka in_x in_y = record {
       some = S.unit.1.some;
       da = page_fits da (DA G).ram in_da (omega arith);
@@ -303,14 +303,14 @@ module _ (g : Geometry) (S : Sound g) where
       ka_index = in_y;
     }
 
-    pub deletion_fits : (d : ℕ) → d < layout.deletion_capacity G → PlanFits (deletion_numbers G d) m s r
+    pub deletion_fits : (d : ℕ) → d < layout.deletion_capacity G → PlanFits (deletion_numbers g d) m s r
     deletion_fits d h = parts_fit (page_of (DA G) d) none none _ _ (da_in d h) none_in none_in (deletion_summary_fits d h) no_entries_fit
 
-    pub insertion_fits : (n : ℕ) → n < layout.record_capacity G → PlanFits (insertion_numbers G n) m s r
+    pub insertion_fits : (n : ℕ) → n < layout.record_capacity G → PlanFits (insertion_numbers g n) m s r
     insertion_fits n h =
         parts_fit none (page_of (Ra G) n) (page_of (KA G) n) _ _ none_in (ra_in n h) (ka_in n h) no_deletions_fit (entry_summary_fits n h)
 
-    pub update_fits : (d n : ℕ) → d < layout.deletion_capacity G → n < layout.record_capacity G → PlanFits (update_numbers G d n) m s r
+    pub update_fits : (d n : ℕ) → d < layout.deletion_capacity G → n < layout.record_capacity G → PlanFits (update_numbers g d n) m s r
     update_fits d n k h =
         parts_fit (page_of (DA G) d) (page_of (Ra G) n) (page_of (KA G) n) _ _ (da_in d k) (ra_in n h) (ka_in n h)
         (deletion_summary_fits d k) (entry_summary_fits n h)

@@ -4,7 +4,8 @@ use Rattle.layout.specs.Geometry.{Geometry, sectors_per_page, sectors_per_block,
 use Rattle.layout.specs.Items.{Area, Ra, KA, DA, fills}
 use Rattle.layout.specs.Index.{in_ska, in_l1, in_set, in_full, filters_per_flush, flushes_per_round, set_block, set_pages, side_block, set_blocks}
 use Rattle.layout.specs.Calls.{key_filters, deletion_filters}
-use Rattle.geometry.specs.Shape.{chip_of}
+use Rattle.geometry.specs.declared.volume.Geometry.{Geometry as CodeGeometry}
+use Rattle.geometry.specs.Shape.{shape}
 use Rattle.geometry.specs.Indexes.{index_of, index_for, deletion_index_for}
 use Rattle.geometry.specs.declared.index.Index.{Index}
 use Rattle.plan.specs.declared.Plan.{Plan}
@@ -79,27 +80,30 @@ module _ (u piece : ℕ) (ix : Index) where
           by_test Q (eqb (in_ska F + 1) filters_per_flush) _ _
           (λ eight. by_test Q (eqb (in_l1 F + 1) flushes_per_round) _ _ (all eight) (no_set eight)) no_flush
 
-module _ (g : Geometry) where
+module _ (c : CodeGeometry) where
+  abbrev g : Geometry
+  g = shape c
+
   -- an index to which nothing is added; a page of deletions adds two filters, one of entries adds one
   abbrev pub no_deletions : Summary
-  no_deletions = no_summary g.u (2 * fourth_size g.u) (deletion_index_for g)
+  no_deletions = no_summary g.u (2 * fourth_size g.u) (deletion_index_for c)
 
   abbrev pub no_entries : Summary
-  no_entries = no_summary g.u (fourth_size g.u) (index_for g)
+  no_entries = no_summary g.u (fourth_size g.u) (index_for c)
 
   -- what deletion d adds, and what entry n does, where it fills its page
   abbrev pub deletion_summary : ℕ → Summary
   deletion_summary d =
-      cond (fills (DA g) d) (summary_at g.u (2 * fourth_size g.u) (deletion_index_for g) (deletion_filters g d + 1)) no_deletions
+      cond (fills (DA g) d) (summary_at g.u (2 * fourth_size g.u) (deletion_index_for c) (deletion_filters g d + 1)) no_deletions
 
   abbrev pub entry_summary : ℕ → Summary
-  entry_summary n = cond (fills (KA g) n) (summary_at g.u (fourth_size g.u) (index_for g) (key_filters g n)) no_entries
+  entry_summary n = cond (fills (KA g) n) (summary_at g.u (fourth_size g.u) (index_for c) (key_filters g n)) no_entries
 
   -- ---- the plans
 
   abbrev pub deletion_numbers : ℕ → Plan
   deletion_numbers d = record {
-    chip = chip_of g;
+    chip = c.chip;
     da = page_of (DA g) d;
     da_index = deletion_summary d;
     ra = none;
@@ -109,7 +113,7 @@ module _ (g : Geometry) where
 
   abbrev pub insertion_numbers : ℕ → Plan
   insertion_numbers n = record {
-    chip = chip_of g;
+    chip = c.chip;
     da = none;
     da_index = no_deletions;
     ra = page_of (Ra g) n;
@@ -119,7 +123,7 @@ module _ (g : Geometry) where
 
   abbrev pub update_numbers : ℕ → ℕ → Plan
   update_numbers d n = record {
-    chip = chip_of g;
+    chip = c.chip;
     da = page_of (DA g) d;
     da_index = deletion_summary d;
     ra = page_of (Ra g) n;

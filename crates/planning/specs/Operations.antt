@@ -19,6 +19,8 @@ use Rattle.layout.specs.Calls.{deletion_index, deletion_filters, new_half, first
 use Rattle.laws.specs.ItemLaws.{length_entry, length_deletion}
 use Rattle.laws.specs.SetLaws.{first_of_pair}
 use Rattle.geometry.specs.declared.index.Index.{Index}
+use Rattle.geometry.specs.declared.volume.Geometry.{Geometry as CodeGeometry}
+use Rattle.geometry.specs.Shape.{shape}
 use Rattle.geometry.specs.Indexes.{index_of, index_for, deletion_index_for}
 use Rattle.filter.specs.Fourths.{FourthsOf, with_fourths, one_filter, two_filters}
 use Rattle.plan.specs.declared.Summary.{Summary}
@@ -95,67 +97,73 @@ by_page u false s none fourths ram plan e f = e
 seventh : (F : ℕ) → in_ska (F + 1) + 1 ≡ 8 → 6 ≡ in_ska F
 seventh F e = omega (arith, e)
 
-module _ (h : Family) (g : Geometry) (d j : ℕ) (new filters ram : List ℕ) (pos : 0 < g.u) (long : ram_size g ≤ length ram)
+module _ (h : Family) (c : CodeGeometry) (d j : ℕ) (new filters ram : List ℕ) (pos : 0 < c.chip.unit) (long : ram_size (shape c) ≤ length ram)
     (number_is : deletion_in new ≡ deletion_bytes j)
-    (filters_are : fills (DA g) d ≡ true → FourthsOf g.u 2 (λ i. new_half h g d j i ram) (deletion_fourths filters)) where
+    (filters_are : fills (DA (shape c)) d ≡ true → FourthsOf c.chip.unit 2 (λ i. new_half h (shape c) d j i ram) (deletion_fourths filters)) where
+  abbrev G : Geometry
+  G = shape c
+
   abbrev F : ℕ
-  F = deletion_filters g d
+  F = deletion_filters G d
 
   abbrev ix : layout.Index
-  ix = deletion_index g
+  ix = deletion_index G
 
   abbrev half : ℕ → ℕ → Bool
-  half i = new_half h g d j i ram
+  half i = new_half h G d j i ram
 
   -- the first filter of the page flushes nothing
   abbrev first_plan : List Planned
-  first_plan = filter_plan g.u ix F (first_half h g d j ram ram)
+  first_plan = filter_plan G.u ix F (first_half h G d j ram ram)
 
   first_none : first_plan ≡ []
-  first_none = cond_neg (eqb (in_ska F + 1) 8) (flush_and_build g.u ix F (first_half h g d j ram ram)) [] (first_of_pair (d / (16 * g.u)))
+  first_none = cond_neg (eqb (in_ska F + 1) 8) (flush_and_build G.u ix F (first_half h G d j ram ram)) [] (first_of_pair (d / (16 * G.u)))
 
-  first_stays : filter_ram g.u ix F (first_half h g d j ram ram) ≡ first_half h g d j ram ram
-  first_stays = cond_neg (eqb (in_ska F + 1) 8) _ (first_half h g d j ram ram) (first_of_pair (d / (16 * g.u)))
+  first_stays : filter_ram G.u ix F (first_half h G d j ram ram) ≡ first_half h G d j ram ram
+  first_stays = cond_neg (eqb (in_ska F + 1) 8) _ (first_half h G d j ram ram) (first_of_pair (d / (16 * G.u)))
 
   -- and the second is flushed with both
-  both_joined : fills (DA g) d ≡ true → eqb (in_ska (F + 1) + 1) 8 ≡ true
-      → with_fourths g.u (2 * fourth_size g.u) (ix.ska + (sector g.u - 2 * fourth_size g.u)) (deletion_fourths filters) ram
-      ≡ second_half h g d j ram ram
+  both_joined : fills (DA G) d ≡ true → eqb (in_ska (F + 1) + 1) 8 ≡ true
+      → with_fourths G.u (2 * fourth_size G.u) (ix.ska + (sector G.u - 2 * fourth_size G.u)) (deletion_fourths filters) ram
+      ≡ second_half h G d j ram ram
   both_joined full eight =
       let seven : 7 ≡ in_ska (F + 1) = omega (arith, eqb-true (in_ska (F + 1) + 1) 8 eight) in
       let six : 6 ≡ in_ska F = seventh F (eqb-true (in_ska (F + 1) + 1) 8 eight) in
-      let at : ix.ska + (sector g.u - 2 * fourth_size g.u) ≡ ix.ska + 6 * fourth_size g.u = omega arith in
-      let joined = two_filters g.u (2 * fourth_size g.u) ix 6 half (deletion_fourths filters) ram refl pos (omega arith)
+      let at : ix.ska + (sector G.u - 2 * fourth_size G.u) ≡ ix.ska + 6 * fourth_size G.u = omega arith in
+      let joined = two_filters G.u (2 * fourth_size G.u) ix 6 half (deletion_fourths filters) ram refl pos (omega arith)
       (omega (arith, long)) (filters_are full) in
-      ap (λ (a : ℕ). with_fourths g.u (2 * fourth_size g.u) a (deletion_fourths filters) ram) at ∙ joined
-      ∙ (λ q. with_filter g.u ix (seven q) (half 1) (with_filter g.u ix (six q) (half 0) ram))
-      ∙ sym (ap (with_filter g.u ix (in_ska (F + 1)) (half 1)) first_stays)
+      ap (λ (a : ℕ). with_fourths G.u (2 * fourth_size G.u) a (deletion_fourths filters) ram) at ∙ joined
+      ∙ (λ q. with_filter G.u ix (seven q) (half 1) (with_filter G.u ix (six q) (half 0) ram))
+      ∙ sym (ap (with_filter G.u ix (in_ska (F + 1)) (half 1)) first_stays)
 
-  filters_planned : summary_of g.u (deletion_summary g d) (deletion_fourths filters) ram
-      ≡ cond (fills (DA g) d) (first_plan ++ filter_plan g.u ix (F + 1) (second_half h g d j ram ram)) []
+  filters_planned : summary_of G.u (deletion_summary c d) (deletion_fourths filters) ram
+      ≡ cond (fills (DA G) d) (first_plan ++ filter_plan G.u ix (F + 1) (second_half h G d j ram ram)) []
   filters_planned =
-      by_page g.u (fills (DA g) d) _ _ (deletion_fourths filters) ram _ refl
+      by_page G.u (fills (DA G) d) _ _ (deletion_fourths filters) ram _ refl
       (λ full.
-      summary_planned g.u (2 * fourth_size g.u) (deletion_index_for g) (F + 1) (deletion_fourths filters) ram (second_half h g d j ram ram)
+      summary_planned G.u (2 * fourth_size G.u) (deletion_index_for c) (F + 1) (deletion_fourths filters) ram (second_half h G d j ram ram)
       (both_joined full)
-      ∙ sym (ap (λ (l : List Planned). l ++ filter_plan g.u ix (F + 1) (second_half h g d j ram ram)) first_none))
+      ∙ sym (ap (λ (l : List Planned). l ++ filter_plan G.u ix (F + 1) (second_half h G d j ram ram)) first_none))
 
   -- its page, and the index over the deletions
-  deletion_part : deletion_of (deletion_numbers g d) new filters ram ≡ deletion_plan h g d j ram
+  deletion_part : deletion_of (deletion_numbers c d) new filters ram ≡ deletion_plan h G d j ram
   unfolding deletion_plan
   deletion_part =
-      let item = ap (page_plan g.u (DA g) d ram) number_is
-      ∙ page_planned g.u (DA g) d (deletion_bytes j) ram (omega arith) (length_deletion j) in
+      let item = ap (page_plan G.u (DA G) d ram) number_is
+      ∙ page_planned G.u (DA G) d (deletion_bytes j) ram (omega arith) (length_deletion j) in
       (λ q. item q ++ filters_planned q)
 
-  pub deletion_planned : planned (deletion_numbers g d) new filters ram ≡ deletion_plan h g d j ram
-  deletion_planned = append-nil (deletion_of (deletion_numbers g d) new filters ram) ∙ deletion_part
+  pub deletion_planned : planned (deletion_numbers c d) new filters ram ≡ deletion_plan h G d j ram
+  deletion_planned = append-nil (deletion_of (deletion_numbers c d) new filters ram) ∙ deletion_part
 
 -- ---- a record and its entry
 
-module _ (h : Family) (g : Geometry) (n : ℕ) (key : Key) (bytes new filters ram : List ℕ) (size : length bytes ≡ 16)
+module _ (h : Family) (c : CodeGeometry) (n : ℕ) (key : Key) (bytes new filters ram : List ℕ) (size : length bytes ≡ 16)
     (record_is_lem : record_in new ≡ bytes) (entry_is : entry_in new ≡ entry_bytes key n)
-    (filter_is : fills (KA g) n ≡ true → FourthsOf g.u 1 (λ i. new_filter h g n key ram) (entry_fourths filters)) where
+    (filter_is : fills (KA (shape c)) n ≡ true → FourthsOf c.chip.unit 1 (λ i. new_filter h (shape c) n key ram) (entry_fourths filters)) where
+  abbrev g : Geometry
+  g = shape c
+
   abbrev K : ℕ
   K = key_filters g n
 
@@ -169,12 +177,12 @@ module _ (h : Family) (g : Geometry) (n : ℕ) (key : Key) (bytes new filters ra
       ∙ one_filter g.u (fourth_size g.u) (key_index g) 7 (λ i. new_filter h g n key ram) (entry_fourths filters) ram refl (filter_is full)
       ∙ ap (λ (s : ℕ). with_filter g.u (key_index g) s (new_filter h g n key ram) ram) seven
 
-  filter_planned : summary_of g.u (entry_summary g n) (entry_fourths filters) ram
+  filter_planned : summary_of g.u (entry_summary c n) (entry_fourths filters) ram
       ≡ cond (fills (KA g) n) (filter_plan g.u (key_index g) K (summarized h g n key ram ram)) []
   filter_planned =
       by_page g.u (fills (KA g) n) _ _ (entry_fourths filters) ram _ refl
       (λ full.
-      summary_planned g.u (fourth_size g.u) (index_for g) K (entry_fourths filters) ram (summarized h g n key ram ram) (one_joined full))
+      summary_planned g.u (fourth_size g.u) (index_for c) K (entry_fourths filters) ram (summarized h g n key ram ram) (one_joined full))
 
   record_planned : page_plan g.u (Ra g) n ram (record_in new) ≡ item_plan g.u (Ra g) n bytes ram
   record_planned = ap (page_plan g.u (Ra g) n ram) record_is_lem ∙ page_planned g.u (Ra g) n bytes ram (omega arith) size
@@ -184,14 +192,14 @@ module _ (h : Family) (g : Geometry) (n : ℕ) (key : Key) (bytes new filters ra
       ap (page_plan g.u (KA g) n ram) entry_is
       ∙ page_planned g.u (KA g) n (entry_bytes key n) ram (omega arith) (length_entry key n)
 
-  pub insertion_planned : planned (insertion_numbers g n) new filters ram ≡ insertion_plan h g n key bytes ram
+  pub insertion_planned : planned (insertion_numbers c n) new filters ram ≡ insertion_plan h g n key bytes ram
   unfolding insertion_plan
   insertion_planned q = record_planned q ++ (entry_planned q ++ filter_planned q)
 
   -- "An update is a deletion followed by an insertion, in one call"
   pub update_planned : (d j : ℕ) → 0 < g.u → ram_size g ≤ length ram → deletion_in new ≡ deletion_bytes j
       → (fills (DA g) d ≡ true → FourthsOf g.u 2 (λ i. new_half h g d j i ram) (deletion_fourths filters))
-      → planned (update_numbers g d n) new filters ram ≡ deletion_plan h g d j ram ++ insertion_plan h g n key bytes ram
+      → planned (update_numbers c d n) new filters ram ≡ deletion_plan h g d j ram ++ insertion_plan h g n key bytes ram
   update_planned d j pos long number_is filters_are =
-      let part = deletion_part h g d j new filters ram pos long number_is filters_are in
+      let part = deletion_part h c d j new filters ram pos long number_is filters_are in
       (λ q. part q ++ insertion_planned q)

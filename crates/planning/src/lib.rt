@@ -6,8 +6,7 @@ ghost use Rattle.layout.specs.Geometry.{record_capacity, deletion_capacity};
 ghost use Rattle.layout.specs.Items as layout;
 ghost use Rattle.layout.specs.Items.{Ra, KA, DA};
 ghost use Rattle.layout.specs.Index.{in_l1, in_full};
-ghost use Rattle.laws.specs.Units.{UnitSound};
-ghost use Rattle.geometry.specs.Shape.{shape, Sound, area, AreaSound};
+ghost use Rattle.geometry.specs.Shape.{shape, area};
 ghost use Rattle.planning.specs.Numbers.{none, page_of, no_summary, flush_segment, flush_summary, set_summary, summary_at};
 ghost use Rattle.planning.specs.Numbers.{no_deletions, no_entries, deletion_summary, entry_summary};
 ghost use Rattle.planning.specs.Numbers.{deletion_numbers, insertion_numbers, update_numbers};
@@ -133,13 +132,13 @@ fn summary(chip: Chip, index: Index, piece: usize, filters: usize) -> Summary
 // ---- both indexes: a page of deletions adds two filters, one of entries adds one
 
 fn no_deletions(g: Geometry) -> Summary
-    ensures { result ≡ no_deletions (shape g) }
+    ensures { result ≡ no_deletions g }
 {
     no_summary(sets::deletion_index(g), 2 * g.chip.fourth_size())
 }
 
 fn no_entries(g: Geometry) -> Summary
-    ensures { result ≡ no_entries (shape g) }
+    ensures { result ≡ no_entries g }
 {
     no_summary(sets::key_index(g), g.chip.fourth_size())
 }
@@ -147,7 +146,7 @@ fn no_entries(g: Geometry) -> Summary
 // What deletion d adds; the second of its page's filters is the last.
 fn deletion_summary(g: Geometry, d: usize) -> Summary
     requires { d < deletion_capacity (shape g) }
-    ensures { result ≡ deletion_summary (shape g) d }
+    ensures { result ≡ deletion_summary g d }
 {
     if !geometry::deletion_area(g).fills(d) {
         return no_deletions(g);
@@ -163,7 +162,7 @@ fn deletion_summary(g: Geometry, d: usize) -> Summary
 // What entry n adds.
 fn entry_summary(g: Geometry, n: usize) -> Summary
     requires { n < record_capacity (shape g) }
-    ensures { result ≡ entry_summary (shape g) n }
+    ensures { result ≡ entry_summary g n }
 {
     if !geometry::entry_area(g).fills(n) {
         return no_entries(g);
@@ -181,7 +180,7 @@ fn entry_summary(g: Geometry, n: usize) -> Summary
 // Deletion d.
 fn deletion(g: Geometry, d: usize) -> Plan
     requires { d < deletion_capacity (shape g) }
-    ensures { result ≡ deletion_numbers (shape g) d }
+    ensures { result ≡ deletion_numbers g d }
 {
     Plan {
         chip: g.chip,
@@ -196,7 +195,7 @@ fn deletion(g: Geometry, d: usize) -> Plan
 // Record n and its entry.
 fn insertion(g: Geometry, n: usize) -> Plan
     requires { n < record_capacity (shape g) }
-    ensures { result ≡ insertion_numbers (shape g) n }
+    ensures { result ≡ insertion_numbers g n }
 {
     Plan {
         chip: g.chip,
@@ -211,7 +210,7 @@ fn insertion(g: Geometry, n: usize) -> Plan
 // Deletion d, then record n and its entry.
 fn update(g: Geometry, d: usize, n: usize) -> Plan
     requires { (d < deletion_capacity (shape g)) × (n < record_capacity (shape g)) }
-    ensures { result ≡ update_numbers (shape g) d n }
+    ensures { result ≡ update_numbers g d n }
 {
     Plan {
         da: page(geometry::deletion_area(g), d),
@@ -233,7 +232,7 @@ pub enum Slots {
 // The plan of a change by the places that it takes.
 pub fn of(g: Geometry, e: Slots) -> Plan
     requires { Room (shape g) e }
-    ensures { result ≡ numbers_of (shape g) e }
+    ensures { result ≡ numbers_of g e }
 {
     match e {
         Slots::Delete(d) => deletion(g, d),
