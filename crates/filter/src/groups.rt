@@ -12,7 +12,7 @@ ghost use Rattle.kernels.specs.Blocks.{Shows, Upto};
 ghost use Rattle.kernels.specs.Masks.{Shut};
 ghost use Rattle.filter.specs.Filter.{IndexFits};
 ghost use Rattle.filter.specs.Groups.{stage_of, ska_level, l1_level, set_level, full_level, level_in_sets, row_at, level_has};
-ghost use Rattle.filter.specs.Blocks.{EightsIn, BlocksIn, BlockOf, BlockAt};
+ghost use Rattle.filter.specs.Blocks.{EightsIn, EightsOf, BlocksIn, BlockOf, BlockAt};
 ghost use Rattle.filter.specs.Recent.{MaskOf, OneRow, recent_has, RecentIn, RecentOf};
 
 use geometry::sets::Index;
@@ -51,6 +51,17 @@ struct Recent {
     l1: Level,
     ska: Level,
     below: usize,
+}
+
+// A query of these filters: the positions, and the bytes of the flash and of the RAM, in which their rows of L1 and of the SKA page lie.
+#[derive(Clone, Copy)]
+struct Query<'a> {
+    rs: Recent,
+    ps: &'a [u32],
+    main: &'a [u8],
+    ram: &'a [u8],
+    ghost some: { 1 ≤ length ps.now },
+    ghost within: { RecentIn rs ps.now (length main.now) (length ram.now) },
 }
 
 // How filters are shared out over sets: the rounds in the current one, and the filters in full ones.
@@ -191,7 +202,7 @@ fn few_bits(l: Level, p: u32, n: usize, bytes: &[u8]) -> u64
 // The level's filters below `below`, eight at the most: one word.
 fn block_of_few(l: Level, below: usize, ps: &[u32], bytes: &[u8]) -> Block
     requires le_count { (l.start < below) × (below ≤ l.start + 8) }
-    requires by_index { (i : ℕ) → i < length ps.now → EightsIn l (get_or ps.now i 0) (below - l.start) (length bytes.now) }
+    requires by_index { EightsOf l ps.now (below - l.start) (length bytes.now) }
     ensures { BlockOf l bytes.now below ps.now result }
 {
     let n = below - l.start;
@@ -228,7 +239,7 @@ fn position_bits(l: Level, p: u32, first: usize, n: usize, bytes: &[u8]) -> u64
 
 // Which of them have all of the positions.
 fn eights(l: Level, ps: &[u32], first: usize, n: usize, bytes: &[u8]) -> u64
-    requires { (n ≤ 8) × ((i : ℕ) → i < length ps.now → EightsIn l (get_or ps.now i 0) (first + n * 8) (length bytes.now)) }
+    requires { (n ≤ 8) × EightsOf l ps.now (first + n * 8) (length bytes.now) }
     ensures { Shows (level_has l bytes.now ps.now) first (n * 8) result }
 {
     let mut r = u64::MAX;
@@ -241,7 +252,7 @@ fn eights(l: Level, ps: &[u32], first: usize, n: usize, bytes: &[u8]) -> u64
 // The newest 64 of the level's filters below `below`, or as many as there are: one word.
 fn block_by_eights(l: Level, below: usize, ps: &[u32], bytes: &[u8]) -> Block
     requires le_count { l.start < below }
-    requires by_index { (i : ℕ) → i < length ps.now → EightsIn l (get_or ps.now i 0) (below - l.start) (length bytes.now) }
+    requires by_index { EightsOf l ps.now (below - l.start) (length bytes.now) }
     ensures { BlockOf l bytes.now below ps.now result }
 {
     let all = below - l.start;
@@ -297,33 +308,6 @@ fn mask_of(e: usize, ps: &[u32]) -> Option<u64>
     if differ >> e == 0 { Some(bits) } else { None }
 }
 
-// Filters of eight bytes: a word for each.
-fn recent_64(rs: Recent, mask: u64, ps: &[u32], main: &[u8], ram: &[u8]) -> Block
-    requires exponent_value { (rs.l1.exponent ≡ 6) × (1 ≤ length ps.now) × RecentIn rs ps.now (length main.now) (length ram.now) }
-    requires one_row { OneRow ps.now (length ps.now) 6 × MaskOf ps.now (length ps.now) 64 mask }
-    ensures { RecentOf rs main.now ram.now ps.now result }
-{
-    let top = rs.below.min(rs.ska.start);
-    let start = rs.l1.start;
-    let all = top - start;
-    let few = all.min(64);
-    let row = row_of(rs.l1, ps[0]);
-    let a = kernels::words_with(mask, row, few, main);
-    let b = kernels::words_with(mask, row + 512, all - few, main);
-    let at = row_of(rs.ska, ps[0]);
-    let c = kernels::words_with(mask, at, rs.below - top, ram);
-    if all < 64 {
-        return Block {
-            start,
-            words: [a | c << all, 0, 0, 0, 0, 0, 0, 0],
-        };
-    }
-    Block {
-        start,
-        words: [a, b | c << (all - 64), 0, 0, 0, 0, 0, 0],
-    }
-}
-
 // A block of filters of two bytes, 128 at the most, by the words of those that are shut.
 fn block_of_shut(start: usize, n: usize, a: u64, b: u64) -> Block
     requires { (0 < n) × (n ≤ 128) }
@@ -352,91 +336,117 @@ fn block_of_shut(start: usize, n: usize, a: u64, b: u64) -> Block
     }
 }
 
-// Filters of two bytes: four to a word.
-fn recent_16(rs: Recent, mask: u64, ps: &[u32], main: &[u8], ram: &[u8]) -> Block
-    requires exponent_value { (rs.l1.exponent ≡ 4) × (1 ≤ length ps.now) × RecentIn rs ps.now (length main.now) (length ram.now) }
-    requires one_row { OneRow ps.now (length ps.now) 4 × MaskOf ps.now (length ps.now) 16 mask × (mask < 65536) }
-    ensures { RecentOf rs main.now ram.now ps.now result }
-{
-    let top = rs.below.min(rs.ska.start);
-    let start = rs.l1.start;
-    let words = (top - start).div_ceil(4);
-    let few = words.min(16);
-    let row = row_of(rs.l1, ps[0]);
-    let a = kernels::lacking(0, mask, row, few, main);
-    let b = kernels::lacking(0, mask, row + 128, words - few, main);
-    let more = (rs.below - top).div_ceil(4);
-    let at = row_of(rs.ska, ps[0]);
-    if words < 16 {
-        let c = kernels::lacking(a, mask, at, more, ram);
-        return block_of_shut(start, rs.below - start, c, b);
-    }
-    let c = kernels::lacking(b, mask, at, more, ram);
-    block_of_shut(start, rs.below - start, a, c)
-}
-
-// Filters of whole bytes: which of the 64 from `first` on, L1's and those behind them, have all of the positions.
-fn recent_word(rs: Recent, first: usize, ps: &[u32], main: &[u8], ram: &[u8]) -> u64
-    requires { ((first ≡ 0) ⊎ (first ≡ 64)) × (rs.l1.start + first < rs.below)
-        × RecentIn rs ps.now (length main.now) (length ram.now) }
-    ensures { Shows (λ g. recent_has rs main.now ram.now ps.now (rs.l1.start + g))
-        first (min (rs.below - rs.l1.start - first) 64) result }
-{
-    let w = power(rs.l1.exponent);
-    let step = w / 8;
-    let top = rs.below.min(rs.ska.start);
-    let n = ((top - rs.l1.start).div_ceil(8) - first / 8).min(8);
-    let mut r = u64::MAX;
-    for p in ps {
-        let row = row_of(rs.l1, *p);
-        let other = row_of(rs.ska, *p);
-        let low = *p as usize % w;
-        let o = low / 8;
-        let s = kernels::byte_bits(other + o, low, step, rs.below - top, ram);
-        r &= kernels::row_bits(s, row + first * step + o, low, step, n, main);
-    }
-    r
-}
-
-// The same as a block, in one word or two.
-fn recent_by_bytes(rs: Recent, ps: &[u32], main: &[u8], ram: &[u8]) -> Block
-    requires { RecentIn rs ps.now (length main.now) (length ram.now) }
-    ensures { RecentOf rs main.now ram.now ps.now result }
-{
-    let start = rs.l1.start;
-    let n = rs.below - start;
-    let a = recent_word(rs, 0, ps, main, ram);
-    if n > 64 {
-        let b = recent_word(rs, 64, ps, main, ram);
-        return Block {
+impl<'a> Query<'a> {
+    // Filters of eight bytes: a word for each.
+    fn by_words(self, mask: u64) -> Block
+        requires exponent_value { self.rs.l1.exponent ≡ 6 }
+        requires one_row { OneRow self.ps.now (length self.ps.now) 6 × MaskOf self.ps.now (length self.ps.now) 64 mask }
+        ensures { let q = self.entry in RecentOf q.rs q.main.now q.ram.now q.ps.now result }
+    {
+        let top = self.rs.below.min(self.rs.ska.start);
+        let start = self.rs.l1.start;
+        let all = top - start;
+        let few = all.min(64);
+        let row = row_of(self.rs.l1, self.ps[0]);
+        let a = kernels::words_with(mask, row, few, self.main);
+        let b = kernels::words_with(mask, row + 512, all - few, self.main);
+        let at = row_of(self.rs.ska, self.ps[0]);
+        let c = kernels::words_with(mask, at, self.rs.below - top, self.ram);
+        if all < 64 {
+            return Block {
+                start,
+                words: [a | c << all, 0, 0, 0, 0, 0, 0, 0],
+            };
+        }
+        Block {
             start,
-            words: [a, kernels::lowest(b, n - 64), 0, 0, 0, 0, 0, 0],
-        };
+            words: [a, b | c << (all - 64), 0, 0, 0, 0, 0, 0],
+        }
     }
-    Block {
-        start,
-        words: [kernels::lowest(a, n), 0, 0, 0, 0, 0, 0, 0],
-    }
-}
 
-// The filters since the last round. At S = 16 and 64 a filter's part of a row is a number, so that they are tested by a mask, if the
-// positions lie in one row; else it is read by bytes, and where L1 has no filter yet those of the SKA page alone.
-fn recent_block(rs: Recent, ps: &[u32], main: &[u8], ram: &[u8]) -> Block
-    requires { (1 ≤ length ps.now) × RecentIn rs ps.now (length main.now) (length ram.now) }
-    ensures { RecentOf rs main.now ram.now ps.now result }
-{
-    if rs.l1.exponent == 4 {
-        if let Some(mask) = mask_of(4, ps) {
-            return recent_16(rs, mask, ps, main, ram);
+    // Filters of two bytes: four to a word.
+    fn by_fours(self, mask: u64) -> Block
+        requires exponent_value { self.rs.l1.exponent ≡ 4 }
+        requires one_row { OneRow self.ps.now (length self.ps.now) 4 × MaskOf self.ps.now (length self.ps.now) 16 mask × (mask < 65536) }
+        ensures { let q = self.entry in RecentOf q.rs q.main.now q.ram.now q.ps.now result }
+    {
+        let top = self.rs.below.min(self.rs.ska.start);
+        let start = self.rs.l1.start;
+        let words = (top - start).div_ceil(4);
+        let few = words.min(16);
+        let row = row_of(self.rs.l1, self.ps[0]);
+        let a = kernels::lacking(0, mask, row, few, self.main);
+        let b = kernels::lacking(0, mask, row + 128, words - few, self.main);
+        let more = (self.rs.below - top).div_ceil(4);
+        let at = row_of(self.rs.ska, self.ps[0]);
+        if words < 16 {
+            let c = kernels::lacking(a, mask, at, more, self.ram);
+            return block_of_shut(start, self.rs.below - start, c, b);
         }
-    } else if rs.l1.exponent == 6 {
-        if let Some(mask) = mask_of(6, ps) {
-            return recent_64(rs, mask, ps, main, ram);
-        }
-    } else if rs.ska.start == rs.l1.start {
-        return block_of_few(rs.ska, rs.below, ps, ram);
+        let c = kernels::lacking(b, mask, at, more, self.ram);
+        block_of_shut(start, self.rs.below - start, a, c)
     }
-    recent_by_bytes(rs, ps, main, ram)
+
+    // Filters of whole bytes: which of the 64 from `first` on, L1's and those behind them, have all of the positions.
+    fn word(self, first: usize) -> u64
+        requires { ((first ≡ 0) ⊎ (first ≡ 64)) × (self.rs.l1.start + first < self.rs.below) }
+        ensures { let q = self.entry in Shows (λ g. recent_has q.rs q.main.now q.ram.now q.ps.now (q.rs.l1.start + g))
+            first (min (q.rs.below - q.rs.l1.start - first) 64) result }
+    {
+        let w = power(self.rs.l1.exponent);
+        let step = w / 8;
+        let top = self.rs.below.min(self.rs.ska.start);
+        let n = ((top - self.rs.l1.start).div_ceil(8) - first / 8).min(8);
+        let mut r = u64::MAX;
+        for p in self.ps {
+            let row = row_of(self.rs.l1, *p);
+            let other = row_of(self.rs.ska, *p);
+            let low = *p as usize % w;
+            let o = low / 8;
+            let s = kernels::byte_bits(other + o, low, step, self.rs.below - top, self.ram);
+            r &= kernels::row_bits(s, row + first * step + o, low, step, n, self.main);
+        }
+        r
+    }
+
+    // The same as a block, in one word or two.
+    fn by_bytes(self) -> Block
+        ensures { let q = self.entry in RecentOf q.rs q.main.now q.ram.now q.ps.now result }
+    {
+        let start = self.rs.l1.start;
+        let n = self.rs.below - start;
+        let a = self.word(0);
+        if n > 64 {
+            let b = self.word(64);
+            return Block {
+                start,
+                words: [a, kernels::lowest(b, n - 64), 0, 0, 0, 0, 0, 0],
+            };
+        }
+        Block {
+            start,
+            words: [kernels::lowest(a, n), 0, 0, 0, 0, 0, 0, 0],
+        }
+    }
+
+    // The filters since the last round. At S = 16 and 64 a filter's part of a row is a number, so that they are tested by a mask, if the
+    // positions lie in one row; else it is read by bytes, and where L1 has no filter yet those of the SKA page alone.
+    fn block(self) -> Block
+        ensures { let q = self.entry in RecentOf q.rs q.main.now q.ram.now q.ps.now result }
+    {
+        if self.rs.l1.exponent == 4 {
+            if let Some(mask) = mask_of(4, self.ps) {
+                return self.by_fours(mask);
+            }
+        } else if self.rs.l1.exponent == 6 {
+            if let Some(mask) = mask_of(6, self.ps) {
+                return self.by_words(mask);
+            }
+        } else if self.rs.ska.start == self.rs.l1.start {
+            return block_of_few(self.rs.ska, self.rs.below, self.ps, self.ram);
+        }
+        self.by_bytes()
+    }
 }
 
 // ---- blocks
@@ -468,7 +478,13 @@ pub fn block_below(
             fs.count / sets::FILTERS_PER_FLUSH * sets::FILTERS_PER_FLUSH,
         );
         let rs = Recent { l1, ska, below };
-        return recent_block(rs, &ps[..count], main, ram);
+        let query = Query {
+            rs,
+            ps: &ps[..count],
+            main,
+            ram,
+        };
+        return query.block();
     }
     let l = level_in_sets(chip, e, fs.index, stage_of(chip, e, fs.count), below);
     if l.exponent > 5 {

@@ -31,19 +31,20 @@ ska_level-ska-requires c =
     let U = unit (goal.at.ska_level-ska-requires c).After-exponent-e in
     U.small
 
-pub recent_block-requires : goal.recent_block-requires
-recent_block-requires c =
+pub invariant_of-query : goal.invariant_of-query
+invariant_of-query c =
     let x = c.args in
     let p = c.requires.by_index in
     let q = c.requires.le_count in
-    let U = unit (goal.at.recent_block-requires c).After-exponent-e in
+    let U = unit (goal.at.invariant_of-query c).After-exponent-e in
     let eight : length x.ps ≡ 8 = search rules in
-    let low = front (λ p. p < 64 * x.fs.chip.unit) x.ps x.count q.2 in (
-      omega (arith, length-take-le x.count x.ps (omega (arith, eight, q.1)), q.0),
-      rw (c.l1_level-l1.ensures, c.ska_level-ska.ensures)
+    let low = front (λ p. p < 64 * x.fs.chip.unit) x.ps x.count q.2 in
+    record {
+      some = omega (arith, length-take-le x.count x.ps (omega (arith, eight, q.1)), q.0);
+      within = rw (c.l1_level-l1.ensures, c.ska_level-ska.ensures)
           (recent_in x.fs.chip.unit c.exponent-e.result x.fs.count p.0.0 (index_of x.fs.index) x.main.now x.ram.now U p.0.2
-          x.below (take x.count x.ps) p.3 c.if-below-start.true low),
-    )
+          x.below (take x.count x.ps) p.3 c.if-below-start.true low);
+    }
 
 pub returns-then-below-start : goal.returns-then-below-start
 returns-then-below-start c =
@@ -51,7 +52,7 @@ returns-then-below-start c =
     let p = c.requires.by_index in
     let U = unit (goal.at.returns-then-below-start c).After-exponent-e in
     recent_at x.fs.chip.unit c.exponent-e.result x.fs.count p.0.0 (index_of x.fs.index) x.main.now x.ram.now U p.0.2
-    x.below (take x.count x.ps) c.recent_block.result p.3 (rw (c.l1_level-l1.ensures, c.ska_level-ska.ensures) at c.recent_block.ensures)
+    x.below (take x.count x.ps) c.block.result p.3 (rw (c.l1_level-l1.ensures, c.ska_level-ska.ensures) at c.block.ensures)
 
 -- ---- a set
 
