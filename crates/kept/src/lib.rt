@@ -178,7 +178,7 @@ pub fn finish(g: Geometry, e: Slots, new: &NewBytes, filters: &NewFilters, ram: 
     clear_work(g, ram);
 }
 
-// The RAM after a change that fills no page.
+// The RAM after a change that fills no page: the arms of `finish` with other calls in them, which closures would make no plainer.
 pub fn append(g: Geometry, e: Slots, new: &NewBytes, ram: &mut [u8])
     requires { ram_size (shape g) ≤ length ram.old }
     ensures { ram.new

@@ -385,7 +385,7 @@ fn index_run(
     build(chip, s, later, main, spare);
 }
 
-// ---- plans
+// ---- plans: one page and an index for a deletion, two pages and an index for a record; one function for both would be no plainer
 
 // Operations of the deletion: its page and the index over the deletions.
 fn deletion_run(
@@ -547,6 +547,8 @@ pub fn fresh(p: Plan, spare: &[u8]) -> bool
 {
     plan_fresh(p, spare)
 }
+
+// ---- what counts as done: an earlier part is looked at only where nothing of a later one counts, so each part stays an `if`
 
 // How many operations of an index count as done: the erases behind the last programmed sector do not.
 fn index_done(s: Summary, spare: &[u8]) -> usize

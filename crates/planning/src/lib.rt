@@ -129,7 +129,7 @@ fn summary(chip: Chip, index: Index, piece: usize, filters: usize) -> Summary
     set_summary(chip, index, piece, filters)
 }
 
-// ---- both indexes: a page of deletions adds two filters, one of entries adds one
+// ---- both indexes: a page of deletions adds two filters, one of entries adds one; they differ in each argument, so they stay two
 
 fn no_deletions(g: Geometry) -> Summary
     ensures { result ≡ no_deletions g }
