@@ -79,7 +79,6 @@ fn slots(t: Task) -> Slots
 
 // 5, then 6, of what the edit adds; accepted where there is room for it.
 pub fn room_refusal(g: Geometry, s: State, e: Edit) -> Result<(), Refusal>
-    requires { Sound g }
     ensures { result ≡ room_refusal (shape g) s.records s.deletions (edit_is e) }
 {
     if e.inserts().is_some() && g.record_capacity() <= s.records as usize {
@@ -118,7 +117,7 @@ fn new_bytes(t: Task) -> [u8; plan::NEW_SIZE]
 
 // `out` becomes the filters of the page that deletion d, of record `old`, fills, by their fourths.
 fn put_deletion_filters(g: Geometry, d: usize, old: u32, ram: &[u8], out: &mut [u8])
-    requires { Sound g × (ram_size (shape g) ≤ length ram.now) × (length out.old ≡ 512) }
+    requires { (ram_size (shape g) ≤ length ram.now) × (length out.old ≡ 512) }
     ensures { DeletionFilters (shape g) d old ram.now out.new }
 {
     if !geometry::deletion_area(g).fills(d) {
@@ -129,7 +128,7 @@ fn put_deletion_filters(g: Geometry, d: usize, old: u32, ram: &[u8], out: &mut [
 
 // `out`, which is all 0, becomes the filter of the page that entry n, with the key, fills.
 fn put_entry_filter(g: Geometry, n: usize, key: Key, ram: &[u8], out: &mut [u8])
-    requires { Sound g × (ram_size (shape g) ≤ length ram.now) × (out.old ≡ replicate 256 0) }
+    requires { (ram_size (shape g) ≤ length ram.now) × (out.old ≡ replicate 256 0) }
     ensures { EntryFilter (shape g) n (key_is key) ram.now out.new }
 {
     if !geometry::entry_area(g).fills(n) {
@@ -148,7 +147,7 @@ fn put_entry_filter(g: Geometry, n: usize, key: Key, ram: &[u8], out: &mut [u8])
 
 // `filters`, which are all 0, become the new filters of a change, by their fourths: those of its deletion, then that of its entry.
 fn new_filters(t: Task, ram: &[u8], filters: &mut [u8])
-    requires { Sound t.g × (ram_size (shape t.g) ≤ length ram.now) × (filters.old ≡ replicate 768 0) }
+    requires { (ram_size (shape t.g) ≤ length ram.now) × (filters.old ≡ replicate 768 0) }
     ensures { TaskFilters t ram.now filters.new }
 {
     let (of_deletion, of_entry) = filters.split_at_mut(plan::ENTRY_FILTER_AT);
@@ -164,7 +163,6 @@ fn new_filters(t: Task, ram: &[u8], filters: &mut [u8])
 
 // Whether a change fills a page.
 pub fn programs(t: Task) -> bool
-    requires { Sound t.g }
     ensures { result ≡ programs_in (shape t.g) (task_slots t) }
 {
     planning::programs(t.g, slots(t))
@@ -172,7 +170,7 @@ pub fn programs(t: Task) -> bool
 
 // Its plan, made once: for 7, for what is done of it and for its operations.
 pub fn plan_of(t: Task) -> Plan
-    requires { Sound t.g × HasRoom t }
+    requires { HasRoom t }
     ensures { Prepared t result }
 {
     planning::of(t.g, slots(t))
@@ -180,7 +178,7 @@ pub fn plan_of(t: Task) -> Plan
 
 // 7 of a change by its plan, whatever the other bytes; accepted where all is fresh that it programs.
 pub fn fresh_refusal(t: Task, p: Plan, spare: &[u8]) -> Result<(), Refusal>
-    requires { Sound t.g × Prepared t p × (spare_size (shape t.g) ≤ length spare.now) }
+    requires { Prepared t p × (spare_size (shape t.g) ≤ length spare.now) }
     ensures { (main ram : List ℕ) → ram_size (shape t.g) ≤ length ram
         → result ≡ change_refusal (shape t.g) (task_on t main spare.now ram) (edit_is t.edit) }
 {
@@ -192,7 +190,7 @@ pub fn fresh_refusal(t: Task, p: Plan, spare: &[u8]) -> Result<(), Refusal>
 
 // How many operations of a change count as done, by its plan and the spare area alone.
 pub fn done(t: Task, p: Plan, spare: &[u8]) -> usize
-    requires { Sound t.g × Prepared t p × (spare_size (shape t.g) ≤ length spare.now) }
+    requires { Prepared t p × (spare_size (shape t.g) ≤ length spare.now) }
     ensures { (main ram : List ℕ) → ram_size (shape t.g) ≤ length ram
         → result ≡ done_count spare.now (task_plan t main spare.now ram) }
 {
@@ -235,7 +233,7 @@ pub fn carry_on(
 
 // The RAM after a change that fills no page, whatever the chip.
 pub fn append(t: Task, ram: &mut [u8])
-    requires sound { Sound t.g × HasRoom t × (ram_size (shape t.g) ≤ length ram.old) }
+    requires sound { HasRoom t × (ram_size (shape t.g) ≤ length ram.old) }
     requires t_value { programs_in (shape t.g) (task_slots t) ≡ false }
     ensures { (main spare : List ℕ) → ram.new ≡ (task_result t main spare ram.old 0).volume.ram }
 {

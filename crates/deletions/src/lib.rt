@@ -53,7 +53,6 @@ fn in_open(t: Deletions, j: u32, main: &[u8], ram: &[u8]) -> bool
 
 // The filters of the volume's deletions, two to a page.
 fn filters(t: Deletions) -> Filters
-    requires { Sound t.g }
     ensures { result ≡ deletion_filters_of t }
 {
     Filters {
@@ -66,7 +65,7 @@ fn filters(t: Deletions) -> Filters
 // The pages of a word of filters, newest first; their bytes are from `start` on. It is a function because its loop calls nothing that stays
 // a call in small pages, and so keeps its values in registers.
 fn in_word(chip: Chip, start: usize, bits: u64, j: u32, main: &[u8]) -> Tested
-    requires { UnitSound chip.unit × WordPagesIn chip.unit start bits main.now }
+    requires { WordPagesIn chip.unit start bits main.now }
     ensures { tested_of j result
         ≡ search_pages (either_bit bits) (try_word main.now start j) (deletions_per_page chip.unit) 32 }
 {

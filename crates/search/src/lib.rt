@@ -134,7 +134,7 @@ fn in_page(
 
 // The first byte of page p of the entries on flash.
 fn page_start(g: Geometry, p: usize) -> usize
-    requires { Sound g × (p ≤ 262144) }
+    requires { p ≤ 262144 }
     ensures { result ≡ page_start g p }
 {
     g.chip.block_address(g.ka_block()) + g.chip.page_address(p)
@@ -165,7 +165,6 @@ fn in_open(v: View, key: Key, main: &[u8], ram: &[u8]) -> Found
 
 // The filters of the volume's entries.
 fn key_filters(v: View) -> Filters
-    requires { Sound v.g }
     ensures { result ≡ filters_of v }
 {
     Filters {
@@ -193,7 +192,7 @@ struct Opened {
 // The newest page with an entry of the key, of those from page `from` on whose bits are set, by its number among them; the pages before it
 // are opened in vain. It is a function because its loop calls nothing that stays a call, and so keeps its values in registers.
 fn next_page(g: Geometry, key: Key, from: usize, bits: u64, main: &[u8]) -> Opened
-    requires { Sound g × (from ≤ 32768) × PagesIn g from bits main.now }
+    requires { (from ≤ 32768) × PagesIn g from bits main.now }
     ensures { OpenedAt g (key_is key) from bits main.now result }
 {
     let mut pages = Ones { left: bits };
@@ -218,7 +217,7 @@ fn next_page(g: Geometry, key: Key, from: usize, bits: u64, main: &[u8]) -> Open
 
 // The same by its first byte: that is made again here, since the loop would have to keep it for each page.
 fn next_with_key(g: Geometry, key: Key, from: usize, bits: u64, main: &[u8]) -> Opened
-    requires { Sound g × (from ≤ 32768) × PagesIn g from bits main.now }
+    requires { (from ≤ 32768) × PagesIn g from bits main.now }
     ensures { TriedAt g (key_is key) from bits main.now result }
 {
     let p = next_page(g, key, from, bits, main);
