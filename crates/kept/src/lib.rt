@@ -5,7 +5,7 @@ ghost use Rattle.std.specs.Prelude.{◌≡◌, ◌+◌, ◌*◌, ◌%◌, ◌≤
 ghost use Rattle.layout.specs.Geometry.{sector, page, fourth_size, ram_size, work_ram};
 ghost use Rattle.layout.specs.Items.{put, item_ram, zero_page};
 ghost use Rattle.layout.specs.Index.{filters_per_flush, in_ska};
-ghost use Rattle.geometry.specs.Shape.{shape, Sound, area, AreaSound};
+ghost use Rattle.geometry.specs.Shape.{shape, area};
 ghost use Rattle.geometry.specs.Indexes.{index_of};
 ghost use Rattle.filter.specs.Fourths.{with_fourths};
 ghost use Rattle.kept.specs.Kept.{filters_kept, deletion_kept, record_kept, kept};
@@ -40,7 +40,7 @@ fn append_item(a: Area, n: usize, item: &[u8], ram: &mut [u8])
 
 // Item n to its place, or, where it fills its page, the page zeroed.
 fn keep_item(chip: Chip, a: Area, n: usize, item: &[u8], ram: &mut [u8])
-    requires area_sound { a.per_page * a.size ≡ page chip.unit }
+    requires page_size { a.per_page * a.size ≡ page chip.unit }
     requires item_len { (length item.now ≡ a.size) × (a.size % 4 ≡ 0) × (a.ram + page chip.unit ≤ length ram.old) }
     ensures { ram.new ≡ item_ram chip.unit (area a) n item.now ram.old }
 {
@@ -52,7 +52,7 @@ fn keep_item(chip: Chip, a: Area, n: usize, item: &[u8], ram: &mut [u8])
 
 // The fourths of new filters, `piece` bytes in each sector of a page, from byte `at` of its first sector on.
 fn put_fourths(chip: Chip, at: usize, piece: usize, fourths: &[u8], ram: &mut [u8])
-    requires unit_bound { (4 * piece ≤ length fourths.now) × (piece ≤ sector chip.unit) }
+    requires fourths_len { (4 * piece ≤ length fourths.now) × (piece ≤ sector chip.unit) }
     requires piece_in_bounds { at + 3 * sector chip.unit + piece ≤ length ram.old }
     ensures { ram.new ≡ with_fourths chip.unit piece at fourths.now ram.old }
 {
@@ -65,8 +65,8 @@ fn put_fourths(chip: Chip, at: usize, piece: usize, fourths: &[u8], ram: &mut [u
 
 // n new filters, the first of them number `first`: to their places in the SKA page, or, where they fill that page, the page zeroed.
 fn keep_filters(chip: Chip, ix: Index, first: usize, n: usize, fourths: &[u8], ram: &mut [u8])
-    requires unit_bound { (1 ≤ n) × (n ≤ 2) × (in_ska first + n ≤ filters_per_flush) }
-    requires unit_in_bounds { (4 * (n * fourth_size chip.unit) ≤ length fourths.now) × (ix.ska + page chip.unit ≤ length ram.old) }
+    requires filters_bound { (1 ≤ n) × (n ≤ 2) × (in_ska first + n ≤ filters_per_flush) }
+    requires in_bounds { (4 * (n * fourth_size chip.unit) ≤ length fourths.now) × (ix.ska + page chip.unit ≤ length ram.old) }
     ensures { ram.new ≡ filters_kept chip.unit (index_of ix) first n fourths.now ram.old }
 {
     let slot = first % sets::FILTERS_PER_FLUSH;

@@ -6,4 +6,4 @@ put_fourths-requires-clause-piece_in_bounds c =
     let x = c.args in
     let P = c.requires in
     let z = c.fourth_size-fourth in
-    slots_fit x.chip.unit z.result z.ensures x.first x.n x.ix.ska _ P.unit_bound.3 P.unit_in_bounds.1
+    slots_fit x.chip.unit z.result z.ensures x.first x.n x.ix.ska _ P.filters_bound.2 P.in_bounds.1

@@ -12,4 +12,4 @@ loop-i-preserved c =
     let l = c.loop-i in
     let a = c.sector_address in
     more_pieces x.chip.unit x.piece x.at l.i a.result a.ensures x.fourths.now x.ram.now l.ram _
-    c.loop-i-test.true c.requires.unit_bound.1 l.invariant c.copy_at.ensures
+    c.loop-i-test.true c.requires.fourths_len.0 l.invariant c.copy_at.ensures
