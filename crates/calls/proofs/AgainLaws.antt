@@ -18,7 +18,7 @@ use Rattle.layout.specs.Budgets as budgets
 use Rattle.layout.specs.Budgets.{Step, Memory, memory, last_steps, taken, pending_on, resumed, restart_for, restart_steps, restart_cut}
 use Rattle.laws.specs.Done.{done_count, later_drop}
 use Rattle.geometry.specs.Shape.{shape}
-use Rattle.geometry.specs.declared.Geometry.{Geometry}
+use Rattle.geometry.specs.declared.volume.Geometry.{Geometry}
 use Rattle.state.specs.Contract.{state_is, call_of, outcome_of, CutEffect, cut_of, Ran}
 use Rattle.state.specs.Judge.{judgement_of, VolumeFits}
 use Rattle.state.specs.declared.State.{State}

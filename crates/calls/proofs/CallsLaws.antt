@@ -16,7 +16,7 @@ use Rattle.layout.specs.Header.{header_size, pages, on_pages, kind_in}
 use Rattle.laws.specs.HeaderLaws.{length_pages}
 use Rattle.layout.specs.Budgets.{result_of}
 use Rattle.geometry.specs.Shape.{shape, geometry_for}
-use Rattle.geometry.specs.declared.Geometry.{Geometry}
+use Rattle.geometry.specs.declared.volume.Geometry.{Geometry}
 use Rattle.state.specs.Contract.{record_is, call_of}
 use Rattle.state.specs.Judge.{judgement_of, VolumeFits}
 use Rattle.state.specs.declared.Judgement.{Judgement}

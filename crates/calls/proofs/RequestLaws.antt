@@ -19,7 +19,7 @@ use Rattle.layout.specs.Budgets as budgets
 use Rattle.layout.specs.Budgets.{Step, Memory, memory, last_steps, call_steps, taken, result_of, call_for, call_cut}
 use Rattle.laws.specs.HeaderLaws.{pages_of}
 use Rattle.geometry.specs.Shape.{shape}
-use Rattle.geometry.specs.declared.Geometry.{Geometry}
+use Rattle.geometry.specs.declared.volume.Geometry.{Geometry}
 use Rattle.state.specs.Contract.{CutEffect, outcome_of, cut_of, Ran, state_is, call_of, volume}
 use Rattle.state.specs.Judge.{VolumeFits}
 use Rattle.state.specs.declared.Progress.{Progress}

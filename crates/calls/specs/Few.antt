@@ -20,7 +20,7 @@ use Rattle.laws.specs.Lengths.{long_of}
 use Rattle.laws.specs.Done.{ops_length, done_count, later_drop}
 use Rattle.geometry.specs.Shape.{shape, geometry_for, Sound}
 use Rattle.geometry.proofs.Allowed.{allowed_sound}
-use Rattle.geometry.specs.declared.Geometry.{Geometry}
+use Rattle.geometry.specs.declared.volume.Geometry.{Geometry}
 use Rattle.keys.specs.Key.{key_is}
 use Rattle.state.specs.Contract.{record_is, call_of}
 use Rattle.state.specs.declared.Record.{Record}

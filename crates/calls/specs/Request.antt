@@ -6,7 +6,7 @@ use Rattle.layout.specs.Calls.{Volume, commit, change_by}
 use Rattle.layout.specs.Header.{on_pages}
 use Rattle.layout.specs.Budgets.{result_of}
 use Rattle.geometry.specs.Shape.{shape}
-use Rattle.geometry.specs.declared.Geometry.{Geometry}
+use Rattle.geometry.specs.declared.volume.Geometry.{Geometry}
 use Rattle.state.specs.Contract.{call_of}
 use Rattle.state.specs.Judge.{VolumeFits}
 use Rattle.state.specs.declared.Request.{Request}

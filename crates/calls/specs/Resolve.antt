@@ -8,7 +8,7 @@ use Rattle.layout.specs.Search.{Stop, found, corrupt}
 use Rattle.layout.specs.Calls.{Volume, search}
 use Rattle.layout.specs.Header.{on_pages}
 use Rattle.geometry.specs.Shape.{shape}
-use Rattle.geometry.specs.declared.Geometry.{Geometry}
+use Rattle.geometry.specs.declared.volume.Geometry.{Geometry}
 use Rattle.state.specs.Judge.{VolumeFits}
 use Rattle.state.specs.declared.Judgement.{Judgement}
 use Rattle.state.specs.declared.Judgement.TheVariants as judge

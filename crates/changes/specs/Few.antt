@@ -6,7 +6,7 @@ use Rattle.layout.specs.Geometry.{main_size, spare_size, ram_size}
 use Rattle.layout.specs.Flash.{Planned}
 use Rattle.layout.specs.Hash.{fnv_family}
 use Rattle.layout.specs.Calls.{Volume, change_plan}
-use Rattle.geometry.specs.declared.Geometry.{Geometry as CodeGeometry}
+use Rattle.geometry.specs.declared.volume.Geometry.{Geometry as CodeGeometry}
 use Rattle.geometry.specs.Shape.{shape, Sound}
 use Rattle.geometry.specs.Bounds.{blocks_le}
 use Rattle.state.specs.Contract.{record_is}

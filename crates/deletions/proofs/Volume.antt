@@ -22,7 +22,7 @@ use Rattle.layout.specs.Calls.{deletion_index, deletion_filters, number_position
 use Rattle.laws.specs.SetLaws.{deletion_places_suffice}
 use Rattle.laws.specs.Walks.{onward}
 use Rattle.laws.specs.WalkLaws.{full_mono, shut_out, newer_first, Part, free, part_free, lesser, same_order, Shown}
-use Rattle.geometry.specs.Shape.{shape}
+use Rattle.geometry.specs.Shape.{shape, unit_sound}
 use Rattle.geometry.specs.Bounds.{deletion_index_le}
 use Rattle.items.specs.Scans.{is_word, has_word}
 use Rattle.items.specs.Reading.{page_word, ram_word}
@@ -179,7 +179,7 @@ module _ (first below : ℕ) (words : List ℕ) (w : ℕ) (w_lt : w < 8) (gate :
 
 module _ {t : Deletions} {main ram : List ℕ} (R : DeletionsFit t main ram) where
   pub page_some : 0 < per_page t
-  page_some = omega (arith, R.sound.unit.1.some)
+  page_some = omega (arith, t.g.chip.power.some)
 
   -- sixteen full pages to a block of deletions
   pages_le : pages t ≤ 16 * t.g.da
@@ -188,7 +188,7 @@ module _ {t : Deletions} {main ram : List ℕ} (R : DeletionsFit t main ram) whe
       omega (arith, div_lt t.d (per_page t) (16 * t.g.da + 1) page_some h)
 
   pub pages_few : pages t ≤ 65536
-  pages_few = omega (arith, pages_le, R.sound.da_most)
+  pages_few = omega (arith, pages_le, t.g.da_allowed.1)
 
   -- those tested are among them
   pub pages_then_lem : pages_then t ≤ pages t
@@ -208,12 +208,12 @@ module _ {t : Deletions} {main ram : List ℕ} (R : DeletionsFit t main ram) whe
 
   -- its index
   pub sets_le : in_full t.g.chip.unit (deletion_filters (shape t.g) t.d) ≤ layout.deletion_sets (shape t.g)
-  sets_le = deletion_places_suffice t.g.chip.unit t.g.da t.d R.sound.unit.1.some R.cap
+  sets_le = deletion_places_suffice t.g.chip.unit t.g.da t.d t.g.chip.power.some R.cap
 
   pub index_fits : IndexFits t.g.chip.unit (deletion_index (shape t.g)) (layout.deletion_sets (shape t.g)) main ram
   index_fits = record {
-    unit = R.sound.unit;
-    near = omega (arith, deletion_index_le t.g R.sound);
+    unit = unit_sound t.g.chip;
+    near = omega (arith, deletion_index_le t.g);
     on_flash_lem = omega (arith, R.read.main_fits);
     in_ram_lem = omega (arith, R.read.ram_fits);
   }

@@ -6,7 +6,7 @@ use Rattle.layout.specs.Flash.{flash_of}
 use Rattle.layout.specs.Search.{Found, found, reply}
 use Rattle.layout.specs.Calls.{Volume}
 use Rattle.laws.specs.Lengths.{Readable}
-use Rattle.geometry.specs.Shape.{shape, Sound}
+use Rattle.geometry.specs.Shape.{shape}
 use Rattle.deletions.specs.declared.Deletions.{Deletions}
 use Rattle.deletions.specs.declared.Tested.{Tested}
 
@@ -18,9 +18,8 @@ tested_of j r = reply (cond r.met (some (found j)) none) r.opened
 abbrev pub held : Deletions → List ℕ → List ℕ → Volume
 held t main ram = record { state = state_of (sizes_of 0 0 0 0) 0 t.d; flash = flash_of main []; ram = ram }
 
--- the lent bytes hold a volume of a sound geometry, of whose deletions no more are tested than there are
+-- the lent bytes hold a volume, of whose deletions no more are tested than there are
 pub record DeletionsFit (t : Deletions) (main ram : List ℕ) : Type 0 where
-  pub sound : Sound t.g
   pub read : Readable (shape t.g) main ram
   pub cap : t.d ≤ deletion_capacity (shape t.g)
   pub bound : t.d0 ≤ t.d

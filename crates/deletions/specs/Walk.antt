@@ -46,4 +46,4 @@ pub record WordPagesIn (u start bits : ℕ) (main : List ℕ) : Type 0 where
 
 -- the filters of its deletions, all of them
 abbrev pub deletion_filters_of : Deletions → Filters
-deletion_filters_of t = record { chip = t.g.chip; index = deletion_index_for (shape t.g); count = deletion_filters (shape t.g) t.d }
+deletion_filters_of t = record { chip = t.g.chip; index = deletion_index_for t.g; count = deletion_filters (shape t.g) t.d }

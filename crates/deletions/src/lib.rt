@@ -7,9 +7,8 @@ ghost use Rattle.layout.specs.Geometry.{deletions_per_page};
 ghost use Rattle.layout.specs.Hash.{fnv_family};
 ghost use Rattle.layout.specs.Search.{search_pages};
 ghost use Rattle.layout.specs.Calls.{test_deletion};
-ghost use Rattle.laws.specs.Units.{UnitSound};
 ghost use Rattle.laws.specs.Walks.{onward, Low};
-ghost use Rattle.geometry.specs.Shape.{shape, Sound};
+ghost use Rattle.geometry.specs.Shape.{shape};
 ghost use Rattle.deletions.specs.Test.{tested_of, held, DeletionsFit};
 ghost use Rattle.deletions.specs.Walk.{test_stop, try_word, past_pages, test_below, either_bit, WordPagesIn, deletion_filters_of};
 

@@ -11,7 +11,7 @@ use Rattle.layout.specs.Items.{deletion_size}
 use Rattle.layout.specs.Calls.{key_index}
 use Rattle.laws.specs.Lengths.{Readable}
 use Rattle.laws.specs.Units.{UnitSound}
-use Rattle.geometry.specs.declared.Geometry.{Geometry}
+use Rattle.geometry.specs.declared.volume.Geometry.{Geometry}
 use Rattle.geometry.specs.Shape.{shape, unit_sound}
 use Rattle.geometry.specs.Bounds.{index_le}
 

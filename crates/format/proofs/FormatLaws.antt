@@ -22,7 +22,7 @@ use Rattle.laws.specs.Lengths.{not_short}
 use Rattle.laws.specs.StepLaws.{last_length, taken_enough}
 use Rattle.geometry.specs.Shape.{shape}
 use Rattle.geometry.specs.Bounds.{blocks_le}
-use Rattle.geometry.specs.declared.Geometry.{Geometry}
+use Rattle.geometry.specs.declared.volume.Geometry.{Geometry}
 use Rattle.std.specs.Prelude as std
 use Rattle.std.specs.Prelude.{Err}
 use Rattle.state.specs.Contract.{CutEffect, cut_of, cut_by, state_is, number_of, outcome_of, Effect, effect_of, Ran}

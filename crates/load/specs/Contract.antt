@@ -3,7 +3,7 @@ use Rattle.std.specs.Prelude.{◌≡◌, List, ℕ}
 use Rattle.layout.specs.Calls.{Volume}
 use Rattle.layout.specs.Header.{on_pages}
 use Rattle.layout.specs.Several.{Several}
-use Rattle.geometry.specs.declared.Geometry.{Geometry}
+use Rattle.geometry.specs.declared.volume.Geometry.{Geometry}
 use Rattle.state.specs.Contract.{volume, outcome_of}
 use Rattle.state.specs.declared.Record.{Record}
 use Rattle.state.specs.declared.Request.{Request}

@@ -18,7 +18,7 @@ use Rattle.layout.specs.Calls.{answer, search, search_da_pages, lookup_after}
 use Rattle.layout.specs.Header.{pages, on_pages, kind_in, intended}
 use Rattle.layout.specs.Budgets.{Step, taken_by, taken, call_steps, result_of, call_for, call_whole}
 use Rattle.geometry.specs.Shape.{shape, geometry_for}
-use Rattle.geometry.specs.declared.Geometry.{Geometry}
+use Rattle.geometry.specs.declared.volume.Geometry.{Geometry}
 use Rattle.state.specs.Judge.{VolumeFits}
 use Rattle.std.specs.Prelude as std
 use Rattle.std.specs.Prelude.{Option, Ok, Err, None, Some, is_ok}

@@ -16,7 +16,7 @@ use Rattle.layout.specs.Header.{header_size, pages, state_in, Pending, nothing, 
 use Rattle.layout.specs.Budgets.{Step, last_steps, pending_on, resumed, restart_for, restart_steps, restart_cut, restart_whole, pending_ops}
 use Rattle.laws.specs.StepLaws.{last_length, taken_enough}
 use Rattle.geometry.specs.Shape.{geometry_for}
-use Rattle.geometry.specs.declared.Geometry.{Geometry}
+use Rattle.geometry.specs.declared.volume.Geometry.{Geometry}
 use Rattle.state.specs.Contract.{CutEffect, cut_of, outcome_of, Effect, effect_of}
 use Rattle.state.specs.Judge.{judgement_of, VolumeFits}
 use Rattle.state.specs.declared.Judgement.TheVariants.{Refused}

@@ -13,8 +13,8 @@ use Rattle.layout.specs.Search as find
 use Rattle.layout.specs.Calls.{Volume, try_deletion, maybe_deleted, test_deletion, tested_deleted, try_at, try_cost, maybe_in}
 use Rattle.layout.specs.Calls.{search_at, da_pages_at, search, search_da_pages}
 use Rattle.laws.specs.Lengths.{Readable}
-use Rattle.geometry.specs.declared.Geometry.{Geometry}
-use Rattle.geometry.specs.Shape.{shape, Sound}
+use Rattle.geometry.specs.declared.volume.Geometry.{Geometry}
+use Rattle.geometry.specs.Shape.{shape}
 use Rattle.geometry.specs.Indexes.{index_for}
 use Rattle.deletions.specs.declared.Deletions.{Deletions}
 use Rattle.filter.specs.declared.groups.Filters.{Filters}
@@ -44,9 +44,8 @@ whole g n d = record { g = g; n = n; d = d; n0 = n; d0 = d }
 abbrev pub viewed : View → List ℕ → List ℕ → Volume
 viewed v main ram = record { state = layout.state_of (layout.sizes_of 0 0 0 0) v.n v.d; flash = flash_of main []; ram = ram }
 
--- the lent bytes hold a volume of a sound geometry, of which no more is searched than there is
+-- the lent bytes hold a volume, of which no more is searched than there is
 pub record ViewFits (v : View) (main ram : List ℕ) : Type 0 where
-  pub sound : Sound v.g
   pub read : Readable (shape v.g) main ram
   pub n_cap : v.n ≤ layout.record_capacity (shape v.g)
   pub d_cap : v.d ≤ layout.deletion_capacity (shape v.g)
@@ -56,12 +55,11 @@ pub record ViewFits (v : View) (main ram : List ℕ) : Type 0 where
 -- ---- all of a volume
 
 module _ (w : Volume) (g : Geometry) (v : View) (is : v ≡ whole g w.state.records w.state.deletions) where
-  pub view_fits : Sound g → Readable (shape g) w.flash.main w.ram
+  pub view_fits : Readable (shape g) w.flash.main w.ram
       → w.state.records ≤ layout.record_capacity (shape g) → w.state.deletions ≤ layout.deletion_capacity (shape g)
       → ViewFits v w.flash.main w.ram
-  view_fits sound read n_cap d_cap =
+  view_fits read n_cap d_cap =
       rw is record {
-        sound = sound;
         read = read;
         n_cap = n_cap;
         d_cap = d_cap;
@@ -128,4 +126,4 @@ deletions_of v = record { g = v.g; d = v.d; d0 = v.d0 }
 -- the filters of its entries, all of them
 abbrev pub filters_of : View → Filters
 filters_of v =
-    record { chip = v.g.chip; index = index_for (shape v.g); count = v.n / layout.entries_per_page v.g.chip.unit }
+    record { chip = v.g.chip; index = index_for v.g; count = v.n / layout.entries_per_page v.g.chip.unit }

@@ -4,7 +4,7 @@ use Rattle.memory.specs.Bits.{bit}
 use Rattle.memory.specs.Candidate.{candidate}
 use Rattle.layout.specs.Keys.{Key}
 use Rattle.layout.specs.Geometry as layout
-use Rattle.geometry.specs.declared.Geometry.{Geometry}
+use Rattle.geometry.specs.declared.volume.Geometry.{Geometry}
 use Rattle.geometry.specs.Shape.{shape}
 use Rattle.items.specs.Scans.{last_entry}
 use Rattle.search.specs.declared.Hit.{Hit}

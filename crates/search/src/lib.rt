@@ -11,7 +11,7 @@ ghost use Rattle.layout.specs.Hash.{fnv_family};
 ghost use Rattle.layout.specs.Calls.{search_at, da_pages_at};
 ghost use Rattle.layout.specs.Search.{scan, scan_cost, unless_ended};
 ghost use Rattle.laws.specs.Walks.{onward, Low};
-ghost use Rattle.geometry.specs.Shape.{shape, Sound};
+ghost use Rattle.geometry.specs.Shape.{shape};
 ghost use Rattle.keys.specs.Key.{key_is};
 ghost use Rattle.search.specs.Find.{stop_of, found_of, whole, viewed, ViewFits, try_of, cost_of, try_in, cost_in};
 ghost use Rattle.search.specs.Find.{pages_below, cost_below, filters_of, deletions_of};

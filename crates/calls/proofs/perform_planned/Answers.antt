@@ -8,7 +8,7 @@ use Rattle.layout.specs.Hash.{fnv_family}
 use Rattle.layout.specs.Header.{on_pages, header_bytes, intent_words}
 use Rattle.layout.specs.Budgets.{result_of, memory}
 use Rattle.geometry.specs.Shape.{shape}
-use Rattle.geometry.specs.declared.Geometry.{Geometry}
+use Rattle.geometry.specs.declared.volume.Geometry.{Geometry}
 use Rattle.state.specs.Contract.{state_is, call_of}
 use Rattle.state.specs.declared.Request.{Request}
 use Rattle.state.proofs.Refusals.{Refusal}

@@ -6,7 +6,7 @@ use Rattle.layout.specs.Calls.{Volume, search}
 use Rattle.layout.specs.Header.{on_pages}
 use Rattle.laws.specs.HeaderLaws.{pages_part}
 use Rattle.geometry.specs.Shape.{shape}
-use Rattle.geometry.specs.declared.Geometry.{Geometry}
+use Rattle.geometry.specs.declared.volume.Geometry.{Geometry}
 use Rattle.search.specs.Find.{stop_of, found_of, view_fits, search_is}
 use Rattle.search.specs.declared.End.{End}
 use Rattle.search.specs.declared.Found.{Found}

@@ -10,7 +10,7 @@ use Rattle.layout.specs.Later.{commit_later, call_again}
 use Rattle.layout.specs.Header.{pages, on_pages}
 use Rattle.laws.specs.Done.{done_le}
 use Rattle.geometry.specs.Shape.{shape}
-use Rattle.geometry.specs.declared.Geometry.{Geometry}
+use Rattle.geometry.specs.declared.volume.Geometry.{Geometry}
 use Rattle.keys.specs.Key.{key_is}
 use Rattle.keys.specs.declared.Key.{Key}
 use Rattle.state.specs.Contract.{call_of, volume}

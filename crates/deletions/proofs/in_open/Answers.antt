@@ -4,17 +4,18 @@ use Rattle.layout.specs.Geometry as layout
 use Rattle.geometry.specs.Shape.{shape}
 use Rattle.laws.specs.Units.{unit_times}
 use Rattle.deletions.proofs.Volume.{open_in_flash, open_on_flash, open_on_ram}
+use Rattle.geometry.specs.Shape.{unit_sound}
 use Rattle.deletions.proofs.in_open.Goals as goal
 
 -- The numbers past the last full page lie on flash or in RAM.
 
 pub slot-count-requires : goal.slot-count-requires
 slot-count-requires c =
-    rw c.deletions_per_page-per_page.ensures (unit_times 4 c.args.t.g.chip.unit c.requires.sound.unit)
+    rw c.deletions_per_page-per_page.ensures (unit_times 4 c.args.t.g.chip.unit (unit_sound c.args.t.g.chip))
 
 pub in_full_pages-requires : goal.in_full_pages-requires
 in_full_pages-requires c =
-    rw c.deletions_per_page-per_page.ensures (unit_times 4 c.args.t.g.chip.unit c.requires.sound.unit)
+    rw c.deletions_per_page-per_page.ensures (unit_times 4 c.args.t.g.chip.unit (unit_sound c.args.t.g.chip))
 
 -- ---- on flash
 

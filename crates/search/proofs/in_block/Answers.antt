@@ -224,7 +224,7 @@ block_below-b-requires-clause-by_index c =
     let x = c.args in
     let R = c.requires.view_fits.0 in
     rw c.key_filters.ensures (
-      (full_sets (shape x.v.g), sets_le R, index_fits x.v.g R.sound x.main.now x.ram.now R.read),
+      (full_sets (shape x.v.g), sets_le R, index_fits x.v.g x.main.now x.ram.now R.read),
       omega (arith, pages_few R),
       c.requires.below_nonzero.0,
       omega (arith, c.requires.below_nonzero.1, pages_then_lem R),
@@ -247,7 +247,6 @@ filters-preserved c =
 pub next_with_key-t-requires : goal.next_with_key-t-requires
 next_with_key-t-requires c =
     let K = known c.requires.view_fits.0 c.requires.below_nonzero.1 c.key_filters.ensures c.block_below-b.ensures in (
-      K.fits.sound,
       omega (arith, from_lt K (key_is c.args.key) c.filters.invariant.0 c.filters-test.true, below_few K (key_is c.args.key)),
       pages_in K (key_is c.args.key) c.bits.invariant.0,
     )

@@ -8,7 +8,7 @@ use Rattle.memory.specs.Bits.{bit, bit_zero}
 use Rattle.layout.specs.Geometry.{entries_per_page}
 use Rattle.layout.specs.Keys.{Key}
 use Rattle.laws.specs.TopBits.{cleared_less, top_left}
-use Rattle.geometry.specs.declared.Geometry.{Geometry}
+use Rattle.geometry.specs.declared.volume.Geometry.{Geometry}
 use Rattle.keys.specs.Key.{key_is}
 use Rattle.std.specs.Prelude.{Some, None}
 use Rattle.items.specs.Scans.{last_entry, place_of, place_some, place_none}

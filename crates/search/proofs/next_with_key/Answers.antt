@@ -5,7 +5,7 @@ use Prim.Native.Nat.{ℕ, ◌<◌}
 use Rattle.std.specs.Prelude.{Some}
 use Rattle.memory.specs.Bits.{bit}
 use Rattle.layout.specs.Keys.{Key}
-use Rattle.geometry.specs.declared.Geometry.{Geometry}
+use Rattle.geometry.specs.declared.volume.Geometry.{Geometry}
 use Rattle.keys.specs.Key.{key_is}
 use Rattle.search.specs.declared.Hit.{Hit}
 use Rattle.search.specs.declared.Opened.{Opened}
