@@ -1,5 +1,5 @@
 -- What the steps of a format leave, and what is told of them.
-use mathlib.Core.Path.{◌≡◌, refl, sym, ap, ◌∙◌}
+use mathlib.Core.Path.{◌≡◌, refl, ap, ◌∙◌}
 use mathlib.Core.Bool.{true, false, cond}
 use mathlib.Core.List.{List, [], ◌∷◌, ◌++◌}
 use Prim.Native.Nat.{ℕ, zero, suc, ◌+◌, ◌-◌, ◌≤◌, ◌<◌}
@@ -12,7 +12,7 @@ use Rattle.memory.specs.Words.{words_bytes, length_words}
 use Rattle.layout.specs.Geometry as layout
 use Rattle.layout.specs.Flash.{Op, erase, apply_all, erases}
 use Rattle.layout.specs.Hash.{Family}
-use Rattle.layout.specs.Calls.{Volume, accepted, Result, too_short, format, formatted}
+use Rattle.layout.specs.Calls.{Volume, accepted, refused, Result, too_short, format, formatted}
 use Rattle.layout.specs.Header.{header_size, state_size, header, header_bytes, format_words, no_intent, pages, on_pages, format_intended}
 use Rattle.layout.specs.Header.{formatting, pending_in}
 use Rattle.layout.specs.Budgets.{Step, Memory, memory, last_steps, call_steps, taken, pending_on, format_for, format_cut, format_whole}
@@ -23,11 +23,14 @@ use Rattle.laws.specs.StepLaws.{last_length, taken_enough}
 use Rattle.geometry.specs.Shape.{shape}
 use Rattle.geometry.specs.Bounds.{blocks_le}
 use Rattle.geometry.specs.declared.Geometry.{Geometry}
-use Rattle.state.specs.Contract.{CutEffect, cut_of, state_is, outcome_of, Effect, effect_of, Ran}
+use Rattle.std.specs.Prelude as std
+use Rattle.std.specs.Prelude.{Err}
+use Rattle.state.specs.Contract.{CutEffect, cut_of, cut_by, state_is, number_of, outcome_of, Effect, effect_of, Ran}
 use Rattle.state.specs.Judge.{judgement_of_new, FormatFits}
 use Rattle.state.specs.declared.State.{State}
 use Rattle.state.specs.declared.Progress.{Progress}
-use Rattle.state.specs.declared.Judgement.TheVariants.{Refused}
+use Rattle.state.specs.declared.Refusal.{Refusal}
+use Rattle.state.specs.declared.Cut.{Cut}
 use Rattle.state.proofs.Refusals.{format_refused}
 use Rattle.state.proofs.RunLaws.{ran_cut_lem, ran_all, ran_stored, ran_cut_is, refused_cut_lem, taken_count, outcome_of_lem, uncut_effect_lem}
 use Rattle.format.specs.Few.{formatted_length, few_format}
@@ -140,17 +143,17 @@ module _ (v : Volume) (sizes : layout.Sizes) (g : Geometry) (n : FormatFits size
 
 -- ---- what is told
 
-pub format_refused_cut : (b : ℕ) (v : Volume) (sizes : layout.Sizes) (i : ℕ) → judgement_of_new sizes v.flash (pages v.ram) ≡ Refused i
-    → ◌≡◌ {A = CutEffect} (record { outcome = outcome_of i; complete = 0; steps = 0; left = v }) (cut_of (format_cut b v sizes))
+pub format_refused_cut : (b : ℕ) (v : Volume) (sizes : layout.Sizes) (i : Refusal) → judgement_of_new sizes v.flash (pages v.ram) ≡ Err i
+    → ◌≡◌ {A = CutEffect} (record { outcome = refused (number_of i); complete = 0; steps = 0; left = v }) (cut_of (format_cut b v sizes))
 unfolding format_for
 format_refused_cut b v sizes i e =
     refused_cut_lem b (layout.unit_of sizes) v (on_pages v) i (call_steps (format_intended v sizes) (format (on_pages v) sizes))
     (format (on_pages v) sizes)
     (format_refused (on_pages v) sizes i e)
 
-pub restart_refused_cut : (h : Family) (b : ℕ) (v : Volume) (sizes : layout.Sizes) (i : ℕ) → header_size ≤ length v.ram
-    → pending_in v.ram ≡ formatting sizes → judgement_of_new sizes v.flash (pages v.ram) ≡ Refused i
-    → ◌≡◌ {A = CutEffect} (record { outcome = outcome_of i; complete = 0; steps = 0; left = v }) (cut_of (restart_cut h b v))
+pub restart_refused_cut : (h : Family) (b : ℕ) (v : Volume) (sizes : layout.Sizes) (i : Refusal) → header_size ≤ length v.ram
+    → pending_in v.ram ≡ formatting sizes → judgement_of_new sizes v.flash (pages v.ram) ≡ Err i
+    → ◌≡◌ {A = CutEffect} (record { outcome = refused (number_of i); complete = 0; steps = 0; left = v }) (cut_of (restart_cut h b v))
 unfolding restart_for
 restart_refused_cut h b v sizes i l q e =
     rw (le-ltb (length v.ram) header_size l, q)
@@ -194,17 +197,18 @@ module _ (b : ℕ) (v : Volume) (sizes : layout.Sizes) (g : Geometry) (n : Forma
       (ran_cut_is b (layout.unit_of sizes) v (last_steps (formatted (on_pages v) sizes)) (formatted (on_pages v) sizes) m p old new refl o z
       (rw n.is at R))
 
-pub whole_effect : (v : Volume) (sizes : layout.Sizes) (c : CutEffect) (i : ℕ) → c ≡ cut_of (format_cut 18446744073709551615 v sizes)
-    → c.outcome ≡ outcome_of i
-    → ◌≡◌ {A = Effect} (record { outcome = c.outcome; count = 0; left = c.left }) (effect_of (format_whole v sizes))
+pub whole_effect : (v : Volume) (sizes : layout.Sizes) (s : State) (a : std.Result Cut Refusal) (main spare ram : List ℕ)
+    → cut_by s a main spare ram ≡ cut_of (format_cut 18446744073709551615 v sizes)
+    → ◌≡◌ {A = Effect} (record { outcome = outcome_of a; count = 0; left = (cut_by s a main spare ram).left }) (effect_of (format_whole v sizes))
 unfolding format_for
-whole_effect v sizes c i e o =
+whole_effect v sizes s a main spare ram e =
+    let c = cut_by s a main spare ram in
     let r : Result = format (on_pages v) sizes in
     let ss : List Step = call_steps (format_intended v sizes) r in
     let few = few_format (on_pages v) sizes in
     let n = last_length r in
     let t : Result = taken 18446744073709551615 (layout.unit_of sizes) v ss r in
     uncut_effect_lem c 18446744073709551615 ss t e
-    (taken_count 18446744073709551615 (layout.unit_of sizes) v ss r i (sym o ∙ outcome_of_lem c 18446744073709551615 ss t e))
+    (taken_count 18446744073709551615 (layout.unit_of sizes) v ss r a (outcome_of_lem c 18446744073709551615 ss t e))
     ∙ ap effect_of
     (taken_enough 18446744073709551615 (length r.ops + 2) (layout.unit_of sizes) v ss r (omega (arith, few, n)) (omega (arith, n)))

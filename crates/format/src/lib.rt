@@ -12,7 +12,7 @@ ghost use Rattle.state.specs.Contract.{effect_of, change_effect, volume, cut_of,
 ghost use Rattle.state.specs.Judge.{FormatFits};
 
 use geometry::{Geometry, Sizes};
-use state::{Change, Cut, Judgement, Progress, State};
+use state::{Cut, Progress, Refusal, State};
 
 // The state of a new volume.
 fn fresh_state(sizes: Sizes) -> State
@@ -64,30 +64,24 @@ pub fn format_for(
     main: &mut [u8],
     spare: &mut [u8],
     ram: &mut [u8],
-) -> Cut
-    ensures { cut_by result main.new spare.new ram.new ≡ cut_of (format_cut budget (volume old main.old spare.old ram.old) (sizes_is sizes)) }
+) -> Result<Cut, Refusal>
+    ensures { cut_by old result main.new spare.new ram.new ≡ cut_of (format_cut budget (volume old main.old spare.old ram.old) (sizes_is sizes)) }
 {
-    match state::judge_new(sizes, main, spare, ram) {
-        Judgement::Refused(i) => {
-            return state::refuse_cut(old, i);
-        }
-        Judgement::Good(g) => {
-            if budget == 0 {
-                let none = Progress {
-                    steps: 0,
-                    finished: false,
-                };
-                return state::cut_after(none, old, old);
-            }
-            header::intend_format(sizes, ram);
-            let p = finish(g, sizes, budget - 1, main, spare, ram);
-            let after = Progress {
-                steps: p.steps + 1,
-                finished: p.finished,
-            };
-            return state::cut_after(after, old, fresh_state(sizes));
-        }
+    let g = state::judge_new(sizes, main, spare, ram)?;
+    if budget == 0 {
+        let none = Progress {
+            steps: 0,
+            finished: false,
+        };
+        return Ok(state::cut_after(none, old, old));
     }
+    header::intend_format(sizes, ram);
+    let p = finish(g, sizes, budget - 1, main, spare, ram);
+    let after = Progress {
+        steps: p.steps + 1,
+        ..p
+    };
+    Ok(state::cut_after(after, old, fresh_state(sizes)))
 }
 
 // A pending format by a restart, with a budget of steps: it programs no sector, so that all of its erases are done again.
@@ -98,24 +92,26 @@ pub fn restart_format(
     main: &mut [u8],
     spare: &mut [u8],
     ram: &mut [u8],
-) -> Cut
+) -> Result<Cut, Refusal>
     requires { (header_size ≤ length ram.old) × (pending_in ram.old ≡ formatting (sizes_is sizes)) }
-    ensures { cut_by result main.new spare.new ram.new ≡ cut_of (restart_cut fnv_family budget (volume s main.old spare.old ram.old)) }
+    ensures { cut_by s result main.new spare.new ram.new ≡ cut_of (restart_cut fnv_family budget (volume s main.old spare.old ram.old)) }
 {
-    match state::judge_new(sizes, main, spare, ram) {
-        Judgement::Refused(i) => {
-            return state::refuse_cut(s, i);
-        }
-        Judgement::Good(g) => {
-            let p = finish(g, sizes, budget, main, spare, ram);
-            return state::cut_after(p, s, fresh_state(sizes));
-        }
-    }
+    let g = state::judge_new(sizes, main, spare, ram)?;
+    let p = finish(g, sizes, budget, main, spare, ram);
+    Ok(state::cut_after(p, s, fresh_state(sizes)))
 }
 
 // A new volume of the given sizes.
-pub fn format(old: State, sizes: Sizes, main: &mut [u8], spare: &mut [u8], ram: &mut [u8]) -> Change
-    ensures { change_effect result main.new spare.new ram.new ≡ effect_of (format_whole (volume old main.old spare.old ram.old) (sizes_is sizes)) }
+pub fn format(
+    old: State,
+    sizes: Sizes,
+    main: &mut [u8],
+    spare: &mut [u8],
+    ram: &mut [u8],
+) -> Result<State, Refusal>
+    ensures { change_effect old result main.new spare.new ram.new
+        ≡ effect_of (format_whole (volume old main.old spare.old ram.old) (sizes_is sizes)) }
 {
-    state::uncut(format_for(state::ENOUGH, old, sizes, main, spare, ram))
+    let cut = format_for(state::ENOUGH, old, sizes, main, spare, ram)?;
+    Ok(cut.state)
 }

@@ -1,5 +1,5 @@
 -- The table of sector sizes as the contracts have it, and its rules, computed over all rows.
-use Rattle.std.specs.Prelude.{ℕ, ◌*◌, ◌/◌, ◌^◌, ◌≤◌, ◌≡◌, Bool, true, ◌&&◌, List, [], ◌∷◌, leb, eqb, get_or}
+use Rattle.std.specs.Prelude.{ℕ, ◌*◌, ◌/◌, ◌^◌, ◌≤◌, ◌≡◌, Bool, true, ◌&&◌, List, [], ◌∷◌, leb, eqb, get_or, find, Option}
 use Rattle.memory.specs.Power.{log2up}
 use Rattle.geometry.specs.declared.table.SizeRow.{SizeRow}
 
@@ -19,6 +19,10 @@ rows =
 
 abbrev pub row_of : ℕ → SizeRow
 row_of i = get_or rows i (row 0 0 0 0)
+
+-- the row with this sector size
+unfoldable pub row_with : ℕ → Option SizeRow
+row_with S = find (λ r. eqb r.sector S) rows
 
 -- ---- the table's rules: "records a page (S/4)", "entries a page (S/2)", "filter bits m (4S)"
 

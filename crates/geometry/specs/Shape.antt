@@ -1,5 +1,5 @@
 -- The code's sizes, geometry, areas and places as the layout's, and what makes a geometry sound.
-use Rattle.std.specs.Prelude.{◌<◌, ◌≤◌, ◌≡◌, Bool, ◌&&◌, cond}
+use Rattle.std.specs.Prelude.{◌<◌, ◌≤◌, ◌≡◌, Bool, true, false, ◌&&◌, cond, Option, Some, None}
 use Prim.{Unit}
 use Rattle.memory.specs.Power.{PowerOfTwo}
 use Rattle.layout.specs.Geometry as layout
@@ -8,10 +8,9 @@ use Rattle.laws.specs.Units.{UnitSound}
 use Rattle.geometry.specs.declared.Sizes.{Sizes}
 use Rattle.geometry.specs.declared.chip.Chip.{Chip}
 use Rattle.geometry.specs.declared.Geometry.{Geometry}
-use Rattle.geometry.specs.declared.Shaped.{Shaped}
-use Rattle.geometry.specs.declared.Shaped.TheVariants.{Good, Bad}
 use Rattle.geometry.specs.declared.areas.Area.{Area}
 use Rattle.geometry.specs.declared.areas.Place.{Place}
+use Rattle.geometry.specs.declared.areas.Place.TheVariants.{Ram, Flash}
 use Rattle.geometry.specs.Rows.{row_for}
 
 abbrev pub sizes_is : Sizes → layout.Sizes
@@ -55,15 +54,15 @@ rest_allowed sizes =
     layout.blocks_allowed sizes.ra_blocks && (layout.blocks_allowed sizes.da_blocks && layout.hashes_allowed sizes.hash_count)
 
 -- what is answered to sizes, of which a test says whether they are allowed
-abbrev pub shaped_by : Bool → layout.Sizes → Shaped
-shaped_by t sizes = cond t (Good (geometry_for sizes)) Bad
+abbrev pub shaped_by : Bool → layout.Sizes → Option Geometry
+shaped_by t sizes = cond t (Some (geometry_for sizes)) None
 
-abbrev pub shaped_of : layout.Sizes → Shaped
+abbrev pub shaped_of : layout.Sizes → Option Geometry
 shaped_of sizes = shaped_by (layout.allowed sizes) sizes
 
-abbrev pub GoodSound : Shaped → Type 0
-GoodSound (Good g) = Sound g
-GoodSound Bad = Unit
+abbrev pub GoodSound : Option Geometry → Type 0
+GoodSound (Some g) = Sound g
+GoodSound None = Unit
 
 -- ---- areas and places
 
@@ -71,7 +70,8 @@ abbrev pub area : Area → items.Area
 area a = record { size = a.size; per_page = a.per_page; first = a.first; ram = a.ram }
 
 abbrev pub place : Place → items.Place
-place p = record { in_ram = p.in_ram; at = p.at }
+place (Ram at) = record { in_ram = true; at = at }
+place (Flash at) = record { in_ram = false; at = at }
 
 -- sizes of an area of a sound geometry
 pub record AreaSound (a : Area) : Type 0 where

@@ -102,10 +102,10 @@ pub fn deletion_area(g: Geometry) -> Area
 }
 
 // A byte of the RAM or of the flash.
-#[derive(Clone, Copy)]
-pub struct Place {
-    pub in_ram: bool,
-    pub at: usize,
+#[derive(Clone, Copy, PartialEq, Eq)]
+pub enum Place {
+    Ram(usize),
+    Flash(usize),
 }
 
 // Where item j of n lies.
@@ -115,14 +115,9 @@ pub fn item_place(g: Geometry, a: Area, n: usize, j: usize) -> Place
     requires n_bound { (n < 4294967296) × (j < 4294967296) }
     ensures { place result ≡ item_place (shape g).u (area a) n j }
 {
-    let size = a.size;
-    let per_page = a.per_page;
-    let first = a.first;
-    let ram = a.ram;
-    if j < in_full_pages(per_page, n) {
-        let at = g.chip.block_address(first) + j * size;
-        return Place { in_ram: false, at };
+    if j < in_full_pages(a.per_page, n) {
+        Place::Flash(g.chip.block_address(a.first) + j * a.size)
+    } else {
+        Place::Ram(a.ram + slot(a.per_page, j) * a.size)
     }
-    let at = ram + slot(per_page, j) * size;
-    Place { in_ram: true, at }
 }

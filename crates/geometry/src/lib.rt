@@ -236,12 +236,6 @@ impl Geometry {
 
 // ---- the geometry that sizes make
 
-#[derive(Clone, Copy)]
-pub enum Shaped {
-    Good(Geometry),
-    Bad,
-}
-
 fn blocks_allowed(b: u32) -> bool
     ensures { result ≡ layout.blocks_allowed b }
 {
@@ -254,41 +248,29 @@ fn hashes_allowed(k: u32) -> bool
     1 <= k && k <= 8
 }
 
-// What is left to test once the row of the sector size is found.
-fn with_blocks(row: SizeRow, sizes: Sizes) -> Shaped
-    requires { row ≡ row_for sizes.sector_size }
-    ensures { result ≡ shaped_by (rest_allowed (sizes_is sizes)) (sizes_is sizes) }
+// Are the areas' blocks and the hash functions allowed?
+fn rest_allowed(sizes: Sizes) -> bool
+    ensures { result ≡ rest_allowed (sizes_is sizes) }
 {
-    if !blocks_allowed(sizes.ra_blocks) {
-        return Shaped::Bad;
+    blocks_allowed(sizes.ra_blocks)
+        && blocks_allowed(sizes.da_blocks)
+        && hashes_allowed(sizes.hash_count)
+}
+
+// The geometry of these sizes, where they are allowed.
+pub fn geometry_for(sizes: Sizes) -> Option<Geometry>
+    ensures equal { result ≡ shaped_of (sizes_is sizes) }
+    ensures sound { GoodSound result }
+{
+    let row = table::row_with(sizes.sector_size)?;
+    if !rest_allowed(sizes) {
+        return None;
     }
-    if !blocks_allowed(sizes.da_blocks) {
-        return Shaped::Bad;
-    }
-    if !hashes_allowed(sizes.hash_count) {
-        return Shaped::Bad;
-    }
-    Shaped::Good(Geometry {
-        chip: Chip::with_sectors(row.sector as usize),
+    Some(Geometry {
+        chip: Chip::with_sectors(usize::from(row.sector)),
         row,
         ra: sizes.ra_blocks as usize,
         da: sizes.da_blocks as usize,
         hashes: sizes.hash_count as usize,
     })
-}
-
-pub fn geometry_for(sizes: Sizes) -> Shaped
-    ensures equal { result ≡ shaped_of (sizes_is sizes) }
-    ensures sound { GoodSound result }
-{
-    let size = sizes.sector_size as usize;
-    let mut i = 0;
-    while i < 6 {
-        let row = table::row_at(i);
-        if row.sector as usize == size {
-            return with_blocks(row, sizes);
-        }
-        i += 1;
-    }
-    Shaped::Bad
 }

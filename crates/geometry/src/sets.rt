@@ -79,7 +79,7 @@ pub fn partition_exponent(c: u32) -> u32
     requires { 0 < c }
     ensures { result ≡ log2up c }
 {
-    32 - u32::leading_zeros(c - 1)
+    32 - (c - 1).leading_zeros()
 }
 
 // Pages of the set of c rounds.

@@ -1,6 +1,6 @@
 // The table of sector sizes. Document 01, "S takes one row of this table".
-ghost use Rattle.std.specs.Prelude.{◌≡◌, ◌<◌};
-ghost use Rattle.geometry.specs.Rows.{row_of, Ruled};
+ghost use Rattle.std.specs.Prelude.{◌≡◌, IfSome};
+ghost use Rattle.geometry.specs.Rows.{row_with, Ruled};
 
 // A sector size in bytes, with the records and entries of a page and the bits of a filter; in one word, since a volume carries it.
 #[derive(Clone, Copy)]
@@ -50,10 +50,15 @@ const ROWS: [SizeRow; 6] = [
     },
 ];
 
-pub fn row_at(i: usize) -> SizeRow
-    requires { i < 6 }
-    ensures equal { result ≡ row_of i }
-    ensures ruled { Ruled result }
+// The row of a sector size, if it is one of the table's.
+pub fn row_with(sector: u32) -> Option<SizeRow>
+    ensures equal { result ≡ row_with sector }
+    ensures ruled { IfSome result Ruled }
 {
-    ROWS[i]
+    for row in ROWS {
+        if u32::from(row.sector) == sector {
+            return Some(row);
+        }
+    }
+    None
 }

@@ -8,11 +8,11 @@ ghost use Rattle.layout.specs.Header.{state_words, header_bytes, intent_words, f
 ghost use Rattle.geometry.specs.Shape.{sizes_is};
 ghost use Rattle.state.specs.Contract.{state_is, call_of, volume};
 ghost use Rattle.state.specs.Judge.{GoodFits};
-ghost use Rattle.header.specs.Header.{idle_judgement, pending_is, call_words};
+ghost use Rattle.header.specs.Header.{idle_judgement, pending_is, call_words, kind_with, kind_number};
 
-use geometry::{Sizes, areas};
+use geometry::{Geometry, Sizes, areas};
 use keys::Key;
-use state::{Judgement, Record, Request, State};
+use state::{Record, Refusal, Request, State};
 
 // Its words: the state's are S, R, D, k, n, d.
 const KIND: usize = 6;
@@ -24,16 +24,46 @@ const STATE_SIZE: usize = 24;
 
 const INTENT_SIZE: usize = 40;
 
-// The kinds of a pending call.
-const NONE: u32 = 0;
+// ---- the kinds of a pending call
 
-const INSERT: u32 = 1;
+// A kind, by its number in the header.
+#[derive(Clone, Copy, PartialEq, Eq)]
+enum Kind {
+    Nothing = 0,
+    Insert = 1,
+    Update = 2,
+    Delete = 3,
+    Format = 4,
+}
 
-const UPDATE: u32 = 2;
+// A number that no kind has.
+#[derive(Clone, Copy)]
+struct UnknownKind;
 
-const DELETE: u32 = 3;
+impl From<Kind> for u32 {
+    ghost from_gives = { λ k n. n ≡ kind_number k };
 
-const FORMAT: u32 = 4;
+    fn from(k: Kind) -> u32 {
+        k as u32
+    }
+}
+
+impl TryFrom<u32> for Kind {
+    type Error = UnknownKind;
+
+    ghost try_from_gives = { λ n r. r ≡ kind_with n };
+
+    fn try_from(n: u32) -> Result<Kind, UnknownKind> {
+        match n {
+            0 => Ok(Kind::Nothing),
+            1 => Ok(Kind::Insert),
+            2 => Ok(Kind::Update),
+            3 => Ok(Kind::Delete),
+            4 => Ok(Kind::Format),
+            _ => Err(UnknownKind),
+        }
+    }
+}
 
 // ---- what is read
 
@@ -85,7 +115,6 @@ pub fn pending_in(ram: &[u8]) -> Pending
     requires { header_size ≤ length ram.now }
     ensures { pending_is result ≡ pending_in ram.now }
 {
-    let kind = word(ram, KIND);
     let a = word(ram, ARGUMENTS);
     let b = word(ram, ARGUMENTS + 1);
     let c = word(ram, ARGUMENTS + 2);
@@ -97,46 +126,31 @@ pub fn pending_in(ram: &[u8]) -> Pending
         goal: c,
         free: d,
     };
-    let sizes = Sizes {
-        sector_size: a,
-        ra_blocks: b,
-        da_blocks: c,
-        hash_count: d,
-    };
-    if kind == NONE {
-        return Pending::Nothing;
+    match Kind::try_from(word(ram, KIND)) {
+        Ok(Kind::Nothing) => Pending::Nothing,
+        Ok(Kind::Insert) => Pending::Change(Request::Insert(record)),
+        Ok(Kind::Update) => Pending::Change(Request::Update(record)),
+        Ok(Kind::Delete) => Pending::Change(Request::Delete(key)),
+        Ok(Kind::Format) => Pending::Format(Sizes {
+            sector_size: a,
+            ra_blocks: b,
+            da_blocks: c,
+            hash_count: d,
+        }),
+        Err(UnknownKind) => Pending::Unknown,
     }
-    if kind == INSERT {
-        return Pending::Change(Request::Insert(record));
-    }
-    if kind == UPDATE {
-        return Pending::Change(Request::Update(record));
-    }
-    if kind == DELETE {
-        return Pending::Change(Request::Delete(key));
-    }
-    if kind == FORMAT {
-        return Pending::Format(sizes);
-    }
-    Pending::Unknown
 }
 
 // Judges a state that is handed in: refusals 1 and 2, then 10 where a call is pending.
-pub fn judge(s: State, main: &[u8], spare: &[u8], ram: &[u8]) -> Judgement
+pub fn judge(s: State, main: &[u8], spare: &[u8], ram: &[u8]) -> Result<Geometry, Refusal>
     ensures equal { result ≡ idle_judgement (volume s main.now spare.now ram.now) }
     ensures fits { GoodFits (on_pages (volume s main.now spare.now ram.now)) result }
 {
-    match state::judge(s, main, spare, ram) {
-        Judgement::Refused(i) => {
-            return Judgement::Refused(i);
-        }
-        Judgement::Good(g) => {
-            if word(ram, KIND) != NONE {
-                return Judgement::Refused(state::PENDING);
-            }
-            return Judgement::Good(g);
-        }
+    let g = state::judge(s, main, spare, ram)?;
+    if word(ram, KIND) != u32::from(Kind::Nothing) {
+        return Err(Refusal::Pending);
     }
+    Ok(g)
 }
 
 // ---- what is stored
@@ -159,11 +173,11 @@ fn state_bytes(s: State) -> [u8; STATE_SIZE]
 }
 
 // The bytes of a kind and four arguments, zeros after.
-fn intent_bytes(kind: u32, a: u32, b: u32, c: u32, d: u32) -> [u8; INTENT_SIZE]
-    ensures { result ≡ words_bytes (call_words kind a b c d) }
+fn intent_bytes(kind: Kind, a: u32, b: u32, c: u32, d: u32) -> [u8; INTENT_SIZE]
+    ensures { result ≡ words_bytes (call_words (kind_number kind) a b c d) }
 {
     let mut r = [0u8; INTENT_SIZE];
-    let ws = [kind, a, b, c, d];
+    let ws = [u32::from(kind), a, b, c, d];
     words::put_words(&mut r, 0, &ws);
     r
 }
@@ -173,9 +187,9 @@ fn request_bytes(q: Request) -> [u8; INTENT_SIZE]
     ensures { result ≡ words_bytes (intent_words (call_of q)) }
 {
     match q {
-        Request::Insert(r) => intent_bytes(INSERT, r.key.level, r.moves, r.goal, r.free),
-        Request::Update(r) => intent_bytes(UPDATE, r.key.level, r.moves, r.goal, r.free),
-        Request::Delete(key) => intent_bytes(DELETE, key.level, 0, 0, 0),
+        Request::Insert(r) => intent_bytes(Kind::Insert, r.key.level, r.moves, r.goal, r.free),
+        Request::Update(r) => intent_bytes(Kind::Update, r.key.level, r.moves, r.goal, r.free),
+        Request::Delete(key) => intent_bytes(Kind::Delete, key.level, 0, 0, 0),
     }
 }
 
@@ -206,7 +220,7 @@ pub fn intend_format(sizes: Sizes, ram: &mut [u8])
         ≡ pages ram.old ++ (take state_size (header ram.old) ++ words_bytes (format_words (sizes_is sizes))) }
 {
     let intent = intent_bytes(
-        FORMAT,
+        Kind::Format,
         sizes.sector_size,
         sizes.ra_blocks,
         sizes.da_blocks,

@@ -6,7 +6,7 @@ use Prim.Native.Nat.{ℕ, suc, ◌+◌, ◌≤◌, ◌<◌}
 use native.Mathlib.Omega.{arith}
 use lib.ListN.{length, take, length-take}
 use lib.Seq.{take_all}
-use lib.Dec.{leb, eqb}
+use lib.Dec.{leb}
 use borrow.Author.Tests.{lt-ltb, le-ltb, le-leb, lt-leb}
 use Rattle.memory.specs.Bits.{num}
 use Rattle.memory.specs.Cases.{either, le?}
@@ -16,10 +16,14 @@ use Rattle.layout.specs.Header.{finished}
 use Rattle.layout.specs.Budgets as budgets
 use Rattle.layout.specs.Budgets.{Step, store, Memory, memory, last_steps, taken_by, taken}
 use Rattle.laws.specs.StepLaws.{last_cut, last_length}
-use Rattle.state.specs.Contract.{CutEffect, cut_of, state_is, outcome_of, Effect, effect_of, Ran}
+use Rattle.std.specs.Prelude as std
+use Rattle.std.specs.Prelude.{Ok, Err}
+use Rattle.state.specs.Contract.{CutEffect, cut_of, cut_by, state_is, number_of, outcome_of, Effect, effect_of, change_effect, Ran}
 use Rattle.state.specs.declared.State.{State}
+use Rattle.state.specs.declared.Refusal.{Refusal}
+use Rattle.state.specs.declared.Cut.{Cut}
 use Rattle.state.specs.declared.Progress.{Progress}
-use Rattle.state.proofs.Refusals.{Refusal}
+use Rattle.state.proofs.Refusals.{refused_by}
 
 module _ (u b : ℕ) (r : Result) (c : Flash) (ram : List ℕ) (m : Memory) (p : Progress) where
   -- the budget ends among the operations
@@ -93,11 +97,11 @@ ran_cut_is b u v ss r m p old new a e n R =
     by false = refl
 
 -- the answer of a refused one
-pub refused_cut_lem : (b u : ℕ) (v w : Volume) (i : ℕ) (ss : List Step) (r : Result) → Refusal w i r
-    → ◌≡◌ {A = CutEffect} (record { outcome = outcome_of i; complete = 0; steps = 0; left = v }) (cut_of (budgets.cut_of b ss (taken b u v ss r)))
-refused_cut_lem b u v w i ss r p = rw (p.is, p.some)
+pub refused_cut_lem : (b u : ℕ) (v w : Volume) (i : Refusal) (ss : List Step) (r : Result) → r ≡ refused_by w i
+    → ◌≡◌ {A = CutEffect} (record { outcome = refused (number_of i); complete = 0; steps = 0; left = v }) (cut_of (budgets.cut_of b ss (taken b u v ss r)))
+refused_cut_lem b u v w i ss r p = rw p
 
--- ---- with enough steps: a call that answers with a refusal's number has no count
+-- ---- with enough steps: a call that answers as a change does has no count
 
 abbrev counted : Outcome → Bool
 counted accepted = false
@@ -105,16 +109,13 @@ counted (hit place bytes) = true
 counted miss = true
 counted (refused i) = false
 
-uncounted : (i : ℕ) → counted (outcome_of i) ≡ false
-uncounted i = by (eqb i 0)
-  where
-    by : (t : Bool) → counted (cond t accepted (refused i)) ≡ false
-    by true = refl
-    by false = refl
+uncounted : {A : Type 0} (a : std.Result A Refusal) → counted (outcome_of a) ≡ false
+uncounted (Ok x) = refl
+uncounted (Err i) = refl
 
-pub taken_count : (b u : ℕ) (v : Volume) (ss : List Step) (r : Result) (i : ℕ) → outcome_of i ≡ (taken b u v ss r).outcome
-    → (taken b u v ss r).count ≡ 0
-taken_count b u v ss r i e = by r.outcome (sym (ap counted e) ∙ uncounted i)
+pub taken_count : {A : Type 0} (b u : ℕ) (v : Volume) (ss : List Step) (r : Result) (a : std.Result A Refusal)
+    → outcome_of a ≡ (taken b u v ss r).outcome → (taken b u v ss r).count ≡ 0
+taken_count b u v ss r a e = by r.outcome (sym (ap counted e) ∙ uncounted a)
   where
     by : (o : Outcome) → counted (taken_by o b u v ss r).outcome ≡ false → (taken_by o b u v ss r).count ≡ 0
     by accepted q = refl
@@ -140,3 +141,14 @@ module _ (c : CutEffect) (b : ℕ) (ss : List Step) (r : Result) (e : c ≡ cut_
   uncut_effect_lem z =
       let left : c.left ≡ r.volume = ap (λ (x : CutEffect). x.left) e ∙ ap (λ (x : Result). x.volume) result_is in
       rw (outcome_of_lem, left, z)
+
+-- an answer with a budget that is enough, as the answer of a call that has none
+pub uncut_ok : (s : State) (c : Cut) (main spare ram : List ℕ) (b : ℕ) (ss : List Step) (r : Result)
+    → cut_by s (Ok c) main spare ram ≡ cut_of (budgets.cut_of b ss r) → r.count ≡ 0
+    → change_effect s (Ok c.state) main spare ram ≡ effect_of r
+uncut_ok s c main spare ram b ss r e z = uncut_effect_lem (cut_by s (Ok c) main spare ram) b ss r e z
+
+pub uncut_err : (s : State) (i : Refusal) (main spare ram : List ℕ) (b : ℕ) (ss : List Step) (r : Result)
+    → cut_by s (Err i) main spare ram ≡ cut_of (budgets.cut_of b ss r) → r.count ≡ 0
+    → change_effect s (Err i) main spare ram ≡ effect_of r
+uncut_err s i main spare ram b ss r e z = uncut_effect_lem (cut_by s (Err i) main spare ram) b ss r e z

@@ -1,28 +1,27 @@
--- Refusals 1 and 2 as one answer: the refusal's number, or the sound geometry of the state.
-use Rattle.std.specs.Prelude.{◌≡◌, true, false, cond, List, ℕ, ◌≤◌}
+-- Refusals 1 and 2 as one answer: the refusal, or the sound geometry of the state.
+use Rattle.std.specs.Prelude.{◌≡◌, true, false, cond, List, ℕ, ◌≤◌, Result, Ok, Err}
 use Prim.{Unit}
 use Rattle.layout.specs.Geometry as layout
 use Rattle.layout.specs.Flash.{Flash}
-use Rattle.layout.specs.Refusals as refusal
 use Rattle.layout.specs.Calls.{Volume, bad_state, too_short}
 use Rattle.laws.specs.Lengths.{Long}
 use Rattle.geometry.specs.Shape.{geometry_for, shape, Sound}
 use Rattle.geometry.specs.declared.Geometry.{Geometry}
-use Rattle.state.specs.declared.Judgement.{Judgement}
-use Rattle.state.specs.declared.Judgement.TheVariants.{Good, Refused}
+use Rattle.state.specs.declared.Refusal.{Refusal}
+use Rattle.state.specs.declared.Refusal.TheVariants.{BadState, TooShort}
 
 -- of a volume: 1, then 2
-abbrev pub judgement_of : Volume → Judgement
+abbrev pub judgement_of : Volume → Result Geometry Refusal
 judgement_of v =
-    cond (bad_state v.state) (Refused refusal.bad_state)
-    (cond (too_short (layout.geometry v.state.sizes) v.flash v.ram) (Refused refusal.too_short)
-    (Good (geometry_for v.state.sizes)))
+    cond (bad_state v.state) (Err BadState)
+    (cond (too_short (layout.geometry v.state.sizes) v.flash v.ram) (Err TooShort)
+    (Ok (geometry_for v.state.sizes)))
 
 -- of a format's sizes
-abbrev pub judgement_of_new : layout.Sizes → Flash → List ℕ → Judgement
+abbrev pub judgement_of_new : layout.Sizes → Flash → List ℕ → Result Geometry Refusal
 judgement_of_new sizes flash ram =
     cond (layout.allowed sizes)
-    (cond (too_short (layout.geometry sizes) flash ram) (Refused refusal.too_short) (Good (geometry_for sizes))) (Refused refusal.bad_state)
+    (cond (too_short (layout.geometry sizes) flash ram) (Err TooShort) (Ok (geometry_for sizes))) (Err BadState)
 
 -- what a call knows of a volume that is not refused
 pub record VolumeFits (v : Volume) (g : Geometry) : Type 0 where
@@ -35,9 +34,9 @@ pub record VolumeFits (v : Volume) (g : Geometry) : Type 0 where
   pub d_le : v.state.deletions ≤ v.state.records
 
 -- a volume that is judged good has it
-abbrev pub GoodFits : Volume → Judgement → Type 0
-GoodFits v (Good g) = VolumeFits v g
-GoodFits v (Refused i) = Unit
+abbrev pub GoodFits : Volume → Result Geometry Refusal → Type 0
+GoodFits v (Ok g) = VolumeFits v g
+GoodFits v (Err i) = Unit
 
 -- what a format knows of sizes and lent bytes that are not refused
 pub record FormatFits (sizes : layout.Sizes) (flash : Flash) (ram : List ℕ) (g : Geometry) : Type 0 where
@@ -47,6 +46,6 @@ pub record FormatFits (sizes : layout.Sizes) (flash : Flash) (ram : List ℕ) (g
   pub long : Long (shape g) flash.main flash.spare ram
 
 -- the same of a format
-abbrev pub NewFits : layout.Sizes → Flash → List ℕ → Judgement → Type 0
-NewFits sizes flash ram (Good g) = FormatFits sizes flash ram g
-NewFits sizes flash ram (Refused i) = Unit
+abbrev pub NewFits : layout.Sizes → Flash → List ℕ → Result Geometry Refusal → Type 0
+NewFits sizes flash ram (Ok g) = FormatFits sizes flash ram g
+NewFits sizes flash ram (Err i) = Unit

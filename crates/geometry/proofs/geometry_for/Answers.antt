@@ -1,42 +1,31 @@
-use native.Mathlib.Omega.{arith}
-use Prim.Native.Nat.{ℕ, ◌-◌}
-use mathlib.Core.Path.{◌≡◌, refl, sym, ap, ◌∙◌}
-use mathlib.Core.Bool.{true}
+use Rattle.std.specs.Prelude.{◌/◌, Some, ◌≡◌}
+use Rattle.std.proofs.Common.{◌∙◌, sym, ap, subst}
 use Rattle.geometry.specs.declared.table.SizeRow.{SizeRow}
-use Rattle.geometry.specs.Rows.{row_of}
+use Rattle.geometry.specs.declared.Geometry.{Geometry}
+use Rattle.geometry.specs.Rows.{row_for}
+use Rattle.geometry.specs.Shape.{sizes_is, shaped_by, GoodSound}
 use Rattle.geometry.proofs.Rows.{row_is}
-use Rattle.geometry.specs.Shape.{sizes_is, shaped_of}
-use Rattle.geometry.specs.Allowed.{from_row}
-use Rattle.geometry.proofs.Allowed.{from_hit, from_next, from_end, shaped_hit, shaped_miss, shaped_sound}
+use Rattle.geometry.proofs.Allowed.{found_row, shaped_hit, shaped_miss, shaped_sound}
 use Rattle.geometry.proofs.geometry_for.Goals as goal
 
-pub loop-i-init : goal.loop-i-init
-loop-i-init c = (omega arith, refl)
+pub returns-in_err-row : goal.returns-in_err-row
+returns-in_err-row c =
+    rw c.from_residual.ensures (record { equal = sym (shaped_miss (sizes_is c.args.sizes) (sym c.row_with.ensures.equal ∙ c.in_err-row.was)); sound = tt })
 
--- the sector size of the row that was read
-row_sector : (row : SizeRow) (i : ℕ) → row ≡ row_of i → (row_of i).sector ≡ row.sector
-row_sector row i e = ap (λ (r : SizeRow). r.sector) (sym e)
-
-pub with_blocks-requires : goal.with_blocks-requires
-with_blocks-requires c =
-    let r = c.before.before.row_at-row in
-    row_is r.result _ r.ensures.ruled c.if-row-size.true
-
-pub returns-then-row-size : goal.returns-then-row-size
-returns-then-row-size c =
-    let l = c.before.before.before.before.before in
-    let s = sizes_is l.before.before.args.sizes in
-    let hit : from_row s.sector_size 0 ≡ true = l.loop-i.invariant.1 ∙ from_hit s.sector_size l.loop-i.i (omega arith) (row_sector _ _ c.row_at-row.ensures.equal ∙ c.if-row-size.true) in
-    let e : c.with_blocks.result ≡ shaped_of s = c.with_blocks.ensures ∙ sym (shaped_hit s hit) in
-    record { equal = e; sound = rw e (shaped_sound s) }
-
-pub loop-i-preserved : goal.loop-i-preserved
-loop-i-preserved c =
-    let l = c.before.before.before.before in
-    let s = sizes_is l.before.before.args.sizes in
-    (omega arith, l.loop-i.invariant.1 ∙ from_next s.sector_size l.loop-i.i (omega arith) (λ e. c.if-row-size.false (sym (row_sector _ _ c.row_at-row.ensures.equal) ∙ e)))
+pub returns-then-not-rest_allowed-clause-equal : goal.returns-then-not-rest_allowed-clause-equal
+returns-then-not-rest_allowed-clause-equal c =
+    let s = sizes_is c.args.sizes in
+    rw (shaped_hit s c.in_ok-row.row (sym c.in_ok-row.ensures.equal), ← c.rest_allowed.ensures, c.if-not-rest_allowed.true)
 
 pub returns : goal.returns
 returns c =
-    let s = sizes_is c.before.before.before.args.sizes in
-    record { equal = sym (shaped_miss s (c.before.loop-i.invariant.1 ∙ from_end s.sector_size c.before.loop-i.i (omega arith))); sound = tt }
+    let x = c.args.sizes in
+    let s = sizes_is x in
+    let r = c.in_ok-row.row in
+    let found = sym c.in_ok-row.ensures.equal in
+    let is : r ≡ row_for s.sector_size = row_is r s.sector_size c.in_ok-row.ensures.ruled (found_row s.sector_size r found) in
+    let unit = c.with_sectors.ensures ∙ ap (λ n. n / 16) c.from.ensures ∙ ap (λ (q : SizeRow). q.sector / 16) is in
+    let made : ◌≡◌ {A = Geometry} (record { chip = c.with_sectors.result; row = r; ra = x.ra_blocks; da = x.da_blocks; hashes = x.hash_count }) _ =
+    λ i. record { chip = record { unit = unit i }; row = is i; ra = x.ra_blocks; da = x.da_blocks; hashes = x.hash_count } in
+    let e = ap Some made ∙ sym (shaped_hit s r found ∙ ap (λ t. shaped_by t s) (sym c.rest_allowed.ensures ∙ c.if-not-rest_allowed.false)) in
+    record { equal = e; sound = subst (λ o. GoodSound o) (sym e) (shaped_sound s) }

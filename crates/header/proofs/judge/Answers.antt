@@ -6,4 +6,4 @@ use Rattle.header.proofs.judge.Goals as goal
 pub word-requires : goal.word-requires
 word-requires c =
     let x = c.args in
-    (header_fits (volume x.s x.main.now x.spare.now x.ram.now) c.in-Good.g c.in-Good.ensures.fits, omega arith)
+    (header_fits (volume x.s x.main.now x.spare.now x.ram.now) c.in_ok-g.g c.in_ok-g.ensures.fits, omega arith)

@@ -1,5 +1,5 @@
 use native.Mathlib.Omega.{arith}
-use Rattle.geometry.specs.Bounds.{index_le, full_le, deletion_index_le}
+use Rattle.geometry.specs.Bounds.{full_le, deletion_index_le}
 use Rattle.geometry.proofs.Geometry.deletion_index_block.Goals as goal
 
 pub index_blocks-requires : goal.index_blocks-requires

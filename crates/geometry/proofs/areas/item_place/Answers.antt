@@ -10,41 +10,37 @@ in_full_pages-requires c = c.requires.area_sound.power
 
 pub block_address-requires : goal.block_address-requires
 block_address-requires c =
-    let x = c.before.before.args in
+    let x = c.args in
     (omega arith, omega (arith, product_le x.a.first x.g.chip.unit 8192 32 (omega arith) (omega arith)))
 
-pub overflow_mul-at : goal.overflow_mul-at
-overflow_mul-at c =
-    let x = c.before.before.before.args in
+pub overflow_mul-result : goal.overflow_mul-result
+overflow_mul-result c =
+    let x = c.args in
     omega (arith, product_le x.j x.a.size 4294967296 16 (omega arith) (omega arith))
 
-pub overflow_add-at : goal.overflow_add-at
-overflow_add-at c =
-    let x = c.before.before.before.args in
+pub overflow_add-result : goal.overflow_add-result
+overflow_add-result c =
+    let x = c.args in
     let b = product_le x.a.first x.g.chip.unit 8192 32 (omega arith) (omega arith) in
     omega (arith, product_le x.j x.a.size 4294967296 16 (omega arith) (omega arith))
 
 pub returns-then-j-in_full_pages : goal.returns-then-j-in_full_pages
 returns-then-j-in_full_pages c =
-    let f = c.before.before.in_full_pages in
-    rw (sym f.ensures, lt-ltb c.before.before.before.args.j f.result (omega arith), c.block_address.ensures)
+    let f = c.in_full_pages in
+    rw (sym f.ensures, lt-ltb c.args.j f.result (omega arith), c.block_address.ensures)
 
 pub slot-requires : goal.slot-requires
-slot-requires c = c.before.before.requires.area_sound.power
+slot-requires c = c.requires.area_sound.power
 
--- an item's place in its page
-page_place : (c : goal.After-slot) → c.slot.result * c.before.before.before.args.a.size ≤ 512 * 16
-page_place c =
-    let x = c.before.before.before.args in
-    product_le c.slot.result x.a.size 512 16 (omega (arith, c.slot.ensures.1)) (omega arith)
+pub overflow_mul-result-else-j-in_full_pages : goal.overflow_mul-result-else-j-in_full_pages
+overflow_mul-result-else-j-in_full_pages c =
+    omega (arith, product_le c.slot.result c.args.a.size 512 16 (omega (arith, c.slot.ensures.1)) (omega arith))
 
-pub overflow_mul-at-2 : goal.overflow_mul-at-2
-overflow_mul-at-2 c = omega (arith, page_place c)
+pub overflow_add-result-else-j-in_full_pages : goal.overflow_add-result-else-j-in_full_pages
+overflow_add-result-else-j-in_full_pages c =
+    omega (arith, product_le c.slot.result c.args.a.size 512 16 (omega (arith, c.slot.ensures.1)) (omega arith))
 
-pub overflow_add-at-2 : goal.overflow_add-at-2
-overflow_add-at-2 c = omega (arith, page_place c)
-
-pub returns : goal.returns
-returns c =
-    let f = c.before.before.in_full_pages in
-    rw (sym f.ensures, le-ltb c.before.before.before.args.j f.result (omega arith), c.slot.ensures.0)
+pub returns-else-j-in_full_pages : goal.returns-else-j-in_full_pages
+returns-else-j-in_full_pages c =
+    let f = c.in_full_pages in
+    rw (sym f.ensures, le-ltb c.args.j f.result (omega arith), c.slot.ensures.0)
