@@ -1,7 +1,8 @@
 // Groups of filters whose bits lie in the same rows, wherever they are: in the SKA page, in L1, in the current set or in a full one.
 // Document 01, "Filters". A `Stage` says how many filters each of these has, a `Level` where one of them lies, a `Block` which of up to 512
 // of its filters have all bits of some positions.
-ghost use Rattle.std.specs.Prelude.{◌≡◌, Bool, true, ◌⊎◌, ℕ, ◌+◌, ◌-◌, ◌*◌, ◌/◌, ◌%◌, ◌^◌, ◌<◌, ◌≤◌, min, length, get_or, take, MatchOption};
+ghost use Rattle.std.specs.Prelude.{◌≡◌, Bool, true, ◌⊎◌, ℕ, ◌+◌, ◌-◌, ◌*◌, ◌/◌, ◌%◌, ◌^◌, ◌<◌, ◌≤◌, min, length, get_or};
+ghost use Rattle.std.specs.Prelude.{take, MatchOption};
 ghost use Rattle.memory.specs.Bits.{bit, bit_in};
 ghost use Rattle.memory.specs.Power.{log2up};
 ghost use Rattle.layout.specs.Geometry.{filter_bits, side_blocks};
@@ -73,7 +74,7 @@ struct Stage {
 
 // ---- numbers
 
-// The exponent of the least power of two not below x.
+// The exponent of the least power of two not below x; a function of its own since both of its callers need its bound too.
 fn exponent(x: usize) -> usize
     requires { (0 < x) × (x ≤ 128) }
     ensures { (result ≡ log2up x) × (result ≤ 7) }
@@ -81,6 +82,7 @@ fn exponent(x: usize) -> usize
     sets::partition_exponent(x as u32) as usize
 }
 
+// The bits that a filter has in a row; a function of its own, so that the shift is once proved to be a power of two.
 fn power(e: usize) -> usize
     requires { e < 10 }
     ensures { (result ≡ 2 ^ e) × (0 < result) }
@@ -295,7 +297,8 @@ fn block_by_words(l: Level, below: usize, ps: [u32; 8], count: usize, bytes: &[u
 // in no bit from e on.
 fn mask_of(e: usize, ps: &[u32]) -> Option<u64>
     requires { (e ≤ 6) × (1 ≤ length ps.now) }
-    ensures { MatchOption result (Unit {0}) (λ m. OneRow ps.now (length ps.now) e × MaskOf ps.now (length ps.now) (2 ^ e) m × (m < 2 ^ 2 ^ e)) }
+    ensures { MatchOption result (Unit {0}) (λ m. OneRow ps.now (length ps.now) e × MaskOf ps.now (length ps.now) (2 ^ e) m
+        × (m < 2 ^ 2 ^ e)) }
 {
     let w = power(e);
     let first = ps[0];
@@ -364,7 +367,7 @@ impl<'a> Query<'a> {
         }
     }
 
-    // Filters of two bytes: four to a word.
+    // Filters of two bytes: four to a word. No twin of `by_words`: the SKA page's words join L1's before, not after, filters are told.
     fn by_fours(self, mask: u64) -> Block
         requires exponent_value { self.rs.l1.exponent ≡ 4 }
         requires one_row { OneRow self.ps.now (length self.ps.now) 4 × MaskOf self.ps.now (length self.ps.now) 16 mask × (mask < 65536) }
