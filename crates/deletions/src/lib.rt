@@ -16,7 +16,8 @@ use filter::Filters;
 use geometry::{Chip, Geometry, areas, sets};
 use kernels::ones::Ones;
 
-// Of the d deletions of a volume the first d0. Where they lie goes by d.
+// Of the d deletions of a volume the first d0. Where they lie goes by d. Without the two lent slices, which go on by themselves to `items`
+// and `filter`: each function would take a struct of all three apart.
 #[derive(Clone, Copy)]
 pub struct Deletions {
     pub g: Geometry,
@@ -33,7 +34,8 @@ pub struct Tested {
 
 // ---- numbers past the last full page
 
-// Those of the page that d0 deletions do not fill: in RAM, unless it has been filled since.
+// Those of the page that d0 deletions do not fill: in RAM, unless it has been filled since. Not generic with the one of `search`: there the
+// items are entries with a key, each of which is tested, and here words, and no line but the choice of the slice is the same.
 fn in_open(t: Deletions, j: u32, main: &[u8], ram: &[u8]) -> bool
     requires { DeletionsFit t main.now ram.now }
     ensures { test_stop j result ≡ past_pages t main.now ram.now j }
@@ -50,7 +52,7 @@ fn in_open(t: Deletions, j: u32, main: &[u8], ram: &[u8]) -> bool
 
 // ---- full pages
 
-// The filters of the volume's deletions, two to a page.
+// The filters of the volume's deletions, two to a page. What it shares with the one of `search` is the struct `Filters`.
 fn filters(t: Deletions) -> Filters
     ensures { result ≡ deletion_filters_of t }
 {
@@ -111,7 +113,7 @@ fn in_block(
     (Tested { met: false, opened }, first)
 }
 
-// Full pages, a block of filters after another, the newest first, for any `count` positions, 1 to 8.
+// Full pages, a block of filters after another, the newest first, for any `count` positions, 1 to 8, by value as document 01 has them.
 fn in_pages(t: Deletions, j: u32, ps: [u32; 8], count: usize, main: &[u8], ram: &[u8]) -> Tested
     requires { DeletionsFit t main.now ram.now × Low t.g.chip.unit count ps }
     ensures { tested_of j result

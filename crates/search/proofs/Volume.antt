@@ -167,17 +167,8 @@ met_is : (b : Bool) (r : Stop) → is_found (cond b (some r) none) ≡ b
 met_is true r = refl
 met_is false r = refl
 
-module _ (v : View) (main ram : List ℕ) (j : ℕ) (r : Tested)
-    (is : tested_of j r ≡ test_deletion fnv_family (shape v.g) (viewed v main ram) v.d0 j) where
-  -- what it says of the view's deletions
-  pub tested_met : r.met ≡ deleted_of v main ram j
-  tested_met = sym (met_is r.met (found j)) ∙ ap (λ (f : Found). is_found f.stop) is
-
-  pub tested_opened : r.opened ≡ test_cost v main ram j
-  tested_opened = ap (λ (f : Found). f.opened) is
-
 -- a test reads nothing of the records
-pub test_viewed : (v : View) (main ram : List ℕ) (j : ℕ)
+test_viewed : (v : View) (main ram : List ℕ) (j : ℕ)
     → test_deletion fnv_family (shape v.g) (tests.held (deletions_of v) main ram) v.d0 j
     ≡ test_deletion fnv_family (shape v.g) (viewed v main ram) v.d0 j
 unfolding test_deletion try_deletion maybe_deleted
@@ -190,10 +181,10 @@ module _ (v : View) (main ram : List ℕ) (j : ℕ) (t : Deletions) (t_is : t �
   told = (rw t_is at is) ∙ test_viewed v main ram j
 
   told_met : r.met ≡ deleted_of v main ram j
-  told_met = tested_met v main ram j r told
+  told_met = sym (met_is r.met (found j)) ∙ ap (λ (f : Found). is_found f.stop) told
 
   told_opened : r.opened ≡ test_cost v main ram j
-  told_opened = tested_opened v main ram j r told
+  told_opened = ap (λ (f : Found). f.opened) told
 
 -- ---- the next entry with the key of those in a row, with number j
 

@@ -23,8 +23,8 @@ use geometry::{Geometry, areas, sets};
 use kernels::ones::Ones;
 use keys::Key;
 
-// What is searched: of the n records and d deletions of a volume the first n0 and the first d0. Where they lie goes
-// by n and d.
+// What is searched: of the n records and d deletions of a volume the first n0 and the first d0. Where they lie goes by n and d. Without the
+// two lent slices, which go on by themselves to `items`, `filter` and `deletions`: each function would take a struct of all three apart.
 #[derive(Clone, Copy)]
 pub struct View {
     pub g: Geometry,
@@ -47,8 +47,8 @@ pub fn all(g: Geometry, n: usize, d: usize) -> View
     }
 }
 
-// Where a search ends: nowhere, at a live entry, with its record number, or at a number that is no record's. An enum and no Result, since
-// the pages opened are told of each of the three: no `?` would hand one on, and `Nothing` says more than `Ok(None)`.
+// Where a search ends: nowhere, at a live entry, with its record number, or at a number that is no record's.
+// No Result, since the pages opened are told of each of the three: no `?` could hand one on, and `Nothing` says more than `Ok(None)`.
 #[derive(Clone, Copy, Debug, PartialEq, Eq)]
 pub enum End {
     Nothing,
@@ -163,7 +163,7 @@ fn in_open(v: View, key: Key, main: &[u8], ram: &[u8]) -> Found
 
 // ---- full pages
 
-// The filters of the volume's entries.
+// The filters of the volume's entries. What it shares with the one of `deletions` is the struct `Filters`.
 fn key_filters(v: View) -> Filters
     ensures { result ≡ filters_of v }
 {
@@ -289,7 +289,7 @@ fn in_block(
     (found, b.start)
 }
 
-// Full pages, a block of filters after another, the newest first, for any `count` positions, 1 to 8.
+// Full pages, a block of filters after another, the newest first, for any `count` positions, 1 to 8, by value as document 01 has them.
 fn in_pages(v: View, key: Key, ps: [u32; 8], count: usize, main: &[u8], ram: &[u8]) -> Found
     requires { ViewFits v main.now ram.now × Low v.g.chip.unit count ps }
     ensures result_value { found_of result

@@ -7,7 +7,7 @@ use borrow.Author.Tests.{le-ltb}
 use Rattle.memory.specs.Bits.{bit, bit_zero}
 use Rattle.layout.specs.Geometry.{entries_per_page}
 use Rattle.layout.specs.Keys.{Key}
-use Rattle.laws.specs.TopBits.{cleared_less, top_left}
+use Rattle.laws.specs.TopBits.{top_left}
 use Rattle.geometry.specs.declared.volume.Geometry.{Geometry}
 use Rattle.keys.specs.Key.{key_is}
 use Rattle.std.specs.Prelude.{Some, None}
@@ -59,10 +59,6 @@ returns-in-Some-find_in_page c =
       none = λ z. absurd (omega (arith, n));
       hit = rw n (ap (λ (y : ℕ). Some (record { page = f; entry = y })) z);
     }
-
-pub loop-f-smaller : goal.loop-f-smaller
-loop-f-smaller c =
-    cleared_less c.loop-f.pages.left c.in-Some.f c.in-Some.ensures.steps.0 c.next.new.self.left c.in-Some.ensures.steps.1
 
 pub loop-f-preserved : goal.loop-f-preserved
 loop-f-preserved c =
