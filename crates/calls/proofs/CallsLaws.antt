@@ -2,7 +2,7 @@
 use mathlib.Core.Path.{◌≡◌, refl, sym, ap, ◌∙◌}
 use mathlib.Core.Bool.{Bool, true, false, cond}
 use mathlib.Core.Option.{Option, none, some}
-use Prim.Native.Nat.{ℕ, ◌≤◌}
+use Prim.Native.Nat.{◌≤◌}
 use native.Mathlib.Omega.{arith}
 use lib.Dec.{eqb}
 use lib.ListN.{length}
@@ -112,7 +112,8 @@ module _ (end : Commit) (w : Volume) where
   after G (Update r) o = update_by end fnv_family G w (record_is r) o
   after G (Delete key) o = delete_by end fnv_family G w o
 
-  after_is : (G : layout.Geometry) (q : Request) → answer_by end fnv_family G w (call_of q) ≡ after G q (search fnv_family G w (key_of (call_of q))).stop
+  after_is : (G : layout.Geometry) (q : Request)
+      → answer_by end fnv_family G w (call_of q) ≡ after G q (search fnv_family G w (key_of (call_of q))).stop
   after_is G (Insert r) = refl
   after_is G (Update r) = refl
   after_is G (Delete key) = refl

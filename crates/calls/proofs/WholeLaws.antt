@@ -8,7 +8,6 @@ use Rattle.layout.specs.Geometry.{unit_of}
 use Rattle.layout.specs.Hash.{fnv_family}
 use Rattle.layout.specs.Calls.{Volume, Outcome, accepted, hit, miss, refused, Result}
 use Rattle.layout.specs.Header.{intended}
-use Rattle.layout.specs.Budgets as budgets
 use Rattle.layout.specs.Budgets.{Step, call_steps, taken_by, taken, result_of, call_for, call_cut, call_whole}
 use Rattle.laws.specs.StepLaws.{last_length, taken_enough}
 use Rattle.std.specs.Prelude.{Ok, Err}

@@ -1,4 +1,4 @@
-use mathlib.Core.Path.{◌≡◌, refl, ap, ◌∙◌}
+use mathlib.Core.Path.{◌≡◌, refl, ap}
 use mathlib.Core.Bool.{true, false}
 use mathlib.Core.List.{List}
 use Prim.Native.Nat.{ℕ, suc, ◌-◌, ◌≤◌}
@@ -40,7 +40,7 @@ pub returns-then-budget-eq0 : goal.returns-then-budget-eq0
 returns-then-budget-eq0 c =
     let x = c.args in
     rw c.cut_at.ensures
-    (    none_cut (task_on x.t x.main.now x.spare.now x.ram.now) (call_of x.q) _
+    (none_cut (task_on x.t x.main.now x.spare.now x.ram.now) (call_of x.q) _
     (accepts x.t x.q x.main.now x.spare.now x.ram.now c.requires.0 c.requires.1 c.requires.2) refl x.budget c.if-budget-eq0.true)
 
 pub intend-requires : goal.intend-requires

@@ -1,3 +1,4 @@
+use Rattle.std.proofs.lemmas.Result.{err_from_is_err_and}
 use Rattle.state.specs.declared.Request.TheVariants.{Delete}
 use Rattle.calls.proofs.WholeLaws.{whole_ok, whole_err}
 use Rattle.calls.proofs.delete.Goals as goal
@@ -5,11 +6,13 @@ use Rattle.calls.proofs.delete.Goals as goal
 pub returns-in_err-c : goal.returns-in_err-c
 returns-in_err-c c =
     let a = c.args in
-    let p = c.perform_for-c in
-    whole_err a.s (Delete a.key) a.main.now a.spare.now a.ram.now p.new.main p.new.spare p.new.ram _ p.ensures
+    let n = c.perform_for.new in
+    let p = err_from_is_err_and c.from_residual.result c.from_residual.ensures.1 in
+    rw (p.1, p.2)
+    (whole_err a.s (Delete a.key) a.main.now a.spare.now a.ram.now n.main n.spare n.ram c.in_err-c.field-0.0 c.in_err-c.ensures)
 
 pub returns : goal.returns
 returns c =
     let a = c.args in
-    let p = c.perform_for-c in
-    whole_ok a.s (Delete a.key) a.main.now a.spare.now a.ram.now p.new.main p.new.spare p.new.ram _ p.ensures
+    let n = c.perform_for.new in
+    whole_ok a.s (Delete a.key) a.main.now a.spare.now a.ram.now n.main n.spare n.ram c.in_ok-c.c c.in_ok-c.ensures

@@ -1,18 +1,8 @@
-use mathlib.Core.Path.{◌≡◌, sym, ap, ◌∙◌}
+use mathlib.Core.Path.{ap, ◌∙◌}
 use Rattle.std.proofs.lemmas.Result.{err_from_is_err_and}
-use Rattle.std.specs.Prelude.{Result, Err}
-use Rattle.layout.specs.Geometry.{geometry}
-use Rattle.layout.specs.Hash.{fnv_family}
-use Rattle.layout.specs.Calls.{key_of, Volume, commit}
-use Rattle.layout.specs.Keys.{Key}
 use Rattle.layout.specs.Header.{on_pages}
-use Rattle.layout.specs.Budgets.{result_of}
 use Rattle.state.specs.Contract.{volume, call_of}
-use Rattle.state.specs.declared.Request.{Request}
-use Rattle.state.specs.declared.Refusal.{Refusal}
-use Rattle.state.proofs.Refusals.{refused_by}
 use Rattle.calls.specs.Resolve.{resolved_of}
-use Rattle.calls.specs.declared.Resolved.{Resolved}
 use Rattle.calls.proofs.CallsLaws.{call_unresolved}
 use Rattle.calls.proofs.RequestLaws.{refused_cut_lem}
 use Rattle.calls.proofs.perform_for.Goals as goal
