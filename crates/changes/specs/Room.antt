@@ -12,7 +12,8 @@ use Rattle.changes.specs.declared.Edit.TheVariants.{Insert, Delete, Replace}
 use Rattle.changes.specs.Edits.{edit_is, slots_of, room_refusal}
 
 -- neither 5 nor 6 is told
-pub neither : (a b : Bool) → ◌≡◌ {A = Result Unit Refusal} (Ok tt) (cond a (Err Full) (cond b (Err DeletionsFull) (Ok tt))) → (a ≡ false) × (b ≡ false)
+pub neither : (a b : Bool) → ◌≡◌ {A = Result Unit Refusal} (Ok tt) (cond a (Err Full) (cond b (Err DeletionsFull) (Ok tt)))
+    → (a ≡ false) × (b ≡ false)
 neither true b e = cc
 neither false true e = cc
 neither false false e = (refl, refl)

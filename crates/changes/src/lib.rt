@@ -11,7 +11,8 @@ ghost use Rattle.planning.specs.Edits.{Room, programs_in};
 ghost use Rattle.changes.specs.Edits.{edit_is, deleted, inserted, counted_state};
 ghost use Rattle.changes.specs.Edits.{room_refusal};
 ghost use Rattle.changes.specs.Filters.{DeletionFilters, EntryFilter};
-ghost use Rattle.changes.specs.Tasks.{change_refusal, Carried, HasRoom, Prepared, task_on, task_slots, task_bytes, TaskFilters, task_plan, task_result};
+ghost use Rattle.changes.specs.Tasks.{change_refusal, Carried, HasRoom, Prepared, task_on, task_slots, task_bytes, TaskFilters};
+ghost use Rattle.changes.specs.Tasks.{task_plan, task_result};
 ghost use Rattle.layout.specs.Flash.{flash_of};
 
 use geometry::{Geometry, areas};
