@@ -5,24 +5,27 @@ use Prim.Native.Nat.{ℕ, ◌*◌, ◌/◌, ◌%◌, ◌≤◌, ◌<◌}
 use Rattle.std.proofs.Math.Nat.{mul-le-mul, mul-le-mul_left, div-mul-le_self}
 use native.Mathlib.Omega.{arith}
 use borrow.Author.Tests.{ltb-false, not-false}
+use Rattle.std.proofs.Common.{mod-lt}
+use Rattle.memory.specs.Cases.{either, lt?}
 use Rattle.memory.specs.Booleans.{or_eq_false_iff}
 use Rattle.layout.specs.Keys.{Key}
 use Rattle.layout.specs.Geometry as layout
 use Rattle.layout.specs.Hash.{Family}
 use Rattle.layout.specs.Search.{Stop, scan, search_pages}
-use Rattle.layout.specs.Calls.{Volume, lookup, bad_state, key_positions, try_at, maybe_in, search_at, search}
+use Rattle.layout.specs.Calls.{Volume, lookup, bad_state, key_positions, try_at, maybe_in, search_at, search, record_place}
 use Rattle.layout.specs.Header.{on_pages}
 use Rattle.layout.specs.Budgets.{call_whole}
 use Rattle.laws.specs.SearchLaws.{opened_le, ram_first_most}
-use Rattle.laws.specs.Sound.{sound, pu, u_le}
+use Rattle.laws.specs.Sound.{sound, pu, u_le, few_records}
 use Rattle.lookup.specs.Results.{LookupNumbers, lookup_of}
-use Rattle.lookup.specs.Whole.{whole_cases}
+use Rattle.lookup.specs.Whole.{Good, whole_cases}
 
--- its first three numbers
+-- its numbers other than the pages of deletions, and whether it lies in the RAM
 pub record Small (r : LookupNumbers) : Type 0 where
   pub refusal : r.refusal < 4294967296
   pub found : r.found < 4294967296
   pub count : r.count < 4294967296
+  pub offset : r.offset < 4294967296
 
 -- no more pages of entries are opened than there are
 module _ (h : Family) (v : Volume) (key : Key) where
@@ -53,11 +56,39 @@ module _ (h : Family) (v : Volume) (key : Key) where
         mul-le-mul ok.R-le (u_le v.state.sizes ok),
       )
 
+-- no record lies further from the start of its area or page
+module _ (v : Volume) where
+  place_most : Good v → (j : ℕ) → (record_place (layout.geometry v.state.sizes) v j).at < 4294967296
+  unfolding bad_state
+  place_most good j =
+      let state = (or_eq_false_iff (not (layout.allowed v.state.sizes)) _).0 good.state in
+      let counts = (or_eq_false_iff (ltb (layout.record_capacity (layout.geometry v.state.sizes)) v.state.records) _).0 state.1 in
+      let ok = sound v.state.sizes (not-false _ state.0) in
+      let cap : v.state.records ≤ layout.record_capacity (layout.geometry v.state.sizes) = ltb-false _ _ counts.0 in
+      let u : ℕ = layout.unit_of v.state.sizes in
+      let some = pu v.state.sizes ok in
+      let most = u_le v.state.sizes ok in
+      either (lt? j (v.state.records / (4 * u) * (4 * u)))
+      (λ a. rw a.0 (omega (arith, div-mul-le_self v.state.records (4 * u), cap, few_records v.state.sizes ok)))
+      (λ a. rw a.0 (omega (arith, mod-lt j {m = 4 * u} (omega (arith, some)), most)))
+
 -- in the pages of a volume
 module _ (h : Family) (v : Volume) (key : Key) where
   pub lookup_small : Small (lookup_of (call_whole h v (lookup key)))
   lookup_small =
       whole_cases h v key (λ r. Small (lookup_of r))
-      (λ i some small. record { refusal = omega (arith, small); found = omega arith; count = omega arith })
-      (λ good. record { refusal = omega arith; found = omega arith; count = omega (arith, opened_most h (on_pages v) key good.state) })
-      (λ j good. record { refusal = omega arith; found = omega arith; count = omega (arith, opened_most h (on_pages v) key good.state) })
+      (λ i some small. record { refusal = omega (arith, small); found = omega arith; count = omega arith; offset = omega arith })
+      (λ good.
+      record {
+        refusal = omega arith;
+        found = omega arith;
+        count = omega (arith, opened_most h (on_pages v) key good.state);
+        offset = omega arith;
+      })
+      (λ j good.
+      record {
+        refusal = omega arith;
+        found = omega arith;
+        count = omega (arith, opened_most h (on_pages v) key good.state);
+        offset = place_most v good j;
+      })
