@@ -25,9 +25,9 @@ page_lt g key from bits main P {h} is =
 pub overflow_add-from : goal.overflow_add-from
 overflow_add-from c =
     let x = c.args in
-    omega (arith, c.requires.1, page_lt x.g (key_is x.key) x.from x.bits x.main.now c.next_page-p.ensures c.in-Some.is)
+    omega (arith, c.requires.0, page_lt x.g (key_is x.key) x.from x.bits x.main.now c.next_page-p.ensures c.in-Some.is)
 
 pub page_start-page-requires : goal.page_start-page-requires
 page_start-page-requires c =
     let x = c.args in
-    (c.requires.0, omega (arith, c.requires.1, page_lt x.g (key_is x.key) x.from x.bits x.main.now c.next_page-p.ensures c.in-Some.is))
+    omega (arith, c.requires.0, page_lt x.g (key_is x.key) x.from x.bits x.main.now c.next_page-p.ensures c.in-Some.is)
