@@ -8,6 +8,8 @@ use lib.ListN.{length, take, drop, length-drop}
 use lib.Seq.{take_all}
 use borrow.Author.Tests.{lt-ltb, le-ltb}
 use Rattle.layout.specs.Keys.{Key}
+use Rattle.geometry.specs.declared.volume.Geometry.{Geometry as CodeGeometry}
+use Rattle.geometry.specs.Shape.{shape}
 use Rattle.layout.specs.Geometry.{Geometry, ram_size, work_ram}
 use Rattle.layout.specs.Flash.{Flash, Op, apply_all, Planned, plan_ops}
 use Rattle.layout.specs.Hash.{fnv_family}
@@ -89,7 +91,7 @@ module _ (u from b : ℕ) (plan : List Planned) (flash : Flash) where
 
 -- ---- what code computes of a change is the layout's
 
-pub plan_as : (g : Geometry) (p : Plan) (e : Slots) (main spare ram : ℕ) → p ≡ numbers_of g e → PlanFits (numbers_of g e) main spare ram
+pub plan_as : (g : CodeGeometry) (p : Plan) (e : Slots) (main spare ram : ℕ) → p ≡ numbers_of g e → PlanFits (numbers_of g e) main spare ram
     → PlanFits p main spare ram
 plan_as g p e main spare ram is F = rw is F
 
@@ -129,7 +131,10 @@ pub record Parts (g : Geometry) (v : Volume) (e : Edit) (S : Slots) (new : List 
   pub slots_are : S ≡ slots_of v.state.records v.state.deletions e
   pub new_is : new ≡ new_bytes (old_number e) (record_is (new_record e)) (record_number (slots_of v.state.records v.state.deletions e))
 
-module _ (g : Geometry) (v : Volume) (e : Edit) (S : Slots) (new : List ℕ) (A : Parts g v e S new) where
+module _ (cg : CodeGeometry) (v : Volume) (e : Edit) (S : Slots) (new : List ℕ) (A : Parts (shape cg) v e S new) where
+  abbrev g : Geometry
+  g = shape cg
+
   -- the places, the number that it deletes and the record that it inserts
   abbrev s : Slots
   s = slots_of v.state.records v.state.deletions e
@@ -153,11 +158,11 @@ module _ (g : Geometry) (v : Volume) (e : Edit) (S : Slots) (new : List ℕ) (A 
     given : Given fnv_family g j (key_is r.key) (record_bytes (record_is r)) (new_bytes j (record_is r) (record_number s)) filters v.ram s
     given = given_of g j (record_is r) v.ram filters s F
 
-    plan_is : planned (numbers_of g s) new filters v.ram ≡ plan
+    plan_is : planned (numbers_of cg s) new filters v.ram ≡ plan
     plan_is =
-        ap (λ (l : List ℕ). planned (numbers_of g s) l filters v.ram) A.new_is
-        ∙ edit_planned fnv_family g j (key_is r.key) (record_bytes (record_is r)) (new_bytes j (record_is r) (record_number s)) filters v.ram
-        A.pos A.long s given
+        ap (λ (l : List ℕ). planned (numbers_of cg s) l filters v.ram) A.new_is
+        ∙ edit_planned fnv_family cg j (key_is r.key) (record_bytes (record_is r)) (new_bytes j (record_is r) (record_number s)) filters v.ram
+        A.long s given
         ∙ plan_of_lem g v e
 
     ram_is : (from : ℕ) (ram' : List ℕ) → ram' ≡ cleared (kept g new filters v.ram S) → ram' ≡ (result from).volume.ram
@@ -169,17 +174,17 @@ module _ (g : Geometry) (v : Volume) (e : Edit) (S : Slots) (new : List ℕ) (A 
         A.pos A.long s given
         ∙ ram_of_lem g v e)
 
-    module _ (p : Plan) (p_is : p ≡ numbers_of g s) where
+    module _ (p : Plan) (p_is : p ≡ numbers_of cg s) where
       pub total_is : planned_count p ≡ length plan
       total_is =
-          ap (λ (q : Plan). planned_count q) p_is ∙ sym (planned_count_lem (numbers_of g s) new filters v.ram)
+          ap (λ (q : Plan). planned_count q) p_is ∙ sym (planned_count_lem (numbers_of cg s) new filters v.ram)
           ∙ ap (λ (l : List Planned). length l) plan_is
 
       run_is : (z : Span) (flash' : Flash) → flash' ≡ done p.chip.unit (span (planned p new filters v.ram) z) v.flash
           → flash' ≡ done g.u (span plan z) v.flash
       run_is z flash' run =
           run ∙ ap (λ (q : Plan). done q.chip.unit (span (planned q new filters v.ram) z) v.flash) p_is
-          ∙ ap (λ (u : ℕ). done u (span (planned (numbers_of g s) new filters v.ram) z) v.flash) (unit_is g s)
+          ∙ ap (λ (u : ℕ). done u (span (planned (numbers_of cg s) new filters v.ram) z) v.flash) (unit_is cg s)
           ∙ ap (λ (l : List Planned). done g.u (span l z) v.flash) plan_is
 
       module _ (from b total : ℕ) (all : total ≡ planned_count p) (flash' : Flash) where
@@ -208,13 +213,13 @@ module _ (g : Geometry) (v : Volume) (e : Edit) (S : Slots) (new : List ℕ) (A 
       ∙ ap (λ (S : Slots). cleared (kept g new [] v.ram S)) (sym A.slots_are))
 
 -- no operation, and the RAM
-pub carried_nothing : (g : Geometry) (v : Volume) (e : Edit) (from b : ℕ) → 0 < g.u → 0 < b
-    → from ≤ length (change_plan fnv_family g v (edit_is e)) → programs_in g (slots_of v.state.records v.state.deletions e) ≡ false
-    → (ram' : List ℕ) → ram' ≡ (changed g v (edit_is e) from).volume.ram
-    → Carried g.u (changed g v (edit_is e) from) b v.flash v.ram (progress 0 true) v.flash ram'
-carried_nothing g v e from b pos some l t ram' k =
-    let none : change_plan fnv_family g v (edit_is e) ≡ [] = no_plan g v e pos t in
+pub carried_nothing : (cg : CodeGeometry) (v : Volume) (e : Edit) (from b : ℕ) → 0 < b
+    → from ≤ length (change_plan fnv_family (shape cg) v (edit_is e)) → programs_in (shape cg) (slots_of v.state.records v.state.deletions e) ≡ false
+    → (ram' : List ℕ) → ram' ≡ (changed (shape cg) v (edit_is e) from).volume.ram
+    → Carried cg.chip.unit (changed (shape cg) v (edit_is e) from) b v.flash v.ram (progress 0 true) v.flash ram'
+carried_nothing cg v e from b some l t ram' k =
+    let none : change_plan fnv_family (shape cg) v (edit_is e) ≡ [] = no_plan cg v e t in
     let z : from ≡ 0 = omega (arith, l, ap (λ (ps : List Planned). length ps) none) in
-    let no : (changed g v (edit_is e) from).ops ≡ []
-    = ap (λ (ps : List Planned). plan_ops g.u (drop from ps) v.flash) none ∙ rw z in
-    all_done g.u 0 b [] v.flash (changed g v (edit_is e) from) no v.ram ram' v.flash 0 refl some refl k
+    let no : (changed (shape cg) v (edit_is e) from).ops ≡ []
+    = ap (λ (ps : List Planned). plan_ops cg.chip.unit (drop from ps) v.flash) none ∙ rw z in
+    all_done cg.chip.unit 0 b [] v.flash (changed (shape cg) v (edit_is e) from) no v.ram ram' v.flash 0 refl some refl k

@@ -6,6 +6,8 @@ use mathlib.Core.Bool.{Bool, true, false, cond, ◌&&◌}
 use mathlib.Core.List.{List, []}
 use Prim.Native.Nat.{ℕ, ◌≤◌, ◌<◌}
 use lib.ListN.{length}
+use Rattle.geometry.specs.declared.volume.Geometry.{Geometry as CodeGeometry}
+use Rattle.geometry.specs.Shape.{shape}
 use Rattle.layout.specs.Geometry.{Geometry, ram_size}
 use Rattle.layout.specs.Flash.{Flash, Planned, plan_ops, all_fresh}
 use Rattle.layout.specs.Hash.{fnv_family}
@@ -27,23 +29,26 @@ use Rattle.changes.specs.Tasks.{change_refusal}
 use Rattle.changes.specs.Places.{plan_of_lem}
 use Rattle.planning.specs.AnyRam.{edit_some, unit_is}
 
-module _ (g : Geometry) (v : Volume) (e : Edit) where
+module _ (cg : CodeGeometry) (v : Volume) (e : Edit) where
+  abbrev g : Geometry
+  g = shape cg
+
   abbrev S : Slots
   S = slots_of v.state.records v.state.deletions e
 
   -- ---- the plan by what code makes of the places alone
 
   -- a change that fills no page plans nothing
-  pub no_plan : 0 < g.u → programs_in g S ≡ false → change_plan fnv_family g v (edit_is e) ≡ []
-  no_plan pos t =
+  pub no_plan : programs_in g S ≡ false → change_plan fnv_family g v (edit_is e) ≡ []
+  no_plan t =
       sym (plan_of_lem g v e)
-      ∙ nothing_planned fnv_family g pos (old_number e) (key_is (new_record e).key) (record_bytes (record_is (new_record e))) v.ram S t
+      ∙ nothing_planned fnv_family g cg.chip.power.some (old_number e) (key_is (new_record e).key) (record_bytes (record_is (new_record e))) v.ram S t
 
-  module _ (pos : 0 < g.u) (most : g.u ≤ 32) (long : ram_size g ≤ length v.ram) (p : Plan) (p_is : p ≡ numbers_of g S) where
+  module _ (long : ram_size g ≤ length v.ram) (p : Plan) (p_is : p ≡ numbers_of cg S) where
     -- it is the plan of some bytes and filters
     some_plan : (new : List ℕ) × (filters : List ℕ) × (planned p new filters v.ram ≡ change_plan fnv_family g v (edit_is e))
     some_plan =
-        let s = edit_some fnv_family g pos most (old_number e) (record_is (new_record e)) v.ram long S in
+        let s = edit_some fnv_family cg (old_number e) (record_is (new_record e)) v.ram long S in
         (s.0, s.1, ap (λ (q : Plan). planned q s.0 s.1 v.ram) p_is ∙ s.2 ∙ plan_of_lem g v e)
 
     pub fresh_told : (f : Bool) → ((new filters ram : List ℕ) (c : Flash)
@@ -53,7 +58,7 @@ module _ (g : Geometry) (v : Volume) (e : Edit) where
         let s = some_plan in
         h s.0 s.1 v.ram v.flash
         ∙ ap (λ (q : Plan). all_fresh v.flash.spare (plan_ops q.chip.unit (planned p s.0 s.1 v.ram) v.flash)) p_is
-        ∙ ap (λ (u : ℕ). all_fresh v.flash.spare (plan_ops u (planned p s.0 s.1 v.ram) v.flash)) (unit_is g S)
+        ∙ ap (λ (u : ℕ). all_fresh v.flash.spare (plan_ops u (planned p s.0 s.1 v.ram) v.flash)) (unit_is cg S)
         ∙ ap (λ (l : List Planned). all_fresh v.flash.spare (plan_ops g.u l v.flash)) s.2
 
     pub done_told : (k : ℕ) → ((new filters ram : List ℕ) → k ≡ done_count v.flash.spare (planned p new filters ram))
@@ -83,6 +88,6 @@ module _ (g : Geometry) (v : Volume) (e : Edit) where
         let t = room_tests g v.state.records v.state.deletions e room in
         rw (t.0, t.1, ← f_is) q
 
-    pub change_nothing : 0 < g.u → programs_in g S ≡ false → Ok tt ≡ change_refusal g v (edit_is e)
+    pub change_nothing : programs_in g S ≡ false → Ok tt ≡ change_refusal g v (edit_is e)
     unfolding all_fresh
-    change_nothing pos t = change_fresh (Ok tt) true (rw (no_plan pos t)) refl
+    change_nothing t = change_fresh (Ok tt) true (rw (no_plan t)) refl

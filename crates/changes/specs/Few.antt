@@ -7,7 +7,7 @@ use Rattle.layout.specs.Flash.{Planned}
 use Rattle.layout.specs.Hash.{fnv_family}
 use Rattle.layout.specs.Calls.{Volume, change_plan}
 use Rattle.geometry.specs.declared.volume.Geometry.{Geometry as CodeGeometry}
-use Rattle.geometry.specs.Shape.{shape, Sound}
+use Rattle.geometry.specs.Shape.{shape}
 use Rattle.geometry.specs.Bounds.{blocks_le}
 use Rattle.state.specs.Contract.{record_is}
 use Rattle.plan.specs.declared.Plan.{Plan}
@@ -32,7 +32,7 @@ plan_few p main spare ram F =
     let k = summary_few _ _ _ _ _ _ F.ka_index in
     omega (arith, d, k, F.da_count, F.ra_count, F.ka_count)
 
-module _ (g : CodeGeometry) (S : Sound g) where
+module _ (g : CodeGeometry) where
   abbrev zeros : ℕ → List ℕ
   zeros n = replicate n 0
 
@@ -41,27 +41,27 @@ module _ (g : CodeGeometry) (S : Sound g) where
 
   -- with a main area and RAM that are just long enough
   fits_spare : (spare : List ℕ) → spare_size (shape g) ≤ length spare → (e : Slots) → Room (shape g) e
-      → PlanFits (numbers_of (shape g) e) (length (zeros (main_size (shape g)))) (length spare) (length (zeros (ram_size (shape g))))
+      → PlanFits (numbers_of g e) (length (zeros (main_size (shape g)))) (length spare) (length (zeros (ram_size (shape g))))
   fits_spare spare long e R =
-      edit_fits g S (zeros (main_size (shape g))) spare (zeros (ram_size (shape g)))
+      edit_fits g (zeros (main_size (shape g))) spare (zeros (ram_size (shape g)))
       (record { read = record { main_fits = enough (main_size (shape g)); ram_fits = enough (ram_size (shape g)) }; spare_fits = long }) e R
 
   -- the spare area alone is long enough for the sectors that a change programs
   pub edit_spare_fits : (spare : List ℕ) → spare_size (shape g) ≤ length spare → (e : Slots) → Room (shape g) e
-      → SpareFits (numbers_of (shape g) e) (length spare)
+      → SpareFits (numbers_of g e) (length spare)
   edit_spare_fits spare long e R = spare_fits _ _ _ _ (fits_spare spare long e R)
 
-  pub count_few : (e : Slots) → Room (shape g) e → planned_count (numbers_of (shape g) e) < 2 ^ 32
+  pub count_few : (e : Slots) → Room (shape g) e → planned_count (numbers_of g e) < 2 ^ 32
   count_few e R =
       let f = plan_few _ _ _ _ (fits_spare (zeros (spare_size (shape g))) (enough (spare_size (shape g))) e R) in
-      omega (arith, f, length-replicate {A = ℕ} (spare_size (shape g)) 0, blocks_le g S)
+      omega (arith, f, length-replicate {A = ℕ} (spare_size (shape g)) 0, blocks_le g)
 
   pub few_changes : (v : Volume) (e : Edit) → ram_size (shape g) ≤ length v.ram
       → Room (shape g) (slots_of v.state.records v.state.deletions e)
       → length (change_plan fnv_family (shape g) v (edit_is e)) < 2 ^ 32
   few_changes v e long R =
       let s : Slots = slots_of v.state.records v.state.deletions e in
-      let l : length (change_plan fnv_family (shape g) v (edit_is e)) ≡ planned_count (numbers_of (shape g) s)
+      let l : length (change_plan fnv_family (shape g) v (edit_is e)) ≡ planned_count (numbers_of g s)
       = ap (λ (ps : List Planned). length ps) (sym (plan_of_lem (shape g) v e))
-      ∙ edit_length fnv_family (shape g) S.unit.1.some S.unit.1.most (old_number e) (record_is (new_record e)) v.ram long s in
+      ∙ edit_length fnv_family g (old_number e) (record_is (new_record e)) v.ram long s in
       rw l (count_few s R)

@@ -53,7 +53,7 @@ HasRoom t = Room (shape t.g) (task_slots t)
 
 -- it is prepared: there is room for it, and this is its plan in the code's numbers
 abbrev pub Prepared : Task → Plan → Type 0
-Prepared t p = HasRoom t × (p ≡ numbers_of (shape t.g) (task_slots t))
+Prepared t p = HasRoom t × (p ≡ numbers_of t.g (task_slots t))
 
 -- its new bytes: the number that it deletes, the record that it inserts and the record's entry
 abbrev pub task_bytes : Task → List ℕ

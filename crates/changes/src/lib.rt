@@ -4,7 +4,7 @@
 ghost use Rattle.std.specs.Prelude.{◌≡◌, false, List, ℕ, ◌<◌, ◌≤◌, length, replicate};
 ghost use Rattle.layout.specs.Geometry.{spare_size, ram_size};
 ghost use Rattle.laws.specs.Done.{done_count};
-ghost use Rattle.geometry.specs.Shape.{shape, Sound};
+ghost use Rattle.geometry.specs.Shape.{shape};
 ghost use Rattle.keys.specs.Key.{key_is};
 ghost use Rattle.state.specs.Judge.{VolumeFits};
 ghost use Rattle.planning.specs.Edits.{Room, programs_in};
@@ -234,8 +234,8 @@ pub fn carry_on(
 
 // The RAM after a change that fills no page, whatever the chip.
 pub fn append(t: Task, ram: &mut [u8])
-    requires sound { HasRoom t × (ram_size (shape t.g) ≤ length ram.old) }
-    requires t_value { programs_in (shape t.g) (task_slots t) ≡ false }
+    requires room { HasRoom t × (ram_size (shape t.g) ≤ length ram.old) }
+    requires fills_none { programs_in (shape t.g) (task_slots t) ≡ false }
     ensures { (main spare : List ℕ) → ram.new ≡ (task_result t main spare ram.old 0).volume.ram }
 {
     let new = new_bytes(t);

@@ -7,11 +7,11 @@ pub returns : goal.returns
 returns c =
     let x = c.args in
     λ main spare.
-    ram_appended (shape x.t.g) (task_on x.t main spare x.ram.now) x.t.edit c.slots.result c.new_bytes-new.result
+    ram_appended x.t.g (task_on x.t main spare x.ram.now) x.t.edit c.slots.result c.new_bytes-new.result
     (record {
-      pos = c.requires.sound.0.unit.1.some;
-      long = c.requires.sound.2;
+      pos = x.t.g.chip.power.some;
+      long = c.requires.room.1;
       slots_are = c.slots.ensures;
       new_is = c.new_bytes-new.ensures;
     })
-    c.requires.t_value _ c.append.ensures
+    c.requires.fills_none _ c.append.ensures

@@ -20,13 +20,13 @@ module _ (t : Task) (p : Plan) (main spare ram : List ℕ) (V : VolumeFits (task
   -- the plan fits
   plan_fits : PlanFits p (length main) (length spare) (length ram)
   plan_fits =
-      plan_as (shape t.g) p (task_slots t) _ _ _ R.1
-      (edit_fits t.g V.sound main spare ram V.long (task_slots t) R.0)
+      plan_as t.g p (task_slots t) _ _ _ R.1
+      (edit_fits t.g main spare ram V.long (task_slots t) R.0)
 
   -- what is known of its places and bytes
   parts : (e : Slots) (new : List ℕ) → e ≡ task_slots t → new ≡ task_bytes t → Parts (shape t.g) (task_on t main spare ram) t.edit e new
   parts e new e_is new_is = record {
-    pos = V.sound.unit.1.some;
+    pos = t.g.chip.power.some;
     long = V.long.read.ram_fits;
     slots_are = e_is;
     new_is = new_is;
@@ -38,7 +38,7 @@ module _ (t : Task) (p : Plan) (main spare ram : List ℕ) (V : VolumeFits (task
   from_le new filters new_is F total whole_is from h =
       let e : total.to ≡ length (task_plan t main spare ram)
       = ap (λ (w : Span). w.to) whole_is
-      ∙ total_is (shape t.g) (task_on t main spare ram) t.edit _ new (parts (task_slots t) new refl new_is) filters F p R.1 in
+      ∙ total_is t.g (task_on t main spare ram) t.edit _ new (parts (task_slots t) new refl new_is) filters F p R.1 in
       omega (arith, e, h)
 
 pub whole-requires : goal.whole-requires
@@ -55,10 +55,7 @@ overflow_sub-left c =
 pub run-requires : goal.run-requires
 run-requires c =
     let x = c.args in
-    record {
-      plan_fits = plan_fits x.t x.p x.main.now x.spare.now x.ram.now c.requires.volume_fits.0 c.requires.volume_fits.1;
-      len = (omega arith, omega arith);
-    }
+    plan_fits x.t x.p x.main.now x.spare.now x.ram.now c.requires.volume_fits.0 c.requires.volume_fits.1
 
 -- ---- after the operations
 
@@ -70,7 +67,7 @@ returns-then-budget-left c =
     let A = parts x.t x.p x.main.now x.spare.now x.ram.now V R (task_slots x.t) c.new_bytes-new.result refl c.new_bytes-new.ensures in
     let some = c.if-budget-left.true in
     let e : c.min.result ≡ x.budget = omega (arith, c.min.ensures, some) in
-    carried_some (shape x.t.g) (task_on x.t x.main.now x.spare.now x.ram.now) x.t.edit (task_slots x.t) c.new_bytes-new.result A
+    carried_some x.t.g (task_on x.t x.main.now x.spare.now x.ram.now) x.t.edit (task_slots x.t) c.new_bytes-new.result A
     c.new_filters.new.filters c.new_filters.ensures x.p R.1 x.from x.budget
     c.whole.result.to (ap (λ (a : Span). a.to) c.whole.ensures) _ some (rw e at c.run.ensures)
 
@@ -84,7 +81,7 @@ returns c =
     let l = from_le x.t x.p x.main.now x.spare.now x.ram.now V R c.new_bytes-new.result c.new_filters.new.filters c.new_bytes-new.ensures
     c.new_filters.ensures c.whole.result c.whole.ensures x.from c.requires.from_in_bounds in
     let e : x.from + c.min.result ≡ c.whole.result.to = omega (arith, c.min.ensures, all, l) in
-    carried_all (shape x.t.g) (task_on x.t x.main.now x.spare.now x.ram.now) x.t.edit c.slots.result c.new_bytes-new.result A
+    carried_all x.t.g (task_on x.t x.main.now x.spare.now x.ram.now) x.t.edit c.slots.result c.new_bytes-new.result A
     c.new_filters.new.filters c.new_filters.ensures x.p R.1 x.from x.budget
     c.whole.result.to (ap (λ (a : Span). a.to) c.whole.ensures) _ (omega (arith, all)) (rw e at c.run.ensures) _
     c.finish.ensures

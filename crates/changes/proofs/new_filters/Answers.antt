@@ -6,7 +6,7 @@ use Rattle.changes.proofs.new_filters.Goals as goal
 
 pub put_entry_filter-requires : goal.put_entry_filter-requires
 put_entry_filter-requires c =
-    (c.requires.0, c.requires.1, c.split_at_mut-of_deletion.ensures.back ∙ ap (λ (l : List ℕ). drop 512 l) c.requires.2)
+    (c.requires.0, c.split_at_mut-of_deletion.ensures.back ∙ ap (λ (l : List ℕ). drop 512 l) c.requires.1)
 
 pub returns-in-Some-inserts : goal.returns-in-Some-inserts
 returns-in-Some-inserts c =
@@ -18,7 +18,7 @@ returns-in-Some-inserts c =
       | in_default w ↦ no_deletion (shape t.g) t.state.deletions c.args.ram.now _ _ w.in_default.is
     ] in
     let back : length c.put_entry_filter.new.out ≡ 256
-    = c.put_entry_filter.auto.out ∙ ap length s.ensures.back ∙ ap (λ (l : List ℕ). length (drop 512 l)) c.requires.2 in
+    = c.put_entry_filter.auto.out ∙ ap length s.ensures.back ∙ ap (λ (l : List ℕ). length (drop 512 l)) c.requires.1 in
     parts_filled c.match-deletes.of_deletion c.put_entry_filter.new.out (c.match-deletes.auto.of_deletion ∙ s.ensures.front_len) back
     (shape t.g) t.state.records t.state.deletions c.args.ram.now t.edit _ (Some c.in-Some-inserts.record) c.deletes.ensures
     (sym c.in-Some-inserts.is ∙ c.inserts.ensures) D c.put_entry_filter.ensures
@@ -33,7 +33,7 @@ returns-in_default-inserts c =
       | in_default w ↦ no_deletion (shape t.g) t.state.deletions c.args.ram.now _ _ w.in_default.is
     ] in
     let back : length s.result.1.now ≡ 256
-    = ap length s.ensures.back ∙ ap (λ (l : List ℕ). length (drop 512 l)) c.requires.2 in
+    = ap length s.ensures.back ∙ ap (λ (l : List ℕ). length (drop 512 l)) c.requires.1 in
     parts_filled c.match-deletes.of_deletion s.result.1.now (c.match-deletes.auto.of_deletion ∙ s.ensures.front_len) back
     (shape t.g) t.state.records t.state.deletions c.args.ram.now t.edit _ None c.deletes.ensures
     (sym c.in_default-inserts.is ∙ c.inserts.ensures) D tt

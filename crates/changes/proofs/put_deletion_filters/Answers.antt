@@ -11,15 +11,15 @@ returns-then-not-fills c =
     let f = c.fills in
     let a = c.deletion_area in
     let d = c.args.d in
-    let none = sym (f.ensures ∙ ap (λ (x : Area). fills x d) a.ensures.equal) ∙ c.if-not-fills.true in
+    let none = sym (f.ensures ∙ ap (λ (x : Area). fills x d) a.ensures) ∙ c.if-not-fills.true in
     λ full. absurd (false≢true (sym none ∙ full))
 
 pub number_filters-requires : goal.number_filters-requires
 number_filters-requires c =
-    record { unit_sound = (c.requires.0.unit, c.requires.0.k_most, rw c.da_ram.ensures (omega (arith, c.requires.1))); out_len = c.requires.2 }
+    record { count_bound = (c.args.g.hashes_allowed.1, rw c.da_ram.ensures (omega (arith, c.requires.0))); out_len = c.requires.1 }
 
 pub returns : goal.returns
 returns c =
     λ full.
-    half_fourths (shape c.args.g) c.args.d c.args.old c.args.ram.now c.requires.0.unit.1.some full (omega arith)
-    (omega (arith, c.requires.1)) c.number_filters.new.out (rw c.da_ram.ensures at c.number_filters.ensures)
+    half_fourths (shape c.args.g) c.args.d c.args.old c.args.ram.now c.args.g.chip.power.some full (omega arith)
+    (omega (arith, c.requires.0)) c.number_filters.new.out (rw c.da_ram.ensures at c.number_filters.ensures)

@@ -13,18 +13,18 @@ returns-then-not-fills c =
     let f = c.fills in
     let a = c.entry_area in
     let n = c.args.n in
-    let none = sym (f.ensures ∙ ap (λ (x : Area). fills x n) a.ensures.equal) ∙ c.if-not-fills.true in
+    let none = sym (f.ensures ∙ ap (λ (x : Area). fills x n) a.ensures) ∙ c.if-not-fills.true in
     λ full. absurd (false≢true (sym none ∙ full))
 
 pub new_filter-requires : goal.new_filter-requires
 new_filter-requires c =
-    record { unit_sound = (c.requires.0.unit, c.requires.0.k_most, omega arith, rw c.ka_ram.ensures (omega (arith, c.requires.1))); bits_value = c.requires.2 }
+    record { count_bound = (c.args.g.hashes_allowed.1, omega arith, rw c.ka_ram.ensures (omega (arith, c.requires.0))); bits_value = c.requires.1 }
 
 pub returns : goal.returns
 returns c =
     λ full.
-    entry_fourths_lem (shape c.args.g) c.args.n (key_is c.args.key) c.args.ram.now c.requires.0.unit.1.some full
+    entry_fourths_lem (shape c.args.g) c.args.n (key_is c.args.key) c.args.ram.now c.args.g.chip.power.some full
     (record { level_lt = omega arith })
-    (omega (arith, c.requires.1)) c.new_filter.new.bits c.requires.0.unit.1.most
-    (c.new_filter.auto.bits ∙ ap length c.requires.2) (λ y. omega (arith, c.type_inv.out y))
+    (omega (arith, c.requires.0)) c.new_filter.new.bits c.args.g.chip.power.most
+    (c.new_filter.auto.bits ∙ ap length c.requires.1) (λ y. omega (arith, c.type_inv.out y))
     (rw (c.ka_ram.ensures, c.of_key.ensures) at c.new_filter.ensures)
