@@ -58,10 +58,6 @@ pub record Turn (bytes : List ℕ) (at stride n y len k : ℕ) : Type 0 where
   pub copied : (j : ℕ) → j < n
       → get_or (take (at + y / n * stride + k * stride + n - (at + y / n * stride + k * stride)) (drop (at + y / n * stride + k * stride) bytes)) j 0 ≡ run_byte bytes at stride n (y + (k * n + j))
 
--- the first byte
-pub first_in : (len at stride n y k : ℕ) → Runs len at stride n y k → 0 < k → at + y / n * stride < len
-first_in len at stride n y k R h = let e : y + 0 ≡ y = omega arith in omega (arith, rw e at (R 0 h))
-
 -- so many runs are wanted
 runs_of : (n len : ℕ) → 0 < n → Whole n len → len / n * n ≡ len
 runs_of n len pn L =
