@@ -4,7 +4,6 @@ use mathlib.Core.Logic.{inl, inr}
 use mathlib.Core.Bool.{Bool, true, ◌&&◌, beq, and-eq-true_iff}
 use mathlib.Core.List.{List}
 use Prim.Native.Nat.{ℕ, zero, suc, ◌+◌, ◌-◌, ◌*◌, ◌/◌, ◌%◌, ◌^◌, ◌≤◌, ◌<◌}
-use native.Mathlib.Nat.{mul-le-mul_left}
 use native.Mathlib.Omega.{arith}
 use lib.Bits.{bit_and, bit_or}
 use lib.Dec.{ltb}
@@ -14,7 +13,6 @@ use borrow.Author.Tests.{ltb-true}
 use Rattle.memory.specs.Bits.{bit, bit_in, bit_low, bit_high, bit_mod, bit_shr}
 use Rattle.memory.specs.Booleans.{eq_of_beq}
 use Rattle.memory.specs.Cases.{lt?, either}
-use Rattle.memory.specs.Numbers.{div_lt}
 use Rattle.memory.specs.Ranges.{all, all_at}
 use Rattle.fields.specs.declared.Source.{Source}
 use Rattle.fields.specs.Laws.{pack_byte}
@@ -64,10 +62,6 @@ unfolding all bit
 half4 = half_by even4 4 refl
 
 -- ---- two bytes to one
-
--- a number moved down is no greater
-pub down_lt : (x low : ℕ) → x < 65536 → x / 2 ^ low < 65536
-down_lt x low h = div_lt x (2 ^ low) 65536 (pow_pos low) (omega (arith, mul-le-mul_left 65536 (pow_pos low)))
 
 module _ (bytes : List ℕ) (s : Source) (w y : ℕ) (A : Aligned s w) (small : w < 8) (twice : s.step ≡ 2 * w) where
   pub narrow : Narrow w

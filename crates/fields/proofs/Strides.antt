@@ -1,6 +1,5 @@
 -- Runs of n bytes at a stride: a turn that copies one of them.
 use mathlib.Core.Path.{◌≡◌, sym, ap, ◌∙◌}
-use mathlib.Core.Logic.{inl, inr}
 use mathlib.Core.List.{List}
 use Prim.Native.Nat.{ℕ, ◌+◌, ◌-◌, ◌*◌, ◌/◌, ◌%◌, ◌≤◌, ◌<◌}
 use native.Mathlib.Nat.{mul-le-mul_right}
@@ -8,7 +7,7 @@ use native.Mathlib.Omega.{arith}
 use lib.ListN.{length, get_or, take, drop}
 use Rattle.memory.specs.Cases.{lt?, either}
 use Rattle.memory.specs.Numbers.{div_of, mod_of}
-use Rattle.fields.specs.Sources.{run_byte, Whole, Size, Runs}
+use Rattle.fields.specs.Sources.{run_byte, Whole, Runs}
 use Rattle.fields.specs.Lists.{part_at}
 
 -- byte x of the runs begins run k, which lies at a
@@ -58,10 +57,6 @@ pub record Turn (bytes : List ℕ) (at stride n y len k : ℕ) : Type 0 where
   pub copied : (j : ℕ) → j < n
       → get_or (take (at + y / n * stride + k * stride + n - (at + y / n * stride + k * stride)) (drop (at + y / n * stride + k * stride) bytes)) j 0 ≡ run_byte bytes at stride n (y + (k * n + j))
 
--- the first byte
-pub first_in : (len at stride n y k : ℕ) → Runs len at stride n y k → 0 < k → at + y / n * stride < len
-first_in len at stride n y k R h = let e : y + 0 ≡ y = omega arith in omega (arith, rw e at (R 0 h))
-
 -- so many runs are wanted
 runs_of : (n len : ℕ) → 0 < n → Whole n len → len / n * n ≡ len
 runs_of n len pn L =
@@ -83,12 +78,3 @@ turn bytes at stride n y len k pn R Y L h =
 -- and so all of the bytes
 pub all_runs : (n len k : ℕ) → 0 < n → Whole n len → len / n ≤ k → len ≤ k * n
 all_runs n len k pn L h = omega (arith, mul-le-mul_right n h, runs_of n len pn L)
-
--- ---- runs of a known size
-
-pub last_size : (n : ℕ) → Size n → (n ≡ 1 → ⊥) → (n ≡ 2 → ⊥) → (n ≡ 4 → ⊥) → (n ≡ 8 → ⊥) → n ≡ 16
-last_size n (inl e) a b c d = absurd (a e)
-last_size n (inr (inl e)) a b c d = absurd (b e)
-last_size n (inr (inr (inl e))) a b c d = absurd (c e)
-last_size n (inr (inr (inr (inl e)))) a b c d = absurd (d e)
-last_size n (inr (inr (inr (inr e)))) a b c d = e

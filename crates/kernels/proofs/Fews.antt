@@ -121,10 +121,6 @@ pub enough : (w n : ℕ) → (w ≡ 2) ⊎ (w ≡ 4) → n ≤ (n * w / 512 + mi
 enough w n (inl e) = let t : n ≤ (n * 2 / 512 + min 1 (n * 2 % 512)) * 4 * 64 = omega arith in rw e t
 enough w n (inr e) = let t : n ≤ (n * 4 / 512 + min 1 (n * 4 % 512)) * 2 * 64 = omega arith in rw e t
 
-pub small_width : (w : ℕ) → (w ≡ 2) ⊎ (w ≡ 4) → (1 < w) × (w < 8) × (0 < 8 / w)
-small_width w (inl e) = rw e (omega arith, omega arith, omega arith)
-small_width w (inr e) = rw e (omega arith, omega arith, omega arith)
-
 pub four : (w : ℕ) → (w ≡ 2) ⊎ (w ≡ 4) → (w ≡ 2 → ⊥) → w ≡ 4
 four w (inl e) h = absurd (h e)
 four w (inr e) h = e

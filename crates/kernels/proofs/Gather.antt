@@ -46,19 +46,6 @@ module _ (f : ℕ → Bool) (s k b m t : ℕ) (one : m ≡ 2 ^ s) (is : t ≡ bi
   value : t ≡ b / 2 ^ s % 2 * 2 ^ s
   value = is ∙ (ap (bit_and b) one ∙ mask_is s b)
 
-  pub pack_first : Packed f s k 1 2 t
-  pack_first =
-      record {
-        q = b / 2 ^ s % 2;
-        is = value;
-        small = mod-lt (b / 2 ^ s) (omega arith);
-        bits = λ j h.
-            let z : j ≡ 0 = omega arith in
-            let y : 0 * 2 + b / 2 ^ s % 2 ≡ b / 2 ^ s % 2 = omega arith in
-            let x : k + 0 ≡ k = omega arith in
-            rw (z, x) (rw y at (lowest_digit 0 (b / 2 ^ s % 2) (mod-lt (b / 2 ^ s) (omega arith))) ∙ (sym (bit_is b s) ∙ has));
-      }
-
   pub pack_more : (n B k1 n1 B1 acc : ℕ) → k1 ≡ k + 1 → n1 ≡ n + 1 → B1 ≡ 2 * B → Packed f s k1 n B acc → Packed f s k n1 B1 (acc * 2 + t)
   pack_more n B k1 n1 B1 acc ek en eB P =
       let l : b / 2 ^ s % 2 < 2 = mod-lt (b / 2 ^ s) (omega arith) in

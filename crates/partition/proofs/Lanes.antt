@@ -1,20 +1,19 @@
 -- L1's part of a page: out of the bytes that pages share, or out of L1 itself.
-use mathlib.Core.Path.{◌≡◌, refl, ap, ◌∙◌}
+use mathlib.Core.Path.{◌≡◌, ap, ◌∙◌}
 use mathlib.Core.Logic.{inl}
 use mathlib.Core.List.{List}
 use Prim.Native.Nat.{ℕ, ◌+◌, ◌-◌, ◌*◌, ◌/◌, ◌^◌, ◌≤◌, ◌<◌}
 use native.Mathlib.Omega.{arith}
 use lib.ListN.{length}
 use lib.Pow.{pow_pos}
-use borrow.Author.Tests.{lt-ltb, le-ltb}
 use Rattle.memory.specs.Lists.{tabulate, tabulate_ext}
 use Rattle.memory.specs.Numbers.{div_of}
 use Rattle.fields.specs.Sources.{field_byte, Aligned, Near, Whole, Run}
-use Rattle.fields.specs.Lanes.{lane_of, column_of, lane_aligned, lane_reaches, lane_byte}
+use Rattle.fields.specs.Lanes.{lane_of, lane_aligned, lane_reaches, lane_byte}
 use Rattle.layout.specs.Index.{set_width}
 use Rattle.partition.specs.declared.PageSource.{PageSource}
 use Rattle.partition.specs.Widths.{sector_whole}
-use Rattle.partition.specs.Shared.{Shares, shared_bytes}
+use Rattle.partition.specs.Shared.{Shares}
 use Rattle.partition.specs.Reach.{SourceFits}
 use Rattle.partition.proofs.Pages.{whole_eight, whole_lane}
 
@@ -69,10 +68,3 @@ module _ (main : List ℕ) (r : PageSource) (F : SourceFits (length main) r) whe
       ),
       (whole_eight r.w y Y, whole_eight r.w n N),
     )
-
--- what the code leaves, by cases
-pub shared_narrow : (main : List ℕ) (r q : PageSource) (old out : List ℕ) → r ≡ q → r.w < 8 → out ≡ column_of main r.l1 r.w → out ≡ shared_bytes main q old
-shared_narrow main r q old out e h o = rw (← e, lt-ltb r.w 8 h) o
-
-pub shared_wide : (main : List ℕ) (r q : PageSource) (old : List ℕ) → r ≡ q → 8 ≤ r.w → old ≡ shared_bytes main q old
-shared_wide main r q old e h = rw (← e, le-ltb r.w 8 h) refl

@@ -1,20 +1,16 @@
 -- Numbers that the code computes: pages, widths and places of sets.
 use mathlib.Core.Path.{◌≡◌, refl, ◌∙◌}
-use Prim.Native.Nat.{ℕ, zero, suc, ◌+◌, ◌-◌, ◌*◌, ◌/◌, ◌%◌, ◌≤◌, ◌<◌, max}
-use native.Mathlib.Nat.{mul-le-mul_right, mul-le-mul_left, div-mul-le_self, le-div_iff_mul-le}
+use Prim.Native.Nat.{ℕ, zero, suc, ◌+◌, ◌-◌, ◌*◌, ◌/◌, ◌≤◌, ◌<◌, max}
+use native.Mathlib.Nat.{mul-le-mul_left, le-div_iff_mul-le}
 use native.Mathlib.Omega.{arith}
 use lib.Pow.{pow_mono}
 use borrow.Author.Tests.{lt-ltb, le-ltb}
 use Rattle.memory.specs.Cases.{either, lt?}
 use Rattle.memory.specs.Power.{log2up}
 use Rattle.memory.specs.Numbers.{euclid}
-use Rattle.layout.specs.Geometry.{sector, page, block}
-use Rattle.layout.specs.Index.{Index, pages_per_fourth, set_pages, set_width, side_block}
+use Rattle.layout.specs.Index.{set_pages, set_width}
 use Rattle.laws.specs.SetLaws.{unit_pos, width_is, width_pos, blocks_fit}
 use Rattle.laws.specs.Units.{UnitSound}
-use Rattle.partition.specs.Sources.{round_bytes, source_of, page_source}
-use Rattle.fields.specs.declared.Source.{Source}
-use Rattle.partition.specs.declared.PageSource.{PageSource}
 use Rattle.partition.specs.Shared.{together}
 use Rattle.partition.specs.Widths.{old_whole, sector_whole}
 
@@ -45,23 +41,6 @@ pages_of w p =
     let e : max (8 / w) 1 ≡ 1 = omega (arith, l) in
     (e ∙ rw (le-ltb w 8 t.1) refl, omega (arith, l)))
 
--- v / w shares of a field
-pub record Shares (v w p gap : ℕ) : Type 0 where
-  pub some : 0 < v / w
-  pub place : p / (v / w) * gap ≤ 2048 * 8192
-  pub low : p % (v / w) * w ≤ v
-
-pub shares : (v w p gap : ℕ) → 0 < w → w ≤ v → p < 2048 → gap ≤ 8192 → Shares v w p gap
-shares v w p gap pw h l g =
-    let some : 0 < v / w = (le-div_iff_mul-le pw).1 (omega arith) in
-    let E = euclid p (v / w) some in
-    let d : p / (v / w) ≤ 2048 = omega (arith, div-mul-le_self p (v / w), mul-le-mul_left (p / (v / w)) some) in
-    record {
-      some = some;
-      place = omega (arith, mul-le-mul_right gap d);
-      low = omega (arith, mul-le-mul_right w E.small, div-mul-le_self v w);
-    }
-
 -- a width that divides another is not above it
 part_le : (m w v : ℕ) → m * w ≡ v → 0 < v → w ≤ v
 part_le zero w v e h = absurd (omega arith)
@@ -78,10 +57,3 @@ sector_le u c U h =
 
 pub pages_le : (u c : ℕ) → UnitSound u → c ≤ 4 * u → set_pages c ≤ 2048
 pages_le u c U h = omega (arith, U.1.most, blocks_fit u U.0 U.1.power c h)
-
--- the row that the code makes
-module _ (u : ℕ) (ix : Index) (c p w v side first gap four size : ℕ) (o l : Source) where
-  pub row_made : w ≡ set_width u (c + 1) → v ≡ set_width u c → side ≡ side_block u ix c * block u → first ≡ ix.first * block u
-      → gap ≡ page u → four ≡ pages_per_fourth * page u → size ≡ sector u → o ≡ source_of side gap v w p → l ≡ source_of first four size w p
-      → ◌≡◌ {A = PageSource} (record { w = w; split = round_bytes * c * w; end = round_bytes * (c + 1) * w; old = o; l1 = l }) (page_source u ix c p)
-  row_made ew ev es ef eg e4 ez eo el = rw (eo, el, ew, ev, es, ef, eg, e4, ez)

@@ -6,20 +6,10 @@ use lib.ListN.{length, get_or}
 use Rattle.fields.specs.Sources.{run_byte}
 use Rattle.memory.specs.Lists.{length_part}
 use Rattle.fields.specs.Lists.{done_all, part_more}
-use Rattle.fields.proofs.Strides.{Turn, turn, all_runs, first_in}
+use Rattle.fields.proofs.Strides.{Turn, turn, all_runs}
 use Rattle.fields.proofs.whole_runs.Goals as goal
 
 -- A run more each turn.
-
-pub overflow_mul-first : goal.overflow_mul-first
-overflow_mul-first g c =
-    let x = c.args in
-    omega (arith, first_in (length x.bytes.now) x.at x.stride g.row.N x.y (length x.out.now) c.requires.runs.2 c.requires.runs.1)
-
-pub overflow_add-first : goal.overflow_add-first
-overflow_add-first g c =
-    let x = c.args in
-    omega (arith, first_in (length x.bytes.now) x.at x.stride g.row.N x.y (length x.out.now) c.requires.runs.2 c.requires.runs.1)
 
 pub overflow_mul-a : goal.overflow_mul-a
 overflow_mul-a g c =

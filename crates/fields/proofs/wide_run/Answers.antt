@@ -3,10 +3,6 @@ use lib.ListN.{length}
 use Rattle.fields.proofs.Copies.{run_size, runs_whole, runs_in, runs_are}
 use Rattle.fields.proofs.wide_run.Goals as goal
 
-pub overflow_add-at : goal.overflow_add-at
-overflow_add-at c =
-    omega (arith, runs_in c.args.bytes.now c.args.s c.args.w c.args.y (length c.args.out.now) c.requires.aligned.0 c.requires.aligned.1 c.requires.aligned.3 0 c.requires.aligned.2)
-
 pub copy_runs-requires : goal.copy_runs-requires
 copy_runs-requires c =
     let n = length c.args.out.now in record {

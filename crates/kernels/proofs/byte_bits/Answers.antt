@@ -3,7 +3,7 @@ use mathlib.Core.Path.{◌≡◌, refl}
 use Prim.Native.Nat.{ℕ, ◌+◌, ◌-◌, ◌*◌, ◌%◌, ◌^◌, ◌≤◌}
 use lib.ListN.{get_or}
 use lib.Pow.{pow-add}
-use Rattle.kernels.proofs.Gather.{one_of, pack_none, pack_more, pack_small, pack_all, unpack}
+use Rattle.kernels.proofs.Gather.{one_of, pack_more, pack_all, unpack}
 use Rattle.kernels.proofs.byte_bits.Invariants.{has}
 use Rattle.kernels.proofs.byte_bits.Goals as goal
 
@@ -11,23 +11,6 @@ use Rattle.kernels.proofs.byte_bits.Goals as goal
 
 twice : (n k : ℕ) → 1 ≤ k → k ≤ n → 2 ^ (n - (k - 1)) ≡ 2 * 2 ^ (n - k)
 twice n k h l = let e : n - (k - 1) ≡ 1 + (n - k) = omega arith in rw e (pow-add 2 1 (n - k))
-
-pub loop-k-init : goal.loop-k-init
-loop-k-init c =
-    let x = c.args in
-    pack_none (has x.at x.low x.step x.bytes.now) (x.low % 8) x.n (x.n - x.n) (omega arith)
-
-pub overflow_mul-r : goal.overflow_mul-r
-overflow_mul-r c =
-    let x = c.args in
-    let l = c.loop-k in
-    omega (arith, pack_small (has x.at x.low x.step x.bytes.now) (x.low % 8) l.k (x.n - l.k) l.r (omega arith) (omega (arith, c.requires.0)) l.invariant)
-
-pub overflow_add-r : goal.overflow_add-r
-overflow_add-r c =
-    let x = c.args in
-    let l = c.loop-k in
-    omega (arith, pack_small (has x.at x.low x.step x.bytes.now) (x.low % 8) l.k (x.n - l.k) l.r (omega arith) (omega (arith, c.requires.0)) l.invariant, c.masked-b.ensures.1)
 
 pub loop-k-preserved : goal.loop-k-preserved
 loop-k-preserved c =

@@ -10,9 +10,6 @@ use Rattle.kernels.proofs.field_block.Goals as goal
 pub loop-row-init : goal.loop-row-init
 loop-row-init c j h = rw (one_of_eight j h) (firsts_none c.args.bytes.now c.args.rows.now (c.args.q + j))
 
-pub and_row-f-requires : goal.and_row-f-requires
-and_row-f-requires c = (c.requires.row_in c.loop-row.row-index (omega arith), c.requires.low_lt c.loop-row.row-index (omega arith))
-
 pub loop-row-preserved : goal.loop-row-preserved
 loop-row-preserved c j h =
     let x = c.args in

@@ -8,9 +8,6 @@ use Rattle.kernels.proofs.lacking.Goals as goal
 
 -- A word more each turn.
 
-pub loop-j-init : goal.loop-j-init
-loop-j-init c = (omega arith, λ gate q h S G. let e : q + 0 ≡ q = omega arith in rw e S)
-
 pub loop-j-preserved : goal.loop-j-preserved
 loop-j-preserved c =
     let z = c.nonzero-z in
@@ -30,10 +27,3 @@ loop-j-preserved c =
           ∙ ap not (sym (ap gate g ∙ G (4 * l.j + i) (omega arith))))
           z.ensures.1),
     )
-
-pub returns : goal.returns
-returns c gate q h S G =
-    let l = c.loop-j in
-    let x = c.args in
-    let z : l.j ≡ x.n = omega arith in
-    rw z at (l.invariant.1 gate q h S G)

@@ -1,13 +1,9 @@
-use native.Mathlib.Omega.{arith}
 use Prim.Native.Nat.{◌+◌}
-use lib.Bits.{bit_and, bit_or, and_le_r}
+use lib.Bits.{bit_and, bit_or}
 use Rattle.kernels.proofs.Lanes.{not_zero, nothing_below}
 use Rattle.kernels.proofs.nonzero.Goals as goal
 
 -- A carry, or the highest bit itself.
-
-pub overflow_add-result : goal.overflow_add-result
-overflow_add-result c = omega (arith, and_le_r c.args.d 9223231297218904063)
 
 pub returns : goal.returns
 returns c =

@@ -6,22 +6,13 @@ use Prim.Native.Nat.{ℕ}
 use lib.Dec.{ltb}
 use lib.ListN.{get_or, length-set}
 use Rattle.memory.specs.Bits.{bit}
-use Rattle.kernels.proofs.Uptos.{upto_more, upto_end, upto_none}
+use Rattle.kernels.proofs.Uptos.{upto_more, upto_none}
 use Rattle.kernels.proofs.part.Goals as goal
 
 -- A word more each turn.
 
 pub loop-j-init : goal.loop-j-init
 loop-j-init c = (refl, upto_none _ _ _ (omega arith) nought)
-
-pub bounds-f-j : goal.bounds-f-j
-bounds-f-j c = omega (arith, c.requires)
-
-pub lowest-requires : goal.lowest-requires
-lowest-requires c = (omega (arith, c.min.ensures), omega (arith, c.min.ensures))
-
-pub bounds-r-j : goal.bounds-r-j
-bounds-r-j c = omega (arith, c.requires)
 
 pub loop-j-preserved : goal.loop-j-preserved
 loop-j-preserved c =
@@ -31,8 +22,3 @@ loop-j-preserved c =
       upto_more (λ k i. bit (get_or x.f k 0) i) x.n l.j c.lowest.result l.r (omega arith) (omega (arith, c.requires)) l.invariant.0 l.invariant.1
           (λ i h. c.lowest.ensures i h ∙ ap (λ (z : ℕ). ltb i z && bit (get_or x.f l.j 0) i) c.min.ensures),
     )
-
-pub returns : goal.returns
-returns c =
-    let l = c.loop-j in
-    upto_end _ _ _ _ (omega arith) l.invariant.1

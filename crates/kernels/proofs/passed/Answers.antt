@@ -1,5 +1,4 @@
 use native.Mathlib.Omega.{arith}
-use native.Mathlib.Nat.{mul-le-mul_right}
 use mathlib.Core.Path.{◌≡◌, refl}
 use Prim.Native.Nat.{ℕ, ◌+◌, ◌*◌, ◌/◌, ◌^◌, ◌≤◌, ◌<◌}
 use lib.Pow.{pow_mono}
@@ -10,15 +9,9 @@ use Rattle.kernels.proofs.passed.Goals as goal
 
 -- The words of the blocks, and no more than m filters of them.
 
-quotient : (a m : ℕ) → a / 64 ≤ a + m
-quotient a m = omega arith
-
 -- a width
 most : (e w : ℕ) → w ≡ 2 ^ e → e < 7 → w ≤ 64
 most e w c l = let t : e ≤ 6 = omega arith in let u : 2 ^ e ≤ 2 ^ 6 = pow_mono t in omega (arith, c, u)
-
-pub overflow_mul-from : goal.overflow_mul-from
-overflow_mul-from c = omega (arith, mul-le-mul_right c.args.w (quotient c.args.from c.args.m), c.requires.4.small)
 
 pub more_words-a-requires : goal.more_words-a-requires
 more_words-a-requires c =

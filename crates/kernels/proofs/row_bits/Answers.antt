@@ -13,21 +13,6 @@ use Rattle.kernels.proofs.row_bits.Goals as goal
 inside : (at step j n len : ℕ) → j < n → ((i : ℕ) → i < n * 8 → at + i * step < len) → (i : ℕ) → i < 8 → at + j * 8 * step + i * step < len
 inside at step j n len h p i l = let e : (j * 8 + i) * step ≡ j * 8 * step + i * step = omega arith in omega (arith, p (j * 8 + i) (omega arith), e)
 
-pub loop-j-init : goal.loop-j-init
-loop-j-init c =
-    let x = c.args in
-    (λ i h. absurd (omega arith), λ i h. (let e : (x.n - x.n) * 8 + i ≡ i = omega arith in ap (bit x.above) e))
-
-pub overflow_mul-j-in-loop-j : goal.overflow_mul-j-in-loop-j
-overflow_mul-j-in-loop-j c =
-    let x = c.args in
-    omega (arith, inside x.at x.step (c.loop-j.j - 1) x.n (length x.bytes.now) (omega arith) c.requires.1 0 (omega arith))
-
-pub overflow_add-at : goal.overflow_add-at
-overflow_add-at c =
-    let x = c.args in
-    omega (arith, inside x.at x.step (c.loop-j.j - 1) x.n (length x.bytes.now) (omega arith) c.requires.1 0 (omega arith))
-
 pub byte_bits-b-requires : goal.byte_bits-b-requires
 byte_bits-b-requires c =
     let x = c.args in
@@ -47,13 +32,4 @@ loop-j-preserved c =
       λ i h.
           let d : (x.n - (l.j - 1)) * 8 + i ≡ 8 + ((x.n - l.j) * 8 + i) = omega arith in
           rw d (above_eight l.r c.byte_bits-b.result ((x.n - l.j) * 8 + i) (omega (arith, d, h)) c.byte_bits-b.ensures.0 ∙ l.invariant.1 i (omega (arith, d, h))),
-    )
-
-pub returns : goal.returns
-returns c =
-    let l = c.loop-j in
-    let x = c.args in
-    let m : x.n - l.j ≡ x.n = omega arith in (
-      λ i h. (let e : l.j * 8 + i ≡ i = omega arith in rw e at (l.invariant.0 i (omega arith))),
-      λ i h. rw m at (l.invariant.1 i (omega arith)),
     )

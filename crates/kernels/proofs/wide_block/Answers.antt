@@ -9,7 +9,7 @@ use lib.ListN.{length, length-set}
 use Rattle.memory.specs.Bits.{bit}
 use Rattle.kernels.specs.Rows.{all_in}
 use Rattle.kernels.specs.Blocks.{Open}
-use Rattle.kernels.proofs.Uptos.{upto_more, upto_end, upto_none, group_fewer}
+use Rattle.kernels.proofs.Uptos.{upto_more, upto_none, group_fewer}
 use Rattle.kernels.proofs.wide_block.Goals as goal
 
 -- A word more each turn.
@@ -26,9 +26,6 @@ of_open gate first j m k y e R i h =
 pub loop-j-init : goal.loop-j-init
 loop-j-init c = (refl, upto_none _ _ _ (omega arith) nought)
 
-pub overflow_add-first : goal.overflow_add-first
-overflow_add-first c = omega (arith, small (length c.args.bytes.now) c.args.first c.args.n c.args.w c.requires.0 c.requires.3.small)
-
 pub passed-requires : goal.passed-requires
 passed-requires c =
     let x = c.args in
@@ -40,9 +37,6 @@ passed-requires c =
       group_fewer x.rows.now x.w (x.first + x.n) (x.first + l.j * 64 + c.min.result) (length x.bytes.now) (omega (arith, c.min.ensures)) c.requires.3,
     )
 
-pub bounds-r-j : goal.bounds-r-j
-bounds-r-j c = omega (arith, c.requires.1)
-
 pub loop-j-preserved : goal.loop-j-preserved
 loop-j-preserved c =
     let l = c.loop-j in
@@ -52,8 +46,3 @@ loop-j-preserved c =
       upto_more (λ k i. all_in x.bytes.now x.rows.now x.w (x.first + (k * 64 + i))) x.n l.j c.passed.result l.r (omega arith) (omega (arith, c.requires.1)) l.invariant.0 l.invariant.1
           (λ i h. of_open (all_in x.bytes.now x.rows.now x.w) x.first l.j m.result (min (x.n - l.j * 64) 64) c.passed.result m.ensures c.passed.ensures i h),
     )
-
-pub returns : goal.returns
-returns c =
-    let l = c.loop-j in
-    upto_end _ _ _ _ (omega arith) l.invariant.1

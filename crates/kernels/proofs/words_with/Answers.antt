@@ -1,5 +1,5 @@
 use native.Mathlib.Omega.{arith}
-use mathlib.Core.Path.{◌≡◌, ◌∙◌}
+use mathlib.Core.Path.{◌∙◌}
 use Prim.Native.Nat.{◌-◌}
 use Rattle.kernels.specs.Blocks.{open_none}
 use Rattle.kernels.specs.Masks.{has_mask}
@@ -25,11 +25,3 @@ loop-k-preserved c =
     open_more (has_mask x.bytes.now x.at 64 x.m) k l.k (x.n - l.k) (x.n - k) l.r n
     (omega arith) (omega arith) B.0
     (word_has x.bytes.now x.at x.m k w.result n w.ensures (B.1 ∙ b.ensures)) l.invariant
-
-pub returns : goal.returns
-returns c =
-    let l = c.loop-k in
-    let x = c.args in
-    let z : l.k ≡ 0 = omega arith in
-    let m : x.n - 0 ≡ x.n = omega arith in
-    rw (z, m) at l.invariant

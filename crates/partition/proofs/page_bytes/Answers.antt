@@ -3,7 +3,7 @@ use Prim.Native.Nat.{◌-◌}
 use mathlib.Core.Path.{refl}
 use lib.ListN.{length}
 use Rattle.fields.specs.Lists.{take_lt}
-use Rattle.partition.proofs.Pages.{Cuts, order, old_run, old_part, l1_part, made}
+use Rattle.partition.proofs.Pages.{Cuts, old_run, old_part, l1_part, made}
 use Rattle.partition.proofs.page_bytes.Goals as goal
 
 pub field_run-requires : goal.field_run-requires
@@ -26,19 +26,6 @@ l1_bytes-requires c =
     let o = c.field_run in
     let l = l1_part c.args.main.now c.args.r c.args.y (length c.args.out.now) c.below-a.result c.below-b.result c.saturating_sub-from.result c.requires.source_fits.0 cuts c.requires.whole.0 c.requires.whole.1 c.args.out.now refl o.new.out o.ensures in
     record { source_fits = c.requires.source_fits; whole = l.0; filled = l.1 }
-
-pub slice_bounds-fill-count : goal.slice_bounds-fill-count
-slice_bounds-fill-count c =
-    let cuts : Cuts c.args.r c.args.y (length c.args.out.now) c.below-a.result c.below-b.result c.saturating_sub-from.result
-    = record { a_is = c.below-a.ensures; b_is = c.below-b.ensures; from_is = c.saturating_sub-from.ensures } in
-    (order c.args.main.now c.args.r c.args.y (length c.args.out.now) c.below-a.result c.below-b.result c.saturating_sub-from.result c.requires.source_fits.0 cuts).1
-
-pub slice_bounds-fill-start : goal.slice_bounds-fill-start
-slice_bounds-fill-start c =
-    let cuts : Cuts c.args.r c.args.y (length c.args.out.now) c.below-a.result c.below-b.result c.saturating_sub-from.result
-    = record { a_is = c.below-a.ensures; b_is = c.below-b.ensures; from_is = c.saturating_sub-from.ensures } in
-    let o = (order c.args.main.now c.args.r c.args.y (length c.args.out.now) c.below-a.result c.below-b.result c.saturating_sub-from.result c.requires.source_fits.0 cuts).1 in
-    omega (arith, o)
 
 pub returns : goal.returns
 returns c =

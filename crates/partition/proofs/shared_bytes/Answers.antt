@@ -5,7 +5,7 @@ use Rattle.geometry.specs.Indexes.{index_of}
 use Rattle.fields.specs.Lanes.{few}
 use Rattle.partition.specs.Reach.{SourceFits, row_fits}
 use Rattle.partition.proofs.Numbers.{pages_le}
-use Rattle.partition.proofs.Lanes.{columns_in, shared_narrow, shared_wide}
+use Rattle.partition.proofs.Lanes.{columns_in}
 use Rattle.geometry.specs.Shape.{unit_sound}
 use Rattle.partition.proofs.shared_bytes.Goals as goal
 
@@ -28,11 +28,3 @@ columns-requires c =
     (length c.args.main.now) c.requires.rounds_bound c.requires.p_bound c.requires.in_main) in
     let i = columns_in c.args.main.now c.page_source-r.result fits in
     (few c.args.main.now c.page_source-r.result.l1 c.page_source-r.result.w fits.l1_aligned (omega arith), i.0, i.1, c.requires.out_len)
-
-pub returns-then-w-lt8 : goal.returns-then-w-lt8
-returns-then-w-lt8 c =
-    shared_narrow c.args.main.now c.page_source-r.result _ c.args.out.now _ c.page_source-r.ensures (omega arith) c.columns.ensures
-
-pub returns-else-w-lt8 : goal.returns-else-w-lt8
-returns-else-w-lt8 c =
-    shared_wide c.args.main.now c.page_source-r.result _ c.args.out.now c.page_source-r.ensures (omega arith)
