@@ -18,6 +18,7 @@ use plan::{Plan, Segment, Summary};
 
 // ---- segments
 
+// No sectors, no blocks.
 const NOTHING: Segment = Segment { first: 0, count: 0 };
 
 // The page of item n; its sectors count where the item fills it.
