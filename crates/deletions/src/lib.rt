@@ -102,7 +102,7 @@ fn in_block(
     let first = b.start / 2;
     let start = t.g.chip.block_address(t.g.da_block());
     let mut opened: u32 = 0;
-    for w in (0..(below - first + 31) / 32).rev() {
+    for w in (0..(below - first).div_ceil(32)).rev() {
         let at = start + t.g.chip.page_address(first + w * 32);
         let r = in_word(t.g.chip, at, b.words[w], j, main);
         opened += r.opened;

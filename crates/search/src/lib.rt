@@ -254,9 +254,10 @@ fn in_block(
     let mut end = End::Nothing;
     let mut opened: u32 = 0;
     let mut da_pages: u64 = 0;
-    'filters: for w in (0..(below - b.start + 63) / 64).rev() {
+    'filters: for w in (0..(below - b.start).div_ceil(64)).rev() {
         let from = b.start + w * 64;
         let mut bits = b.words[w];
+        // a `while`: each call hands back the bits that are left
         'bits: while bits != 0 {
             let t = next_with_key(v.g, key, from, bits, main);
             bits = t.bits;
