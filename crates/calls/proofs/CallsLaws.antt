@@ -2,16 +2,19 @@
 use mathlib.Core.Path.{◌≡◌, refl, sym, ap, ◌∙◌}
 use mathlib.Core.Bool.{Bool, true, false, cond}
 use mathlib.Core.Option.{Option, none, some}
-use Prim.Native.Nat.{ℕ, ◌≤◌}
+use Prim.Native.Nat.{◌≤◌}
 use native.Mathlib.Omega.{arith}
 use lib.Dec.{eqb}
 use lib.ListN.{length}
+use Rattle.std.specs.Prelude as std
+use Rattle.std.specs.Prelude.{Ok, Err}
 use Rattle.layout.specs.Geometry as layout
 use Rattle.layout.specs.Hash.{fnv_family}
 use Rattle.layout.specs.Refusals as refusal
 use Rattle.layout.specs.Search.{Stop, found, corrupt}
 use Rattle.layout.specs.Calls.{key_of, Volume, Call, Result, Commit, refuse, bad_state, too_short, judge_first, search}
 use Rattle.layout.specs.Calls.{insert_by, update_by, delete_by, answer_by, change_by, commit}
+use Rattle.layout.specs.Later.{commit_later, call_again}
 use Rattle.layout.specs.Header.{header_size, pages, on_pages, kind_in}
 use Rattle.laws.specs.HeaderLaws.{length_pages}
 use Rattle.layout.specs.Budgets.{result_of}
@@ -19,33 +22,31 @@ use Rattle.geometry.specs.Shape.{shape, geometry_for}
 use Rattle.geometry.specs.declared.Geometry.{Geometry}
 use Rattle.state.specs.Contract.{record_is, call_of}
 use Rattle.state.specs.Judge.{judgement_of, VolumeFits}
-use Rattle.state.specs.declared.Judgement.{Judgement}
-use Rattle.state.specs.declared.Judgement.TheVariants as judges
+use Rattle.state.specs.declared.Refusal.{Refusal}
+use Rattle.state.specs.declared.Refusal.TheVariants.{BadState, TooShort, Pending}
 use Rattle.state.specs.declared.Request.{Request}
 use Rattle.state.specs.declared.Request.TheVariants.{Insert, Update, Delete}
-use Rattle.state.proofs.Refusals.{Refusal, refusal_of_lem}
+use Rattle.state.proofs.Refusals.{refused_by}
 use Rattle.header.specs.Header.{idle_judgement}
 use Rattle.changes.specs.Edits.{edit_is}
 use Rattle.changes.specs.declared.Edit.{Edit}
-use Rattle.changes.specs.declared.Edit.TheVariants as edits
-use Rattle.calls.specs.Resolve.{stopped, resolved_by, ResolvedFits}
+use Rattle.calls.specs.Resolve.{stopped, resolved_by, resolved_of}
 use Rattle.calls.specs.Request.{decision_of}
-use Rattle.calls.specs.declared.Decision.{Decision}
-use Rattle.calls.specs.declared.Decision.TheVariants.{Refused, Change}
+use Rattle.calls.specs.declared.Resolved.{Resolved}
 
 -- ---- a judgement, then what the call answers
 
-abbrev pub judged_by : Judgement → Volume → Result → Result
-judged_by (judges.Refused i) w x = refuse w i
-judged_by (judges.Good g) w x = x
+abbrev judged_by : std.Result Geometry Refusal → Volume → Result → Result
+judged_by (Err i) w x = refused_by w i
+judged_by (Ok g) w x = x
 
--- what is known of one: a refusal's number is not that of an accepted call, a geometry is the volume's
-abbrev pub Told : Volume → Judgement → Type 0
-Told w (judges.Refused i) = eqb i 0 ≡ false
-Told w (judges.Good g) = g ≡ geometry_for w.state.sizes
+-- a geometry that is judged good is the volume's
+abbrev Told : Volume → std.Result Geometry Refusal → Type 0
+Told w (Err i) = Unit {0}
+Told w (Ok g) = g ≡ geometry_for w.state.sizes
 
 module _ (v : Volume) where
-  pub result_judged : (c : Call) → result_of fnv_family v c
+  result_judged : (c : Call) → result_of fnv_family v c
       ≡ judged_by (idle_judgement v) (on_pages v) (answer_by commit fnv_family (layout.geometry v.state.sizes) (on_pages v) c)
   unfolding judge_first
   result_judged c =
@@ -54,136 +55,111 @@ module _ (v : Volume) where
     where
       by : (a b k : Bool) (g : Geometry) (w : Volume) (x : Result)
           → cond a (refuse w refusal.bad_state) (cond b (refuse w refusal.too_short) (cond k x (refuse w refusal.pending)))
-          ≡ judged_by (cond a (judges.Refused refusal.bad_state)
-          (cond b (judges.Refused refusal.too_short) (cond k (judges.Good g) (judges.Refused refusal.pending)))) w x
+          ≡ judged_by (cond a (Err BadState) (cond b (Err TooShort) (cond k (Ok g) (Err Pending)))) w x
       by true b k g w x = refl
       by false true k g w x = refl
       by false false true g w x = refl
       by false false false g w x = refl
 
-  pub idle_told : Told (on_pages v) (idle_judgement v)
+  idle_told : Told (on_pages v) (idle_judgement v)
   idle_told =
       by (bad_state v.state) (too_short (layout.geometry v.state.sizes) v.flash (pages v.ram)) (eqb (kind_in v.ram) 0)
     where
       by : (a b k : Bool)
-          → Told (on_pages v) (cond a (judges.Refused refusal.bad_state)
-          (cond b (judges.Refused refusal.too_short) (cond k (judges.Good (geometry_for v.state.sizes)) (judges.Refused refusal.pending))))
-      by true b k = refl
-      by false true k = refl
+          → Told (on_pages v) (cond a (Err BadState) (cond b (Err TooShort) (cond k (Ok (geometry_for v.state.sizes)) (Err Pending))))
+      by true b k = tt
+      by false true k = tt
       by false false true = refl
-      by false false false = refl
+      by false false false = tt
 
 -- the same of a call that is not asked whether one is pending
 module _ (w : Volume) where
-  pub first_judged : (x : Result) → judge_first w x ≡ judged_by (judgement_of w) w x
+  first_judged : (x : Result) → judge_first w x ≡ judged_by (judgement_of w) w x
   unfolding judge_first
   first_judged x = by (bad_state w.state) (too_short (layout.geometry w.state.sizes) w.flash w.ram) (geometry_for w.state.sizes)
     where
       by : (a b : Bool) (g : Geometry)
           → cond a (refuse w refusal.bad_state) (cond b (refuse w refusal.too_short) x)
-          ≡ judged_by (cond a (judges.Refused refusal.bad_state) (cond b (judges.Refused refusal.too_short) (judges.Good g))) w x
+          ≡ judged_by (cond a (Err BadState) (cond b (Err TooShort) (Ok g))) w x
       by true b g = refl
       by false true g = refl
       by false false g = refl
 
-  pub first_told : Told w (judgement_of w)
+  first_told : Told w (judgement_of w)
   first_told = by (bad_state w.state) (too_short (layout.geometry w.state.sizes) w.flash w.ram)
     where
-      by : (a b : Bool)
-          → Told w (cond a (judges.Refused refusal.bad_state)
-          (cond b (judges.Refused refusal.too_short) (judges.Good (geometry_for w.state.sizes))))
-      by true b = refl
-      by false true = refl
+      by : (a b : Bool) → Told w (cond a (Err BadState) (cond b (Err TooShort) (Ok (geometry_for w.state.sizes))))
+      by true b = tt
+      by false true = tt
       by false false = refl
 
 -- ---- what is decided, over any end of a change
 
--- which of the two, and the number in it
-abbrev kind : Decision → ℕ
-kind (Refused i) = 0
-kind (Change g e) = 1
-
-abbrev number : Decision → ℕ
-number (Refused i) = i
-number (Change g e) = 0
-
--- what it changes; the given one where it is a refusal
-abbrev geometry_in : Geometry → Decision → Geometry
-geometry_in g (Refused i) = g
-geometry_in g (Change h e) = h
-
-abbrev edit_in : Edit → Decision → Edit
-edit_in e (Refused i) = e
-edit_in e (Change g f) = f
+-- by how the call's key resolved
+abbrev pub decided_by : Request → std.Result Resolved Refusal → std.Result Edit Refusal
+decided_by q (Err i) = Err i
+decided_by q (Ok r) = decision_of q r.live
 
 module _ (end : Commit) (w : Volume) where
+  -- a refusal, or a change
+  abbrev pub done_by : layout.Geometry → std.Result Edit Refusal → Result
+  done_by G (Err i) = refused_by w i
+  done_by G (Ok e) = change_by end fnv_family G w (edit_is e)
+
   -- what a call does after the search
   abbrev after : layout.Geometry → Request → Option Stop → Result
   after G (Insert r) o = insert_by end fnv_family G w (record_is r) o
   after G (Update r) o = update_by end fnv_family G w (record_is r) o
   after G (Delete key) o = delete_by end fnv_family G w o
 
-  after_is : (G : layout.Geometry) (q : Request) → answer_by end fnv_family G w (call_of q) ≡ after G q (search fnv_family G w (key_of (call_of q))).stop
+  after_is : (G : layout.Geometry) (q : Request)
+      → answer_by end fnv_family G w (call_of q) ≡ after G q (search fnv_family G w (key_of (call_of q))).stop
   after_is G (Insert r) = refl
   after_is G (Update r) = refl
   after_is G (Delete key) = refl
 
-  abbrev pub answered : Request → Result
-  answered q = answer_by end fnv_family (layout.geometry w.state.sizes) w (call_of q)
+  after_done : (G : layout.Geometry) (g : Geometry) (q : Request) (o : Option Stop) → after G q o ≡ done_by G (decided_by q (stopped g o))
+  after_done G g (Insert r) (some corrupt) = refl
+  after_done G g (Insert r) none = refl
+  after_done G g (Insert r) (some (found j)) = refl
+  after_done G g (Update r) (some corrupt) = refl
+  after_done G g (Update r) none = refl
+  after_done G g (Update r) (some (found j)) = refl
+  after_done G g (Delete key) (some corrupt) = refl
+  after_done G g (Delete key) none = refl
+  after_done G g (Delete key) (some (found j)) = refl
 
-  -- a refusal
-  stop_refused : (G : layout.Geometry) (g : Geometry) (i : ℕ) (q : Request) (o : Option Stop) → decision_of q (stopped g o) ≡ Refused i
-      → Refusal w i (after G q o)
-  stop_refused G g i (Insert r) (some corrupt) d = refusal_of_lem w refusal.corrupt_entry i (ap number d) refl
-  stop_refused G g i (Insert r) none d = absurd (omega (arith, ap kind d))
-  stop_refused G g i (Insert r) (some (found j)) d = refusal_of_lem w refusal.present i (ap number d) refl
-  stop_refused G g i (Update r) (some corrupt) d = refusal_of_lem w refusal.corrupt_entry i (ap number d) refl
-  stop_refused G g i (Update r) none d = absurd (omega (arith, ap kind d))
-  stop_refused G g i (Update r) (some (found j)) d = absurd (omega (arith, ap kind d))
-  stop_refused G g i (Delete key) (some corrupt) d = refusal_of_lem w refusal.corrupt_entry i (ap number d) refl
-  stop_refused G g i (Delete key) none d = refusal_of_lem w refusal.absent i (ap number d) refl
-  stop_refused G g i (Delete key) (some (found j)) d = absurd (omega (arith, ap kind d))
+  judged_done : (j : std.Result Geometry Refusal) → Told w j → (q : Request)
+      → judged_by j w (answer_by end fnv_family (layout.geometry w.state.sizes) w (call_of q))
+      ≡ done_by (layout.geometry w.state.sizes) (decided_by q (resolved_by j w (key_of (call_of q))))
+  judged_done (Err i) t q = refl
+  judged_done (Ok g) t q =
+      let G : layout.Geometry = layout.geometry w.state.sizes in
+      after_is G q ∙ after_done G g q (search fnv_family G w (key_of (call_of q))).stop
+      ∙ ap (λ (k : Geometry). done_by G (decided_by q (stopped g (search fnv_family (shape k) w (key_of (call_of q))).stop))) (sym t)
 
-  pub decided_refused : (j : Judgement) → Told w j → (q : Request) (i : ℕ) → decision_of q (resolved_by j w (key_of (call_of q))) ≡ Refused i
-      → Refusal w i (judged_by j w (answered q))
-  decided_refused (judges.Refused k) t q i d = refusal_of_lem w k i (ap number d) t
-  decided_refused (judges.Good g) t q i d =
-      let a : Refusal w i (after (shape g) q (search fnv_family (shape g) w (key_of (call_of q))).stop)
-      = stop_refused (shape g) g i q (search fnv_family (shape g) w (key_of (call_of q))).stop d in
-      rw (after_is (layout.geometry w.state.sizes) q) (rw t at a)
+  -- a change is one of the geometry that is judged good
+  pub done_change : (g : Geometry) (e : Edit) → VolumeFits w g
+      → done_by (layout.geometry w.state.sizes) (Ok e) ≡ change_by end fnv_family (shape g) w (edit_is e)
+  done_change g e fits = ap (λ (k : Geometry). change_by end fnv_family (shape k) w (edit_is e)) (sym fits.is)
 
-  -- a change
-  abbrev Changes : layout.Geometry → Geometry → Geometry → Edit → Result → Type 0
-  Changes G g g' e r = VolumeFits w g × (g ≡ g') × (r ≡ change_by end fnv_family G w (edit_is e))
+-- of a call
+pub call_done : (v : Volume) (q : Request) → result_of fnv_family v (call_of q)
+    ≡ done_by commit (on_pages v) (layout.geometry v.state.sizes) (decided_by q (resolved_of v (key_of (call_of q))))
+call_done v q = result_judged v (call_of q) ∙ judged_done commit (on_pages v) (idle_judgement v) (idle_told v) q
 
-  same : (G : layout.Geometry) (g g' : Geometry) (e e' : Edit) → VolumeFits w g → Change g e' ≡ Change g' e
-      → Changes G g g' e (change_by end fnv_family G w (edit_is e'))
-  same G g g' e e' f d = (f, ap (geometry_in g) d, ap (λ (x : Edit). change_by end fnv_family G w (edit_is x)) (ap (edit_in e') d))
+-- where its key doesn't resolve, it is refused so
+pub call_unresolved : (v : Volume) (q : Request) (i : Refusal) → Err i ≡ resolved_of v (key_of (call_of q))
+    → result_of fnv_family v (call_of q) ≡ refused_by (on_pages v) i
+call_unresolved v q i is =
+    call_done v q
+    ∙ ap (λ (r : std.Result Resolved Refusal). done_by commit (on_pages v) (layout.geometry v.state.sizes) (decided_by q r)) (sym is)
 
-  stop_changes : (G : layout.Geometry) (g g' : Geometry) (e : Edit) (q : Request) (o : Option Stop) → ResolvedFits w (stopped g o)
-      → decision_of q (stopped g o) ≡ Change g' e → Changes G g g' e (after G q o)
-  stop_changes G g g' e (Insert r) (some corrupt) f d = absurd (omega (arith, ap kind d))
-  stop_changes G g g' e (Insert r) none f d = same G g g' e (edits.Insert r) f d
-  stop_changes G g g' e (Insert r) (some (found j)) f d = absurd (omega (arith, ap kind d))
-  stop_changes G g g' e (Update r) (some corrupt) f d = absurd (omega (arith, ap kind d))
-  stop_changes G g g' e (Update r) none f d = same G g g' e (edits.Insert r) f d
-  stop_changes G g g' e (Update r) (some (found j)) f d = same G g g' e (edits.Replace j r) f d
-  stop_changes G g g' e (Delete key) (some corrupt) f d = absurd (omega (arith, ap kind d))
-  stop_changes G g g' e (Delete key) none f d = absurd (omega (arith, ap kind d))
-  stop_changes G g g' e (Delete key) (some (found j)) f d = same G g g' e (edits.Delete j) f d
-
-  pub decided_changes : (j : Judgement) → Told w j → (q : Request) → ResolvedFits w (resolved_by j w (key_of (call_of q))) → (g : Geometry) (e : Edit)
-      → decision_of q (resolved_by j w (key_of (call_of q))) ≡ Change g e
-      → VolumeFits w g × (judged_by j w (answered q) ≡ change_by end fnv_family (shape g) w (edit_is e))
-  decided_changes (judges.Refused k) t q f g e d = absurd (omega (arith, ap kind d))
-  decided_changes (judges.Good h) t q f g e d =
-      let s : Changes (shape h) h g e (after (shape h) q (search fnv_family (shape h) w (key_of (call_of q))).stop)
-      = stop_changes (shape h) h g e q (search fnv_family (shape h) w (key_of (call_of q))).stop f d in
-      let fits : VolumeFits w g = rw s.1 at s.0 in (
-        fits,
-        after_is (layout.geometry w.state.sizes) q ∙ (rw t at s.2)
-            ∙ ap (λ (k : Geometry). change_by end fnv_family (shape k) w (edit_is e)) (sym fits.is),
-      )
+-- of a restart, which "refuses as the pending call would, 7 and 10 aside"
+pub again_done : (w : Volume) (q : Request) → call_again fnv_family w (call_of q)
+    ≡ done_by commit_later w (layout.geometry w.state.sizes) (decided_by q (resolved_by (judgement_of w) w (key_of (call_of q))))
+unfolding call_again
+again_done w q = first_judged w _ ∙ judged_done commit_later w (judgement_of w) (first_told w) q
 
 -- ---- a volume that is not refused has a header
 

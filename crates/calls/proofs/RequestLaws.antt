@@ -2,94 +2,69 @@
 use mathlib.Core.Path.{◌≡◌, refl, sym, ap, subst, ◌∙◌}
 use mathlib.Core.Bool.{Bool, true, false, cond, ◌&&◌}
 use mathlib.Core.List.{List, ◌++◌}
+use Prim.{Unit}
 use Prim.Native.Nat.{ℕ, suc, ◌+◌, ◌≤◌}
 use native.Mathlib.Omega.{arith}
 use lib.Dec.{leb}
 use lib.ListN.{length, length-append}
 use borrow.Author.Tests.{le-leb, lt-leb}
+use Rattle.std.specs.Prelude as std
+use Rattle.std.specs.Prelude.{Ok, Err}
 use Rattle.memory.specs.Bits.{num}
 use Rattle.memory.specs.Cases.{either, le?}
 use Rattle.layout.specs.Geometry as layout
 use Rattle.layout.specs.Flash.{flash_of, plan_ops, all_fresh}
 use Rattle.layout.specs.Hash.{fnv_family}
 use Rattle.layout.specs.Refusals as refusal
-use Rattle.layout.specs.Calls.{key_of, Volume, Call, Result, accepted, refuse, one, no_room, no_deletion, change_plan, change_by, commit}
-use Rattle.layout.specs.Header.{header_size, pages, on_pages, intended}
+use Rattle.layout.specs.Calls.{Volume, Call, Result, accepted, refused, refuse, one, no_room, no_deletion, change_plan, change_by, commit}
+use Rattle.layout.specs.Header.{header_size, pages, intended}
 use Rattle.layout.specs.Budgets as budgets
 use Rattle.layout.specs.Budgets.{Step, Memory, memory, last_steps, call_steps, taken, result_of, call_for, call_cut}
 use Rattle.laws.specs.HeaderLaws.{pages_of}
-use Rattle.geometry.specs.Shape.{shape}
 use Rattle.geometry.specs.declared.Geometry.{Geometry}
-use Rattle.state.specs.Contract.{CutEffect, outcome_of, cut_of, Ran, state_is, call_of, volume}
+use Rattle.state.specs.Contract.{CutEffect, number_of, cut_of, Ran, state_is, volume}
 use Rattle.state.specs.Judge.{VolumeFits}
 use Rattle.state.specs.declared.Progress.{Progress}
+use Rattle.state.specs.declared.Refusal.{Refusal}
+use Rattle.state.specs.declared.Refusal.TheVariants.{Full, DeletionsFull, NotFresh}
 use Rattle.state.specs.declared.State.{State}
-use Rattle.state.specs.declared.Request.{Request}
-use Rattle.state.proofs.Refusals.{Refusal, refusal_of_lem}
-use Rattle.header.specs.Header.{idle_judgement}
+use Rattle.state.proofs.Refusals.{refused_by}
+use Rattle.state.proofs.RunLaws.{refused_cut_lem as refused_cut_is}
 use Rattle.changes.specs.Edits.{edit_is}
 use Rattle.changes.specs.Tasks.{change_refusal, changed, task_result}
 use Rattle.changes.specs.declared.Task.{Task}
 use Rattle.changes.specs.declared.Edit.{Edit}
-use Rattle.calls.specs.Resolve.{resolved_of, ResolvedFits}
-use Rattle.calls.specs.Request.{decision_of}
-use Rattle.calls.specs.declared.Resolved.{Resolved}
-use Rattle.calls.specs.declared.Decision.TheVariants.{Refused, Change}
-use Rattle.calls.proofs.CallsLaws.{result_judged, idle_told, decided_refused, decided_changes}
 
 -- ---- 5, 6 and 7
 
-none_full : (a b c : Bool) → cond a refusal.full (cond b refusal.deletions_full (cond c 0 refusal.not_fresh)) ≡ 0
-    → (a ≡ false) × (b ≡ false) × (c ≡ true)
-none_full true b c e = absurd (omega (arith, e))
-none_full false true c e = absurd (omega (arith, e))
-none_full false false true e = (refl, refl, refl)
-none_full false false false e = absurd (omega (arith, e))
+-- a refusal, or what a call answers that is not refused
+abbrev pub refused_or : Volume → Result → std.Result Unit Refusal → Result
+refused_or w x (Err i) = refused_by w i
+refused_or w x (Ok u) = x
 
-module _ (g : layout.Geometry) (w : Volume) where
-  module _ (e : Edit) (i : ℕ) (is : i ≡ change_refusal g w (edit_is e)) where
-    -- is there no room for its record, or its deletion; is all fresh that it programs
-    abbrev full : Bool
-    full = one (edit_is e).inserts && no_room g w
+pub change_told : (g : layout.Geometry) (w : Volume) (e : Edit) → change_by commit fnv_family g w (edit_is e)
+    ≡ refused_or w (changed g w (edit_is e) 0) (change_refusal g w (edit_is e))
+unfolding change_by commit
+change_told g w e =
+    by (one (edit_is e).inserts && no_room g w) (one (edit_is e).deletes && no_deletion g w)
+    (all_fresh w.flash.spare (plan_ops g.u (change_plan fnv_family g w (edit_is e)) w.flash)) (changed g w (edit_is e) 0)
+  where
+    by : (a b c : Bool) (x : Result)
+        → cond a (refuse w refusal.full) (cond b (refuse w refusal.deletions_full) (cond c x (refuse w refusal.not_fresh)))
+        ≡ refused_or w x (cond a (Err Full) (cond b (Err DeletionsFull) (cond c (Ok (tt {0})) (Err NotFresh))))
+    by true b c x = refl
+    by false true c x = refl
+    by false false true x = refl
+    by false false false x = refl
 
-    abbrev gone : Bool
-    gone = one (edit_is e).deletes && no_deletion g w
+-- a change that is refused, and one that is not
+module _ (v : Volume) (c : Call) (g : layout.Geometry) (w : Volume) (e : Edit)
+    (is : result_of fnv_family v c ≡ change_by commit fnv_family g w (edit_is e)) where
+  pub change_refused : (i : Refusal) → Err i ≡ change_refusal g w (edit_is e) → result_of fnv_family v c ≡ refused_by w i
+  change_refused i r = is ∙ change_told g w e ∙ ap (refused_or w (changed g w (edit_is e) 0)) (sym r)
 
-    abbrev clean : Bool
-    clean = all_fresh w.flash.spare (plan_ops g.u (change_plan fnv_family g w (edit_is e)) w.flash)
-
-    pub change_refused : (i ≡ 0 → ⊥) → Refusal w i (change_by commit fnv_family g w (edit_is e))
-    unfolding change_by commit
-    change_refused some = by full gone clean _ is
-      where
-        by : (a b c : Bool) (x : Result) → i ≡ cond a refusal.full (cond b refusal.deletions_full (cond c 0 refusal.not_fresh))
-            → Refusal w i (cond a (refuse w refusal.full) (cond b (refuse w refusal.deletions_full) (cond c x (refuse w refusal.not_fresh))))
-        by true b c x q = refusal_of_lem w refusal.full i (sym q) refl
-        by false true c x q = refusal_of_lem w refusal.deletions_full i (sym q) refl
-        by false false true x q = absurd (some q)
-        by false false false x q = refusal_of_lem w refusal.not_fresh i (sym q) refl
-
-    module _ (z : i ≡ 0) where
-      tests : (full ≡ false) × (gone ≡ false) × (clean ≡ true)
-      tests = none_full full gone clean (sym is ∙ z)
-
-      pub change_accepted : change_by commit fnv_family g w (edit_is e) ≡ changed g w (edit_is e) 0
-      unfolding change_by commit
-      change_accepted = rw (tests.0, tests.1, tests.2)
-
--- ---- a call by what is decided
-
-module _ (v : Volume) (q : Request) (r : Resolved) (is : r ≡ resolved_of v (key_of (call_of q))) where
-  pub call_refused : (i : ℕ) → decision_of q r ≡ Refused i → Refusal (on_pages v) i (result_of fnv_family v (call_of q))
-  call_refused i d =
-      subst (Refusal (on_pages v) i) (sym (result_judged v (call_of q)))
-      (decided_refused commit (on_pages v) (idle_judgement v) (idle_told v) q i (rw is at d))
-
-  pub call_changes : ResolvedFits (on_pages v) r → (g : Geometry) (e : Edit) → decision_of q r ≡ Change g e
-      → VolumeFits (on_pages v) g × (result_of fnv_family v (call_of q) ≡ change_by commit fnv_family (shape g) (on_pages v) (edit_is e))
-  call_changes f g e d =
-      let c = decided_changes commit (on_pages v) (idle_judgement v) (idle_told v) q (rw is at f) g e (rw is at d) in
-      (c.0, result_judged v (call_of q) ∙ c.1)
+  pub change_accepted : Ok (tt {0}) ≡ change_refusal g w (edit_is e) → result_of fnv_family v c ≡ changed g w (edit_is e) 0
+  change_accepted r = is ∙ change_told g w e ∙ ap (refused_or w (changed g w (edit_is e) 0)) (sym r)
 
 -- ---- a budget
 
@@ -106,14 +81,10 @@ module _ (v : Volume) (c : Call) where
   abbrev unit : ℕ
   unit = layout.unit_of v.state.sizes
 
-  pub refused_cut_lem : (b i : ℕ) (w : Volume) → Refusal w i (result_of fnv_family v c)
-      → record { outcome = outcome_of i; complete = 0; steps = 0; left = v } ≡ cut_of (call_cut fnv_family b v c)
+  pub refused_cut_lem : (b : ℕ) (i : Refusal) (w : Volume) → result_of fnv_family v c ≡ refused_by w i
+      → record { outcome = refused (number_of i); complete = 0; steps = 0; left = v } ≡ cut_of (call_cut fnv_family b v c)
   unfolding call_for
-  refused_cut_lem b i w p = by (result_of fnv_family v c) p
-    where
-      by : (r : Result) → Refusal w i r
-          → record { outcome = outcome_of i; complete = 0; steps = 0; left = v } ≡ cut_of (cut_with b unit v (intended v c) r)
-      by r p = rw (p.is, p.some)
+  refused_cut_lem b i w p = refused_cut_is b unit v w i (call_steps (intended v c) (result_of fnv_family v c)) (result_of fnv_family v c) p
 
   module _ (r : Result) (is : result_of fnv_family v c ≡ r) (yes : r.outcome ≡ accepted) where
     -- none of its steps

@@ -122,16 +122,24 @@ given_of g j r ram filters (Update d n) b = (
   record { size = length_record r; record_is_lem = record_part j r n; entry_is = entry_part j r n; filter_is = b.1 },
 )
 
--- the parts of an edit and its new bytes, as code has them
-pub record Parts (g : Geometry) (v : Volume) (e : Edit) (S : Slots) (j : ℕ) (r : CodeRecord) (new : List ℕ) : Type 0 where
+-- what is known of a change's places and new bytes
+pub record Parts (g : Geometry) (v : Volume) (e : Edit) (S : Slots) (new : List ℕ) : Type 0 where
   pub pos : 0 < g.u
   pub long : ram_size g ≤ length v.ram
   pub slots_are : S ≡ slots_of v.state.records v.state.deletions e
-  pub number_is : j ≡ old_number e
-  pub record_is_lem : r ≡ new_record e
-  pub new_is : new ≡ new_bytes j (record_is r) (record_number S)
+  pub new_is : new ≡ new_bytes (old_number e) (record_is (new_record e)) (record_number (slots_of v.state.records v.state.deletions e))
 
-module _ (g : Geometry) (v : Volume) (e : Edit) (S : Slots) (j : ℕ) (r : CodeRecord) (new : List ℕ) (A : Parts g v e S j r new) where
+module _ (g : Geometry) (v : Volume) (e : Edit) (S : Slots) (new : List ℕ) (A : Parts g v e S new) where
+  -- the places, the number that it deletes and the record that it inserts
+  abbrev s : Slots
+  s = slots_of v.state.records v.state.deletions e
+
+  abbrev j : ℕ
+  j = old_number e
+
+  abbrev r : CodeRecord
+  r = new_record e
+
   abbrev plan : List Planned
   plan = change_plan fnv_family g v (edit_is e)
 
@@ -141,37 +149,38 @@ module _ (g : Geometry) (v : Volume) (e : Edit) (S : Slots) (j : ℕ) (r : CodeR
   abbrev cleared : List ℕ → List ℕ
   cleared = zero_page g.u (work_ram g.u)
 
-  module _ (filters : List ℕ) (F : FiltersOf g j (key_is r.key) v.ram filters S) where
-    given : Given fnv_family g j (key_is r.key) (record_bytes (record_is r)) (new_bytes j (record_is r) (record_number S)) filters v.ram S
-    given = given_of g j (record_is r) v.ram filters S F
+  module _ (filters : List ℕ) (F : FiltersOf g j (key_is r.key) v.ram filters s) where
+    given : Given fnv_family g j (key_is r.key) (record_bytes (record_is r)) (new_bytes j (record_is r) (record_number s)) filters v.ram s
+    given = given_of g j (record_is r) v.ram filters s F
 
-    plan_is : planned (numbers_of g S) new filters v.ram ≡ plan
+    plan_is : planned (numbers_of g s) new filters v.ram ≡ plan
     plan_is =
-        ap (λ (l : List ℕ). planned (numbers_of g S) l filters v.ram) A.new_is
-        ∙ edit_planned fnv_family g j (key_is r.key) (record_bytes (record_is r)) (new_bytes j (record_is r) (record_number S)) filters v.ram
-        A.pos A.long S given
-        ∙ rw (A.slots_are, A.number_is, A.record_is_lem) (plan_of_lem g v e)
+        ap (λ (l : List ℕ). planned (numbers_of g s) l filters v.ram) A.new_is
+        ∙ edit_planned fnv_family g j (key_is r.key) (record_bytes (record_is r)) (new_bytes j (record_is r) (record_number s)) filters v.ram
+        A.pos A.long s given
+        ∙ plan_of_lem g v e
 
     ram_is : (from : ℕ) (ram' : List ℕ) → ram' ≡ cleared (kept g new filters v.ram S) → ram' ≡ (result from).volume.ram
     ram_is from ram' k =
-        k ∙ ap (λ (l : List ℕ). cleared (kept g l filters v.ram S)) A.new_is
+        k ∙ ap (λ (S : Slots). cleared (kept g new filters v.ram S)) A.slots_are
+        ∙ ap (λ (l : List ℕ). cleared (kept g l filters v.ram s)) A.new_is
         ∙ ap cleared
-        (kept_is fnv_family g j (key_is r.key) (record_bytes (record_is r)) (new_bytes j (record_is r) (record_number S)) filters v.ram
-        A.pos A.long S given
-        ∙ rw (A.slots_are, A.number_is, A.record_is_lem) (ram_of_lem g v e))
+        (kept_is fnv_family g j (key_is r.key) (record_bytes (record_is r)) (new_bytes j (record_is r) (record_number s)) filters v.ram
+        A.pos A.long s given
+        ∙ ram_of_lem g v e)
 
-    module _ (p : Plan) (p_is : p ≡ numbers_of g S) where
+    module _ (p : Plan) (p_is : p ≡ numbers_of g s) where
       pub total_is : planned_count p ≡ length plan
       total_is =
-          ap (λ (q : Plan). planned_count q) p_is ∙ sym (planned_count_lem (numbers_of g S) new filters v.ram)
+          ap (λ (q : Plan). planned_count q) p_is ∙ sym (planned_count_lem (numbers_of g s) new filters v.ram)
           ∙ ap (λ (l : List Planned). length l) plan_is
 
-      run_is : (s : Span) (flash' : Flash) → flash' ≡ done p.chip.unit (span (planned p new filters v.ram) s) v.flash
-          → flash' ≡ done g.u (span plan s) v.flash
-      run_is s flash' run =
-          run ∙ ap (λ (q : Plan). done q.chip.unit (span (planned q new filters v.ram) s) v.flash) p_is
-          ∙ ap (λ (u : ℕ). done u (span (planned (numbers_of g S) new filters v.ram) s) v.flash) (unit_is g S)
-          ∙ ap (λ (l : List Planned). done g.u (span l s) v.flash) plan_is
+      run_is : (z : Span) (flash' : Flash) → flash' ≡ done p.chip.unit (span (planned p new filters v.ram) z) v.flash
+          → flash' ≡ done g.u (span plan z) v.flash
+      run_is z flash' run =
+          run ∙ ap (λ (q : Plan). done q.chip.unit (span (planned q new filters v.ram) z) v.flash) p_is
+          ∙ ap (λ (u : ℕ). done u (span (planned (numbers_of g s) new filters v.ram) z) v.flash) (unit_is g s)
+          ∙ ap (λ (l : List Planned). done g.u (span l z) v.flash) plan_is
 
       module _ (from b total : ℕ) (all : total ≡ planned_count p) (flash' : Flash) where
         -- all operations from the first that is not done, then the RAM
@@ -192,9 +201,11 @@ module _ (g : Geometry) (v : Volume) (e : Edit) (S : Slots) (j : ℕ) (r : CodeR
             (run_is (record { from = from; to = from + b }) flash' run) refl
 
   -- the RAM where nothing is programmed
-  pub ram_appended : programs_in g S ≡ false → (ram' : List ℕ) → ram' ≡ cleared (appended g new v.ram S) → ram' ≡ (result 0).volume.ram
+  pub ram_appended : programs_in g s ≡ false → (ram' : List ℕ) → ram' ≡ cleared (appended g new v.ram S) → ram' ≡ (result 0).volume.ram
   ram_appended t ram' k =
-      ram_is [] (no_filters g j (key_is r.key) v.ram [] S A.pos t) 0 ram' (k ∙ ap cleared (kept_appended g A.pos new [] v.ram S t))
+      ram_is [] (no_filters g j (key_is r.key) v.ram [] s A.pos t) 0 ram'
+      (k ∙ ap (λ (S : Slots). cleared (appended g new v.ram S)) A.slots_are ∙ ap cleared (kept_appended g A.pos new [] v.ram s t)
+      ∙ ap (λ (S : Slots). cleared (kept g new [] v.ram S)) (sym A.slots_are))
 
 -- no operation, and the RAM
 pub carried_nothing : (g : Geometry) (v : Volume) (e : Edit) (from b : ℕ) → 0 < g.u → 0 < b

@@ -1,19 +1,21 @@
 -- The refusals of a change and its plan, by the steps of the code.
+use Rattle.std.specs.Prelude as std
+use Rattle.std.specs.Prelude.{Ok, Err}
 use mathlib.Core.Path.{◌≡◌, refl, sym, ap, ◌∙◌}
 use mathlib.Core.Bool.{Bool, true, false, cond, ◌&&◌}
 use mathlib.Core.List.{List, []}
 use Prim.Native.Nat.{ℕ, ◌≤◌, ◌<◌}
-use native.Mathlib.Omega.{arith}
 use lib.ListN.{length}
 use Rattle.layout.specs.Geometry.{Geometry, ram_size}
 use Rattle.layout.specs.Flash.{Flash, Planned, plan_ops, all_fresh}
 use Rattle.layout.specs.Hash.{fnv_family}
 use Rattle.layout.specs.Items.{record_bytes}
-use Rattle.layout.specs.Refusals as refusal
 use Rattle.layout.specs.Calls.{Volume, one, no_room, no_deletion, change_plan}
 use Rattle.laws.specs.Done.{done_count}
 use Rattle.keys.specs.Key.{key_is}
 use Rattle.state.specs.Contract.{record_is}
+use Rattle.state.specs.declared.Refusal.{Refusal}
+use Rattle.state.specs.declared.Refusal.TheVariants.{Full, DeletionsFull, NotFresh}
 use Rattle.plan.specs.declared.Plan.{Plan}
 use Rattle.plan.specs.Plans.{planned}
 use Rattle.planning.specs.declared.Slots.{Slots}
@@ -24,17 +26,6 @@ use Rattle.changes.specs.Room.{room_tests}
 use Rattle.changes.specs.Tasks.{change_refusal}
 use Rattle.changes.specs.Places.{plan_of_lem}
 use Rattle.planning.specs.AnyRam.{edit_some, unit_is}
-
--- ---- 5 and 6
-
--- 5, if it is one, else what comes after it
-pub first_refusal : (i : ℕ) (b : Bool) (rest : ℕ) → i ≡ cond b refusal.full 0 → (i ≡ 0 → ⊥) → i ≡ cond b refusal.full rest
-first_refusal i true rest e h = e
-first_refusal i false rest e h = absurd (h e)
-
-pub second_refusal : (i : ℕ) (b : Bool) (rest : ℕ) → i ≡ cond b refusal.full 0 → i ≡ 0 → rest ≡ cond b refusal.full rest
-second_refusal i true rest e h = absurd (omega (arith, e, h))
-second_refusal i false rest e h = refl
 
 module _ (g : Geometry) (v : Volume) (e : Edit) where
   abbrev S : Slots
@@ -74,32 +65,24 @@ module _ (g : Geometry) (v : Volume) (e : Edit) where
   -- ---- the refusal
 
   -- 5 or 6
-  pub change_full : (i : ℕ) → i ≡ room_refusal g v.state.records v.state.deletions (edit_is e) → (i ≡ 0 → ⊥)
-      → i ≡ change_refusal g v (edit_is e)
-  change_full i is some = by (one (edit_is e).inserts && no_room g v) (one (edit_is e).deletes && no_deletion g v) _ is
+  pub change_full : (i : Refusal) → Err i ≡ room_refusal g v.state.records v.state.deletions (edit_is e) → Err i ≡ change_refusal g v (edit_is e)
+  change_full i is = by (one (edit_is e).inserts && no_room g v) (one (edit_is e).deletes && no_deletion g v) _ is
     where
-      by : (a b : Bool) (x : ℕ) → i ≡ cond a refusal.full (cond b refusal.deletions_full 0)
-          → i ≡ cond a refusal.full (cond b refusal.deletions_full x)
+      by : (a b : Bool) (x : std.Result Unit Refusal) → Err i ≡ cond a (Err Full) (cond b (Err DeletionsFull) (Ok (tt {0})))
+          → Err i ≡ cond a (Err Full) (cond b (Err DeletionsFull) x)
       by true b x q = q
       by false true x q = q
-      by false false x q = absurd (some q)
+      by false false x q = cc
 
   -- where there is room, 7 or none
   module _ (room : Room g S) where
-    rest_told : (x : ℕ) (f : Bool) → f ≡ all_fresh v.flash.spare (plan_ops g.u (change_plan fnv_family g v (edit_is e)) v.flash)
-        → x ≡ cond f 0 refusal.not_fresh → x ≡ change_refusal g v (edit_is e)
-    rest_told x f f_is q =
+    pub change_fresh : (x : std.Result Unit Refusal) (f : Bool)
+        → f ≡ all_fresh v.flash.spare (plan_ops g.u (change_plan fnv_family g v (edit_is e)) v.flash)
+        → x ≡ cond f (Ok tt) (Err NotFresh) → x ≡ change_refusal g v (edit_is e)
+    change_fresh x f f_is q =
         let t = room_tests g v.state.records v.state.deletions e room in
         rw (t.0, t.1, ← f_is) q
 
-    pub change_stale : (f : Bool) → f ≡ all_fresh v.flash.spare (plan_ops g.u (change_plan fnv_family g v (edit_is e)) v.flash)
-        → f ≡ false → refusal.not_fresh ≡ change_refusal g v (edit_is e)
-    change_stale f f_is q = rest_told refusal.not_fresh f f_is (rw q)
-
-    pub change_fresh : (f : Bool) → f ≡ all_fresh v.flash.spare (plan_ops g.u (change_plan fnv_family g v (edit_is e)) v.flash)
-        → f ≡ true → 0 ≡ change_refusal g v (edit_is e)
-    change_fresh f f_is q = rest_told 0 f f_is (rw q)
-
-    pub change_nothing : 0 < g.u → programs_in g S ≡ false → 0 ≡ change_refusal g v (edit_is e)
+    pub change_nothing : 0 < g.u → programs_in g S ≡ false → Ok tt ≡ change_refusal g v (edit_is e)
     unfolding all_fresh
-    change_nothing pos t = rest_told 0 true (rw (no_plan pos t)) refl
+    change_nothing pos t = change_fresh (Ok tt) true (rw (no_plan pos t)) refl

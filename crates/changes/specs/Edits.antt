@@ -1,11 +1,12 @@
 -- The code's edit as the layout's: its parts, the places that it takes, and whether there is room for it.
-use Rattle.std.specs.Prelude.{cond, ◌&&◌, ℕ, leb}
+use Rattle.std.specs.Prelude.{cond, ◌&&◌, Option, Some, None, Result, Ok, Err, ℕ, leb}
 use Rattle.std.proofs.Math.Option.{none, some}
 use Rattle.layout.specs.Geometry.{Geometry, record_capacity, deletion_capacity}
-use Rattle.layout.specs.Refusals as refusal
 use Rattle.layout.specs.Calls as calls
 use Rattle.state.specs.declared.Record.{Record}
 use Rattle.state.specs.declared.State.{State}
+use Rattle.state.specs.declared.Refusal.{Refusal}
+use Rattle.state.specs.declared.Refusal.TheVariants.{Full, DeletionsFull}
 use Rattle.state.specs.Contract.{record_is}
 use Rattle.planning.specs.declared.Slots.{Slots}
 use Rattle.planning.specs.declared.Slots.TheVariants as slots
@@ -18,6 +19,17 @@ edit_is (Delete j) = record { deletes = some j; inserts = none }
 edit_is (Replace j r) = record { deletes = some j; inserts = some (record_is r) }
 
 -- ---- its parts
+
+-- the number of the record that it deletes, and the record that it inserts, as the code's options
+abbrev pub deleted : Edit → Option ℕ
+deleted (Insert r) = None
+deleted (Delete j) = Some j
+deleted (Replace j r) = Some j
+
+abbrev pub inserted : Edit → Option Record
+inserted (Insert r) = Some r
+inserted (Delete j) = None
+inserted (Replace j r) = Some r
 
 -- the number of the record that it deletes; 0 where it deletes none
 abbrev pub old_number : Edit → ℕ
@@ -52,15 +64,9 @@ counted_state s e =
       deletions = calls.more s.deletions (edit_is e).deletes;
     }
 
--- ---- 5, then 6, of what it adds; 0 where there is room for it
+-- ---- 5, then 6, of what it adds; accepted where there is room for it
 
-abbrev pub full_at : ℕ → ℕ → ℕ
-full_at capacity n = cond (leb capacity n) refusal.full 0
-
-abbrev pub deletions_full_at : ℕ → ℕ → ℕ
-deletions_full_at capacity d = cond (leb capacity d) refusal.deletions_full 0
-
-abbrev pub room_refusal : Geometry → ℕ → ℕ → calls.Edit → ℕ
+abbrev pub room_refusal : Geometry → ℕ → ℕ → calls.Edit → Result Unit Refusal
 room_refusal g n d e =
-    cond (calls.one e.inserts && leb (record_capacity g) n) refusal.full
-    (cond (calls.one e.deletes && leb (deletion_capacity g) d) refusal.deletions_full 0)
+    cond (calls.one e.inserts && leb (record_capacity g) n) (Err Full)
+    (cond (calls.one e.deletes && leb (deletion_capacity g) d) (Err DeletionsFull) (Ok tt))

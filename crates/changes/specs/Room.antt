@@ -1,20 +1,22 @@
 -- Whether there is room for a change, by the tests of 5 and of 6.
-use Rattle.std.specs.Prelude.{◌≡◌, refl, Bool, true, false, cond, ◌&&◌, ℕ, leb}
-use Rattle.std.proofs.Common.{arith, leb-false}
+use Rattle.std.specs.Prelude.{◌≡◌, refl, Bool, true, false, cond, ◌&&◌, Result, Ok, Err, ℕ, leb}
+use Rattle.std.proofs.Common.{leb-false}
 use Rattle.std.proofs.lemmas.Bool.{lt-leb}
 use Rattle.layout.specs.Geometry.{Geometry, record_capacity, deletion_capacity}
-use Rattle.layout.specs.Refusals as refusal
 use Rattle.layout.specs.Calls.{one}
 use Rattle.planning.specs.Edits.{Room}
+use Rattle.state.specs.declared.Refusal.{Refusal}
+use Rattle.state.specs.declared.Refusal.TheVariants.{Full, DeletionsFull}
 use Rattle.changes.specs.declared.Edit.{Edit}
 use Rattle.changes.specs.declared.Edit.TheVariants.{Insert, Delete, Replace}
 use Rattle.changes.specs.Edits.{edit_is, slots_of, room_refusal}
 
 -- neither 5 nor 6 is told
-pub neither : (a b : Bool) (i : ℕ) → i ≡ cond a refusal.full (cond b refusal.deletions_full 0) → i ≡ 0 → (a ≡ false) × (b ≡ false)
-neither true b i e z = absurd (omega (arith, e, z))
-neither false true i e z = absurd (omega (arith, e, z))
-neither false false i e z = (refl, refl)
+pub neither : (a b : Bool) → ◌≡◌ {A = Result Unit Refusal} (Ok tt) (cond a (Err Full) (cond b (Err DeletionsFull) (Ok tt)))
+    → (a ≡ false) × (b ≡ false)
+neither true b e = cc
+neither false true e = cc
+neither false false e = (refl, refl)
 
 module _ (g : Geometry) (n d : ℕ) where
   -- does 5 apply, does 6
@@ -37,5 +39,5 @@ module _ (g : Geometry) (n d : ℕ) where
   room_tests (Replace j r) R = (lt-leb (record_capacity g) n R.1, lt-leb (deletion_capacity g) d R.0)
 
   -- as the code asks for both
-  pub room_told : (e : Edit) (i : ℕ) → i ≡ room_refusal g n d (edit_is e) → i ≡ 0 → Room g (slots_of n d e)
-  room_told e i is z = let t = neither (five e) (six e) i is z in room_of e t.0 t.1
+  pub room_told : (e : Edit) → Ok tt ≡ room_refusal g n d (edit_is e) → Room g (slots_of n d e)
+  room_told e is = let t = neither (five e) (six e) is in room_of e t.0 t.1

@@ -75,7 +75,7 @@ decimal_unquoted : (value : List ℕ) (n : ℕ) → Decimal value n → Unquoted
 decimal_unquoted [] n D = absurd (D.some_digit refl)
 decimal_unquoted (c ∷ cs) n D = digit_no_quote c (digit_first 0 n c cs D.is)
 
-digits_sound : (v : ℕ) (text : List ℕ) → Digits v text
+pub digits_sound : (v : ℕ) (text : List ℕ) → Digits v text
 unfolding digits digits_from
 digits_sound v [] = record { value = []; is = refl; says = refl }
 digits_sound v (c ∷ cs) =
@@ -119,12 +119,12 @@ decimal_sound (c ∷ cs) g e =
 
 -- ---- words
 
-word_complete : (w t : List ℕ) → word w (w ++ t) ≡ some (got 0 t)
+pub word_complete : (w t : List ℕ) → word w (w ++ t) ≡ some (got 0 t)
 unfolding word
 word_complete [] t = refl
 word_complete (x ∷ w) t = rw (eq-eqb x x refl) (word_complete w t)
 
-word_is : (w text : List ℕ) (g : Got) → word w text ≡ some g → (text ≡ w ++ g.rest) × (g.value ≡ 0)
+pub word_is : (w text : List ℕ) (g : Got) → word w text ≡ some g → (text ≡ w ++ g.rest) × (g.value ≡ 0)
 unfolding word
 word_is [] text g e = let q : got 0 text ≡ g = cc in (ap (λ (x : Got). x.rest) q, sym (ap (λ (x : Got). x.value) q))
 word_is (x ∷ w) [] g e = absurd (none-ne-some g e)

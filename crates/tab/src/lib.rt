@@ -4,9 +4,9 @@
 
 pub mod reader;
 
-ghost use Rattle.std.specs.Prelude.{◌≡◌, false, List, ℕ, drop};
-ghost use Rattle.tab.specs.Reader.{got, small, decimal, word, name_of, bare, quoted, after, line_end, ends, field};
-ghost use Rattle.tab.specs.Places.{place_in, Opened, token_in, field_in};
+ghost use Rattle.std.specs.Prelude.{◌≡◌, drop};
+ghost use Rattle.tab.specs.Reader.{decimal, word, name_of, bare, quoted, after, line_end, ends, field};
+ghost use Rattle.tab.specs.Places.{place_in, field_in};
 
 // A column of a tab.
 #[derive(Clone, Copy)]
@@ -16,25 +16,9 @@ pub enum Column {
     Goal,
 }
 
-// The place after something, if it is there.
-#[derive(Clone, Copy)]
-enum Place {
-    Nowhere,
-    At(usize),
-}
-
-// A number, 0 for a name, and the place after it.
-#[derive(Clone, Copy)]
-enum Token {
-    Malformed,
-    Value(u32, usize),
-}
-
-// A field: whether it is well-formed, its number, and the place of the next one. Of a malformed field nothing but that
-// is told.
+// What was read: a number, 0 for a name, and the place after it.
 #[derive(Clone, Copy)]
 pub struct Field {
-    pub good: bool,
     pub value: u32,
     pub next: usize,
 }
@@ -42,185 +26,115 @@ pub struct Field {
 // ---- what ends a field
 
 // The place after one given byte.
-fn after_byte(tab: &[u8], at: usize, x: u8) -> Place
+fn after_byte(tab: &[u8], at: usize, x: u8) -> Option<usize>
     ensures { place_in tab.now result ≡ after x (drop at tab.now) }
 {
-    if at >= tab.len() {
-        return Place::Nowhere;
-    }
-    if tab[at] != x {
-        return Place::Nowhere;
-    }
-    Place::At(at + 1)
+    (*tab.get(at)? == x).then_some(at + 1)
 }
 
 // The place after a line's end: LF, CRLF, or the end of the tab.
-fn line_end(tab: &[u8], at: usize) -> Place
+#[tactic(auto, unfolding(crate::specs::Reader::line_end))]
+fn line_end(tab: &[u8], at: usize) -> Option<usize>
     ensures { place_in tab.now result ≡ line_end (drop at tab.now) }
 {
-    if at >= tab.len() {
-        return Place::At(at);
+    match tab.get(at) {
+        None => Some(at),
+        Some(b'\n') => Some(at + 1),
+        Some(b'\r') => after_byte(tab, at + 1, b'\n'),
+        Some(_) => None,
     }
-    if tab[at] == b'\n' {
-        return Place::At(at + 1);
-    }
-    if tab[at] == b'\r' {
-        return after_byte(tab, at + 1, b'\n');
-    }
-    Place::Nowhere
 }
 
 // The place after what ends a field of a column.
-fn end_at(tab: &[u8], at: usize, c: Column) -> Place
+fn end_at(tab: &[u8], at: usize, c: Column) -> Option<usize>
     ensures { place_in tab.now result ≡ ends c (drop at tab.now) }
 {
     match c {
-        Column::Level => after_byte(tab, at, b','),
-        Column::Moves => after_byte(tab, at, b','),
+        Column::Level | Column::Moves => after_byte(tab, at, b','),
         Column::Goal => line_end(tab, at),
     }
 }
 
 // ---- what stands in a field
 
-// A number that is read, and the place after it; from 2^32 on there is none.
-fn read_token(v: u64, next: usize) -> Token
-    ensures { (tab : List ℕ) → token_in tab result ≡ small (got v (drop next tab)) }
+// A decimal number. It stops where one digit more would be too many, so that no number has too many digits: leading zeros are free.
+#[tactic(auto, using(crate::proofs::ReaderLaws::digits_more))]
+fn decimal_at(tab: &[u8], at: usize) -> Option<Field>
+    ensures { field_in tab.now result ≡ decimal (drop at tab.now) }
 {
-    if v >= 4294967296 {
-        return Token::Malformed;
-    }
-    Token::Value(v as u32, next)
-}
-
-// A decimal number. It stops where one digit more would be too many, so that no number has too many digits: leading zeros are free. The
-// test is before the digit, with a number that the compiler compares with directly.
-fn decimal_at(tab: &[u8], at: usize) -> Token
-    ensures { token_in tab.now result ≡ decimal (drop at tab.now) }
-{
-    if at >= tab.len() {
-        return Token::Malformed;
-    }
-    if tab[at] < b'0' {
-        return Token::Malformed;
-    }
-    if tab[at] > b'9' {
-        return Token::Malformed;
-    }
-    let mut v: u64 = 0;
-    let mut i = at;
-    while i < tab.len() {
-        let c = tab[i];
-        if c < b'0' {
-            return read_token(v, i);
-        }
-        if c > b'9' {
-            return read_token(v, i);
-        }
-        if v > 429496729 {
-            return Token::Malformed;
-        }
-        v = v * 10 + text::digit_value(c);
-        i += 1;
-    }
-    read_token(v, i)
-}
-
-// The bytes of a word.
-fn word_at(tab: &[u8], at: usize, name: &[u8]) -> Token
-    ensures { token_in tab.now result ≡ word name.now (drop at tab.now) }
-{
-    let mut i = 0;
+    let mut value: u32 = 0;
     let mut next = at;
-    while i < name.len() {
-        if next >= tab.len() {
-            return Token::Malformed;
+    for c in tab.get(at..)? {
+        if !c.is_ascii_digit() {
+            break;
         }
-        if tab[next] != name[i] {
-            return Token::Malformed;
-        }
-        i += 1;
+        value = value.checked_mul(10)?.checked_add(u32::from(*c - b'0'))?;
         next += 1;
     }
-    Token::Value(0, next)
+    (next > at).then_some(Field { value, next })
 }
 
 // A column's name.
-fn name_at(tab: &[u8], at: usize, c: Column) -> Token
-    ensures { token_in tab.now result ≡ word (name_of c) (drop at tab.now) }
+fn name(c: Column) -> &'static [u8]
+    ensures { result.now ≡ name_of c }
 {
     match c {
-        Column::Level => word_at(tab, at, b"level"),
-        Column::Moves => word_at(tab, at, b"moves"),
-        Column::Goal => word_at(tab, at, b"goal"),
+        Column::Level => b"level",
+        Column::Moves => b"moves",
+        Column::Goal => b"goal",
     }
+}
+
+// A column's name in the tab.
+fn name_at(tab: &[u8], at: usize, c: Column) -> Option<Field>
+    ensures { field_in tab.now result ≡ word (name_of c) (drop at tab.now) }
+{
+    let rest = tab.get(at..)?.strip_prefix(name(c))?;
+    Some(Field {
+        value: 0,
+        next: tab.len() - rest.len(),
+    })
 }
 
 // A column's name in the header, a number in a row.
-fn bare_at(tab: &[u8], at: usize, c: Column, header: bool) -> Token
-    ensures { token_in tab.now result ≡ bare header c (drop at tab.now) }
+#[tactic(auto, unfolding(crate::specs::Reader::bare))]
+fn bare_at(tab: &[u8], at: usize, c: Column, header: bool) -> Option<Field>
+    ensures { field_in tab.now result ≡ bare header c (drop at tab.now) }
 {
     if header {
-        return name_at(tab, at, c);
+        name_at(tab, at, c)
+    } else {
+        decimal_at(tab, at)
     }
-    decimal_at(tab, at)
-}
-
-// Where what stands in a field begins: behind a quote, if there is one.
-fn content_start(tab: &[u8], at: usize) -> usize
-    ensures { Opened tab.now at result }
-{
-    if at >= tab.len() {
-        return at;
-    }
-    if tab[at] != b'"' {
-        return at;
-    }
-    at + 1
 }
 
 // A name or a number, quoted or not. It is read at one place for both, so that the compiler makes one copy of it.
-fn content_at(tab: &[u8], at: usize, c: Column, header: bool) -> Token
-    ensures { token_in tab.now result ≡ quoted (bare header c) (drop at tab.now) }
+#[tactic(auto, unfolding(crate::specs::Reader::quoted))]
+fn content_at(tab: &[u8], at: usize, c: Column, header: bool) -> Option<Field>
+    ensures { field_in tab.now result ≡ quoted (bare header c) (drop at tab.now) }
 {
-    let start = content_start(tab, at);
-    let Token::Value(v, next) = bare_at(tab, start, c, header) else {
-        return Token::Malformed;
-    };
-    if start == at {
-        return Token::Value(v, next);
+    let quoted = tab.get(at) == Some(&b'"');
+    let start = if quoted { at + 1 } else { at };
+    let content = bare_at(tab, start, c, header)?;
+    if !quoted {
+        return Some(content);
     }
-    let Place::At(end) = after_byte(tab, next, b'"') else {
-        return Token::Malformed;
-    };
-    Token::Value(v, end)
-}
-
-// ---- a field
-
-fn malformed(at: usize) -> Field
-    ensures { result ≡ record { good = false; value = 0; next = at } }
-{
-    Field {
-        good: false,
-        value: 0,
-        next: at,
-    }
+    let end = after_byte(tab, content.next, b'"')?;
+    Some(Field {
+        value: content.value,
+        next: end,
+    })
 }
 
 // A field and what ends it.
-pub fn field_at(tab: &[u8], at: usize, c: Column, header: bool) -> Field
+#[tactic(auto, unfolding(crate::specs::Reader::field))]
+pub fn field_at(tab: &[u8], at: usize, c: Column, header: bool) -> Option<Field>
     ensures { field_in tab.now result ≡ field header c (drop at tab.now) }
 {
-    let Token::Value(v, end) = content_at(tab, at, c, header) else {
-        return malformed(at);
-    };
-    let Place::At(next) = end_at(tab, end, c) else {
-        return malformed(at);
-    };
-    Field {
-        good: true,
-        value: v,
+    let content = content_at(tab, at, c, header)?;
+    let next = end_at(tab, content.next, c)?;
+    Some(Field {
+        value: content.value,
         next,
-    }
+    })
 }

@@ -1,4 +1,4 @@
-use mathlib.Core.Path.{◌≡◌, refl, ap, ◌∙◌}
+use mathlib.Core.Path.{◌≡◌, refl, ap}
 use mathlib.Core.Bool.{true, false}
 use mathlib.Core.List.{List}
 use Prim.Native.Nat.{ℕ, suc, ◌-◌, ◌≤◌}
@@ -32,15 +32,16 @@ accepts : (t : Task) (q : Request) (main spare ram : List ℕ) → Decided t q (
     → programs_in (shape t.g) (task_slots t) ≡ false
     → result_of fnv_family (task_on t main spare ram) (call_of q) ≡ changed (shape t.g) (on_pages (task_on t main spare ram)) (edit_is t.edit) 0
 accepts t q main spare ram D room none =
-    D.1
-    ∙ change_accepted (shape t.g) (on_pages (task_on t main spare ram)) t.edit 0
-    (change_nothing (shape t.g) (on_pages (task_on t main spare ram)) t.edit room D.0.sound.unit.1.some none) refl
+    let v = task_on t main spare ram in
+    change_accepted v (call_of q) (shape t.g) (on_pages v) t.edit D.1
+    (change_nothing (shape t.g) (on_pages v) t.edit room D.0.sound.unit.1.some none)
 
 pub returns-then-budget-eq0 : goal.returns-then-budget-eq0
 returns-then-budget-eq0 c =
     let x = c.args in
-    none_cut (task_on x.t x.main.now x.spare.now x.ram.now) (call_of x.q) _
-    (accepts x.t x.q x.main.now x.spare.now x.ram.now c.requires.0 c.requires.1 c.requires.2) refl x.budget c.if-budget-eq0.true
+    rw c.cut_at.ensures
+    (none_cut (task_on x.t x.main.now x.spare.now x.ram.now) (call_of x.q) _
+    (accepts x.t x.q x.main.now x.spare.now x.ram.now c.requires.0 c.requires.1 c.requires.2) refl x.budget c.if-budget-eq0.true)
 
 pub intend-requires : goal.intend-requires
 intend-requires c =
@@ -55,11 +56,12 @@ returns-then-budget-eq1 c =
     let v = task_on x.t x.main.now x.spare.now x.ram.now in
     let chip = flash_of x.main.now x.spare.now in
     let whole = changed (shape x.t.g) (on_pages v) (edit_is x.t.edit) 0 in
-    some_cut v (call_of x.q) whole
+    rw c.cut_at-then-budget-eq1.ensures
+    (some_cut v (call_of x.q) whole
     (accepts x.t x.q x.main.now x.spare.now x.ram.now c.requires.0 c.requires.1 c.requires.2) refl 0 x.budget c.if-budget-eq1.true
     (memory chip c.intend.new.ram) (record { steps = 0; finished = false })
     (ran_none (layout.unit_of v.state.sizes) whole (memory chip (intended v (call_of x.q))) (memory chip c.intend.new.ram)
-    (ap (memory chip) c.intend.ensures))
+    (ap (memory chip) c.intend.ensures)))
 
 pub append-requires-clause-sound : goal.append-requires-clause-sound
 append-requires-clause-sound c =

@@ -1,11 +1,18 @@
-use mathlib.Core.Path.{ap, ◌∙◌}
-use Rattle.state.specs.Contract.{volume}
+use Rattle.std.proofs.lemmas.Result.{err_from_is_err_and}
 use Rattle.state.specs.declared.Request.TheVariants.{Delete}
-use Rattle.calls.proofs.WholeLaws.{uncut_effect, whole_effect}
+use Rattle.calls.proofs.WholeLaws.{whole_ok, whole_err}
 use Rattle.calls.proofs.delete.Goals as goal
+
+pub returns-in_err-c : goal.returns-in_err-c
+returns-in_err-c c =
+    let a = c.args in
+    let n = c.perform_for.new in
+    let p = err_from_is_err_and c.from_residual.result c.from_residual.ensures.1 in
+    rw (p.1, p.2)
+    (whole_err a.s (Delete a.key) a.main.now a.spare.now a.ram.now n.main n.spare n.ram c.in_err-c.field-0.0 c.in_err-c.ensures)
 
 pub returns : goal.returns
 returns c =
     let a = c.args in
-    let v = volume a.s a.main.now a.spare.now a.ram.now in
-    rw c.uncut.ensures (ap uncut_effect c.perform_for.ensures ∙ whole_effect v (Delete a.key))
+    let n = c.perform_for.new in
+    whole_ok a.s (Delete a.key) a.main.now a.spare.now a.ram.now n.main n.spare n.ram c.in_ok-c.c c.in_ok-c.ensures

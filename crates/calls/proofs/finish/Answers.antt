@@ -16,8 +16,8 @@ carry_on-r-requires-clause-from_in_bounds c = rw (pages_part c.args.ram.now c.pa
 
 -- ---- what the operations leave
 
-pub returns-then-not-r-clause-ran : goal.returns-then-not-r-clause-ran
-returns-then-not-r-clause-ran c =
+pub returns-then-not-r : goal.returns-then-not-r
+returns-then-not-r c =
     let x = c.args in
     let n = c.pages_end-n in
     let k = c.carry_on-r in
@@ -27,12 +27,12 @@ returns-then-not-r-clause-ran c =
 
 -- ---- all of it
 
-pub returns-clause-ran : goal.returns-clause-ran
-returns-clause-ran c =
+pub returns : goal.returns
+returns c =
     let x = c.args in
     let n = c.pages_end-n in
     let k = c.carry_on-r in
     ran_all x.t.g.chip.unit (task_result x.t x.main.now x.spare.now (pages x.ram.now) x.from) x.budget
     (flash_of x.main.now x.spare.now) (flash_of k.new.main k.new.spare) k.result x.ram.now k.new.ram _
     (rw (pages_part x.ram.now n.result n.ensures) at k.ensures) (pages_back x.ram.now k.new.ram n.result n.ensures)
-    (not-false _ c.if-not-r.false) c.requires.header_size_in_bounds.0 _ (rw c.counted_state-new.ensures at c.clear.ensures)
+    (not-false _ c.if-not-r.false) c.requires.header_size_in_bounds.0 _ (rw c.counted_state.ensures at c.clear.ensures)

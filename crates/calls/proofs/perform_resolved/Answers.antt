@@ -1,83 +1,83 @@
-use mathlib.Core.Path.{◌≡◌, sym, subst, ◌∙◌}
-use Prim.Native.Nat.{ℕ}
-use Rattle.layout.specs.Calls.{key_of, Volume}
+use mathlib.Core.Path.{◌≡◌, refl, sym, ap, ◌∙◌}
+use Rattle.std.proofs.lemmas.Result.{err_from_is_err_and}
+use Rattle.std.specs.Prelude.{Result, Ok, Err}
+use Rattle.layout.specs.Geometry.{geometry}
+use Rattle.layout.specs.Hash.{fnv_family}
+use Rattle.layout.specs.Calls.{key_of, Volume, commit}
 use Rattle.layout.specs.Header.{on_pages}
+use Rattle.layout.specs.Budgets.{result_of}
 use Rattle.geometry.specs.Shape.{shape}
 use Rattle.state.specs.Contract.{volume, call_of}
+use Rattle.state.specs.Judge.{VolumeFits}
 use Rattle.state.specs.declared.Request.{Request}
-use Rattle.state.proofs.Refusals.{Refusal}
-use Rattle.changes.specs.Edits.{edit_is, room_refusal}
+use Rattle.state.specs.declared.Refusal.{Refusal}
 use Rattle.changes.specs.Room.{room_told}
-use Rattle.changes.specs.Tasks.{HasRoom}
-use Rattle.changes.proofs.ChangeLaws.{change_full}
+use Rattle.changes.specs.declared.Edit.{Edit}
 use Rattle.changes.specs.declared.Task.{Task}
-use Rattle.calls.specs.Resolve.{resolved_of, ResolvedFits}
+use Rattle.changes.proofs.ChangeLaws.{change_full}
+use Rattle.calls.specs.Resolve.{resolved_of}
 use Rattle.calls.specs.Request.{decision_of, Decided}
 use Rattle.calls.specs.declared.Resolved.{Resolved}
-use Rattle.calls.specs.declared.Decision.TheVariants.{Change}
-use Rattle.calls.proofs.RequestLaws.{change_refused, call_refused, call_changes, refused_cut_lem}
+use Rattle.calls.proofs.CallsLaws.{decided_by, done_by, done_change, call_done}
+use Rattle.calls.proofs.RequestLaws.{change_refused, refused_cut_lem}
 use Rattle.calls.proofs.perform_resolved.Goals as goal
 
--- ---- what is known after the decision
+-- ---- what is decided
 
-pub returns-in-Refused : goal.returns-in-Refused
-returns-in-Refused c =
+module _ (v : Volume) (q : Request) (r : Resolved) (known : (Ok r ≡ resolved_of v (key_of (call_of q))) × VolumeFits (on_pages v) r.g)
+    (d : Result Edit Refusal) (is : d ≡ decision_of q r.live) where
+  decided : result_of fnv_family v (call_of q) ≡ done_by commit (on_pages v) (geometry v.state.sizes) d
+  decided =
+      call_done v q
+      ∙ ap (λ (x : Result Resolved Refusal). done_by commit (on_pages v) (geometry v.state.sizes) (decided_by q x)) (sym known.0)
+      ∙ ap (done_by commit (on_pages v) (geometry v.state.sizes)) (sym is)
+
+-- a change
+changes : (v : Volume) (q : Request) (r : Resolved) (t : Task) → r.g ≡ t.g
+    → (Ok r ≡ resolved_of v (key_of (call_of q))) × VolumeFits (on_pages v) r.g → Ok t.edit ≡ decision_of q r.live → Decided t q v
+changes v q r t g_is known is =
+    (rw g_is at known.1, decided v q r known (Ok t.edit) is ∙ done_change commit (on_pages v) t.g t.edit (rw g_is at known.1))
+
+-- 3 or 4
+pub returns-in_err-edit : goal.returns-in_err-edit
+returns-in_err-edit c =
     let x = c.args in
     let v = volume x.s x.main.now x.spare.now x.ram.now in
-    rw c.refuse_cut.ensures
-    (refused_cut_lem v (call_of x.q) x.budget c.in-Refused.i (on_pages v)
-    (call_refused v x.q x.r c.requires.0 c.in-Refused.i (sym c.in-Refused.ensures)))
+    let i = c.in_err-edit in
+    let p = err_from_is_err_and c.from_residual.result c.from_residual.ensures.1 in
+    rw (p.1, p.2)
+    (refused_cut_lem v (call_of x.q) x.budget i.field-0.0 (on_pages v) (decided v x.q x.r c.requires (Err i.field-0.0) i.ensures))
 
--- ---- a change
-
-changes : (v : Volume) (q : Request) (r : Resolved) (t : Task) → (r ≡ resolved_of v (key_of (call_of q))) × ResolvedFits (on_pages v) r
-    → Change t.g t.edit ≡ decision_of q r → Decided t q v
-changes v q r t known is = call_changes v q r known.0 known.1 t.g t.edit (sym is)
-
--- there is room
-room : (t : Task) (i : ℕ) → i ≡ room_refusal (shape t.g) t.state.records t.state.deletions (edit_is t.edit) → i ≡ 0 → HasRoom t
-room t i is z = room_told (shape t.g) t.state.records t.state.deletions t.edit i is z
-
-pub room_refusal-i-requires : goal.room_refusal-i-requires
-room_refusal-i-requires c =
-    let x = c.args in
-    let t : Task = record { g = c.in-Change.g; state = x.s; edit = c.in-Change.edit } in
-    (changes (volume x.s x.main.now x.spare.now x.ram.now) x.q x.r t c.requires c.in-Change.ensures).0.sound
+pub room_refusal-requires : goal.room_refusal-requires
+room_refusal-requires c = c.requires.1.sound
 
 -- 5 and 6
-pub returns-then-i-ne-ACCEPTED : goal.returns-then-i-ne-ACCEPTED
-returns-then-i-ne-ACCEPTED c =
+pub returns-in_err-room_refusal : goal.returns-in_err-room_refusal
+returns-in_err-room_refusal c =
     let x = c.args in
     let v = volume x.s x.main.now x.spare.now x.ram.now in
     let w = on_pages v in
-    let t : Task = record { g = c.in-Change.g; state = x.s; edit = c.in-Change.edit } in
-    let D = changes v x.q x.r t c.requires c.in-Change.ensures in
-    let i = c.room_refusal-i.result in
-    let some = c.if-i-ne-ACCEPTED.true in
-    rw c.refuse_cut-then-i-ne-ACCEPTED.ensures
-    (refused_cut_lem v (call_of x.q) x.budget i w
-    (subst (Refusal w i) (sym D.1)
-    (change_refused (shape t.g) w t.edit i (change_full (shape t.g) w t.edit i c.room_refusal-i.ensures some) some)))
-
-pub programs-requires : goal.programs-requires
-programs-requires c =
-    let x = c.args in
-    let t : Task = record { g = c.in-Change.g; state = x.s; edit = c.in-Change.edit } in
-    (changes (volume x.s x.main.now x.spare.now x.ram.now) x.q x.r t c.requires c.in-Change.ensures).0.sound
+    let t : Task = record { g = x.r.g; state = x.s; edit = c.in_ok-edit.edit } in
+    let i = c.in_err-room_refusal in
+    let D = changes v x.q x.r t refl c.requires c.in_ok-edit.ensures in
+    let p = err_from_is_err_and c.from_residual-in_err-room_refusal.result c.from_residual-in_err-room_refusal.ensures.1 in
+    rw (p.1, p.2)
+    (refused_cut_lem v (call_of x.q) x.budget i.field-0.0 w
+    (change_refused v (call_of x.q) (shape t.g) w t.edit D.1 i.field-0.0 (change_full (shape t.g) w t.edit i.field-0.0 i.ensures)))
 
 pub perform_planned-requires : goal.perform_planned-requires
 perform_planned-requires c =
     let x = c.args in
-    let t : Task = record { g = c.in-Change.g; state = x.s; edit = c.in-Change.edit } in (
-      changes (volume x.s x.main.now x.spare.now x.ram.now) x.q x.r t c.requires c.in-Change.ensures,
-      room t c.room_refusal-i.result c.room_refusal-i.ensures c.if-i-ne-ACCEPTED.false,
+    let t : Task = record { g = x.r.g; state = x.s; edit = c.in_ok-edit.edit } in (
+      changes (volume x.s x.main.now x.spare.now x.ram.now) x.q x.r t refl c.requires c.in_ok-edit.ensures,
+      room_told (shape t.g) x.s.records x.s.deletions t.edit c.in_ok-room_refusal.ensures,
     )
 
 pub append_change-requires : goal.append_change-requires
 append_change-requires c =
     let x = c.args in
-    let t : Task = record { g = c.in-Change.g; state = x.s; edit = c.in-Change.edit } in (
-      changes (volume x.s x.main.now x.spare.now x.ram.now) x.q x.r t c.requires c.in-Change.ensures,
-      room t c.room_refusal-i.result c.room_refusal-i.ensures c.if-i-ne-ACCEPTED.false,
+    let t : Task = record { g = x.r.g; state = x.s; edit = c.in_ok-edit.edit } in (
+      changes (volume x.s x.main.now x.spare.now x.ram.now) x.q x.r t refl c.requires c.in_ok-edit.ensures,
+      room_told (shape t.g) x.s.records x.s.deletions t.edit c.in_ok-room_refusal.ensures,
       sym c.programs.ensures ∙ c.if-programs.false,
     )

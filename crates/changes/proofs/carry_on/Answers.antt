@@ -1,33 +1,19 @@
-use mathlib.Core.Path.{◌≡◌, refl, sym, ap, ◌∙◌}
+use mathlib.Core.Path.{◌≡◌, refl, ap, ◌∙◌}
 use mathlib.Core.List.{List}
 use Prim.Native.Nat.{ℕ, ◌+◌, ◌≤◌}
 use native.Mathlib.Omega.{arith}
 use lib.ListN.{length}
 use Rattle.geometry.specs.Shape.{shape}
-use Rattle.state.specs.Contract.{record_is}
 use Rattle.plan.specs.declared.Span.{Span}
 use Rattle.plan.specs.Plans.{PlanFits, count_fits, whole_of}
 use Rattle.plan.specs.declared.Plan.{Plan}
 use Rattle.planning.specs.declared.Slots.{Slots}
 use Rattle.changes.specs.declared.Task.{Task}
-use Rattle.changes.specs.Edits.{old_number, new_record, record_number}
-use Rattle.changes.specs.Filters.{FiltersOf}
-use Rattle.keys.specs.Key.{key_is}
-use Rattle.state.specs.declared.Record.{Record}
 use Rattle.state.specs.Judge.{VolumeFits}
-use Rattle.planning.specs.New.{new_bytes}
-use Rattle.planning.specs.Edits.{numbers_of, edit_fits}
-use Rattle.changes.specs.Tasks.{task_on, task_slots, task_plan, Prepared}
+use Rattle.planning.specs.Edits.{edit_fits}
+use Rattle.changes.specs.Tasks.{task_on, task_slots, task_bytes, TaskFilters, task_plan, Prepared}
 use Rattle.changes.proofs.CarryLaws.{plan_as, Parts, total_is, carried_all, carried_some}
 use Rattle.changes.proofs.carry_on.Goals as goal
-
-pub record_number-requires : goal.record_number-requires
-record_number-requires c =
-    (c.requires.volume_fits.0.sound, rw c.slots-e.ensures c.requires.volume_fits.1.0)
-
-pub new_filters-requires : goal.new_filters-requires
-new_filters-requires c =
-    (c.requires.volume_fits.0.sound, c.requires.volume_fits.0.long.read.ram_fits, refl)
 
 -- of a task on a volume that fits
 module _ (t : Task) (p : Plan) (main spare ram : List ℕ) (V : VolumeFits (task_on t main spare ram) t.g) (R : Prepared t p) where
@@ -37,66 +23,34 @@ module _ (t : Task) (p : Plan) (main spare ram : List ℕ) (V : VolumeFits (task
       plan_as (shape t.g) p (task_slots t) _ _ _ R.1
       (edit_fits t.g V.sound main spare ram V.long (task_slots t) R.0)
 
-  module _ (e : Slots) (j : ℕ) (r : Record) (new : List ℕ) where
-    -- the parts of the edit, as the code makes them
-    parts : e ≡ task_slots t → j ≡ old_number t.edit → r ≡ new_record t.edit → (n : ℕ) → n ≡ record_number e
-        → new ≡ new_bytes j (record_is r) n → Parts (shape t.g) (task_on t main spare ram) t.edit e j r new
-    parts e_is j_is r_is n n_is new_is = record {
-      pos = V.sound.unit.1.some;
-      long = V.long.read.ram_fits;
-      slots_are = e_is;
-      number_is = j_is;
-      record_is_lem = r_is;
-      new_is = new_is ∙ ap (new_bytes j (record_is r)) n_is;
-    }
+  -- what is known of its places and bytes
+  parts : (e : Slots) (new : List ℕ) → e ≡ task_slots t → new ≡ task_bytes t → Parts (shape t.g) (task_on t main spare ram) t.edit e new
+  parts e new e_is new_is = record {
+    pos = V.sound.unit.1.some;
+    long = V.long.read.ram_fits;
+    slots_are = e_is;
+    new_is = new_is;
+  }
 
-    module _ (A : Parts (shape t.g) (task_on t main spare ram) t.edit e j r new) where
-      -- the plan is that of the code's places
-      plan_is : p ≡ numbers_of (shape t.g) e
-      plan_is = R.1 ∙ ap (numbers_of (shape t.g)) (sym A.slots_are)
+  -- no more is done than is planned
+  from_le : (new filters : List ℕ) → new ≡ task_bytes t → TaskFilters t ram filters → (total : Span) → total ≡ whole_of p
+      → (from : ℕ) → from ≤ length (task_plan t main spare ram) → from ≤ total.to
+  from_le new filters new_is F total whole_is from h =
+      let e : total.to ≡ length (task_plan t main spare ram)
+      = ap (λ (w : Span). w.to) whole_is
+      ∙ total_is (shape t.g) (task_on t main spare ram) t.edit _ new (parts (task_slots t) new refl new_is) filters F p R.1 in
+      omega (arith, e, h)
 
-      -- no more is done than is planned
-      from_le : (filters : List ℕ) → FiltersOf (shape t.g) j (key_is r.key) ram filters e → (total : Span) → total ≡ whole_of p
-          → (from : ℕ) → from ≤ length (task_plan t main spare ram) → from ≤ total.to
-      from_le filters F total whole_is from h =
-          let e : total.to ≡ length (task_plan t main spare ram)
-          = ap (λ (w : Span). w.to) whole_is
-          ∙ total_is (shape t.g) (task_on t main spare ram) t.edit e j r new A filters F p plan_is in
-          omega (arith, e, h)
-
-pub whole-total-requires : goal.whole-total-requires
-whole-total-requires c =
+pub whole-requires : goal.whole-requires
+whole-requires c =
     let x = c.args in
     count_fits _ _ _ _ (plan_fits x.t x.p x.main.now x.spare.now x.ram.now c.requires.volume_fits.0 c.requires.volume_fits.1) (omega arith)
 
 pub overflow_sub-left : goal.overflow_sub-left
 overflow_sub-left c =
     let x = c.args in
-    let V = c.requires.volume_fits.0 in
-    let R = c.requires.volume_fits.1 in
-    let S = c.slots-e.result in
-    let j = c.old_number-old.result in
-    let r = c.new_record-record.result in
-    let new = c.new_bytes-new.result in
-    let A = parts x.t x.p x.main.now x.spare.now x.ram.now V R S j r new
-    c.slots-e.ensures c.old_number-old.ensures c.new_record-record.ensures _ c.record_number.ensures c.new_bytes-new.ensures in
-    from_le x.t x.p x.main.now x.spare.now x.ram.now V R S j r new A c.new_filters.new.filters c.new_filters.ensures
-    c.whole-total.result c.whole-total.ensures x.from c.requires.from_in_bounds
-
-pub overflow_add-to : goal.overflow_add-to
-overflow_add-to c =
-    let x = c.args in
-    let V = c.requires.volume_fits.0 in
-    let R = c.requires.volume_fits.1 in
-    let S = c.slots-e.result in
-    let j = c.old_number-old.result in
-    let r = c.new_record-record.result in
-    let new = c.new_bytes-new.result in
-    let A = parts x.t x.p x.main.now x.spare.now x.ram.now V R S j r new
-    c.slots-e.ensures c.old_number-old.ensures c.new_record-record.ensures _ c.record_number.ensures c.new_bytes-new.ensures in
-    let l = from_le x.t x.p x.main.now x.spare.now x.ram.now V R S j r new A c.new_filters.new.filters c.new_filters.ensures
-    c.whole-total.result c.whole-total.ensures x.from c.requires.from_in_bounds in
-    omega (arith, c.lesser.ensures, l)
+    from_le x.t x.p x.main.now x.spare.now x.ram.now c.requires.volume_fits.0 c.requires.volume_fits.1 c.new_bytes-new.result
+    c.new_filters.new.filters c.new_bytes-new.ensures c.new_filters.ensures c.whole.result c.whole.ensures x.from c.requires.from_in_bounds
 
 pub run-requires : goal.run-requires
 run-requires c =
@@ -113,38 +67,24 @@ returns-then-budget-left c =
     let x = c.args in
     let V = c.requires.volume_fits.0 in
     let R = c.requires.volume_fits.1 in
-    let S = c.slots-e.result in
-    let j = c.old_number-old.result in
-    let r = c.new_record-record.result in
-    let new = c.new_bytes-new.result in
-    let A = parts x.t x.p x.main.now x.spare.now x.ram.now V R S j r new
-    c.slots-e.ensures c.old_number-old.ensures c.new_record-record.ensures _ c.record_number.ensures c.new_bytes-new.ensures in
+    let A = parts x.t x.p x.main.now x.spare.now x.ram.now V R (task_slots x.t) c.new_bytes-new.result refl c.new_bytes-new.ensures in
     let some = c.if-budget-left.true in
-    let e : c.lesser.result ≡ x.budget = omega (arith, c.lesser.ensures, some) in
-    carried_some (shape x.t.g) (task_on x.t x.main.now x.spare.now x.ram.now) x.t.edit S j r new A
-    c.new_filters.new.filters c.new_filters.ensures x.p (plan_is x.t x.p x.main.now x.spare.now x.ram.now V R S j r new A) x.from x.budget
-    c.whole-total.result.to (ap (λ (a : Span). a.to) c.whole-total.ensures) _ some (rw e at c.run.ensures)
-
-pub finish-requires : goal.finish-requires
-finish-requires c =
-    (c.requires.volume_fits.0.sound, omega arith, omega arith, c.requires.volume_fits.0.long.read.ram_fits)
+    let e : c.min.result ≡ x.budget = omega (arith, c.min.ensures, some) in
+    carried_some (shape x.t.g) (task_on x.t x.main.now x.spare.now x.ram.now) x.t.edit (task_slots x.t) c.new_bytes-new.result A
+    c.new_filters.new.filters c.new_filters.ensures x.p R.1 x.from x.budget
+    c.whole.result.to (ap (λ (a : Span). a.to) c.whole.ensures) _ some (rw e at c.run.ensures)
 
 pub returns : goal.returns
 returns c =
     let x = c.args in
     let V = c.requires.volume_fits.0 in
     let R = c.requires.volume_fits.1 in
-    let S = c.slots-e.result in
-    let j = c.old_number-old.result in
-    let r = c.new_record-record.result in
-    let new = c.new_bytes-new.result in
-    let A = parts x.t x.p x.main.now x.spare.now x.ram.now V R S j r new
-    c.slots-e.ensures c.old_number-old.ensures c.new_record-record.ensures _ c.record_number.ensures c.new_bytes-new.ensures in
+    let A = parts x.t x.p x.main.now x.spare.now x.ram.now V R c.slots.result c.new_bytes-new.result c.slots.ensures c.new_bytes-new.ensures in
     let all = c.if-budget-left.false in
-    let l = from_le x.t x.p x.main.now x.spare.now x.ram.now V R S j r new A c.new_filters.new.filters c.new_filters.ensures
-    c.whole-total.result c.whole-total.ensures x.from c.requires.from_in_bounds in
-    let e : x.from + c.lesser.result ≡ c.whole-total.result.to = omega (arith, c.lesser.ensures, all, l) in
-    carried_all (shape x.t.g) (task_on x.t x.main.now x.spare.now x.ram.now) x.t.edit S j r new A
-    c.new_filters.new.filters c.new_filters.ensures x.p (plan_is x.t x.p x.main.now x.spare.now x.ram.now V R S j r new A) x.from x.budget
-    c.whole-total.result.to (ap (λ (a : Span). a.to) c.whole-total.ensures) _ (omega (arith, all)) (rw e at c.run.ensures) _
+    let l = from_le x.t x.p x.main.now x.spare.now x.ram.now V R c.new_bytes-new.result c.new_filters.new.filters c.new_bytes-new.ensures
+    c.new_filters.ensures c.whole.result c.whole.ensures x.from c.requires.from_in_bounds in
+    let e : x.from + c.min.result ≡ c.whole.result.to = omega (arith, c.min.ensures, all, l) in
+    carried_all (shape x.t.g) (task_on x.t x.main.now x.spare.now x.ram.now) x.t.edit c.slots.result c.new_bytes-new.result A
+    c.new_filters.new.filters c.new_filters.ensures x.p R.1 x.from x.budget
+    c.whole.result.to (ap (λ (a : Span). a.to) c.whole.ensures) _ (omega (arith, all)) (rw e at c.run.ensures) _
     c.finish.ensures

@@ -1,57 +1,60 @@
-use native.Mathlib.Omega.{arith}
-use mathlib.Core.Path.{sym, ap, ◌∙◌}
-use Prim.Native.Nat.{◌+◌}
-use lib.ListN.{drop}
-use Rattle.tab.specs.Reader.{small}
-use Rattle.tab.proofs.ReaderLaws.{stays_large, digits_more, digits_low, digits_high, digits_end}
-use Rattle.tab.proofs.ReaderLaws.{decimal_end, decimal_low, decimal_high, decimal_some}
+use Rattle.std.proofs.Common.{◌≡◌, ◌*◌, ◌+◌, ◌-◌, ◌≤◌, drop, length, get_or, arith, ◌∙◌, sym, lt-ltb, le-ltb}
+use Rattle.std.proofs.lemmas.List.{take_rest, drop-drop, drop_all, length-drop}
+use Rattle.memory.specs.Cases.{either, lt?}
+use Rattle.tab.specs.Reader.{decimal, digits, got}
+use Rattle.tab.proofs.ReaderLaws.{digits_more, digits_stop, decimal_large, decimal_is}
 use Rattle.tab.proofs.decimal_at.Goals as goal
+use Rattle.tab.proofs.decimal_at.Goals.{else-loop-c-test, then-loop-c-test+then-not-is_ascii_digit}
 
--- What is left to read, at each digit: the value so far has at most one digit too many.
+-- no text
+pub returns-in_err-c-items : goal.returns-in_err-c-items
+unfolding decimal
+returns-in_err-c-items c =
+    let h = c.in_err-c-items.ensures.lookup in
+    rw (c.from_residual.ensures, drop_all c.args.at c.args.tab.now (grind (arith, h.0)))
 
-pub returns-then-at-tab : goal.returns-then-at-tab
-returns-then-at-tab c = let x = c.args in sym (decimal_end x.tab.now x.at (omega arith))
+-- ten times the number is too large
+pub returns-in_err-checked_mul : goal.returns-in_err-checked_mul
+returns-in_err-checked_mul c =
+    let s = c.in_ok-c-items.c-items.now in
+    let v = c.loop-c.value in
+    let i = c.loop-c.c-index in
+    let e : s ≡ drop c.args.at c.args.tab.now = c.in_ok-c-items.ensures.lookup.0.2 ∙ take_rest c.args.tab.now c.args.at in
+    let d = c.if-not-is_ascii_digit.ensures.cases in
+    let more = digits_more s v i (omega arith) d.0 d.1 in
+    let large : 4294967296 ≤ v * 10 + (get_or s i 0 - 48) = omega (arith, c.in_err-checked_mul.ensures) in
+    rw (c.from_residual-in_err-checked_mul.ensures, ← e)
+    (sym (decimal_large s (drop (i + 1) s) _ (c.loop-c.invariant.left ∙ more) large))
 
-pub returns-then-tab-at-lt48 : goal.returns-then-tab-at-lt48
-returns-then-tab-at-lt48 c = let x = c.args in sym (decimal_low x.tab.now x.at (omega arith) c.if-tab-at-lt48.true)
+-- the digit makes it too large
+pub returns-in_err-value : goal.returns-in_err-value
+returns-in_err-value c =
+    let s = c.in_ok-c-items.c-items.now in
+    let v = c.loop-c.value in
+    let i = c.loop-c.c-index in
+    let e : s ≡ drop c.args.at c.args.tab.now = c.in_ok-c-items.ensures.lookup.0.2 ∙ take_rest c.args.tab.now c.args.at in
+    let d = c.if-not-is_ascii_digit.ensures.cases in
+    let more = digits_more s v i (omega arith) d.0 d.1 in
+    let large : 4294967296 ≤ v * 10 + (get_or s i 0 - 48) = omega (arith, c.in_err-value.ensures, c.in_ok-checked_mul.ensures) in
+    rw (c.from_residual-in_err-value.ensures, ← e)
+    (sym (decimal_large s (drop (i + 1) s) _ (c.loop-c.invariant.left ∙ more) large))
 
-pub returns-then-tab-at-gt57 : goal.returns-then-tab-at-gt57
-returns-then-tab-at-gt57 c =
-    let x = c.args in
-    sym (decimal_high x.tab.now x.at (omega arith) c.if-tab-at-gt57.true)
-
-pub loop-i-init : goal.loop-i-init
-loop-i-init c =
-    let x = c.args in
-    (omega arith, omega arith, decimal_some x.tab.now x.at (omega arith) (omega arith) (omega arith))
-
-pub returns-then-c-lt48 : goal.returns-then-c-lt48
-returns-then-c-lt48 c =
-    let x = c.args in
-    c.read_token.ensures x.tab.now
-    ∙ sym (c.loop-i.invariant.2 ∙ ap small (digits_low x.tab.now c.loop-i.i c.loop-i.v (omega arith) c.if-c-lt48.true))
-
-pub returns-then-c-gt57 : goal.returns-then-c-gt57
-returns-then-c-gt57 c =
-    let x = c.args in
-    c.read_token-then-c-gt57.ensures x.tab.now
-    ∙ sym (c.loop-i.invariant.2 ∙ ap small (digits_high x.tab.now c.loop-i.i c.loop-i.v (omega arith) c.if-c-gt57.true))
-
--- one digit more, whatever it is, is too many
-pub returns-then-v-gt429496729 : goal.returns-then-v-gt429496729
-returns-then-v-gt429496729 c =
-    let x = c.args in
-    let e = digits_more x.tab.now c.loop-i.i c.loop-i.v (omega arith) (omega arith) (omega arith) in
-    sym (c.loop-i.invariant.2 ∙ ap small e ∙ stays_large _ (drop (c.loop-i.i + 1) x.tab.now) (omega (arith, c.if-v-gt429496729.true)))
-
-pub loop-i-preserved : goal.loop-i-preserved
-loop-i-preserved c =
-    let x = c.args in
-    let e = digits_more x.tab.now c.loop-i.i c.loop-i.v (omega arith) (omega arith) (omega arith) in
-    (omega arith, omega (arith, c.digit_value.ensures.0), c.loop-i.invariant.2 ∙ rw c.digit_value.ensures.0 (ap small e))
-
+-- no digit more: one was read, or none
 pub returns : goal.returns
 returns c =
-    let x = c.args in
-    c.read_token-2.ensures x.tab.now
-    ∙ sym (c.loop-i.invariant.2 ∙ ap small (digits_end x.tab.now c.loop-i.i c.loop-i.v (omega arith)))
+    let s = c.in_ok-c-items.c-items.now in
+    let v = c.loop-c.value in
+    let i = c.loop-c.c-index in
+    let e : s ≡ drop c.args.at c.args.tab.now = c.in_ok-c-items.ensures.lookup.0.2 ∙ take_rest c.args.tab.now c.args.at in
+    let d : digits v (drop i s) ≡ got v (drop i s)
+    = elim c.loop-c-test.branch [
+      | else-loop-c-test w ↦ digits_stop s v i (λ h. absurd (omega arith))
+      | then-loop-c-test+then-not-is_ascii_digit w ↦ digits_stop s v i (λ h a b. grind (arith, w.if-not-is_ascii_digit.ensures.cases))
+    ] in
+    let all = decimal_is s (drop i s) v (c.loop-c.invariant.left ∙ d) c.loop-c.invariant.fits in
+    let n = length-drop i s in
+    let p = c.loop-c.invariant.place in
+    let r = drop-drop i c.args.at c.args.tab.now in
+    either (lt? c.args.at c.loop-c.next)
+    (λ a. rw (c.then_some.ensures, ← e, all, a.0, lt-ltb (length (drop i s)) (length s) (omega arith)) cc)
+    (λ a. rw (c.then_some.ensures, ← e, all, a.0, le-ltb (length (drop i s)) (length s) (omega arith)))
