@@ -18,10 +18,10 @@ use Rattle.layout.specs.Later.{commit_later, call_again}
 use Rattle.layout.specs.Header.{header_size, pages, on_pages, kind_in}
 use Rattle.laws.specs.HeaderLaws.{length_pages}
 use Rattle.layout.specs.Budgets.{result_of}
-use Rattle.geometry.specs.Shape.{shape, geometry_for}
+use Rattle.geometry.specs.Shape.{shape, shape_is, geometry_for}
 use Rattle.geometry.specs.declared.volume.Geometry.{Geometry}
 use Rattle.state.specs.Contract.{record_is, call_of}
-use Rattle.state.specs.Judge.{judgement_of, VolumeFits}
+use Rattle.state.specs.Judge.{judgement_of, VolumeFits, is_allowed, fits_shape}
 use Rattle.state.specs.declared.Refusal.{Refusal}
 use Rattle.state.specs.declared.Refusal.TheVariants.{BadState, TooShort, Pending}
 use Rattle.state.specs.declared.Request.{Request}
@@ -43,7 +43,7 @@ judged_by (Ok g) w x = x
 -- a geometry that is judged good is the volume's
 abbrev Told : Volume → std.Result Geometry Refusal → Type 0
 Told w (Err i) = Unit {0}
-Told w (Ok g) = g ≡ geometry_for w.state.sizes
+Told w (Ok g) = shape g ≡ layout.geometry w.state.sizes
 
 module _ (v : Volume) where
   result_judged : (c : Call) → result_of fnv_family v c
@@ -63,14 +63,14 @@ module _ (v : Volume) where
 
   idle_told : Told (on_pages v) (idle_judgement v)
   idle_told =
-      by (bad_state v.state) (too_short (layout.geometry v.state.sizes) v.flash (pages v.ram)) (eqb (kind_in v.ram) 0)
+      by (bad_state v.state) (too_short (layout.geometry v.state.sizes) v.flash (pages v.ram)) (eqb (kind_in v.ram) 0) refl
     where
-      by : (a b k : Bool)
+      by : (a b k : Bool) → bad_state v.state ≡ a
           → Told (on_pages v) (cond a (Err BadState) (cond b (Err TooShort) (cond k (Ok (geometry_for v.state.sizes)) (Err Pending))))
-      by true b k = tt
-      by false true k = tt
-      by false false true = refl
-      by false false false = tt
+      by true b k e = tt
+      by false true k e = tt
+      by false false true e = shape_is v.state.sizes (is_allowed v.state e)
+      by false false false e = tt
 
 -- the same of a call that is not asked whether one is pending
 module _ (w : Volume) where
@@ -86,12 +86,12 @@ module _ (w : Volume) where
       by false false g = refl
 
   first_told : Told w (judgement_of w)
-  first_told = by (bad_state w.state) (too_short (layout.geometry w.state.sizes) w.flash w.ram)
+  first_told = by (bad_state w.state) (too_short (layout.geometry w.state.sizes) w.flash w.ram) refl
     where
-      by : (a b : Bool) → Told w (cond a (Err BadState) (cond b (Err TooShort) (Ok (geometry_for w.state.sizes))))
-      by true b = tt
-      by false true = tt
-      by false false = refl
+      by : (a b : Bool) → bad_state w.state ≡ a → Told w (cond a (Err BadState) (cond b (Err TooShort) (Ok (geometry_for w.state.sizes))))
+      by true b e = tt
+      by false true e = tt
+      by false false e = shape_is w.state.sizes (is_allowed w.state e)
 
 -- ---- what is decided, over any end of a change
 
@@ -136,12 +136,12 @@ module _ (end : Commit) (w : Volume) where
   judged_done (Ok g) t q =
       let G : layout.Geometry = layout.geometry w.state.sizes in
       after_is G q ∙ after_done G g q (search fnv_family G w (key_of (call_of q))).stop
-      ∙ ap (λ (k : Geometry). done_by G (decided_by q (stopped g (search fnv_family (shape k) w (key_of (call_of q))).stop))) (sym t)
+      ∙ ap (λ (k : layout.Geometry). done_by G (decided_by q (stopped g (search fnv_family k w (key_of (call_of q))).stop))) (sym t)
 
   -- a change is one of the geometry that is judged good
   pub done_change : (g : Geometry) (e : Edit) → VolumeFits w g
       → done_by (layout.geometry w.state.sizes) (Ok e) ≡ change_by end fnv_family (shape g) w (edit_is e)
-  done_change g e fits = ap (λ (k : Geometry). change_by end fnv_family (shape k) w (edit_is e)) (sym fits.is)
+  done_change g e fits = ap (λ (k : layout.Geometry). change_by end fnv_family k w (edit_is e)) (sym (fits_shape w g fits))
 
 -- of a call
 pub call_done : (v : Volume) (q : Request) → result_of fnv_family v (call_of q)
@@ -164,4 +164,4 @@ again_done w q = first_judged w _ ∙ judged_done commit_later w (judgement_of w
 -- ---- a volume that is not refused has a header
 
 pub header_fits : (v : Volume) (g : Geometry) → VolumeFits (on_pages v) g → header_size ≤ length v.ram
-header_fits v g f = omega (arith, f.long.read.ram_fits, length_pages v.ram, f.sound.unit.1.some)
+header_fits v g f = omega (arith, f.long.read.ram_fits, length_pages v.ram, g.chip.power.some)

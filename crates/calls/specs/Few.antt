@@ -2,11 +2,10 @@
 -- does any of these count pages.
 use Rattle.std.specs.Prelude.{◌≡◌, Bool, ◌&&◌, cond, List, ℕ, ◌+◌, ◌^◌, ◌≤◌, ◌<◌, length, eqb}
 use Rattle.std.proofs.Math.Path.{refl}
-use Rattle.std.proofs.Math.Bool.{true, false, not}
+use Rattle.std.proofs.Math.Bool.{true, false}
 use Rattle.std.proofs.Math.Option.{Option, none, some}
-use Rattle.std.proofs.Common.{arith, length-drop}
+use Rattle.std.proofs.Common.{arith, length-drop, sym, subst}
 use Rattle.memory.specs.Cases.{either, bool?}
-use Rattle.memory.specs.Booleans.{or_eq_false_iff}
 use Rattle.layout.specs.Geometry as layout
 use Rattle.layout.specs.Flash.{Planned, plan_ops, all_fresh}
 use Rattle.layout.specs.Hash.{fnv_family}
@@ -18,8 +17,8 @@ use Rattle.layout.specs.Header.{on_pages, kind_in}
 use Rattle.layout.specs.Budgets.{result_of, pending_on}
 use Rattle.laws.specs.Lengths.{long_of}
 use Rattle.laws.specs.Done.{ops_length, done_count, later_drop}
-use Rattle.geometry.specs.Shape.{shape, geometry_for, Sound}
-use Rattle.geometry.proofs.Allowed.{allowed_sound}
+use Rattle.geometry.specs.Shape.{shape, geometry_for, shape_is}
+use Rattle.state.specs.Judge.{is_allowed}
 use Rattle.geometry.specs.declared.volume.Geometry.{Geometry}
 use Rattle.keys.specs.Key.{key_is}
 use Rattle.state.specs.Contract.{record_is, call_of}
@@ -66,14 +65,14 @@ later_few g v n d plan ram l =
 -- ---- a change, then a call
 
 module _ (end : Commit) (few_end : FewEnd end) (v : Volume) where
-  module _ (g : Geometry) (S : Sound g) (long : layout.ram_size (shape g) ≤ length v.ram) where
+  module _ (g : Geometry) (long : layout.ram_size (shape g) ≤ length v.ram) where
     change_few : (e : Edit) → Few (change_by end fnv_family (shape g) v (edit_is e))
     unfolding change_by
     change_few e =
         either (bool? (one (edit_is e).inserts && no_room (shape g) v)) (λ p. rw p (refl, omega arith))
         (λ p. either (bool? (one (edit_is e).deletes && no_deletion (shape g) v)) (λ q. rw (p, q) (refl, omega arith))
         (λ q. rw (p, q)
-        (few_end (shape g) v _ _ (change_plan fnv_family (shape g) v (edit_is e)) _ (few_changes g S v e long (room_of (shape g) v.state.records v.state.deletions e p q)))))
+        (few_end (shape g) v _ _ (change_plan fnv_family (shape g) v (edit_is e)) _ (few_changes g v e long (room_of (shape g) v.state.records v.state.deletions e p q)))))
 
     insert_few : (r : Record) (s : Option Stop) → Few (insert_by end fnv_family (shape g) v (record_is r) s)
     insert_few r none = change_few (Insert r)
@@ -95,33 +94,30 @@ module _ (end : Commit) (few_end : FewEnd end) (v : Volume) where
     answer_few (request.Update r) = update_few r (search fnv_family (shape g) v (key_is r.key)).stop
     answer_few (request.Delete key) = delete_few (search fnv_family (shape g) v (key_is key)).stop
 
-  -- the volume that is not refused by 1 has a sound geometry
-  good_sound : bad_state v.state ≡ false → Sound (geometry_for v.state.sizes)
-  unfolding bad_state
-  good_sound e =
-      allowed_sound v.state.sizes
-      (flip (layout.allowed v.state.sizes) ((or_eq_false_iff (not (layout.allowed v.state.sizes)) _).0 e).0)
-    where
-      flip : (t : Bool) → not t ≡ false → t ≡ true
-      flip true p = refl
-      flip false p = cc
-
+  -- a volume that is not refused has the geometry of its sizes, and its RAM is long enough
   judged_few : (r : Result)
-      → (Sound (geometry_for v.state.sizes) → layout.ram_size (layout.geometry v.state.sizes) ≤ length v.ram → Few r)
+      → (shape (geometry_for v.state.sizes) ≡ layout.geometry v.state.sizes → layout.ram_size (layout.geometry v.state.sizes) ≤ length v.ram → Few r)
       → Few (judge_first v r)
   unfolding judge_first
   judged_few r f =
       either (bool? (bad_state v.state)) (λ p. rw p (refl, omega arith))
       (λ p. either (bool? (too_short (layout.geometry v.state.sizes) v.flash v.ram)) (λ q. rw (p, q) (refl, omega arith))
-      (λ q. rw (p, q) (f (good_sound p) (long_of (layout.geometry v.state.sizes) v.flash v.ram q).read.ram_fits)))
+      (λ q. rw (p, q)
+      (f (shape_is v.state.sizes (is_allowed v.state p)) (long_of (layout.geometry v.state.sizes) v.flash v.ram q).read.ram_fits)))
+
+  -- the answer over the geometry of the sizes
+  answer_named : (q : Request) → shape (geometry_for v.state.sizes) ≡ layout.geometry v.state.sizes
+      → layout.ram_size (layout.geometry v.state.sizes) ≤ length v.ram → Few (answer_by end fnv_family (layout.geometry v.state.sizes) v (call_of q))
+  answer_named q s long =
+      subst (λ G. Few (answer_by end fnv_family G v (call_of q))) s
+      (answer_few (geometry_for v.state.sizes) (subst (λ G. layout.ram_size G ≤ length v.ram) (sym s) long) q)
 
 -- ---- the intent and the finished RAM beside them
 
 result_few : (v : Volume) (q : Request) → Few (result_of fnv_family v (call_of q))
 result_few v q =
     judged_few commit commit_few (on_pages v) _
-    (λ S long. few_either (eqb (kind_in v.ram) 0) _ _
-    (answer_few commit commit_few (on_pages v) (geometry_for v.state.sizes) S long q) (refl, omega arith))
+    (λ s long. few_either (eqb (kind_in v.ram) 0) _ _ (answer_named commit commit_few (on_pages v) q s long) (refl, omega arith))
 
 pub few_ops : (v : Volume) (q : Request) → length (result_of fnv_family v (call_of q)).ops + 2 ≤ 18446744073709551615
 few_ops v q = omega (arith, (result_few v q).1)
@@ -132,7 +128,7 @@ none_counted v q = (result_few v q).0
 again_few : (w : Volume) (q : Request) → Few (call_again fnv_family w (call_of q))
 unfolding call_again
 again_few w q =
-    judged_few commit_later later_few w _ (λ S long. answer_few commit_later later_few w (geometry_for w.state.sizes) S long q)
+    judged_few commit_later later_few w _ (λ s long. answer_named commit_later later_few w q s long)
 
 pub few_again : (v : Volume) (q : Request) → length (call_again fnv_family (pending_on v) (call_of q)).ops + 1 ≤ 18446744073709551615
 few_again v q = omega (arith, (again_few (pending_on v) q).1)

@@ -24,6 +24,7 @@ use Rattle.calls.specs.Request.{Decided}
 use Rattle.calls.proofs.CallsLaws.{header_fits}
 use Rattle.calls.proofs.FinishLaws.{intent_length, ran_none, ran_all, pages_back}
 use Rattle.calls.proofs.RequestLaws.{change_accepted, none_cut, some_cut, told_cut_lem, fits_still, ran_still}
+use Rattle.state.specs.Judge.{fits_shape}
 use Rattle.calls.proofs.append_change.Goals as goal
 
 -- ---- it is accepted: 7 is asked of no sector
@@ -34,7 +35,7 @@ accepts : (t : Task) (q : Request) (main spare ram : List ℕ) → Decided t q (
 accepts t q main spare ram D room none =
     let v = task_on t main spare ram in
     change_accepted v (call_of q) (shape t.g) (on_pages v) t.edit D.1
-    (change_nothing (shape t.g) (on_pages v) t.edit room D.0.sound.unit.1.some none)
+    (change_nothing t.g (on_pages v) t.edit room none)
 
 pub returns-then-budget-eq0 : goal.returns-then-budget-eq0
 returns-then-budget-eq0 c =
@@ -63,12 +64,12 @@ returns-then-budget-eq1 c =
     (ran_none (layout.unit_of v.state.sizes) whole (memory chip (intended v (call_of x.q))) (memory chip c.intend.new.ram)
     (ap (memory chip) c.intend.ensures)))
 
-pub append-requires-clause-sound : goal.append-requires-clause-sound
-append-requires-clause-sound c =
+pub append-requires-clause-room : goal.append-requires-clause-room
+append-requires-clause-room c =
     let x = c.args in
     let f = (fits_still x.main.now x.spare.now x.ram.now c.intend.new.ram (header_bytes (state_is x.t.state) (intent_words (call_of x.q)))
     c.intend.ensures (intent_length (state_is x.t.state) (call_of x.q)) x.t.state x.t.g c.requires.0.0).1 in
-    rw (pages_part c.intend.new.ram c.pages_end-n.result c.pages_end-n.ensures) (f.sound, c.requires.1, f.long.read.ram_fits)
+    rw (pages_part c.intend.new.ram c.pages_end-n.result c.pages_end-n.ensures) (c.requires.1, f.long.read.ram_fits)
 
 -- ---- all of it
 
@@ -94,9 +95,9 @@ returns c =
     let f = fits_still x.main.now x.spare.now x.ram.now l intent c.intend.ensures size x.t.state x.t.g c.requires.0.0 in
     let r = task_result x.t x.main.now x.spare.now (pages l) 0 in
     let ran = ran_still x.main.now x.spare.now x.ram.now l intent c.intend.ensures size x.t (layout.unit_of v.state.sizes) b
-    (memory chip c.clear.new.ram) done (ap (λ (g : Geometry). g.chip.unit) c.requires.0.0.is)
+    (memory chip c.clear.new.ram) done (ap (λ (g : layout.Geometry). g.u) (fits_shape (on_pages v) x.t.g c.requires.0.0))
     (ran_all x.t.g.chip.unit r b chip chip (record { steps = 0; finished = true }) l c.append.new.ram _
-    (carried_nothing (shape x.t.g) (task_on x.t x.main.now x.spare.now (pages l)) x.t.edit 0 b c.requires.0.0.sound.unit.1.some
+    (carried_nothing x.t.g (task_on x.t x.main.now x.spare.now (pages l)) x.t.edit 0 b
     (omega (arith, some.1)) (omega arith) c.requires.2 _ (rw (pages_part l n.result n.ensures) at (c.append.ensures x.main.now x.spare.now)))
     (pages_back l c.append.new.ram n.result n.ensures) refl f.0 c.clear.new.ram (rw N.ensures at c.clear.ensures)) in
     told_cut_lem true 2 N.result x.t.state x.main.now x.spare.now c.clear.new.ram whole.volume.state _ (ap state_is N.ensures)

@@ -48,9 +48,6 @@ returns-in_err-edit c =
     rw (p.1, p.2)
     (refused_cut_lem v (call_of x.q) x.budget i.field-0.0 (on_pages v) (decided v x.q x.r c.requires (Err i.field-0.0) i.ensures))
 
-pub room_refusal-requires : goal.room_refusal-requires
-room_refusal-requires c = c.requires.1.sound
-
 -- 5 and 6
 pub returns-in_err-room_refusal : goal.returns-in_err-room_refusal
 returns-in_err-room_refusal c =
@@ -63,7 +60,7 @@ returns-in_err-room_refusal c =
     let p = err_from_is_err_and c.from_residual-in_err-room_refusal.result c.from_residual-in_err-room_refusal.ensures.1 in
     rw (p.1, p.2)
     (refused_cut_lem v (call_of x.q) x.budget i.field-0.0 w
-    (change_refused v (call_of x.q) (shape t.g) w t.edit D.1 i.field-0.0 (change_full (shape t.g) w t.edit i.field-0.0 i.ensures)))
+    (change_refused v (call_of x.q) (shape t.g) w t.edit D.1 i.field-0.0 (change_full t.g w t.edit i.field-0.0 i.ensures)))
 
 pub perform_planned-requires : goal.perform_planned-requires
 perform_planned-requires c =

@@ -38,7 +38,7 @@ search-f-requires c =
     let w = on_pages (volume c.args.s c.args.main.now c.args.spare.now c.args.ram.now) in
     let f = c.requires in
     rw (pages_part c.args.ram.now c.pages_end-n.result c.pages_end-n.ensures)
-    (view_fits w c.args.g c.all-v.result c.all-v.ensures f.sound f.long.read f.n_cap f.d_cap)
+    (view_fits w c.args.g c.all-v.result c.all-v.ensures f.long.read f.n_cap f.d_cap)
 
 pub returns-in-Corrupt-clause-equal : goal.returns-in-Corrupt-clause-equal
 returns-in-Corrupt-clause-equal c =

@@ -20,7 +20,7 @@ use Rattle.keys.specs.Key.{key_is}
 use Rattle.keys.specs.declared.Key.{Key}
 use Rattle.state.specs.Contract.{state_is, call_of, volume}
 use Rattle.state.specs.declared.State.{State}
-use Rattle.state.specs.Judge.{judgement_of, VolumeFits}
+use Rattle.state.specs.Judge.{judgement_of, VolumeFits, fits_shape}
 use Rattle.state.specs.declared.Request.{Request}
 use Rattle.state.specs.declared.Refusal.{Refusal}
 use Rattle.state.proofs.Refusals.{refused_by}
@@ -106,9 +106,6 @@ returns-in_err-edit c =
     (restart_refused x.budget v (call_of x.q) c.requires.0 c.requires.1 w on_is i.field-0.0
     (decided w x.q g.g g.ensures.equal c.key_of.result c.key_of.ensures (Ok c.in_ok-r.r) c.in_ok-r.ensures.equal (Err i.field-0.0) i.ensures))
 
-pub room_refusal-requires : goal.room_refusal-requires
-room_refusal-requires c = c.in_ok-g.ensures.fits.sound
-
 -- 5 or 6
 pub returns-in_err-room_refusal : goal.returns-in_err-room_refusal
 returns-in_err-room_refusal c =
@@ -133,12 +130,12 @@ pub plan_of-p-requires : goal.plan_of-p-requires
 plan_of-p-requires c =
     let s = c.state_in-old.result in
     let g = c.in_ok-g in
-    (g.ensures.fits.sound, room_told (shape g.g) s.records s.deletions c.in_ok-edit.edit c.in_ok-room_refusal.ensures)
+    room_told (shape g.g) s.records s.deletions c.in_ok-edit.edit c.in_ok-room_refusal.ensures
 
 pub done-from-requires : goal.done-from-requires
 done-from-requires c =
     let f = c.in_ok-g.ensures.fits in
-    (f.sound, c.plan_of-p.ensures, f.long.spare_fits)
+    (c.plan_of-p.ensures, f.long.spare_fits)
 
 pub finish-progress-requires-clause-header_size_in_bounds : goal.finish-progress-requires-clause-header_size_in_bounds
 finish-progress-requires-clause-header_size_in_bounds c = (c.requires.0, c.in_ok-g.ensures.fits)
@@ -167,4 +164,4 @@ returns c =
     ∙ ap (changed (shape g.g) w (edit_is e)) (sym (c.done-from.ensures x.main.now (pages x.ram.now) f.long.read.ram_fits)) in
     rw (c.cut_after.ensures, c.counted_state.ensures, state_either F.result.finished _ x.s)
     (restart_ran x.budget v (call_of x.q) c.requires.0 c.requires.1 w on_is g.g.chip.unit _
-    (ap (λ (h : Geometry). h.chip.unit) f.is) is refl _ F.result F.ensures)
+    (ap (λ (h : layout.Geometry). h.u) (fits_shape w g.g f)) is refl _ F.result F.ensures)
