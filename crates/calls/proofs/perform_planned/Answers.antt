@@ -14,6 +14,7 @@ use Rattle.changes.specs.Tasks.{changed, task_on}
 use Rattle.calls.proofs.CallsLaws.{header_fits}
 use Rattle.calls.proofs.FinishLaws.{intent_length}
 use Rattle.calls.proofs.RequestLaws.{change_refused, change_accepted, refused_cut_lem, none_cut, some_cut, told_cut_lem, fits_still, ran_still}
+use Rattle.state.specs.Judge.{fits_shape}
 use Rattle.calls.proofs.perform_planned.Goals as goal
 
 -- 7
@@ -70,7 +71,7 @@ returns c =
     let after = memory (flash_of F.new.main F.new.spare) F.new.ram in
     let ran = ran_still x.main.now x.spare.now x.ram.now _ (header_bytes (state_is x.t.state) (intent_words (call_of x.q))) c.intend.ensures
     (intent_length (state_is x.t.state) (call_of x.q)) x.t (layout.unit_of v.state.sizes) (x.budget - 1) after p
-    (ap (λ (g : Geometry). g.chip.unit) c.requires.0.0.is) F.ensures in
+    (ap (λ (g : layout.Geometry). g.u) (fits_shape w x.t.g c.requires.0.0)) F.ensures in
     rw c.cut_after.ensures
     (told_cut_lem p.finished (p.steps + 1) N.result x.t.state F.new.main F.new.spare F.new.ram whole.volume.state _
     (ap state_is N.ensures)
