@@ -9,7 +9,7 @@ ghost use Rattle.fields.specs.Columns.{Column, Split, column_byte};
 
 use words::bits;
 
-// Fields in a row: the row's first byte, bits from a field to the next, first bit taken of each.
+// Fields in a row: the row's first byte, bits from a field to the next, first bit taken of each. How many are taken, each call says.
 #[derive(Clone, Copy)]
 pub struct Source {
     pub at: usize,

@@ -2,11 +2,11 @@
 use mathlib.Core.Path.{◌≡◌, sym, ap, ◌∙◌}
 use mathlib.Core.Bool.{Bool, or-false}
 use Prim.Native.Nat.{ℕ, zero, suc, ◌+◌, ◌*◌, ◌-◌, ◌/◌, ◌%◌, ◌^◌, ◌≤◌, ◌<◌}
-use native.Mathlib.Nat.{mod-lt, mod-eq_of_lt, mul-div_cancel, mul-le-mul_right}
+use native.Mathlib.Nat.{mod-lt, mod-eq_of_lt, mul-div_cancel}
 use native.Mathlib.Omega.{arith}
 use lib.Bits.{bit_and, bit_or, and_high}
 use lib.Dec.{eqb}
-use lib.Pow.{pow_pos, pow-lt, pow-add, pow_mono}
+use lib.Pow.{pow_pos, pow-lt, pow-add}
 use Rattle.memory.specs.Bits.{bit, bit_is, bit_or_lem, bit_shl}
 use Rattle.kernels.proofs.Bits.{bit_over}
 use Rattle.kernels.proofs.Folds.{below}
@@ -85,16 +85,6 @@ above_eight r s i h small =
 -- none yet
 pub pack_none : (f : ℕ → Bool) (s k n : ℕ) → n ≡ 0 → Packed f s k n (2 ^ n) 0
 pack_none f s k n e = record { q = 0; is = omega arith; small = pow_pos n; bits = λ j h. absurd (omega arith) }
-
--- eight at the most
-pub pack_small : (f : ℕ → Bool) (s k n acc : ℕ) → s < 8 → n ≤ 8 → Packed f s k n (2 ^ n) acc → acc < 32768
-pack_small f s k n acc hs hn P =
-    let l : s ≤ 7 = omega arith in
-    let a : 2 ^ s ≤ 2 ^ 7 = pow_mono l in
-    let b : 2 ^ n ≤ 2 ^ 8 = pow_mono hn in
-    let c : P.q ≤ 255 = omega (arith, P.small, b) in
-    let m = mul-le-mul_right (2 ^ s) c in
-    omega (arith, P.is, m, a)
 
 -- all of them
 pub pack_all : (f : ℕ → Bool) (s n k acc : ℕ) → k ≡ 0 → Packed f s k (n - k) (2 ^ (n - k)) acc → Packed f s 0 n (2 ^ n) acc

@@ -31,9 +31,6 @@ module _ (G : ℕ → ℕ → Bool) where
       let ne = t.1 in
       rw (get_or-set_other r j k y 0 ne) (R k a i b ∙ ap (λ (z : Bool). z && G k i) (same (k * 64 + i) (min (j * 64) n) (k * 64 + i) (min ((j + 1) * 64) n) (λ u. omega arith) (λ u. omega arith))))
 
-  pub upto_end : (n m : ℕ) (r : List ℕ) → m ≡ n → Upto G m r → Upto G n r
-  upto_end n m r e R = rw e at R
-
 -- fewer filters
 pub group_fewer : (rows : List Row) (w n m len : ℕ) → m ≤ n → GroupIn rows w n len → GroupIn rows w m len
 group_fewer rows w n m len h G =

@@ -1,7 +1,8 @@
 // Fast passes over rows of bits: which filters have all of their bits, as the bits of words.
 #![tactic(auto)]
 
-ghost use Rattle.std.specs.Prelude.{◌≡◌, true, false, ◌&&◌, ◌||◌, not, ◌≢◌, ◌⊎◌, ℕ, ◌+◌, ◌-◌, ◌*◌, ◌/◌, ◌%◌, ◌^◌, ◌≤◌, ◌<◌, ltb, eqb, length, get_or};
+ghost use Rattle.std.specs.Prelude.{◌≡◌, true, false, ◌&&◌, ◌||◌, not, ◌≢◌, ◌⊎◌, ltb, eqb, length, get_or};
+ghost use Rattle.std.specs.Prelude.{ℕ, ◌+◌, ◌-◌, ◌*◌, ◌/◌, ◌%◌, ◌^◌, ◌≤◌, ◌<◌};
 ghost use Rattle.std.specs.Int.Bits.{bit_and, bit_or};
 ghost use Rattle.memory.specs.Bits.{bit, bit_in};
 ghost use Rattle.memory.specs.Ranges.{any};
@@ -135,7 +136,7 @@ fn join(y: u64, s: usize, m: u64) -> u64
     (y | (y >> s)) & m
 }
 
-// Every w-th bit of a word, side by side; not at w = 4, which `quarters` does.
+// Every w-th bit of a word, side by side; not at w = 4, which `quarters` does. A loop for all widths would need tables of shifts and masks.
 fn squeeze(x: u64, w: usize) -> u64
     requires { ((e : ℕ) × (0 < e) × (e < 7) × (w ≡ 2 ^ e)) × (w ≢ 4) }
     ensures { Squeezed w x result }
@@ -256,7 +257,7 @@ fn passed(w: usize, from: usize, m: usize, rows: &[Row], bytes: &[u8]) -> u64
     lowest(a, m)
 }
 
-// Eight words: n filters from `first` on, at w = 8 and more, 64 of them to a word.
+// Eight words: n filters from `first` on, at w = 8 and more, 64 to a word. No twin of `few_block`: a word comes out of several blocks.
 fn wide_block(w: usize, first: usize, n: usize, rows: &[Row], bytes: &[u8]) -> [u64; 8]
     requires { (7 < w) × (n ≤ 512) × (first % 64 ≡ 0) × GroupIn rows.now w (first + n) (length bytes.now) }
     ensures { OpenBlock (all_in bytes.now rows.now w) first n result }
@@ -306,8 +307,8 @@ fn few_block<const W: usize>(first: usize, n: usize, rows: &[Row], bytes: &[u8])
     part(r, n)
 }
 
-// Which of the n filters from `first` on, 512 at the most, have all bits of their rows, 64 to a word. A row has w bits of each filter, 64 at
-// the most, of which `low` counts, and is read in whole blocks of 64 bytes; `first` is a multiple of 512.
+// Which of the n filters from `first` on, 512 at the most, have all bits of their rows, 64 to a word. A row has w bits of each filter, 64
+// at the most, of which `low` counts, and is read in whole blocks of 64 bytes; `first` is a multiple of 512.
 pub fn block(w: usize, first: usize, n: usize, rows: &[Row], bytes: &[u8]) -> [u64; 8]
     requires { (0 < n) × (n ≤ 512) × (first % 512 ≡ 0)
         × GroupIn rows.now w (first + n) (length bytes.now) }
