@@ -3,7 +3,7 @@ use mathlib.Core.Path.{◌≡◌, refl, ap, ◌∙◌}
 use mathlib.Core.Bool.{Bool}
 use mathlib.Core.List.{List}
 use Prim.Native.Nat.{ℕ, suc, ◌+◌, ◌-◌, ◌*◌, ◌≤◌, ◌<◌}
-use native.Mathlib.Nat.{mul-le-mul_right, not-suc-le-zero}
+use native.Mathlib.Nat.{mul-le-mul_right}
 use native.Mathlib.Omega.{arith}
 use lib.ListN.{length, get_or, take, drop}
 use Rattle.memory.specs.Bits.{pack, pack_ext}
@@ -22,20 +22,8 @@ pub record Putting (piece k f : ℕ) (B : ℕ → Bool) (r r' : List ℕ) : Type
   pub other : (i e y : ℕ) → e < 2 → (e ≡ f → ⊥) → y < piece
       → get_or r' (i * (2 * piece) + (e * piece + y)) 0 ≡ get_or r (i * (2 * piece) + (e * piece + y)) 0
 
-pub none_put : (piece f : ℕ) (B : ℕ → Bool) (r : List ℕ) → length r ≡ 512 → Putting piece 0 f B r r
-none_put piece f B r e = record { size = e; there = λ i y h. absurd (not-suc-le-zero h); other = λ i e y a b c. refl }
-
--- all four
-pub all_put : (u piece k f : ℕ) (B : ℕ → Bool) (r r' : List ℕ) → piece ≡ fourth_size u → k ≡ 4 → Putting piece k f B r r' → FilterPut u f B r r'
-all_put u piece k f B r r' e n P =
-    let s : 8 * (2 * u) ≡ 16 * u = omega arith in
-    record { there = rw (n, e, s) at P.there; other = λ i e' y a. rw e at P.other i e' y }
-
 pub in_filter : (u piece i : ℕ) → piece ≡ fourth_size u → i < 4 → u ≤ 32 → i * piece + piece ≤ 256
 in_filter u piece i e h small = rw e (omega (arith, mul-le-mul_right (2 * u) h, small))
-
-pub in_both : (u piece i f : ℕ) → piece ≡ fourth_size u → i < 4 → f < 2 → u ≤ 32 → i * piece + i * piece + f * piece + piece ≤ 512
-in_both u piece i f e h k small = rw e (omega (arith, mul-le-mul_right (2 * u) h, mul-le-mul_right (2 * u) k, small))
 
 -- ---- one turn
 

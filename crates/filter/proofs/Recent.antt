@@ -7,7 +7,8 @@ use native.Mathlib.Nat.{mul-le-mul_right}
 use native.Mathlib.Omega.{arith}
 use borrow.Author.Tests.{lt-ltb, le-ltb}
 use lib.Dec.{ltb}
-use lib.ListN.{length, get_or, take}
+use lib.ListN.{length, get_or}
+use lib.Seq.{take-length}
 use Rattle.memory.specs.Bits.{bit, bit_in, bit_zero}
 use Rattle.memory.specs.Cases.{either, lt?}
 use Rattle.memory.specs.Numbers.{euclid, div_lt}
@@ -16,9 +17,9 @@ use Rattle.layout.specs.Index.{Index, filter_bit, in_full, in_set}
 use Rattle.laws.specs.Units.{UnitIs}
 use Rattle.kernels.specs.Blocks.{Open, Upto}
 use Rattle.kernels.specs.Masks.{has_mask}
-use Rattle.filter.specs.Blocks.{BlockOf, BlockAt}
+use Rattle.filter.specs.Blocks.{BlockAt}
 use Rattle.filter.specs.Filter.{IndexFits}
-use Rattle.filter.specs.Groups.{row_at, level_has, ska_level, l1_level}
+use Rattle.filter.specs.Groups.{row_at, ska_level, l1_level}
 use Rattle.filter.specs.Recent.{MaskOf, OneRow, recent_has, RecentIn, RecentOf}
 use Rattle.filter.specs.declared.groups.Block.{Block}
 use Rattle.filter.specs.declared.groups.Recent.{Recent}
@@ -38,23 +39,23 @@ open_map G H a b m r e R i h =
 
 -- ---- a mask in L1 and in the SKA page
 
-module _ (rs : Recent) (count : ℕ) (ps main ram : List ℕ) (m w : ℕ) (R : RecentIn rs count ps (length main) (length ram)) (eight : count ≤ length ps)
-    (is : 2 ^ rs.l1.exponent ≡ w) (top : w ≤ 64) (M : MaskOf ps count w m) (one : OneRow ps count rs.l1.exponent) where
+module _ (rs : Recent) (ps main ram : List ℕ) (m w : ℕ) (R : RecentIn rs ps (length main) (length ram))
+    (is : 2 ^ rs.l1.exponent ≡ w) (top : w ≤ 64) (M : MaskOf ps (length ps) w m) (one : OneRow ps (length ps) rs.l1.exponent) where
   pub l1_gate : (g : ℕ) → g < rs.ska.start - rs.l1.start
-      → has_mask main (row_at rs.l1 (get_or ps 0 0)) w m g ≡ recent_has rs main ram (take count ps) (rs.l1.start + g)
+      → has_mask main (row_at rs.l1 (get_or ps 0 0)) w m g ≡ recent_has rs main ram ps (rs.l1.start + g)
   l1_gate g h =
       let e : rs.l1.start + g - rs.l1.start ≡ g = omega arith in
       rw (lt-ltb (rs.l1.start + g) rs.ska.start (omega arith), e, ← is)
-      (level_mask rs.l1 ps count m eight (omega (arith, is, top)) (λ b l. rw is (M b l)) one main g)
+      (rw take-length at (level_mask rs.l1 ps (length ps) m (omega arith) (omega (arith, is, top)) (λ b l. rw is (M b l)) one main g))
 
   pub ska_gate : (g : ℕ)
-      → has_mask ram (row_at rs.ska (get_or ps 0 0)) w m g ≡ recent_has rs main ram (take count ps) (rs.l1.start + (rs.ska.start - rs.l1.start + g))
+      → has_mask ram (row_at rs.ska (get_or ps 0 0)) w m g ≡ recent_has rs main ram ps (rs.l1.start + (rs.ska.start - rs.l1.start + g))
   ska_gate g =
       let s : 2 ^ rs.ska.exponent ≡ w = ap (λ (e : ℕ). 2 ^ e) R.same ∙ is in
       let o = R.same in
       let e : rs.l1.start + (rs.ska.start - rs.l1.start + g) - rs.ska.start ≡ g = omega (arith, R.order) in
       rw (le-ltb (rs.l1.start + (rs.ska.start - rs.l1.start + g)) rs.ska.start (omega (arith, R.order)), e, ← s)
-      (level_mask rs.ska ps count m eight (omega (arith, s, top)) (λ b l. rw s (M b l)) (λ i l. rw o (one i l)) ram g)
+      (rw take-length at (level_mask rs.ska ps (length ps) m (omega arith) (omega (arith, s, top)) (λ b l. rw s (M b l)) (λ i l. rw o (one i l)) ram g))
 
 -- 64 filters further on
 pub mask_later : (bytes : List ℕ) (row w m g : ℕ) → has_mask bytes (row + 8 * w) w m g ≡ has_mask bytes row w m (64 + g)
@@ -116,20 +117,6 @@ recent_two rs main ram ps a b lt le A B =
 
 -- ---- the block of the index
 
--- the block of the SKA page, where L1 has none
-pub recent_few : (rs : Recent) (main ram ps : List ℕ) (b : Block) → rs.ska.start ≡ rs.l1.start
-    → BlockOf rs.ska ram rs.below ps b → RecentOf rs main ram ps b
-recent_few rs main ram ps b e B =
-    record {
-      start_le = omega (arith, B.start_le);
-      start_lt = B.start_lt;
-      few = B.few;
-      pairs = rw (← e) B.pairs;
-      shown = upto_same (λ j i. level_has rs.ska ram ps (b.start + (j * 64 + i) - rs.ska.start)) (λ j i. recent_has rs main ram ps (b.start + (j * 64 + i)))
-          (rs.below - b.start) b.words
-          (λ j i h. rw (le-ltb (b.start + (j * 64 + i)) rs.ska.start (omega (arith, B.start_le)))) B.shown;
-    }
-
 -- whole rounds are in sets
 pub rounds_are : (u F : ℕ) → 0 < u → in_full u F * (128 * (4 * u)) + 128 * in_set u F ≡ F / 128 * 128
 rounds_are u F p =
@@ -166,11 +153,11 @@ module _ (u e F Z : ℕ) (ix : Index) (main ram : List ℕ) (S : UnitIs u e) (I 
       }
 
   -- the row of the positions
-  pub recent_in : (below count : ℕ) (ps : List ℕ) → below ≤ F → F / 128 * 128 < below → ((i : ℕ) → i < count → get_or ps i 0 < 64 * u)
-      → RecentIn (recent_of below) count ps (length main) (length ram)
-  recent_in below count ps le lt low =
+  pub recent_in : (below : ℕ) (ps : List ℕ) → below ≤ F → F / 128 * 128 < below → ((i : ℕ) → i < length ps → get_or ps i 0 < 64 * u)
+      → RecentIn (recent_of below) ps (length main) (length ram)
+  recent_in below ps le lt low =
       let p : 2 ^ (e + 4) ≡ 16 * u = power_4 u e S in
-      let q : (i : ℕ) → i < count → get_or ps i 0 / (16 * u) < 4 = λ i h. div_lt (get_or ps i 0) (16 * u) 4 (omega (arith, S.some)) (omega (arith, low i h)) in
+      let q : (i : ℕ) → i < length ps → get_or ps i 0 / (16 * u) < 4 = λ i h. div_lt (get_or ps i 0) (16 * u) 4 (omega (arith, S.some)) (omega (arith, low i h)) in
       record {
         some = omega arith;
         narrow = omega (arith, S.small);

@@ -8,7 +8,7 @@ use native.Mathlib.Nat.{mul-le-mul_right}
 use native.Mathlib.Omega.{arith}
 use borrow.Author.Tests.{lt-ltb, le-ltb}
 use lib.Dec.{ltb}
-use lib.ListN.{get_or}
+use lib.ListN.{length, get_or}
 use lib.Pow.{pow_mono}
 use Rattle.memory.specs.Bits.{bit, bit_in}
 use Rattle.memory.specs.Cases.{either, lt?}
@@ -102,19 +102,19 @@ module _ (A S B first top n : ℕ) (low : first ≤ 64) (whole : first % 64 ≡ 
 -- ---- what the loop works with
 
 -- a filter has w bits in a row; of position k, the bits of the word from `first` on: n eights of L1's row, and those of the SKA page's from `top` on
-pub record WordIn (rs : Recent) (first count : ℕ) (ps : List ℕ) (main ram w top n k row other : ℕ) : Type 0 where
-  pub recent : RecentIn rs count ps main ram
+pub record WordIn (rs : Recent) (first : ℕ) (ps : List ℕ) (main ram w top n k row other : ℕ) : Type 0 where
+  pub recent : RecentIn rs ps main ram
   pub low : first ≤ 64
   pub whole : first % 64 ≡ 0
   pub some : rs.l1.start + first < rs.below
   pub w_is : w ≡ 2 ^ rs.l1.exponent
   pub top_is : top ≡ min rs.below rs.ska.start
   pub n_is : n ≡ min ((top - rs.l1.start + 7) / 8 - first / 8) 8
-  pub one : k < count
+  pub one : k < length ps
   pub row_is : row ≡ row_at rs.l1 (get_or ps k 0)
   pub other_is : other ≡ row_at rs.ska (get_or ps k 0)
 
-module _ {rs : Recent} {first count : ℕ} {ps : List ℕ} {main ram w top n k row other : ℕ} (Q : WordIn rs first count ps main ram w top n k row other) where
+module _ {rs : Recent} {first : ℕ} {ps : List ℕ} {main ram w top n k row other : ℕ} (Q : WordIn rs first ps main ram w top n k row other) where
   pub steps : w / 8 * 8 ≡ w
   steps = eighth rs.l1.exponent w Q.w_is Q.recent.some
 
@@ -131,9 +131,6 @@ module _ {rs : Recent} {first count : ℕ} {ps : List ℕ} {main ram w top n k r
 
   pub behind : rs.below - top ≤ 8
   behind = omega (arith, Q.top_is, Q.recent.below_le)
-
-  pub top_le : top ≤ rs.below
-  top_le = omega (arith, Q.top_is)
 
   pub n_le : n ≤ 8
   n_le = omega (arith, Q.n_is)
@@ -190,7 +187,7 @@ open_whole : (gate : ℕ → Bool) (first k n r : ℕ) → k ≡ 64 → n ≡ 64
 unfolding Shows Open
 open_whole gate first k n r e z R i h = rw (lt-ltb i k (omega arith)) (R i (omega arith))
 
-module _ (rs : Recent) (count : ℕ) (all : List ℕ) (len_main len_ram : ℕ) (I : RecentIn rs count all len_main len_ram) (main ram ps : List ℕ) where
+module _ (rs : Recent) (main ram ps : List ℕ) (I : RecentIn rs ps (length main) (length ram)) where
   -- is the filter open, counted from L1's first
   abbrev gate : ℕ → Bool
   gate g = recent_has rs main ram ps (rs.l1.start + g)

@@ -1,12 +1,12 @@
 -- Filters of two bytes since the last round: the block out of the words of those that are shut, L1's and then those of the SKA page.
-use mathlib.Core.Path.{◌≡◌, refl, sym, ap, ◌∙◌}
+use mathlib.Core.Path.{◌≡◌, sym, ap, ◌∙◌}
 use mathlib.Core.Logic.{◌⊎◌, inl, inr}
 use mathlib.Core.Bool.{Bool, ◌&&◌, not}
 use mathlib.Core.List.{List, [], ◌∷◌}
 use Prim.Native.Nat.{ℕ, ◌+◌, ◌*◌, ◌-◌, ◌/◌, ◌%◌, ◌^◌, ◌≤◌, ◌<◌, min}
 use native.Mathlib.Omega.{arith}
 use borrow.Author.Tests.{lt-ltb}
-use lib.ListN.{length, get_or, take}
+use lib.ListN.{length, get_or}
 use Rattle.memory.specs.Bits.{bit_zero}
 use Rattle.memory.specs.Cases.{either, lt?}
 use Rattle.kernels.specs.Blocks.{Open, Upto, open_none}
@@ -93,7 +93,7 @@ some_many words less L h = omega arith
 past_64 : (words g d : ℕ) → 16 ≤ words → 4 * words ≡ d → 64 + (4 * (words - 16) + g) ≡ d + g
 past_64 words g d h e = omega arith
 
-module _ (rs : Recent) (count : ℕ) (ps : List ℕ) (main ram : ℕ) (R : RecentIn rs count ps main ram) where
+module _ (rs : Recent) (ps : List ℕ) (main ram : ℕ) (R : RecentIn rs ps main ram) where
   abbrev s : ℕ
   s = rs.l1.start
 
@@ -114,35 +114,26 @@ module _ (rs : Recent) (count : ℕ) (ps : List ℕ) (main ram : ℕ) (R : Recen
         (λ h. inr (parts_2 s t rs.below top words (omega (arith, h.1)) W R.flushes R.order R.below_le h.1))
         (λ h. inl (parts_1 s rs.below top words (omega (arith, h.1)) W))
 
-    pub few_more : (rs.below - top + 3) / 4 ≤ 2
-    few_more = omega (arith, R.below_le)
-
     pub few_words : words ≤ 31
     few_words = omega (arith, whole, R.round)
-
-  pub on_flash_256 : 0 < count → rs.l1.exponent ≡ 4 → row_at rs.l1 (get_or ps 0 0) + 256 ≤ main
-  on_flash_256 h four = let w : 2 ^ rs.l1.exponent ≡ 16 = rw four refl in omega (arith, R.on_flash_lem 0 h, w)
-
-  pub in_ram_16 : 0 < count → rs.l1.exponent ≡ 4 → row_at rs.ska (get_or ps 0 0) + 16 ≤ ram
-  in_ram_16 h four = let w : 2 ^ rs.l1.exponent ≡ 16 = rw four refl in omega (arith, R.in_ram_lem 0 h, w)
 
   pub size : (0 < rs.below - rs.l1.start) × (rs.below - rs.l1.start ≤ 128)
   size = (omega (arith, R.start_lt), omega (arith, R.below_le, R.round, R.flushes, R.order))
 
-module _ (rs : Recent) (count : ℕ) (ps main ram : List ℕ) (R : RecentIn rs count ps (length main) (length ram)) (four : rs.l1.exponent ≡ 4)
-    (few : count ≤ length ps) (m : ℕ) (M : MaskOf ps count 16 m) (one : OneRow ps count 4) where
+module _ (rs : Recent) (ps main ram : List ℕ) (R : RecentIn rs ps (length main) (length ram)) (four : rs.l1.exponent ≡ 4)
+    (m : ℕ) (M : MaskOf ps (length ps) 16 m) (one : OneRow ps (length ps) 4) where
   -- filter g from L1's first on
   abbrev pub gate : ℕ → Bool
-  gate g = recent_has rs main ram (take count ps) (rs.l1.start + g)
+  gate g = recent_has rs main ram ps (rs.l1.start + g)
 
   width : 2 ^ rs.l1.exponent ≡ 16
   width = ap (λ (e : ℕ). 2 ^ e) four
 
   of_l1 : (g : ℕ) → g < rs.ska.start - rs.l1.start → gate g ≡ has_mask main (row_at rs.l1 (get_or ps 0 0)) 16 m g
-  of_l1 g h = sym (l1_gate rs count ps main ram m 16 R few width (omega arith) M (rw four one) g h)
+  of_l1 g h = sym (l1_gate rs ps main ram m 16 R width (omega arith) M (rw four one) g h)
 
   of_ska : (g : ℕ) → gate (rs.ska.start - rs.l1.start + g) ≡ has_mask ram (row_at rs.ska (get_or ps 0 0)) 16 m g
-  of_ska g = sym (ska_gate rs count ps main ram m 16 R few width (omega arith) M (rw four one) g)
+  of_ska g = sym (ska_gate rs ps main ram m 16 R width (omega arith) M (rw four one) g)
 
   module _ (top words less row at a b : ℕ) (T : top ≡ min rs.below rs.ska.start) (W : words ≡ (top - rs.l1.start + 3) / 4) (L : less ≡ min words 16)
       (E : row ≡ row_at rs.l1 (get_or ps 0 0)) (F : at ≡ row_at rs.ska (get_or ps 0 0))
@@ -154,13 +145,13 @@ module _ (rs : Recent) (count : ℕ) (ps main ram : List ℕ) (R : RecentIn rs c
     more = (rs.below - top + 3) / 4
 
     whole_words : 4 * words ≤ rs.ska.start - rs.l1.start
-    whole_words = whole rs count ps (length main) (length ram) R top words T W
+    whole_words = whole rs ps (length main) (length ram) R top words T W
 
     behind_words : (g : ℕ) → g < 4 * more → 4 * words ≡ rs.ska.start - rs.l1.start
-    behind_words = behind rs count ps (length main) (length ram) R top words T W
+    behind_words = behind rs ps (length main) (length ram) R top words T W
 
     in_parts : Parts n words (rs.below - top)
-    in_parts = parts rs count ps (length main) (length ram) R top words T W
+    in_parts = parts rs ps (length main) (length ram) R top words T W
 
     first : Shut gate less a
     first =
@@ -192,7 +183,7 @@ module _ (rs : Recent) (count : ℕ) (ps main ram : List ℕ) (R : RecentIn rs c
       shut_many le C =
           let e = some_many words less L le in
           let q : less ≡ (min n 64 + 3) / 4 = e ∙ sum_many n words (rs.below - top) in_parts le in
-          let k : words ≤ 31 = few_words rs count ps (length main) (length ram) R top words T W in (
+          let k : words ≤ 31 = few_words rs ps (length main) (length ram) R top words T W in (
             rw q at first,
             rw (rest_many n words (rs.below - top) in_parts le) at
                 (C (λ g. gate (64 + g)) (words - 16) (room_many n words (rs.below - top) in_parts le k) (rw e at second)
@@ -201,7 +192,7 @@ module _ (rs : Recent) (count : ℕ) (ps main ram : List ℕ) (R : RecentIn rs c
 
   -- the block
   pub recent_shown : (b : Block) → b.start ≡ rs.l1.start → Upto (λ j i. gate (j * 64 + i)) (rs.below - rs.l1.start) b.words
-      → RecentOf rs main ram (take count ps) b
+      → RecentOf rs main ram ps b
   recent_shown b e U =
       record {
         start_le = omega (arith, e);

@@ -7,7 +7,7 @@ use native.Mathlib.Omega.{arith}
 use borrow.Author.Tests.{lt-ltb, le-ltb}
 use lib.Bits.{bit_or}
 use lib.Dec.{ltb}
-use lib.ListN.{length, get_or, take}
+use lib.ListN.{length, get_or}
 use lib.Pow.{pow_pos}
 use Rattle.memory.specs.Bits.{bit, bit_or_lem, bit_zero, bit_mod, bit_low, bit_high}
 use Rattle.memory.specs.Cases.{either, lt?}
@@ -103,19 +103,19 @@ zero_add all = omega arith
 back : (all : ℕ) → 64 ≤ all → 64 + (all - 64) ≡ all
 back all h = omega arith
 
-module _ (rs : Recent) (count : ℕ) (ps main ram : List ℕ) (m all few more a b c : ℕ) (R : RecentIn rs count ps (length main) (length ram)) (eight : count ≤ length ps)
-    (six : rs.l1.exponent ≡ 6) (one : OneRow ps count 6) (M : MaskOf ps count 64 m) (all_is : all ≡ min rs.below rs.ska.start - rs.l1.start)
+module _ (rs : Recent) (ps main ram : List ℕ) (m all few more a b c : ℕ) (R : RecentIn rs ps (length main) (length ram))
+    (six : rs.l1.exponent ≡ 6) (one : OneRow ps (length ps) 6) (M : MaskOf ps (length ps) 64 m) (all_is : all ≡ min rs.below rs.ska.start - rs.l1.start)
     (few_is : few ≡ min all 64) (more_is : more ≡ rs.below - min rs.below rs.ska.start)
     (A : Open (has_mask main (row_at rs.l1 (get_or ps 0 0)) 64 m) 0 few a) (B : Open (has_mask main (row_at rs.l1 (get_or ps 0 0) + 512) 64 m) 0 (all - few) b)
     (C : Open (has_mask ram (row_at rs.ska (get_or ps 0 0)) 64 m) 0 more c) where
   width : 2 ^ rs.l1.exponent ≡ 64
   width = ap (λ (e : ℕ). 2 ^ e) six
 
-  in_row : OneRow ps count rs.l1.exponent
+  in_row : OneRow ps (length ps) rs.l1.exponent
   in_row = rw six one
 
   abbrev gate : ℕ → Bool
-  gate g = recent_has rs main ram (take count ps) (rs.l1.start + g)
+  gate g = recent_has rs main ram ps (rs.l1.start + g)
 
   abbrev n : ℕ
   n = rs.below - rs.l1.start
@@ -126,14 +126,14 @@ module _ (rs : Recent) (count : ℕ) (ps main ram : List ℕ) (m all few more a 
       open_map (has_mask main (row_at rs.l1 (get_or ps 0 0)) 64 m) gate 0 0 few a
       (λ i l.
       let z : 0 + i ≡ i = omega arith in
-      rw z (l1_gate rs count ps main ram m 64 R eight width (omega arith) M in_row i (omega (arith, R.order, R.start_lt)))) A
+      rw z (l1_gate rs ps main ram m 64 R width (omega arith) M in_row i (omega (arith, R.order, R.start_lt)))) A
 
   second : Open gate 64 (all - few) b
   second =
       open_map (has_mask main (row_at rs.l1 (get_or ps 0 0) + 512) 64 m) gate 0 64 (all - few) b
       (λ i l.
       let z : 0 + i ≡ i = omega arith in
-      rw z (mask_later main (row_at rs.l1 (get_or ps 0 0)) 64 m i ∙ l1_gate rs count ps main ram m 64 R eight width (omega arith) M in_row (64 + i) (omega (arith, R.order, R.start_lt)))) B
+      rw z (mask_later main (row_at rs.l1 (get_or ps 0 0)) 64 m i ∙ l1_gate rs ps main ram m 64 R width (omega arith) M in_row (64 + i) (omega (arith, R.order, R.start_lt)))) B
 
   -- those behind them
   third : Open gate all more c
@@ -142,10 +142,10 @@ module _ (rs : Recent) (count : ℕ) (ps main ram : List ℕ) (m all few more a 
       (λ i l.
       let z : 0 + i ≡ i = omega arith in
       let d : all ≡ rs.ska.start - rs.l1.start = omega (arith, R.order, R.start_lt) in
-      rw (z, d) (ska_gate rs count ps main ram m 64 R eight width (omega arith) M in_row i)) C
+      rw (z, d) (ska_gate rs ps main ram m 64 R width (omega arith) M in_row i)) C
 
   pub words_low : all < 64
-      → RecentOf rs main ram (take count ps) (record { start = rs.l1.start; words = bit_or a ((c * 2 ^ all) % 2 ^ 64) ∷ 0 ∷ 0 ∷ 0 ∷ 0 ∷ 0 ∷ 0 ∷ 0 ∷ [] })
+      → RecentOf rs main ram ps (record { start = rs.l1.start; words = bit_or a ((c * 2 ^ all) % 2 ^ 64) ∷ 0 ∷ 0 ∷ 0 ∷ 0 ∷ 0 ∷ 0 ∷ 0 ∷ [] })
   words_low h =
       let q = sum rs.l1.start rs.ska.start rs.below all more all_is more_is R.order R.start_lt in
       let k = fits rs.l1.start rs.ska.start rs.below all all_is R.order R.flushes R.start_lt R.below_le h in
@@ -153,12 +153,12 @@ module _ (rs : Recent) (count : ℕ) (ps main ram : List ℕ) (m all few more a 
       let s = low_all few all more n few_is q k in
       let t = low_rest few all more n few_is q k in
       let z : 0 + all ≡ all = zero_add all in
-      recent_two rs main ram (take count ps) (bit_or a ((c * 2 ^ all) % 2 ^ 64)) 0 R.start_lt (under_round rs.below rs.l1.start k)
+      recent_two rs main ram ps (bit_or a ((c * 2 ^ all) % 2 ^ 64)) 0 R.start_lt (under_round rs.below rs.l1.start k)
       (rw s at (open_join gate 0 all more a c (rw q k) (rw f at first) (rw z third)))
       (open_none gate 64 (n - 64) t)
 
   pub words_high : 64 ≤ all
-      → RecentOf rs main ram (take count ps) (record { start = rs.l1.start; words = a ∷ bit_or b ((c * 2 ^ (all - 64)) % 2 ^ 64) ∷ 0 ∷ 0 ∷ 0 ∷ 0 ∷ 0 ∷ 0 ∷ [] })
+      → RecentOf rs main ram ps (record { start = rs.l1.start; words = a ∷ bit_or b ((c * 2 ^ (all - 64)) % 2 ^ 64) ∷ 0 ∷ 0 ∷ 0 ∷ 0 ∷ 0 ∷ 0 ∷ [] })
   words_high h =
       let q = sum rs.l1.start rs.ska.start rs.below all more all_is more_is R.order R.start_lt in
       let r = most rs.l1.start rs.ska.start rs.below R.order R.flushes R.round R.below_le in
@@ -166,6 +166,6 @@ module _ (rs : Recent) (count : ℕ) (ps main ram : List ℕ) (m all few more a 
       let k = high_more few all more n few_is q h in
       let s = high_all few all more n few_is q h in
       let t = back all h in
-      recent_two rs main ram (take count ps) a (bit_or b ((c * 2 ^ (all - 64)) % 2 ^ 64)) R.start_lt (under rs.below rs.l1.start 128 r)
+      recent_two rs main ram ps a (bit_or b ((c * 2 ^ (all - 64)) % 2 ^ 64)) R.start_lt (under rs.below rs.l1.start 128 r)
       (rw f at first)
       (rw s at (open_join gate 64 (all - 64) more b c (high_fits few all more n few_is q h r) (rw k at second) (rw t third)))

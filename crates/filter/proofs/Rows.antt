@@ -1,15 +1,16 @@
 -- Rows of several positions, one after another: filled in, and the test of all bits.
 use mathlib.Core.Path.{◌≡◌, refl, sym, ap, ◌∙◌}
-use mathlib.Core.Bool.{Bool, true, false, ◌&&◌, and_comm, and-true}
+use mathlib.Core.Bool.{Bool, true, false, ◌&&◌, and_comm}
 use mathlib.Core.List.{List, [], ◌∷◌}
 use Prim.Native.Nat.{ℕ, zero, suc, ◌+◌, ◌*◌, ◌-◌, ◌%◌, ◌^◌, ◌≤◌, ◌<◌}
 use native.Mathlib.Numerals.{add-one}
 use native.Mathlib.Omega.{arith}
-use borrow.Author.Tests.{lt-ltb, le-ltb}
+use borrow.Author.Tests.{le-ltb}
 use lib.Bits.{bit_and}
 use lib.Dec.{ltb}
 use lib.ListN.{length, get_or, take}
-use Rattle.memory.specs.Bits.{bit, bit_in, pack, bit_pack, bit_zero, bit_high, bit_and_lem}
+use Rattle.std.proofs.lemmas.List.{get_or-take, length-take}
+use Rattle.memory.specs.Bits.{bit, bit_in, pack, bit_pack, bit_zero, bit_and_lem}
 use Rattle.memory.specs.Cases.{either, lt?}
 use Rattle.memory.specs.Lists.{Done}
 use Rattle.memory.specs.Ranges.{all_of}
@@ -25,6 +26,16 @@ use Rattle.filter.proofs.Levels.{Lies, LevelAt}
 -- the first i elements of an array are those of f
 abbrev pub Filled : (ℕ → ℕ) → ℕ → List ℕ → Type 0
 Filled f i l = (length l ≡ 8) × Done f l i
+
+-- has filter g of a level position x
+abbrev pub has_position : Level → List ℕ → ℕ → ℕ → Bool
+has_position l bytes x g = bit_in bytes (row_at l x) (g * 2 ^ l.exponent + x % 2 ^ l.exponent)
+
+-- what holds of the first k positions holds of the slice with them
+pub front : (P : ℕ → Type 0) (ps : List ℕ) (k : ℕ) → ((i : ℕ) → i < k → P (get_or ps i 0)) → (i : ℕ) → i < length (take k ps) → P (get_or (take k ps) i 0)
+front P ps k H i h =
+    let l : i < k = omega (arith, length-take k ps) in
+    rw (get_or-take k ps i 0 l) (H i l)
 
 -- ---- the test of the first positions, from the last on
 
@@ -74,24 +85,10 @@ module _ (F : ℕ → ℕ → Bool) (ps : List ℕ) (first m : ℕ) where
   unfolding Shows all_of
   tested_none h i l = all_ones i (omega arith)
 
-  pub tested_one : 0 < length ps → (r : ℕ) → One 0 r → Tested 1 r
-  unfolding Shows all_of
-  tested_one h r R i l = R i l ∙ sym (all_take (λ x. F x (first + i)) ps 0 h ∙ and-true (F (get_or ps 0 0) (first + i)))
-
   pub tested_more : (k : ℕ) → k < length ps → (r y : ℕ) → Tested k r → One k y → Tested (k + 1) (bit_and r y)
   unfolding Shows
   tested_more k h r y R Y i l =
       rw add-one (bit_and_lem r y i ∙ (and_comm (bit r i) (bit y i) ∙ rw (Y i l, R i l) (sym (all_take (λ x. F x (first + i)) ps k h))))
-
--- a number of n bits has no bit from n on
-pub bits_only : (n r i : ℕ) → r < 2 ^ n → bit r i ≡ (ltb i n && bit r i)
-bits_only n r i h =
-    either (lt? i n)
-    (λ t. rw (lt-ltb i n t.1))
-    (λ t.
-    let e : r ≡ 0 * 2 ^ n + r = omega arith in
-    let k : i ≡ n + (i - n) = omega (arith, t.1) in
-    rw (le-ltb i n t.1) (ap (λ (z : ℕ). bit z i) e ∙ (ap (bit (0 * 2 ^ n + r)) k ∙ (bit_high n 0 r (i - n) h ∙ bit_zero (i - n)))))
 
 -- ---- blocks
 
@@ -146,11 +143,12 @@ module _ (l : Level) (bytes : List ℕ) (below : ℕ) (ps : List ℕ) where
       }
 
   -- one word of all the level's filters
-  pub few_block : (n r : ℕ) → below - l.start ≡ n → l.start < below → n ≤ 64 → r < 2 ^ n → Shows (level_has l bytes ps) 0 n r
-      → BlockOf l bytes below ps (record { start = l.start; words = r ∷ 0 ∷ 0 ∷ 0 ∷ 0 ∷ 0 ∷ 0 ∷ 0 ∷ [] })
-  few_block n r is lt few small R =
+  pub few_block : (n r y : ℕ) → below - l.start ≡ n → l.start < below → n ≤ 64 → Shows (level_has l bytes ps) 0 n r
+      → ((i : ℕ) → i < 64 → bit y i ≡ (ltb i n && bit r i))
+      → BlockOf l bytes below ps (record { start = l.start; words = y ∷ 0 ∷ 0 ∷ 0 ∷ 0 ∷ 0 ∷ 0 ∷ 0 ∷ [] })
+  few_block n r y is lt few R Y =
       let e : l.start + 0 ≡ l.start = omega arith in
-      rw e at (word_block 0 n n r r (omega arith) lt (omega arith) few (omega arith) (omega arith) R (λ i h. bits_only n r i small))
+      rw e at (word_block 0 n n r y (omega arith) lt (omega arith) few (omega arith) (omega arith) R Y)
 
   -- eight words
   pub words_block : (gate : ℕ → Bool) (first n : ℕ) (words : List ℕ) → below - l.start ≡ first + n → l.start < below → 0 < n → n ≤ 512 → first % 2 ≡ 0

@@ -3,14 +3,14 @@ use mathlib.Core.Path.{◌≡◌, refl, sym, ap, ◌∙◌}
 use mathlib.Core.Logic.{◌≢◌}
 use mathlib.Core.Bool.{Bool, true, false, ◌||◌, or_comm}
 use mathlib.Core.List.{List}
-use Prim.Native.Nat.{ℕ, zero, suc, ◌+◌, ◌-◌, ◌*◌, ◌/◌, ◌%◌, ◌^◌, ◌≤◌, ◌<◌}
-use native.Mathlib.Nat.{mul-le-mul_right}
+use Prim.Native.Nat.{ℕ, zero, suc, ◌+◌, ◌*◌, ◌/◌, ◌%◌, ◌^◌, ◌<◌}
 use native.Mathlib.Numerals.{add-one}
 use native.Mathlib.Omega.{arith}
 use lib.Bits.{bit_or}
 use lib.Dec.{eqb, eqb-suc-suc}
-use lib.ListN.{length, get_or, set, replicate, get_or-replicate}
+use lib.ListN.{length, get_or, set, take, replicate, get_or-replicate}
 use lib.Pow.{pow-lt}
+use Rattle.std.proofs.lemmas.List.{get_or-take}
 use lib.Seq.{get_or-set_same, get_or-set_other}
 use borrow.Author.Tests.{eq-eqb, ne_eqb}
 use Rattle.memory.specs.Bits.{bit, bit_zero, bit_or_lem}
@@ -64,13 +64,13 @@ set_next f i o o₁ o₂ e₁ e₂ = rw (e₂, e₁, add-one) (join (f i) (any f
     join true b c = refl
     join false b c = refl
 
--- is x one of the first k of an array with the positions
+-- is x one of the first k of an array with the positions, the k of a slice
 pub any_position : (u k : ℕ) (bytes : List ℕ) (x : ℕ) (ps : List ℕ) → ps ≡ position_array fnv_family k u bytes
-    → any (λ i. eqb (get_or ps i 0) x) k ≡ key_bit u k bytes x
+    → any (λ i. eqb (get_or (take k ps) i 0) x) k ≡ key_bit u k bytes x
 any_position u k bytes x ps e =
     let l : List ℕ = positions fnv_family k u bytes in
-    any_ext (λ i. eqb (get_or ps i 0) x) (λ i. eqb (get_or l i 0) x) k
-    (λ i h. ap (λ (y : ℕ). eqb y x) (ap (λ (z : List ℕ). get_or z i 0) e ∙ position_at fnv_family k u bytes i h))
+    any_ext (λ i. eqb (get_or (take k ps) i 0) x) (λ i. eqb (get_or l i 0) x) k
+    (λ i h. ap (λ (y : ℕ). eqb y x) (get_or-take k ps i 0 h ∙ ap (λ (z : List ℕ). get_or z i 0) e ∙ position_at fnv_family k u bytes i h))
     ∙ ap (any (λ i. eqb (get_or l i 0) x)) (sym (length_positions fnv_family k u bytes)) ∙ any_memb x l
 
 -- no bit is set
@@ -82,7 +82,3 @@ none_set n x h = rw (get_or-replicate {A = ℕ} n (x / 8) 0 0 h) (bit_zero (x % 
 pub any_more : (f : ℕ → Bool) (n : ℕ) → (f n || any f n) ≡ any f (n + 1)
 unfolding any
 any_more f n = rw add-one
-
--- the first word of item i of those from byte `at` on, `step` bytes apart
-pub word_in : (u at step i len : ℕ) → i < 8 * u - 1 → 4 ≤ step → at + (8 * u - 1) * step ≤ len → at + i * step + 4 ≤ len
-word_in u at step i len h s fits = omega (arith, mul-le-mul_right step h, s, fits)

@@ -1,5 +1,5 @@
 -- Blocks of filters: up to 512 of a level or of an index, and which of them have all bits of some positions.
-use Rattle.std.specs.Prelude.{◌≡◌, List, ℕ, ◌+◌, ◌-◌, ◌*◌, ◌/◌, ◌%◌, ◌^◌, ◌≤◌, ◌<◌}
+use Rattle.std.specs.Prelude.{◌≡◌, List, ℕ, ◌+◌, ◌-◌, ◌*◌, ◌/◌, ◌%◌, ◌^◌, ◌≤◌, ◌<◌, length, get_or}
 use Rattle.memory.specs.Ranges.{all_of}
 use Rattle.layout.specs.Index.{Index, filter_bit}
 use Rattle.kernels.specs.Blocks.{OpenBlock}
@@ -12,6 +12,10 @@ pub record EightsIn (l : Level) (x n len : ℕ) : Type 0 where
   pub some : 3 ≤ l.exponent
   pub few : l.exponent < 10
   pub reach : row_at l x + (n + 7) / 8 * 2 ^ l.exponent ≤ len
+
+-- the same of all of the positions
+abbrev pub EightsOf : Level → List ℕ → ℕ → ℕ → Type 0
+EightsOf l ps n len = (i : ℕ) → i < length ps → EightsIn l (get_or ps i 0) n len
 
 -- that of n filters lies within them in whole blocks of 64 bytes
 pub record BlocksIn (l : Level) (x n len : ℕ) : Type 0 where

@@ -1,5 +1,5 @@
 -- The filters since the last round: L1's and, behind them, those of the SKA page. All positions of a key lie in one row of each.
-use Rattle.std.specs.Prelude.{◌≡◌, Bool, cond, List, ℕ, ◌+◌, ◌-◌, ◌*◌, ◌/◌, ◌%◌, ◌^◌, ◌≤◌, ◌<◌, ltb, eqb, get_or}
+use Rattle.std.specs.Prelude.{◌≡◌, Bool, cond, List, ℕ, ◌+◌, ◌-◌, ◌*◌, ◌/◌, ◌%◌, ◌^◌, ◌≤◌, ◌<◌, ltb, eqb, length, get_or}
 use Rattle.memory.specs.Bits.{bit}
 use Rattle.memory.specs.Ranges.{any}
 use Rattle.kernels.specs.Blocks.{OpenBlock}
@@ -21,7 +21,7 @@ recent_has rs main ram ps f =
     cond (ltb f rs.ska.start) (level_has rs.l1 main ps (f - rs.l1.start)) (level_has rs.ska ram ps (f - rs.ska.start))
 
 -- L1 has whole flushes, fewer than a round, the SKA page what is behind them; the rows of the positions lie within the bytes
-pub record RecentIn (rs : Recent) (count : ℕ) (ps : List ℕ) (main ram : ℕ) : Type 0 where
+pub record RecentIn (rs : Recent) (ps : List ℕ) (main ram : ℕ) : Type 0 where
   pub some : 3 ≤ rs.l1.exponent
   pub narrow : rs.l1.exponent < 10
   pub same : rs.ska.exponent ≡ rs.l1.exponent
@@ -30,8 +30,8 @@ pub record RecentIn (rs : Recent) (count : ℕ) (ps : List ℕ) (main ram : ℕ)
   pub round : rs.ska.start < rs.l1.start + 128
   pub start_lt : rs.l1.start < rs.below
   pub below_le : rs.below ≤ rs.ska.start + 8
-  pub on_flash_lem : (i : ℕ) → i < count → row_at rs.l1 (get_or ps i 0) + 16 * 2 ^ rs.l1.exponent ≤ main
-  pub in_ram_lem : (i : ℕ) → i < count → row_at rs.ska (get_or ps i 0) + 2 ^ rs.l1.exponent ≤ ram
+  pub on_flash_lem : (i : ℕ) → i < length ps → row_at rs.l1 (get_or ps i 0) + 16 * 2 ^ rs.l1.exponent ≤ main
+  pub in_ram_lem : (i : ℕ) → i < length ps → row_at rs.ska (get_or ps i 0) + 2 ^ rs.l1.exponent ≤ ram
 
 -- the block has filters up to `below` - 1, from an even one on, and shows which of them have all of the positions
 pub record RecentOf (rs : Recent) (main ram : List ℕ) (ps : List ℕ) (b : Block) : Type 0 where

@@ -1,7 +1,8 @@
 // Groups of filters whose bits lie in the same rows, wherever they are: in the SKA page, in L1, in the current set or in a full one.
 // Document 01, "Filters". A `Stage` says how many filters each of these has, a `Level` where one of them lies, a `Block` which of up to 512
 // of its filters have all bits of some positions.
-ghost use Rattle.std.specs.Prelude.{◌≡◌, Bool, true, ◌⊎◌, ℕ, ◌+◌, ◌-◌, ◌*◌, ◌/◌, ◌%◌, ◌^◌, ◌<◌, ◌≤◌, min, length, get_or, take};
+ghost use Rattle.std.specs.Prelude.{◌≡◌, Bool, true, ◌⊎◌, ℕ, ◌+◌, ◌-◌, ◌*◌, ◌/◌, ◌%◌, ◌^◌, ◌<◌, ◌≤◌, min, length, get_or};
+ghost use Rattle.std.specs.Prelude.{take, MatchOption};
 ghost use Rattle.memory.specs.Bits.{bit, bit_in};
 ghost use Rattle.memory.specs.Power.{log2up};
 ghost use Rattle.layout.specs.Geometry.{filter_bits, side_blocks};
@@ -12,7 +13,7 @@ ghost use Rattle.kernels.specs.Blocks.{Shows, Upto};
 ghost use Rattle.kernels.specs.Masks.{Shut};
 ghost use Rattle.filter.specs.Filter.{IndexFits};
 ghost use Rattle.filter.specs.Groups.{stage_of, ska_level, l1_level, set_level, full_level, level_in_sets, row_at, level_has};
-ghost use Rattle.filter.specs.Blocks.{EightsIn, BlocksIn, BlockOf, BlockAt};
+ghost use Rattle.filter.specs.Blocks.{EightsIn, EightsOf, BlocksIn, BlockOf, BlockAt};
 ghost use Rattle.filter.specs.Recent.{MaskOf, OneRow, recent_has, RecentIn, RecentOf};
 
 use geometry::sets::Index;
@@ -52,6 +53,17 @@ struct Recent {
     below: usize,
 }
 
+// A query of these filters: the positions, and the bytes of the flash and of the RAM, in which their rows of L1 and of the SKA page lie.
+#[derive(Clone, Copy)]
+struct Query<'a> {
+    rs: Recent,
+    ps: &'a [u32],
+    main: &'a [u8],
+    ram: &'a [u8],
+    ghost some: { 1 ≤ length ps.now },
+    ghost within: { RecentIn rs ps.now (length main.now) (length ram.now) },
+}
+
 // How filters are shared out over sets: the rounds in the current one, and the filters in full ones.
 #[derive(Clone, Copy)]
 struct Stage {
@@ -61,7 +73,7 @@ struct Stage {
 
 // ---- numbers
 
-// The exponent of the least power of two not below x.
+// The exponent of the least power of two not below x; a function of its own since both of its callers need its bound too.
 fn exponent(x: usize) -> usize
     requires { (0 < x) × (x ≤ 128) }
     ensures { (result ≡ log2up x) × (result ≤ 7) }
@@ -69,6 +81,7 @@ fn exponent(x: usize) -> usize
     sets::partition_exponent(x as u32) as usize
 }
 
+// The bits that a filter has in a row; a function of its own, so that the shift is once proved to be a power of two.
 fn power(e: usize) -> usize
     requires { e < 10 }
     ensures { (result ≡ 2 ^ e) × (0 < result) }
@@ -146,7 +159,7 @@ fn stage_of(chip: Chip, e: usize, filters: usize) -> Stage
     let side = chip.side_blocks();
     let flushes = filters / sets::FILTERS_PER_FLUSH;
     let all = flushes / sets::FLUSHES_PER_ROUND;
-    let full_sets = shifted(all, e + 2);
+    let full_sets = all >> (e + 2);
     let rounds = all - full_sets * side;
     let full = full_sets * (sets::FILTERS_PER_ROUND * side);
     Stage { rounds, full }
@@ -161,7 +174,7 @@ fn level_in_sets(chip: Chip, e: usize, ix: Index, st: Stage, below: usize) -> Le
     if below > st.full {
         return set_level(chip, e, ix, st.rounds, st.full);
     }
-    full_level(chip, ix, shifted(below - 1, e + 9))
+    full_level(chip, ix, (below - 1) >> (e + 9))
 }
 
 // ---- rows
@@ -171,7 +184,7 @@ fn row_of(l: Level, p: u32) -> usize
     requires { (l.exponent < 10) × (row_at l p < 2 ^ 64) }
     ensures { result ≡ row_at l p }
 {
-    l.base + shifted(numbers::usize_of_u32(p), l.exponent) * l.stride
+    l.base + (p as usize >> l.exponent) * l.stride
 }
 
 // ---- filters of whole bytes: a few
@@ -183,27 +196,24 @@ fn few_bits(l: Level, p: u32, n: usize, bytes: &[u8]) -> u64
         × ((i : ℕ) → i < n → bit result i ≡ bit_in bytes.now (row_at l p) (i * 2 ^ l.exponent + p % 2 ^ l.exponent)) }
 {
     let w = power(l.exponent);
-    let low = numbers::usize_of_u32(p) % w;
+    let low = p as usize % w;
     kernels::byte_bits(row_of(l, p) + low / 8, low, w / 8, n, bytes)
 }
 
 // The level's filters below `below`, eight at the most: one word.
-fn block_of_few(l: Level, below: usize, ps: [u32; 8], count: usize, bytes: &[u8]) -> Block
-    requires le_count { (1 ≤ count) × (count ≤ 8) × (l.start < below) × (below ≤ l.start + 8) }
-    requires by_index { (i : ℕ) → i < count → EightsIn l (get_or ps i 0) (below - l.start) (length bytes.now) }
-    ensures { BlockOf l bytes.now below (take count ps) result }
+fn block_of_few(l: Level, below: usize, ps: &[u32], bytes: &[u8]) -> Block
+    requires le_count { (l.start < below) × (below ≤ l.start + 8) }
+    requires by_index { EightsOf l ps.now (below - l.start) (length bytes.now) }
+    ensures { BlockOf l bytes.now below ps.now result }
 {
     let n = below - l.start;
-    let mut r = few_bits(l, ps[0], n, bytes);
-    let mut i = 1;
-    while i < count {
-        let y = few_bits(l, ps[i], n, bytes);
-        r = r & y;
-        i += 1;
+    let mut r = u64::MAX;
+    for p in ps {
+        r &= few_bits(l, *p, n, bytes);
     }
     Block {
         start: l.start,
-        words: [r, 0, 0, 0, 0, 0, 0, 0],
+        words: [kernels::lowest(r, n), 0, 0, 0, 0, 0, 0, 0],
     }
 }
 
@@ -217,7 +227,7 @@ fn position_bits(l: Level, p: u32, first: usize, n: usize, bytes: &[u8]) -> u64
 {
     let w = power(l.exponent);
     let step = w / 8;
-    let low = numbers::usize_of_u32(p) % w;
+    let low = p as usize % w;
     kernels::row_bits(
         0,
         row_of(l, p) + first * step + low / 8,
@@ -228,35 +238,31 @@ fn position_bits(l: Level, p: u32, first: usize, n: usize, bytes: &[u8]) -> u64
     )
 }
 
-// Which of them have all of the first `count` positions. The loop begins with the first one, so that where the bytes lie is computed once.
-fn eights(l: Level, ps: [u32; 8], count: usize, first: usize, n: usize, bytes: &[u8]) -> u64
-    requires { (1 ≤ count) × (count ≤ 8) × (n ≤ 8)
-        × ((i : ℕ) → i < count → EightsIn l (get_or ps i 0) (first + n * 8) (length bytes.now)) }
-    ensures { Shows (level_has l bytes.now (take count ps)) first (n * 8) result }
+// Which of them have all of the positions.
+fn eights(l: Level, ps: &[u32], first: usize, n: usize, bytes: &[u8]) -> u64
+    requires { (n ≤ 8) × EightsOf l ps.now (first + n * 8) (length bytes.now) }
+    ensures { Shows (level_has l bytes.now ps.now) first (n * 8) result }
 {
-    let mut r: u64 = 0xffff_ffff_ffff_ffff;
-    let mut i = 0;
-    while i < count {
-        let y = position_bits(l, ps[i], first, n, bytes);
-        r = r & y;
-        i += 1;
+    let mut r = u64::MAX;
+    for p in ps {
+        r &= position_bits(l, *p, first, n, bytes);
     }
     r
 }
 
 // The newest 64 of the level's filters below `below`, or as many as there are: one word.
-fn block_by_eights(l: Level, below: usize, ps: [u32; 8], count: usize, bytes: &[u8]) -> Block
-    requires le_count { (1 ≤ count) × (count ≤ 8) × (l.start < below) }
-    requires by_index { (i : ℕ) → i < count → EightsIn l (get_or ps i 0) (below - l.start) (length bytes.now) }
-    ensures { BlockOf l bytes.now below (take count ps) result }
+fn block_by_eights(l: Level, below: usize, ps: &[u32], bytes: &[u8]) -> Block
+    requires le_count { l.start < below }
+    requires by_index { EightsOf l ps.now (below - l.start) (length bytes.now) }
+    ensures { BlockOf l bytes.now below ps.now result }
 {
     let all = below - l.start;
     let first = (all - 1) / 64 * 64;
     let n = all - first;
-    let r = eights(l, ps, count, first, (n + 7) / 8, bytes);
+    let shown = eights(l, ps, first, n.div_ceil(8), bytes);
     Block {
         start: l.start + first,
-        words: [kernels::lowest(r, n), 0, 0, 0, 0, 0, 0, 0],
+        words: [kernels::lowest(shown, n), 0, 0, 0, 0, 0, 0, 0],
     }
 }
 
@@ -291,60 +297,22 @@ fn block_by_words(l: Level, below: usize, ps: [u32; 8], count: usize, bytes: &[u
 
 // ---- filters since the last round
 
-// Positions as bits among the 2 ^ e that a filter has in a row, and whether they lie in one row.
-#[derive(Clone, Copy)]
-struct Mask {
-    bits: u64,
-    one_row: bool,
-}
-
-// They differ from the first in no bit from e on if they lie in its row, as a key's do.
-fn mask_of(e: usize, ps: [u32; 8], count: usize) -> Mask
-    requires { (e ≤ 6) × (count ≤ 8) }
-    ensures bits { (result.bits < 2 ^ 2 ^ e) × MaskOf ps count (2 ^ e) result.bits }
-    ensures row { result.one_row ≡ true → OneRow ps count e }
+// The positions as bits among the 2 ^ e that a filter has in a row, if they lie in one row, as a key's do: then they differ from the first
+// in no bit from e on.
+fn mask_of(e: usize, ps: &[u32]) -> Option<u64>
+    requires { (e ≤ 6) × (1 ≤ length ps.now) }
+    ensures { MatchOption result (Unit {0}) (λ m. OneRow ps.now (length ps.now) e × MaskOf ps.now (length ps.now) (2 ^ e) m
+        × (m < 2 ^ 2 ^ e)) }
 {
     let w = power(e);
     let first = ps[0];
     let mut bits: u64 = 0;
     let mut differ: u32 = 0;
-    let mut i = 0;
-    while i < count {
-        let p = ps[i];
-        let b = kernels::single(numbers::usize_of_u32(p) % w);
-        bits = bits | b;
-        differ = differ | (p ^ first);
-        i += 1;
+    for p in ps {
+        bits |= kernels::single(*p as usize % w);
+        differ |= *p ^ first;
     }
-    let one_row = shifted(numbers::usize_of_u32(differ), e) == 0;
-    Mask { bits, one_row }
-}
-
-// Filters of eight bytes: a word for each.
-fn recent_64(rs: Recent, mask: u64, ps: [u32; 8], count: usize, main: &[u8], ram: &[u8]) -> Block
-    requires exponent_value { (rs.l1.exponent ≡ 6) × (1 ≤ count) × (count ≤ 8) × RecentIn rs count ps (length main.now) (length ram.now) }
-    requires one_row { OneRow ps count 6 × MaskOf ps count 64 mask }
-    ensures { RecentOf rs main.now ram.now (take count ps) result }
-{
-    let top = numbers::lesser(rs.below, rs.ska.start);
-    let start = rs.l1.start;
-    let all = top - start;
-    let few = numbers::lesser(all, 64);
-    let row = row_of(rs.l1, ps[0]);
-    let a = kernels::words_with(mask, row, few, main);
-    let b = kernels::words_with(mask, row + 512, all - few, main);
-    let at = row_of(rs.ska, ps[0]);
-    let c = kernels::words_with(mask, at, rs.below - top, ram);
-    if all < 64 {
-        return Block {
-            start,
-            words: [a | c << all, 0, 0, 0, 0, 0, 0, 0],
-        };
-    }
-    Block {
-        start,
-        words: [a, b | c << (all - 64), 0, 0, 0, 0, 0, 0],
-    }
+    if differ >> e == 0 { Some(bits) } else { None }
 }
 
 // A block of filters of two bytes, 128 at the most, by the words of those that are shut.
@@ -375,117 +343,117 @@ fn block_of_shut(start: usize, n: usize, a: u64, b: u64) -> Block
     }
 }
 
-// Filters of two bytes: four to a word.
-fn recent_16(rs: Recent, mask: u64, ps: [u32; 8], count: usize, main: &[u8], ram: &[u8]) -> Block
-    requires exponent_value { (rs.l1.exponent ≡ 4) × (1 ≤ count) × (count ≤ 8) × RecentIn rs count ps (length main.now) (length ram.now) }
-    requires one_row { OneRow ps count 4 × MaskOf ps count 16 mask × (mask < 65536) }
-    ensures { RecentOf rs main.now ram.now (take count ps) result }
-{
-    let top = numbers::lesser(rs.below, rs.ska.start);
-    let start = rs.l1.start;
-    let words = (top - start + 3) / 4;
-    let few = numbers::lesser(words, 16);
-    let row = row_of(rs.l1, ps[0]);
-    let a = kernels::lacking(0, mask, row, few, main);
-    let b = kernels::lacking(0, mask, row + 128, words - few, main);
-    let more = (rs.below - top + 3) / 4;
-    let at = row_of(rs.ska, ps[0]);
-    if words < 16 {
-        let c = kernels::lacking(a, mask, at, more, ram);
-        return block_of_shut(start, rs.below - start, c, b);
-    }
-    let c = kernels::lacking(b, mask, at, more, ram);
-    block_of_shut(start, rs.below - start, a, c)
-}
-
-// Filters of whole bytes: which of the 64 from `first` on, L1's and those behind them, have all of the positions.
-fn recent_word(rs: Recent, first: usize, ps: [u32; 8], count: usize, main: &[u8], ram: &[u8]) -> u64
-    requires { ((first ≡ 0) ⊎ (first ≡ 64)) × (rs.l1.start + first < rs.below) × (count ≤ 8)
-        × RecentIn rs count ps (length main.now) (length ram.now) }
-    ensures { Shows (λ g. recent_has rs main.now ram.now (take count ps) (rs.l1.start + g))
-        first (min (rs.below - rs.l1.start - first) 64) result }
-{
-    let w = power(rs.l1.exponent);
-    let step = w / 8;
-    let top = numbers::lesser(rs.below, rs.ska.start);
-    let n = numbers::lesser((top - rs.l1.start + 7) / 8 - first / 8, 8);
-    let mut r: u64 = 0xffff_ffff_ffff_ffff;
-    let mut i = 0;
-    while i < count {
-        let p = ps[i];
-        let row = row_of(rs.l1, p);
-        let other = row_of(rs.ska, p);
-        let low = numbers::usize_of_u32(p) % w;
-        let o = low / 8;
-        let s = kernels::byte_bits(other + o, low, step, rs.below - top, ram);
-        let y = kernels::row_bits(s, row + first * step + o, low, step, n, main);
-        r = r & y;
-        i += 1;
-    }
-    r
-}
-
-// The same as a block, in one word or two.
-fn recent_by_bytes(rs: Recent, ps: [u32; 8], count: usize, main: &[u8], ram: &[u8]) -> Block
-    requires { (count ≤ 8) × RecentIn rs count ps (length main.now) (length ram.now) }
-    ensures { RecentOf rs main.now ram.now (take count ps) result }
-{
-    let start = rs.l1.start;
-    let n = rs.below - start;
-    let a = recent_word(rs, 0, ps, count, main, ram);
-    if n > 64 {
-        let b = recent_word(rs, 64, ps, count, main, ram);
-        return Block {
+impl<'a> Query<'a> {
+    // Filters of eight bytes: a word for each.
+    fn by_words(self, mask: u64) -> Block
+        requires exponent_value { self.rs.l1.exponent ≡ 6 }
+        requires one_row { OneRow self.ps.now (length self.ps.now) 6 × MaskOf self.ps.now (length self.ps.now) 64 mask }
+        ensures { let q = self.entry in RecentOf q.rs q.main.now q.ram.now q.ps.now result }
+    {
+        let top = self.rs.below.min(self.rs.ska.start);
+        let start = self.rs.l1.start;
+        let all = top - start;
+        let few = all.min(64);
+        let row = row_of(self.rs.l1, self.ps[0]);
+        let a = kernels::words_with(mask, row, few, self.main);
+        let b = kernels::words_with(mask, row + 512, all - few, self.main);
+        let at = row_of(self.rs.ska, self.ps[0]);
+        let c = kernels::words_with(mask, at, self.rs.below - top, self.ram);
+        if all < 64 {
+            return Block {
+                start,
+                words: [a | c << all, 0, 0, 0, 0, 0, 0, 0],
+            };
+        }
+        Block {
             start,
-            words: [a, kernels::lowest(b, n - 64), 0, 0, 0, 0, 0, 0],
-        };
+            words: [a, b | c << (all - 64), 0, 0, 0, 0, 0, 0],
+        }
     }
-    Block {
-        start,
-        words: [kernels::lowest(a, n), 0, 0, 0, 0, 0, 0, 0],
-    }
-}
 
-// At S = 16 by a mask, if the positions lie in one row.
-fn recent_at_16(rs: Recent, ps: [u32; 8], count: usize, main: &[u8], ram: &[u8]) -> Block
-    requires { (rs.l1.exponent ≡ 4) × (1 ≤ count) × (count ≤ 8) × RecentIn rs count ps (length main.now) (length ram.now) }
-    ensures { RecentOf rs main.now ram.now (take count ps) result }
-{
-    let m = mask_of(4, ps, count);
-    if m.one_row {
-        return recent_16(rs, m.bits, ps, count, main, ram);
+    // Filters of two bytes: four to a word. No twin of `by_words`: the SKA page's words join L1's before, not after, filters are told.
+    fn by_fours(self, mask: u64) -> Block
+        requires exponent_value { self.rs.l1.exponent ≡ 4 }
+        requires one_row { OneRow self.ps.now (length self.ps.now) 4 × MaskOf self.ps.now (length self.ps.now) 16 mask × (mask < 65536) }
+        ensures { let q = self.entry in RecentOf q.rs q.main.now q.ram.now q.ps.now result }
+    {
+        let top = self.rs.below.min(self.rs.ska.start);
+        let start = self.rs.l1.start;
+        let words = (top - start).div_ceil(4);
+        let few = words.min(16);
+        let row = row_of(self.rs.l1, self.ps[0]);
+        let a = kernels::lacking(0, mask, row, few, self.main);
+        let b = kernels::lacking(0, mask, row + 128, words - few, self.main);
+        let more = (self.rs.below - top).div_ceil(4);
+        let at = row_of(self.rs.ska, self.ps[0]);
+        if words < 16 {
+            let c = kernels::lacking(a, mask, at, more, self.ram);
+            return block_of_shut(start, self.rs.below - start, c, b);
+        }
+        let c = kernels::lacking(b, mask, at, more, self.ram);
+        block_of_shut(start, self.rs.below - start, a, c)
     }
-    recent_by_bytes(rs, ps, count, main, ram)
-}
 
-// At S = 64 by a mask, if the positions lie in one row.
-fn recent_at_64(rs: Recent, ps: [u32; 8], count: usize, main: &[u8], ram: &[u8]) -> Block
-    requires { (rs.l1.exponent ≡ 6) × (1 ≤ count) × (count ≤ 8) × RecentIn rs count ps (length main.now) (length ram.now) }
-    ensures { RecentOf rs main.now ram.now (take count ps) result }
-{
-    let m = mask_of(6, ps, count);
-    if m.one_row {
-        return recent_64(rs, m.bits, ps, count, main, ram);
+    // Filters of whole bytes: which of the 64 from `first` on, L1's and those behind them, have all of the positions.
+    fn word(self, first: usize) -> u64
+        requires { ((first ≡ 0) ⊎ (first ≡ 64)) × (self.rs.l1.start + first < self.rs.below) }
+        ensures { let q = self.entry in Shows (λ g. recent_has q.rs q.main.now q.ram.now q.ps.now (q.rs.l1.start + g))
+            first (min (q.rs.below - q.rs.l1.start - first) 64) result }
+    {
+        let w = power(self.rs.l1.exponent);
+        let step = w / 8;
+        let top = self.rs.below.min(self.rs.ska.start);
+        let n = ((top - self.rs.l1.start).div_ceil(8) - first / 8).min(8);
+        let mut r = u64::MAX;
+        for p in self.ps {
+            let row = row_of(self.rs.l1, *p);
+            let other = row_of(self.rs.ska, *p);
+            let low = *p as usize % w;
+            let o = low / 8;
+            let s = kernels::byte_bits(other + o, low, step, self.rs.below - top, self.ram);
+            r &= kernels::row_bits(s, row + first * step + o, low, step, n, self.main);
+        }
+        r
     }
-    recent_by_bytes(rs, ps, count, main, ram)
-}
 
-// The filters since the last round. At S = 16 and 64 a filter's part of a row is a number; at other S it is read by bytes, and where L1 has
-// no filter yet those of the SKA page alone.
-fn recent_block(rs: Recent, ps: [u32; 8], count: usize, main: &[u8], ram: &[u8]) -> Block
-    requires { (1 ≤ count) × (count ≤ 8) × RecentIn rs count ps (length main.now) (length ram.now) }
-    ensures { RecentOf rs main.now ram.now (take count ps) result }
-{
-    if rs.l1.exponent == 4 {
-        return recent_at_16(rs, ps, count, main, ram);
+    // The same as a block, in one word or two.
+    fn by_bytes(self) -> Block
+        ensures { let q = self.entry in RecentOf q.rs q.main.now q.ram.now q.ps.now result }
+    {
+        let start = self.rs.l1.start;
+        let n = self.rs.below - start;
+        let a = self.word(0);
+        if n > 64 {
+            let b = self.word(64);
+            return Block {
+                start,
+                words: [a, kernels::lowest(b, n - 64), 0, 0, 0, 0, 0, 0],
+            };
+        }
+        Block {
+            start,
+            words: [kernels::lowest(a, n), 0, 0, 0, 0, 0, 0, 0],
+        }
     }
-    if rs.l1.exponent == 6 {
-        return recent_at_64(rs, ps, count, main, ram);
+
+    // The filters since the last round. At S = 16 and 64 a filter's part of a row is a number, so that they are tested by a mask, if the
+    // positions lie in one row; else it is read by bytes, and where L1 has no filter yet those of the SKA page alone.
+    fn block(self) -> Block
+        ensures { let q = self.entry in RecentOf q.rs q.main.now q.ram.now q.ps.now result }
+    {
+        if self.rs.l1.exponent == 4 {
+            if let Some(mask) = mask_of(4, self.ps) {
+                return self.by_fours(mask);
+            }
+        } else if self.rs.l1.exponent == 6 {
+            if let Some(mask) = mask_of(6, self.ps) {
+                return self.by_words(mask);
+            }
+        } else if self.rs.ska.start == self.rs.l1.start {
+            return block_of_few(self.rs.ska, self.rs.below, self.ps, self.ram);
+        }
+        self.by_bytes()
     }
-    if rs.ska.start == rs.l1.start {
-        return block_of_few(rs.ska, rs.below, ps, count, ram);
-    }
-    recent_by_bytes(rs, ps, count, main, ram)
 }
 
 // ---- blocks
@@ -517,11 +485,17 @@ pub fn block_below(
             fs.count / sets::FILTERS_PER_FLUSH * sets::FILTERS_PER_FLUSH,
         );
         let rs = Recent { l1, ska, below };
-        return recent_block(rs, ps, count, main, ram);
+        let query = Query {
+            rs,
+            ps: &ps[..count],
+            main,
+            ram,
+        };
+        return query.block();
     }
     let l = level_in_sets(chip, e, fs.index, stage_of(chip, e, fs.count), below);
     if l.exponent > 5 {
-        return block_by_eights(l, below, ps, count, main);
+        return block_by_eights(l, below, &ps[..count], main);
     }
     block_by_words(l, below, ps, count, main)
 }

@@ -9,7 +9,6 @@ ghost use Rattle.filter.specs.Fourths.{FourthsOf, FilterPut};
 
 use fnv::Hashed;
 use geometry::{Chip, areas};
-use words::numbers;
 
 // Sets bit p.
 fn set_bit(p: u32, bits: &mut [u8])
@@ -18,7 +17,7 @@ fn set_bit(p: u32, bits: &mut [u8])
 {
     let x = p as usize;
     let i = x / 8;
-    bits[i] = bits[i] | 1 << numbers::bit_place(x);
+    bits[i] |= 1 << (x % 8);
 }
 
 // Sets the bits of the positions of a key or a number.
@@ -28,10 +27,8 @@ fn set_key(chip: Chip, count: usize, key: Hashed, bits: &mut [u8])
         → array_bit bits.new x ≡ (key_bit chip.unit count (bytes_of key) x || array_bit bits.old x) }
 {
     let ps = fnv::positions(chip, count, key);
-    let mut i = 0;
-    while i < count {
-        set_bit(ps[i], bits);
-        i += 1;
+    for p in &ps[..count] {
+        set_bit(*p, bits);
     }
 }
 
@@ -60,11 +57,9 @@ pub fn new_filter(
     ensures { (x : ℕ) → x < 2048 → array_bit bits.new x ≡ with_key chip.unit count at step (bytes_of key) ram.now x }
 {
     let last = chip.entries_per_page() - 1;
-    let mut i = 0;
-    while i < last {
+    for i in 0..last {
         let old = hashed_at(at + i * step, ram);
         set_key(chip, count, old, bits);
-        i += 1;
     }
     set_key(chip, count, key, bits);
 }
@@ -75,12 +70,10 @@ fn put_fourths(chip: Chip, f: usize, bits: &[u8], out: &mut [u8])
     ensures { FilterPut chip.unit f (array_bit bits.now) out.old out.new }
 {
     let piece = chip.fourth_size();
-    let mut i = 0;
-    while i < Chip::SECTORS_PER_PAGE {
+    for i in 0..Chip::SECTORS_PER_PAGE {
         let lo = i * piece;
         let hi = lo + piece;
         words::copy_at(out, lo + lo + f * piece, &bits[lo..hi]);
-        i += 1;
     }
 }
 

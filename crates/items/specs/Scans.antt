@@ -1,10 +1,11 @@
 -- Scans of a slice from a byte on: a number among words of four bytes, and the newest entry of eight bytes with a key. Assumes nothing.
-use Rattle.std.specs.Prelude.{◌≡◌, refl, Bool, true, false, ◌||◌, List, ℕ, zero, suc, ◌+◌, ◌-◌, ◌*◌, ◌≤◌, ◌<◌, eqb}
-use Rattle.std.proofs.Common.{sym, ap, ◌∙◌, add-one, arith, eq-eqb, ne_eqb}
+use Rattle.std.specs.Prelude.{◌≡◌, refl, Bool, true, false, ◌||◌, List, ℕ, zero, suc, ◌+◌, ◌-◌, ◌*◌, ◌≤◌, ◌<◌, eqb, Option, Some, None}
+use Rattle.std.proofs.Common.{sym, ap, ◌∙◌, add-one, arith}
+use Rattle.std.proofs.Math.Bool.{or_comm}
 use Rattle.memory.specs.Words.{word}
 use Rattle.memory.specs.Cases.{bool?, either}
 use Rattle.memory.specs.Ranges.{any}
-use Rattle.memory.specs.Candidate.{candidate, candidate_open, candidate_shut, candidate_low, candidate_ext}
+use Rattle.memory.specs.Candidate.{candidate, candidate_open, candidate_shut, candidate_le, candidate_high, candidate_low, candidate_ext}
 use Rattle.layout.specs.Keys.{word_size, Key, same_key, key_at}
 use Rattle.layout.specs.Geometry.{deletions_per_page}
 use Rattle.layout.specs.Items.{entry_size}
@@ -29,19 +30,34 @@ has_key s at key i = same_key (key_at s (at + i * entry_size)) key
 abbrev pub last_entry : List ℕ → ℕ → ℕ → Key → ℕ
 last_entry s at n key = candidate (has_key s at key) n
 
--- ---- some number passes: one more each time, and two ranges, one after the other
+-- one more than a place as an option: 0 is none
+abbrev pub place_of : ℕ → Option ℕ
+place_of zero = None
+place_of (suc k) = Some k
+
+-- ---- places as options
+
+pub place_is : (k : ℕ) → 0 < k → Some (k - 1) ≡ place_of k
+place_is zero p = absurd (omega arith)
+place_is (suc k) p = let e : suc k - 1 ≡ k = omega arith in rw e
+
+pub place_some : (n e : ℕ) → Some e ≡ place_of n → n ≡ suc e
+place_some zero e t = cc
+place_some (suc n) e t = cc
+
+pub place_none : (n : ℕ) → None ≡ place_of n → n ≡ 0
+place_none zero t = refl
+place_none (suc n) t = cc
+
+-- it is below n
+pub place_lt : (s : List ℕ) (at n : ℕ) (key : Key) (e : ℕ) → Some e ≡ place_of (last_entry s at n key) → e < n
+place_lt s at n key e t = omega (arith, place_some (last_entry s at n key) e t, candidate_le (has_key s at key) n)
+
+-- ---- some number passes: none of none, and two ranges, one after the other
 
 pub any_end : (f : ℕ → Bool) → any f 0 ≡ false
 unfolding any
 any_end f = refl
-
-pub any_yes : (f : ℕ → Bool) (i : ℕ) → f i ≡ true → any f (i + 1) ≡ true
-unfolding any
-any_yes f i e = rw (add-one, e)
-
-pub any_skips : (f : ℕ → Bool) (i : ℕ) → f i ≡ false → any f (i + 1) ≡ any f i
-unfolding any
-any_skips f i e = rw (add-one, e)
 
 pub any_sum : (f : ℕ → Bool) (m k : ℕ) → any f (m + k) ≡ (any (λ i. f (m + i)) k || any f m)
 unfolding any
@@ -78,15 +94,12 @@ newest_none f (suc n) t =
     (λ h. let z : true ≡ false = rw h at t in cc)
     (λ h. let z : any f n ≡ false = rw h at t in rw h (newest_none f n z))
 
--- ---- tests of what a read gave
+-- ---- what a read gave
 
-pub word_yes : (s : List ℕ) (at j i r : ℕ) → r ≡ word s (at + i * 4) → r ≡ j → is_word s at j i ≡ true
-unfolding is_word
-word_yes s at j i r e h = eq-eqb _ _ (sym e ∙ h)
-
-pub word_no : (s : List ℕ) (at j i r : ℕ) → r ≡ word s (at + i * 4) → (r ≡ j → ⊥) → is_word s at j i ≡ false
-unfolding is_word
-word_no s at j i r e h = ne_eqb _ _ (λ q. h (e ∙ q))
+-- a word more
+pub word_more : (s : List ℕ) (at j i r : ℕ) → r ≡ word s (at + i * 4) → (has_word s at i j || eqb r j) ≡ has_word s at (i + 1) j
+unfolding any is_word
+word_more s at j i r e = rw (add-one, e) (or_comm (has_word s at i j) (eqb (word s (at + i * 4)) j))
 
 pub key_is_lem : (s : List ℕ) (at i : ℕ) (key : Key) (r : Bool) → r ≡ same_key (key_at s (at + i * 8)) key → r ≡ has_key s at key i
 unfolding has_key
@@ -152,10 +165,26 @@ block_no s at j m k e f = words_sum s at j m k ∙ rw (e, f)
 
 -- ---- entries in blocks
 
--- m entries, and k behind them among whose words the key is not
+-- k entries from entry m on
+entries_later : (s : List ℕ) (at : ℕ) (key : Key) (m k : ℕ)
+    → candidate (λ g. has_key s at key (m + g)) k ≡ last_entry s (at + m * 8) k key
+entries_later s at key m k =
+    candidate_ext (λ g. has_key s at key (m + g)) (has_key s (at + m * 8) key) k (λ g l. key_later s at key m g)
+
+-- m entries, and k behind them of which entry e is the newest with the key, or none
+pub entries_hit : (s : List ℕ) (at : ℕ) (key : Key) (m k e : ℕ) → Some e ≡ place_of (last_entry s (at + m * 8) k key)
+    → last_entry s at (m + k) key ≡ m + suc e
+entries_hit s at key m k e t =
+    candidate_high (has_key s at key) m k e (entries_later s at key m k ∙ place_some (last_entry s (at + m * 8) k key) e t)
+
+pub entries_miss : (s : List ℕ) (at : ℕ) (key : Key) (m k : ℕ) → None ≡ place_of (last_entry s (at + m * 8) k key)
+    → last_entry s at (m + k) key ≡ last_entry s at m key
+entries_miss s at key m k t =
+    candidate_low (has_key s at key) m k (entries_later s at key m k ∙ place_none (last_entry s (at + m * 8) k key) t)
+
+-- the same where the key is not among their words
 pub entries_no : (s : List ℕ) (at : ℕ) (key : Key) (m k : ℕ) → has_word s (at + m * 8) (k * 2) key ≡ false
     → last_entry s at (m + k) key ≡ last_entry s at m key
 entries_no s at key m k t =
     candidate_low (has_key s at key) m k
-    (candidate_ext (λ g. has_key s at key (m + g)) (has_key s (at + m * 8) key) k (λ g l. key_later s at key m g)
-    ∙ newest_none (has_key s (at + m * 8) key) k (no_word s (at + m * 8) key k t))
+    (entries_later s at key m k ∙ newest_none (has_key s (at + m * 8) key) k (no_word s (at + m * 8) key k t))

@@ -7,7 +7,7 @@ ghost use Rattle.layout.specs.Geometry.{page, entries_per_page};
 ghost use Rattle.layout.specs.Items.{entry_size};
 ghost use Rattle.laws.specs.Units.{UnitSound};
 ghost use Rattle.keys.specs.Key.{key_is};
-ghost use Rattle.items.specs.Scans.{words_per_page, has_word, last_entry};
+ghost use Rattle.items.specs.Scans.{words_per_page, has_word, last_entry, place_of};
 
 use geometry::{Chip, areas};
 use keys::Key;
@@ -29,35 +29,15 @@ const RUN: usize = 64;
 
 // ---- words
 
-// Is one of the 16 words from byte `at` on the number j. No exit before the end, so that many words are compared at once; the count is a
+// Is one of the N words from byte `at` on the number j. No exit before the end, so that many words are compared at once; their count is a
 // constant, so that no loop is left.
-fn few_have(at: usize, j: u32, s: &[u8]) -> bool
-    requires { at + 16 * word_size ≤ length s.now }
-    ensures { result ≡ has_word s.now at 16 j }
+fn block_has<const N: usize>(at: usize, j: u32, s: &[u8]) -> bool
+    requires { at + N * word_size ≤ length s.now }
+    ensures { result ≡ has_word s.now at N j }
 {
     let mut found = false;
-    let mut i = 0;
-    while i < FEW {
-        if words::get32(s, at + i * areas::WORD_SIZE) == j {
-            found = true;
-        }
-        i += 1;
-    }
-    found
-}
-
-// The same of 64 words.
-fn many_have(at: usize, j: u32, s: &[u8]) -> bool
-    requires { at + 64 * word_size ≤ length s.now }
-    ensures { result ≡ has_word s.now at 64 j }
-{
-    let mut found = false;
-    let mut i = 0;
-    while i < MANY {
-        if words::get32(s, at + i * areas::WORD_SIZE) == j {
-            found = true;
-        }
-        i += 1;
+    for i in 0..N {
+        found |= words::get32(s, at + i * areas::WORD_SIZE) == j;
     }
     found
 }
@@ -68,12 +48,8 @@ fn rest_have(at: usize, m: usize, n: usize, j: u32, s: &[u8]) -> bool
     ensures { result ≡ has_word s.now at n j }
 {
     let mut found = false;
-    let mut i = m;
-    while i < n {
-        if words::get32(s, at + i * areas::WORD_SIZE) == j {
-            found = true;
-        }
-        i += 1;
+    for i in m..n {
+        found |= words::get32(s, at + i * areas::WORD_SIZE) == j;
     }
     found
 }
@@ -84,12 +60,10 @@ pub fn has_word(at: usize, n: usize, j: u32, s: &[u8]) -> bool
     ensures { result ≡ has_word s.now at n j }
 {
     let blocks = n / MANY;
-    let mut b = 0;
-    while b < blocks {
-        if many_have(at + b * MANY_BYTES, j, s) {
+    for b in 0..blocks {
+        if block_has::<MANY>(at + b * MANY_BYTES, j, s) {
             return true;
         }
-        b += 1;
     }
     rest_have(at, blocks * MANY, n, j, s)
 }
@@ -106,50 +80,45 @@ fn is_key(at: usize, key: Key, s: &[u8]) -> bool
     keys::same(keys::key_in(first, second), key)
 }
 
-// The newest of the n entries with the key, plus one, an entry at a time; 0 if there is none.
-fn last_key(at: usize, n: usize, key: Key, s: &[u8]) -> usize
+// The newest of the n entries with the key, an entry at a time.
+fn last_key(at: usize, n: usize, key: Key, s: &[u8]) -> Option<usize>
     requires { at + n * entry_size ≤ length s.now }
-    ensures { result ≡ last_entry s.now at n (key_is key) }
+    ensures { result ≡ place_of (last_entry s.now at n (key_is key)) }
 {
-    let mut k = n;
-    while k > 0 {
-        let e = k - 1;
+    for e in (0..n).rev() {
         if is_key(at + e * areas::ENTRY_SIZE, key, s) {
-            return k;
+            return Some(e);
         }
-        k = e;
     }
-    0
+    None
 }
 
 // The same, after a pass over all words of the entries: it takes their numbers for keys too, but it has no exit and reads without a gap,
 // and nearly always it finds none.
-fn find_few(at: usize, count: usize, key: Key, s: &[u8]) -> usize
+fn find_few(at: usize, count: usize, key: Key, s: &[u8]) -> Option<usize>
     requires { at + count * entry_size ≤ length s.now }
-    ensures { result ≡ last_entry s.now at count (key_is key) }
+    ensures { result ≡ place_of (last_entry s.now at count (key_is key)) }
 {
     if !has_word(at, count * 2, key.level, s) {
-        return 0;
+        return None;
     }
     last_key(at, count, key, s)
 }
 
-// The newest of the entries with the key, plus one, by runs from the newest on: the pass over a run has no exit, and what lies before the
-// run with the key is not read.
-pub fn find_entry(at: usize, count: usize, key: Key, s: &[u8]) -> usize
+// The newest of the entries with the key, by runs from the newest on: the pass over a run has no exit, and what lies before the run with
+// the key is not read.
+pub fn find_entry(at: usize, count: usize, key: Key, s: &[u8]) -> Option<usize>
     requires { at + count * entry_size ≤ length s.now }
-    ensures { result ≡ last_entry s.now at count (key_is key) }
+    ensures { result ≡ place_of (last_entry s.now at count (key_is key)) }
 {
-    let mut k = count;
-    while k > RUN {
-        let lo = k - RUN;
-        let r = find_few(at + lo * areas::ENTRY_SIZE, RUN, key, s);
-        if r > 0 {
-            return lo + r;
+    let rest = count % RUN;
+    for b in (0..count / RUN).rev() {
+        let lo = rest + b * RUN;
+        if let Some(e) = find_few(at + lo * areas::ENTRY_SIZE, RUN, key, s) {
+            return Some(lo + e);
         }
-        k = lo;
     }
-    find_few(at, k, key, s)
+    find_few(at, rest, key, s)
 }
 
 // ---- full pages
@@ -159,16 +128,11 @@ fn small_has(chip: Chip, at: usize, j: u32, s: &[u8]) -> bool
     requires { (0 < chip.unit) × (chip.unit < 5) × (chip.unit ≢ 3) × (at + page chip.unit ≤ length s.now) }
     ensures { result ≡ has_word s.now at (words_per_page chip.unit) j }
 {
-    if chip.unit == 4 {
-        return many_have(at, j, s);
+    match chip.unit {
+        4 => block_has::<MANY>(at, j, s),
+        1 => block_has::<FEW>(at, j, s),
+        _ => block_has::<FEW>(at, j, s) || block_has::<FEW>(at + FEW_BYTES, j, s),
     }
-    if few_have(at, j, s) {
-        return true;
-    }
-    if chip.unit == 1 {
-        return false;
-    }
-    few_have(at + FEW_BYTES, j, s)
 }
 
 // Is one of the words of a full page the number j.
@@ -182,25 +146,22 @@ pub fn page_has(chip: Chip, at: usize, j: u32, s: &[u8]) -> bool
     has_word(at, chip.deletions_per_page(), j, s)
 }
 
-// The newest entry of a full page with the key, plus one; 0 if there is none. In pages of more than four units it is looked for from the
-// newest 64 words on that have the key.
-pub fn find_in_page(chip: Chip, at: usize, key: Key, s: &[u8]) -> usize
+// The newest entry of a full page with the key. In pages of more than four units it is looked for from the newest 64 words on that have
+// the key.
+pub fn find_in_page(chip: Chip, at: usize, key: Key, s: &[u8]) -> Option<usize>
     requires { UnitSound chip.unit × (at + page chip.unit ≤ length s.now) }
-    ensures { result ≡ last_entry s.now at (entries_per_page chip.unit) (key_is key) }
+    ensures { result ≡ place_of (last_entry s.now at (entries_per_page chip.unit) (key_is key)) }
 {
     if chip.unit < 5 {
         if small_has(chip, at, key.level, s) {
             return last_key(at, chip.entries_per_page(), key, s);
         }
-        return 0;
+        return None;
     }
-    let mut b = chip.page_size() / MANY_BYTES;
-    while b > 0 {
-        let c = b - 1;
-        if many_have(at + c * MANY_BYTES, key.level, s) {
-            return last_key(at, b * MANY_ENTRIES, key, s);
+    for b in (0..chip.page_size() / MANY_BYTES).rev() {
+        if block_has::<MANY>(at + b * MANY_BYTES, key.level, s) {
+            return last_key(at, (b + 1) * MANY_ENTRIES, key, s);
         }
-        b = c;
     }
-    0
+    None
 }

@@ -1,12 +1,8 @@
-use Prim.Native.Nat.{◌-◌, ◌≤◌}
+use Prim.Native.Nat.{◌+◌, ◌*◌}
 use mathlib.Core.Path.{◌≡◌}
-use Rattle.memory.specs.Candidate.{candidate}
 use Rattle.keys.specs.Key.{key_is}
-use Rattle.items.specs.Scans.{has_key}
+use Rattle.items.specs.Scans.{last_entry}
 use Rattle.items.proofs.find_entry.Given as goal
 
-abbrev pub invariant-loop-k : goal.invariant-loop-k
-invariant-loop-k l = (l.k ≤ l.count) × (candidate (has_key l.s l.at (key_is l.key)) l.count ≡ candidate (has_key l.s l.at (key_is l.key)) l.k)
-
-abbrev pub decreases-loop-k : goal.decreases-loop-k
-decreases-loop-k l = l.k
+abbrev pub invariant-loop-b : goal.invariant-loop-b
+invariant-loop-b l = last_entry l.s l.at l.count (key_is l.key) ≡ last_entry l.s l.at (l.rest + l.b * 64) (key_is l.key)

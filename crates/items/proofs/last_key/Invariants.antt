@@ -1,12 +1,7 @@
-use Prim.Native.Nat.{◌-◌, ◌≤◌}
 use mathlib.Core.Path.{◌≡◌}
-use Rattle.memory.specs.Candidate.{candidate}
 use Rattle.keys.specs.Key.{key_is}
-use Rattle.items.specs.Scans.{has_key}
+use Rattle.items.specs.Scans.{last_entry}
 use Rattle.items.proofs.last_key.Given as goal
 
-abbrev pub invariant-loop-k : goal.invariant-loop-k
-invariant-loop-k l = (l.k ≤ l.n) × (candidate (has_key l.s l.at (key_is l.key)) l.n ≡ candidate (has_key l.s l.at (key_is l.key)) l.k)
-
-abbrev pub decreases-loop-k : goal.decreases-loop-k
-decreases-loop-k l = l.k
+abbrev pub invariant-loop-e : goal.invariant-loop-e
+invariant-loop-e l = last_entry l.s l.at l.n (key_is l.key) ≡ last_entry l.s l.at l.e (key_is l.key)

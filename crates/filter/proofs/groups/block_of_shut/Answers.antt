@@ -6,11 +6,11 @@ use Rattle.filter.proofs.groups.block_of_shut.Goals as goal
 
 pub returns-then-n-gt64 : goal.returns-then-n-gt64
 returns-then-n-gt64 c =
-    let b = c.before.before.before in
-    let x = b.args in
-    (refl, shut_two x.n x.a x.b c.before.having.result c.having-then-n-gt64.result c.before.before.if-n-gt64.true b.requires.1 c.before.having.ensures c.having-then-n-gt64.ensures)
+    let x = c.args in
+    let two = c.having-then-n-gt64 in
+    (refl, shut_two x.n x.a x.b c.having.result two.result c.if-n-gt64.true c.requires.1 c.having.ensures two.ensures)
 
 pub returns : goal.returns
 returns c =
-    let x = c.before.before.args in
-    (refl, shut_one x.n x.a x.b c.having-2.result c.before.if-n-gt64.false c.having-2.ensures)
+    let x = c.args in
+    (refl, shut_one x.n x.a x.b c.having-2.result c.if-n-gt64.false c.having-2.ensures)

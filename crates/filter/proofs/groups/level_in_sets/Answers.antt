@@ -1,4 +1,3 @@
-use borrow.Author.Tests.{lt-ltb, le-ltb}
 use native.Mathlib.Omega.{arith}
 use Prim.Native.Nat.{◌+◌, ◌*◌, ◌-◌, ◌/◌, ◌^◌, ◌<◌}
 use Rattle.memory.specs.Numbers.{div_lt}
@@ -13,17 +12,10 @@ set_level-requires c =
     let p = c.requires in
     (p.unit_is.0.most, p.unit_is.0.small, p.unit_is.1, omega (arith, p.below_bound.0), omega (arith, p.unit_is.2, p.unit_is.0.most), exponent_le x.chip.unit x.e p.unit_is.0 x.st.rounds p.unit_is.2)
 
-pub returns-then-below-st : goal.returns-then-below-st
-returns-then-below-st c = rw (lt-ltb _ _ c.if-below-st.true) c.set_level.ensures
-
 pub full_level-requires : goal.full_level-requires
 full_level-requires c =
     let x = c.args in
     let p = c.requires in
     let k : (x.below - 1) / 2 ^ (x.e + 9) < 2049 = rw (power_9 x.chip.unit x.e p.unit_is.0)
     (div_lt (x.below - 1) (128 * (4 * x.chip.unit)) 2049 (omega (arith, p.unit_is.0.some)) (omega (arith, p.unit_is.0.some))) in
-    (p.unit_is.0.most, p.unit_is.1, omega (arith, c.shifted.ensures))
-
-pub returns : goal.returns
-returns c =
-    rw (le-ltb _ _ c.if-below-st.false, ← c.shifted.ensures) c.full_level.ensures
+    (p.unit_is.0.most, p.unit_is.1, omega (arith, k))

@@ -1,65 +1,44 @@
 use native.Mathlib.Nat.{mod-lt}
 use native.Mathlib.Omega.{arith}
-use Prim.Native.Nat.{◌/◌, ◌%◌}
+use Prim.Native.Nat.{◌+◌, ◌*◌, ◌/◌, ◌%◌, ◌≤◌}
 use lib.ListN.{length}
 use Rattle.filter.proofs.Bytes.{eighth, first_in, byte_in, step_bit}
 use Rattle.filter.proofs.groups.position_bits.Goals as goal
+use Rattle.filter.proofs.groups.position_bits.Goals.{After-row_of}
 
 -- The byte of each filter, and its bit in it.
 
-pub row_of-requires : goal.row_of-requires
-row_of-requires c =
-    let b = c.before.before.before in
-    (b.requires.1.few, omega (arith, b.requires.1.reach))
+-- the first filter's part lies within the bytes
+first_there : (c : After-row_of) → c.row_of.result + c.args.first * (c.power-w.result / 8) ≤ length c.args.bytes.now
+first_there c =
+    let x = c.args in
+    let P = c.power-w in
+    let e = eighth x.l.exponent P.result P.ensures.0 c.requires.1.some in
+    let s = rw (← c.row_of.ensures, ← P.ensures.0) at c.requires.1.reach in
+    omega (arith, first_in c.row_of.result P.result (P.result / 8) x.first x.n (length x.bytes.now) e s)
 
 pub overflow_mul-first : goal.overflow_mul-first
-overflow_mul-first c =
-    let b = c.before.before.before.before in
-    let x = b.args in
-    let R = c.row_of in
-    let P = c.before.before.power-w in
-    let e = eighth x.l.exponent P.result P.ensures.0 b.requires.1.some in
-    let s = rw (← R.ensures, ← P.ensures.0) at b.requires.1.reach in
-    omega (arith, first_in R.result P.result (P.result / 8) x.first x.n (length x.bytes.now) e s)
+overflow_mul-first c = omega (arith, first_there c)
 
 pub overflow_add-row_of : goal.overflow_add-row_of
-overflow_add-row_of c =
-    let b = c.before.before.before.before in
-    let x = b.args in
-    let R = c.row_of in
-    let P = c.before.before.power-w in
-    let e = eighth x.l.exponent P.result P.ensures.0 b.requires.1.some in
-    let s = rw (← R.ensures, ← P.ensures.0) at b.requires.1.reach in
-    omega (arith, first_in R.result P.result (P.result / 8) x.first x.n (length x.bytes.now) e s)
+overflow_add-row_of c = omega (arith, first_there c)
 
 pub overflow_add-row_of-2 : goal.overflow_add-row_of-2
-overflow_add-row_of-2 c =
-    let b = c.before.before.before.before in
-    let x = b.args in
-    let R = c.row_of in
-    let W = c.before.usize_of_u32 in
-    let P = c.before.before.power-w in
-    let e = eighth x.l.exponent P.result P.ensures.0 b.requires.1.some in
-    let s = rw (← R.ensures, ← P.ensures.0) at b.requires.1.reach in
-    omega (arith, first_in R.result P.result (P.result / 8) x.first x.n (length x.bytes.now) e s, mod-lt W.result P.ensures.1)
+overflow_add-row_of-2 c = omega (arith, first_there c, mod-lt c.args.p c.power-w.ensures.1)
 
 pub row_bits-requires : goal.row_bits-requires
 row_bits-requires c =
-    let b = c.before.before.before.before in
-    let x = b.args in
+    let x = c.args in
     let R = c.row_of in
-    let W = c.before.usize_of_u32 in
-    let P = c.before.before.power-w in
-    let e = eighth x.l.exponent P.result P.ensures.0 b.requires.1.some in
-    let s = rw (← R.ensures, ← P.ensures.0) at b.requires.1.reach in
-    (b.requires.0, λ i h. byte_in R.result P.result (P.result / 8) x.first x.n (length x.bytes.now) e s (W.result % P.result) i (mod-lt W.result P.ensures.1) h)
+    let P = c.power-w in
+    let e = eighth x.l.exponent P.result P.ensures.0 c.requires.1.some in
+    let s = rw (← R.ensures, ← P.ensures.0) at c.requires.1.reach in
+    (c.requires.0, λ i h. byte_in R.result P.result (P.result / 8) x.first x.n (length x.bytes.now) e s (x.p % P.result) i (mod-lt x.p P.ensures.1) h)
 
 pub returns : goal.returns
 returns c i h =
-    let b = c.before.before.before.before.before in
-    let x = b.args in
-    let R = c.before.row_of in
-    let W = c.before.before.usize_of_u32 in
-    let P = c.before.before.before.power-w in
-    let e = eighth x.l.exponent P.result P.ensures.0 b.requires.1.some in
-    rw (e, R.ensures, P.ensures.0, W.ensures) at (step_bit x.bytes.now R.result (W.result % P.result) x.first (P.result / 8) i c.row_bits.result (c.row_bits.ensures.0 i h))
+    let x = c.args in
+    let R = c.row_of in
+    let P = c.power-w in
+    let e = eighth x.l.exponent P.result P.ensures.0 c.requires.1.some in
+    rw (e, R.ensures, P.ensures.0) at (step_bit x.bytes.now R.result (x.p % P.result) x.first (P.result / 8) i c.row_bits.result (c.row_bits.ensures.0 i h))

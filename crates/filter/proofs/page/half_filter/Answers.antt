@@ -1,20 +1,8 @@
-use borrow.Author.Rules.{rules}
 use native.Mathlib.Omega.{arith}
-use mathlib.Core.Path.{refl}
 use Rattle.filter.specs.Filter.{array_bit, with_key}
 use Rattle.filter.proofs.Pairs.{put_ext}
 use Rattle.fnv.specs.Hashed.{bytes_of}
 use Rattle.filter.proofs.page.half_filter.Goals as goal
-
-pub new_filter-requires : goal.new_filter-requires
-new_filter-requires c =
-    let P = c.requires.unit_sound in
-    record { unit_sound = (P.0, P.1, omega arith, P.2); bits_value = refl }
-
-pub put_fourths-requires : goal.put_fourths-requires
-put_fourths-requires c =
-    let U = c.requires.unit_sound.0.1 in
-    (U.some, U.most, c.requires.f_bound.0, search rules, search rules)
 
 pub returns : goal.returns
 returns c =

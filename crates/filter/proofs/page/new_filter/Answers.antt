@@ -1,66 +1,33 @@
 use native.Mathlib.Omega.{arith}
-use Prim.Native.Nat.{ℕ, ◌+◌, ◌*◌, ◌-◌, ◌<◌}
+use Prim.Native.Nat.{ℕ, ◌+◌, ◌*◌, ◌-◌}
 use mathlib.Core.Path.{◌≡◌, ap, ◌∙◌}
 use mathlib.Core.List.{List}
 use lib.ListN.{length}
 use Rattle.memory.specs.Ranges.{any}
 use Rattle.filter.specs.Filter.{array_bit, key_bit, item_bytes}
-use Rattle.filter.proofs.Setting.{none_set, any_more, word_in}
+use Rattle.filter.proofs.Setting.{none_set, any_more}
 use Rattle.filter.proofs.page.new_filter.Goals as goal
-
-pub overflow_sub-last : goal.overflow_sub-last
-overflow_sub-last c = omega (arith, c.entries_per_page-last.ensures)
 
 pub loop-i-init : goal.loop-i-init
 unfolding any
 loop-i-init c = (
-  omega arith,
   ap length c.requires.bits_value,
   λ x h. ap (λ (l : List ℕ). array_bit l x) c.requires.bits_value ∙ none_set 256 x (omega arith),
 )
-
-pub overflow_mul-i : goal.overflow_mul-i
-overflow_mul-i c =
-    let P = c.requires.unit_sound in
-    let l : c.loop-i.i < 8 * c.args.chip.unit - 1 = omega (arith, c.entries_per_page-last.ensures, c.loop-i-test.true) in
-    omega (arith, word_in c.args.chip.unit _ _ c.loop-i.i _ l P.2 P.3)
-
-pub overflow_add-at : goal.overflow_add-at
-overflow_add-at c =
-    let P = c.requires.unit_sound in
-    let l : c.loop-i.i < 8 * c.args.chip.unit - 1 = omega (arith, c.entries_per_page-last.ensures, c.loop-i-test.true) in
-    omega (arith, word_in c.args.chip.unit _ _ c.loop-i.i _ l P.2 P.3)
-
-pub hashed_at-old-requires : goal.hashed_at-old-requires
-hashed_at-old-requires c =
-    let P = c.requires.unit_sound in
-    let l : c.loop-i.i < 8 * c.args.chip.unit - 1 = omega (arith, c.entries_per_page-last.ensures, c.loop-i-test.true) in
-    word_in c.args.chip.unit _ _ c.loop-i.i _ l P.2 P.3
-
-pub set_key-requires : goal.set_key-requires
-set_key-requires c =
-    let pre = c.requires.unit_sound in
-    (pre.0, pre.1, c.loop-i.invariant.1)
 
 pub loop-i-preserved : goal.loop-i-preserved
 loop-i-preserved c =
     let l = c.loop-i in
     let x = c.args in (
-      omega arith,
-      c.set_key.auto.bits ∙ l.invariant.1,
+      c.set_key.auto.bits ∙ l.invariant.0,
       λ y h.
           c.set_key.ensures y h
-          ∙ rw (l.invariant.2 y h, c.hashed_at-old.ensures)
+          ∙ rw (l.invariant.1 y h, c.hashed_at-old.ensures)
           (any_more (λ j. key_bit x.chip.unit x.count (item_bytes x.ram.now (x.at + j * x.step)) y) l.i),
     )
-
-pub set_key-requires-2 : goal.set_key-requires-2
-set_key-requires-2 c =
-    let pre = c.requires.unit_sound in
-    (pre.0, pre.1, c.loop-i.invariant.1)
 
 pub returns : goal.returns
 returns c =
     let x = c.args in
     let e : c.loop-i.i ≡ 8 * x.chip.unit - 1 = omega (arith, c.entries_per_page-last.ensures) in
-    λ y h. c.set_key-2.ensures y h ∙ rw (c.loop-i.invariant.2 y h, e)
+    λ y h. c.set_key-2.ensures y h ∙ rw (c.loop-i.invariant.1 y h, e)

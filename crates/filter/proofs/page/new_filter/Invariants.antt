@@ -1,4 +1,4 @@
-use Prim.Native.Nat.{ℕ, ◌+◌, ◌*◌, ◌-◌, ◌≤◌, ◌<◌}
+use Prim.Native.Nat.{ℕ, ◌+◌, ◌*◌, ◌<◌}
 use mathlib.Core.Path.{◌≡◌}
 use lib.ListN.{length}
 use Rattle.memory.specs.Ranges.{any}
@@ -7,8 +7,5 @@ use Rattle.filter.proofs.page.new_filter.Given as goal
 
 abbrev pub invariant-loop-i : goal.invariant-loop-i
 invariant-loop-i l =
-    (l.i ≤ l.last) × (length l.bits ≡ 256)
+    (length l.bits ≡ 256)
     × ((x : ℕ) → x < 2048 → array_bit l.bits x ≡ any (λ j. key_bit l.chip.unit l.count (item_bytes l.ram (l.at + j * l.step)) x) l.i)
-
-abbrev pub decreases-loop-i : goal.decreases-loop-i
-decreases-loop-i l = l.last - l.i

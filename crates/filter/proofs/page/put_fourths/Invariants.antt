@@ -1,10 +1,6 @@
-use Prim.Native.Nat.{◌-◌, ◌≤◌}
 use Rattle.filter.specs.Filter.{array_bit}
 use Rattle.filter.proofs.Pairs.{Putting}
 use Rattle.filter.proofs.page.put_fourths.Given as goal
 
 abbrev pub invariant-loop-i : goal.invariant-loop-i
-invariant-loop-i l = (l.i ≤ 4) × Putting l.piece l.i l.f (array_bit l.bits) l.initial.out l.out
-
-abbrev pub decreases-loop-i : goal.decreases-loop-i
-decreases-loop-i l = 4 - l.i
+invariant-loop-i l = Putting l.piece l.i l.f (array_bit l.bits) l.initial.out l.out

@@ -4,6 +4,4 @@ use Rattle.filter.proofs.page.set_bit.Goals as goal
 -- One bit is set.
 
 pub returns : goal.returns
-returns c =
-    let b = c.before.before.before in
-    rw c.bit_place.ensures.0 (λ x h. set_one b.args.bits.now b.args.p x b.requires.0 b.requires.1)
+returns c x h = set_one c.args.bits.now c.args.p x c.requires.0 c.requires.1
