@@ -16,7 +16,7 @@ use Rattle.layout.specs.Header.{pages, kind_in, finished, state_words, header_by
 use Rattle.laws.specs.HeaderLaws.{header_of, length_pages}
 use Rattle.laws.specs.Lengths.{Long}
 use Rattle.geometry.specs.Shape.{geometry_for, shape}
-use Rattle.geometry.specs.declared.Geometry.{Geometry}
+use Rattle.geometry.specs.declared.volume.Geometry.{Geometry}
 use Rattle.std.specs.Prelude.{Ok}
 use Rattle.load.specs.Contract.{Judged}
 use Rattle.load.proofs.Counts.{Added}

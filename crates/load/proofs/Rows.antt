@@ -17,7 +17,7 @@ use Rattle.layout.specs.Budgets.{Step, call_steps, result_of, call_for, call_cut
 use Rattle.layout.specs.Several.{put_call}
 use Rattle.laws.specs.StepLaws.{last_length, taken_enough}
 use Rattle.geometry.specs.Shape.{shape, geometry_for}
-use Rattle.geometry.specs.declared.Geometry.{Geometry}
+use Rattle.geometry.specs.declared.volume.Geometry.{Geometry}
 use Rattle.keys.specs.Key.{key_is}
 use Rattle.state.specs.Contract.{record_is, call_of, CutEffect, cut_of}
 use Rattle.state.specs.declared.Record.{Record}

@@ -17,7 +17,7 @@ use Rattle.layout.specs.Calls.{Volume, Outcome, accepted, refused, Result, bad_s
 use Rattle.layout.specs.Header.{pages, kind_in}
 use Rattle.layout.specs.Several.{Several, ended, one_more, go_on}
 use Rattle.geometry.specs.Shape.{geometry_for}
-use Rattle.geometry.specs.declared.Geometry.{Geometry}
+use Rattle.geometry.specs.declared.volume.Geometry.{Geometry}
 use Rattle.state.specs.Contract.{number_of}
 use Rattle.state.specs.declared.Refusal.{Refusal}
 use Rattle.state.specs.declared.Refusal.TheVariants.{BadState, TooShort, Pending}

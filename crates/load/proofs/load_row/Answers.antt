@@ -5,7 +5,7 @@ use Rattle.layout.specs.Hash.{fnv_family}
 use Rattle.layout.specs.Calls.{key_of, Call}
 use Rattle.layout.specs.Header.{on_pages}
 use Rattle.layout.specs.Budgets.{call_cut}
-use Rattle.geometry.specs.declared.Geometry.{Geometry}
+use Rattle.geometry.specs.declared.volume.Geometry.{Geometry}
 use Rattle.keys.specs.Key.{key_is}
 use Rattle.state.specs.Contract.{call_of, volume, cut_of}
 use Rattle.state.specs.declared.Refusal.{Refusal}

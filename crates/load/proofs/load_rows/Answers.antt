@@ -10,7 +10,7 @@ use Rattle.layout.specs.Hash.{fnv_family}
 use Rattle.layout.specs.Calls.{Volume, accepted, refused}
 use Rattle.layout.specs.Header.{on_pages}
 use Rattle.layout.specs.Budgets.{call_cut}
-use Rattle.geometry.specs.declared.Geometry.{Geometry}
+use Rattle.geometry.specs.declared.volume.Geometry.{Geometry}
 use Rattle.state.specs.Contract.{cut_of, cut_by, number_of, volume}
 use Rattle.state.specs.declared.Cut.{Cut}
 use Rattle.state.specs.declared.Refusal.{Refusal}
