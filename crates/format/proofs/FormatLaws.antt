@@ -1,5 +1,5 @@
 -- What the steps of a format leave, and what is told of them.
-use mathlib.Core.Path.{◌≡◌, refl, ap, ◌∙◌}
+use mathlib.Core.Path.{◌≡◌, refl, ap, sym, subst, ◌∙◌}
 use mathlib.Core.Bool.{true, false, cond}
 use mathlib.Core.List.{List, [], ◌∷◌, ◌++◌}
 use Prim.Native.Nat.{ℕ, zero, suc, ◌+◌, ◌-◌, ◌≤◌, ◌<◌}
@@ -26,7 +26,7 @@ use Rattle.geometry.specs.declared.volume.Geometry.{Geometry}
 use Rattle.std.specs.Prelude as std
 use Rattle.std.specs.Prelude.{Err}
 use Rattle.state.specs.Contract.{CutEffect, cut_of, cut_by, state_is, number_of, outcome_of, Effect, effect_of, Ran}
-use Rattle.state.specs.Judge.{judgement_of_new, FormatFits}
+use Rattle.state.specs.Judge.{judgement_of_new, FormatFits, format_shape}
 use Rattle.state.specs.declared.State.{State}
 use Rattle.state.specs.declared.Progress.{Progress}
 use Rattle.state.specs.declared.Refusal.{Refusal}
@@ -56,16 +56,19 @@ pages_write ram x = rw (length_write ram 0 x) (take_write (length ram - header_s
 -- ---- the steps behind the intent
 
 module _ (v : Volume) (sizes : layout.Sizes) (g : Geometry) (n : FormatFits sizes v.flash (pages v.ram) g) where
+  named : layout.geometry sizes ≡ shape g
+  named = sym (format_shape sizes v.flash (pages v.ram) g n)
+
   ops_length : length (formatted (on_pages v) sizes).ops ≡ layout.blocks (shape g)
-  ops_length = formatted_length (on_pages v) sizes ∙ rw n.is
+  ops_length = formatted_length (on_pages v) sizes ∙ ap layout.blocks named
 
   ops_cut : (b : ℕ) → b ≤ layout.blocks (shape g) → take b (formatted (on_pages v) sizes).ops ≡ erases 0 b
   unfolding formatted
-  ops_cut b h = erases_take 0 b (layout.blocks (layout.geometry sizes)) (rw n.is at h)
+  ops_cut b h = erases_take 0 b (layout.blocks (layout.geometry sizes)) (subst (λ x. b ≤ layout.blocks x) (sym named) h)
 
   ops_are : (formatted (on_pages v) sizes).ops ≡ erases 0 (layout.blocks (shape g))
   unfolding formatted
-  ops_are = rw n.is
+  ops_are = ap (λ x. erases 0 (layout.blocks x)) named
 
   ram_is : (formatted (on_pages v) sizes).volume
       ≡ record {
@@ -74,7 +77,16 @@ module _ (v : Volume) (sizes : layout.Sizes) (g : Geometry) (n : FormatFits size
         ram = write (pages v.ram) 0 (replicate (layout.ram_size (shape g)) 0);
       }
   unfolding formatted
-  ram_is = rw n.is
+  ram_is =
+      ap (λ (x : layout.Geometry). formatted_at x) named
+    where
+      formatted_at : layout.Geometry → Volume
+      formatted_at x =
+          record {
+            state = layout.state_of sizes 0 0;
+            flash = apply_all x.u (erases 0 (layout.blocks x)) v.flash;
+            ram = write (pages v.ram) 0 (replicate (layout.ram_size x) 0);
+          }
 
   pub finish_cut : (b : ℕ) (m : Memory) (p : Progress) → b ≤ layout.blocks (shape g)
       → m ≡ memory (apply_all g.chip.unit (erases 0 b) v.flash) v.ram → p.steps ≡ b → p.finished ≡ false
@@ -102,16 +114,16 @@ module _ (v : Volume) (sizes : layout.Sizes) (g : Geometry) (n : FormatFits size
         length-take b (last_steps (formatted w sizes)),
         last_length (formatted w sizes),
         formatted_length w sizes ∙ same,
-        blocks_le g n.sound,
+        blocks_le g,
       )
     where
       same : layout.blocks (layout.geometry sizes) ≡ layout.blocks (shape g)
-      same = rw n.is
+      same = ap layout.blocks named
 
   -- ---- the intent
 
   pub header_fits : header_size ≤ length v.ram
-  header_fits = omega (arith, n.sound.unit.1.some, n.long.read.ram_fits, length_pages v.ram)
+  header_fits = omega (arith, g.chip.power.some, n.long.read.ram_fits, length_pages v.ram)
 
   intent_size : length (take state_size (header v.ram) ++ words_bytes (format_words sizes)) ≡ header_size
   intent_size =
@@ -164,7 +176,7 @@ format_is : (w : Volume) (sizes : layout.Sizes) (g : Geometry) → FormatFits si
 unfolding format
 format_is w sizes g n =
     let enough : too_short (layout.geometry sizes) w.flash w.ram ≡ false
-    = rw n.is at (not_short (shape g) w.flash w.ram n.long) in
+    = ap (λ x. too_short x w.flash w.ram) (sym (format_shape sizes w.flash w.ram g n)) ∙ not_short (shape g) w.flash w.ram n.long in
     rw (n.can, enough)
 
 module _ (b : ℕ) (v : Volume) (sizes : layout.Sizes) (g : Geometry) (n : FormatFits sizes v.flash (pages v.ram) g)
@@ -179,13 +191,18 @@ module _ (b : ℕ) (v : Volume) (sizes : layout.Sizes) (g : Geometry) (n : Forma
         left = record { state = state_is (cond p.finished new old); flash = m.flash; ram = m.ram };
       }
 
+  -- the unit is that of the sizes
+  at_unit : (ss : List Step) → Ran g.chip.unit ss b (memory v.flash v.ram) m p → Ran (layout.unit_of sizes) ss b (memory v.flash v.ram) m p
+  at_unit ss R =
+      subst (λ u. Ran u ss b (memory v.flash v.ram) m p) (ap (λ (x : layout.Geometry). x.u) (format_shape sizes v.flash (pages v.ram) g n)) R
+
   pub format_ran : Ran g.chip.unit (call_steps (format_intended v sizes) (formatted (on_pages v) sizes)) b (memory v.flash v.ram) m p
       → told_cut ≡ cut_of (format_cut b v sizes)
   unfolding format_for formatted
   format_ran R =
       rw (format_is (on_pages v) sizes g n)
       (ran_cut_is b (layout.unit_of sizes) v (call_steps (format_intended v sizes) (formatted (on_pages v) sizes))
-      (formatted (on_pages v) sizes) m p old new refl o z (rw n.is at R))
+      (formatted (on_pages v) sizes) m p old new refl o z (at_unit _ R))
 
   -- a restart, to which the header tells the format
   pub restart_ran : (h : Family) → header_size ≤ length v.ram → pending_in v.ram ≡ formatting sizes
@@ -195,7 +212,7 @@ module _ (b : ℕ) (v : Volume) (sizes : layout.Sizes) (g : Geometry) (n : Forma
   restart_ran h l q R =
       rw (le-ltb (length v.ram) header_size l, q, format_is (pending_on v) sizes g n)
       (ran_cut_is b (layout.unit_of sizes) v (last_steps (formatted (on_pages v) sizes)) (formatted (on_pages v) sizes) m p old new refl o z
-      (rw n.is at R))
+      (at_unit _ R))
 
 pub whole_effect : (v : Volume) (sizes : layout.Sizes) (s : State) (a : std.Result Cut Refusal) (main spare ram : List ℕ)
     → cut_by s a main spare ram ≡ cut_of (format_cut 18446744073709551615 v sizes)

@@ -12,12 +12,13 @@ use Rattle.memory.specs.Booleans.{or_eq_false_iff}
 use Rattle.memory.specs.Words.{word, words_bytes, byte_of, length_words}
 use Rattle.layout.specs.Geometry as layout
 use Rattle.layout.specs.Calls.{Volume, bad_state, too_short}
-use Rattle.layout.specs.Header.{pages, kind_in, finished, state_words, header_bytes, header_word, no_intent}
+use Rattle.layout.specs.Header.{pages, on_pages, kind_in, finished, state_words, header_bytes, header_word, no_intent}
 use Rattle.laws.specs.HeaderLaws.{header_of, length_pages}
 use Rattle.laws.specs.Lengths.{Long}
 use Rattle.geometry.specs.Shape.{geometry_for, shape}
 use Rattle.geometry.specs.declared.volume.Geometry.{Geometry}
 use Rattle.std.specs.Prelude.{Ok}
+use Rattle.state.specs.Judge.{is_allowed, fits_shape}
 use Rattle.load.specs.Contract.{Judged}
 use Rattle.load.proofs.Counts.{Added}
 
@@ -26,20 +27,11 @@ idle_kind : (w : Volume) → header_word (finished w) 6 ≡ 0
 unfolding header_word header_bytes words_bytes byte_of
 idle_kind w = ap (λ (b : List ℕ). word b 24) (header_of w.ram (header_bytes w.state no_intent) (length_words (state_words w.state ++ no_intent)))
 
--- "S, R or D not allowed" does not apply
-flip : (t : Bool) → not t ≡ false → t ≡ true
-flip true e = refl
-flip false e = sym e
-
-is_allowed : (s : layout.State) → bad_state s ≡ false → layout.allowed s.sizes ≡ true
-unfolding bad_state
-is_allowed s e = flip _ ((or_eq_false_iff (not (layout.allowed s.sizes)) _).0 e).0
-
 module _ (g : Geometry) (v w : Volume) (J : Judged g v) (A : Added (layout.geometry v.state.sizes) v.state w.state)
     (main_same : length w.flash.main ≡ length v.flash.main) (spare_same : length w.flash.spare ≡ length v.flash.spare)
     (ram_same : length w.ram ≡ length v.ram) where
   shape_is : shape g ≡ layout.geometry v.state.sizes
-  shape_is = ap shape J.1.is
+  shape_is = fits_shape (on_pages v) g J.1
 
   named : shape g ≡ layout.geometry w.state.sizes
   named = shape_is ∙ ap layout.geometry (sym A.sizes_are)
@@ -94,7 +86,6 @@ module _ (g : Geometry) (v w : Volume) (J : Judged g v) (A : Added (layout.geome
       let is : g ≡ geometry_for w.state.sizes = J.1.is ∙ ap geometry_for (sym A.sizes_are) in (
         rw (good, short, kind) (ap Ok (sym is)),
         record {
-          sound = J.1.sound;
           is = is;
           good = good;
           long = long;

@@ -16,7 +16,7 @@ use Rattle.layout.specs.Budgets as budgets
 use Rattle.layout.specs.Budgets.{Step, call_steps, result_of, call_for, call_cut}
 use Rattle.layout.specs.Several.{put_call}
 use Rattle.laws.specs.StepLaws.{last_length, taken_enough}
-use Rattle.geometry.specs.Shape.{shape, geometry_for}
+use Rattle.geometry.specs.Shape.{shape}
 use Rattle.geometry.specs.declared.volume.Geometry.{Geometry}
 use Rattle.keys.specs.Key.{key_is}
 use Rattle.state.specs.Contract.{record_is, call_of, CutEffect, cut_of}
@@ -42,7 +42,7 @@ row_key_lem r None = refl
 row_key_lem r (Some j) = refl
 
 -- of a volume that is judged good, the call goes by the same search
-module _ (v : Volume) (g : Geometry) (g_is : g ≡ geometry_for v.state.sizes) (r : Record) where
+module _ (v : Volume) (g : Geometry) (g_is : shape g ≡ layout.geometry v.state.sizes) (r : Record) where
   searched : (o : Option Stop) → (search fnv_family (layout.geometry v.state.sizes) (on_pages v) (key_is r.key)).stop ≡ o
       → call_of (row_request r (live_of (stopped g o))) ≡ put_call fnv_family (on_pages v) (record_is r)
   unfolding put_call
@@ -54,7 +54,7 @@ module _ (v : Volume) (g : Geometry) (g_is : g ≡ geometry_for v.state.sizes) (
       → call_of (row_request r (live_of x)) ≡ put_call fnv_family (on_pages v) (record_is r)
   row_call_is x x_is =
       ap (λ (y : std.Result Resolved Refusal). call_of (row_request r (live_of y)))
-      (x_is ∙ ap (λ (k : Geometry). stopped g (search fnv_family (shape k) (on_pages v) (key_is r.key)).stop) g_is)
+      (x_is ∙ ap (λ (k : layout.Geometry). stopped g (search fnv_family k (on_pages v) (key_is r.key)).stop) g_is)
       ∙ searched _ refl
 
 -- ---- with a budget that is enough

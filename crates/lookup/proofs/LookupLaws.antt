@@ -19,7 +19,7 @@ use Rattle.layout.specs.Header.{pages, on_pages, kind_in, intended}
 use Rattle.layout.specs.Budgets.{Step, taken_by, taken, call_steps, result_of, call_for, call_whole}
 use Rattle.geometry.specs.Shape.{shape, geometry_for}
 use Rattle.geometry.specs.declared.volume.Geometry.{Geometry}
-use Rattle.state.specs.Judge.{VolumeFits}
+use Rattle.state.specs.Judge.{VolumeFits, fits_shape}
 use Rattle.std.specs.Prelude as std
 use Rattle.std.specs.Prelude.{Option, Ok, Err, None, Some, is_ok}
 use Rattle.geometry.specs.Shape.{place}
@@ -103,5 +103,5 @@ module _ (h : Family) (v : Volume) (key : Key) where
     pub lookup_fits : idle_judgement v ≡ Ok g
         → lookup_of (answer h (shape g) (on_pages v) (lookup key)) ≡ lookup_of (call_whole h v (lookup key))
     lookup_fits e =
-        ap (λ (k : Geometry). lookup_of (answer h (shape k) (on_pages v) (lookup key))) f.is
+        ap (λ (k : layout.Geometry). lookup_of (answer h k (on_pages v) (lookup key))) (fits_shape (on_pages v) g f)
         ∙ sym (whole_lookup ∙ ap lookup_of (judge_fits (on_pages v) g _ f) ∙ rw (idle e))

@@ -4,6 +4,7 @@ use Rattle.std.specs.Prelude.{Result, Ok, Err}
 use Rattle.layout.specs.Hash.{fnv_family}
 use Rattle.layout.specs.Calls.{key_of, Call}
 use Rattle.layout.specs.Header.{on_pages}
+use Rattle.state.specs.Judge.{fits_shape}
 use Rattle.layout.specs.Budgets.{call_cut}
 use Rattle.geometry.specs.declared.volume.Geometry.{Geometry}
 use Rattle.keys.specs.Key.{key_is}
@@ -29,7 +30,7 @@ returns-in_err-r c =
     let p = err_from_is_err_and c.from_residual.result c.from_residual.ensures.1 in
     rw (p.1, p.2)
     (refused_cut_lem v (call_of (Insert x.record)) x.budget i.field-0.0 (on_pages v) (call_unresolved v (Insert x.record) i.field-0.0 e)
-    ∙ ap (λ (q : Call). cut_of (call_cut fnv_family x.budget v q)) (row_call_is v x.g J.1.is x.record (Err i.field-0.0) i.ensures.equal))
+    ∙ ap (λ (q : Call). cut_of (call_cut fnv_family x.budget v q)) (row_call_is v x.g (fits_shape (on_pages v) x.g J.1) x.record (Err i.field-0.0) i.ensures.equal))
 
 pub perform_resolved-requires : goal.perform_resolved-requires
 perform_resolved-requires c =
@@ -48,4 +49,4 @@ returns c =
     let R = c.in_ok-r in
     c.perform_resolved.ensures
     ∙ ap (λ (q : Request). cut_of (call_cut fnv_family x.budget v (call_of q))) c.row_request-q.ensures
-    ∙ ap (λ (q : Call). cut_of (call_cut fnv_family x.budget v q)) (row_call_is v x.g c.requires.1.is x.record (Ok R.r) R.ensures.equal)
+    ∙ ap (λ (q : Call). cut_of (call_cut fnv_family x.budget v q)) (row_call_is v x.g (fits_shape (on_pages v) x.g c.requires.1) x.record (Ok R.r) R.ensures.equal)
