@@ -76,20 +76,12 @@ pub enum Pending {
     Unknown,
 }
 
-// Where the header lies: at the end, however long the RAM is.
-fn header_at(ram: &[u8]) -> usize
-    requires { header_size ≤ length ram.now }
-    ensures { result ≡ length ram.now - header_size }
-{
-    ram.len() - state::HEADER_SIZE
-}
-
 // Word i of the header.
 fn word(ram: &[u8], i: usize) -> u32
     requires { (header_size ≤ length ram.now) × (i < 16) }
     ensures { result ≡ header_word ram.now i }
 {
-    words::get32(ram, header_at(ram) + i * areas::WORD_SIZE)
+    words::get32(ram, state::pages_end(ram) + i * areas::WORD_SIZE)
 }
 
 // The state.
@@ -198,7 +190,7 @@ fn put_header(s: State, intent: &[u8], ram: &mut [u8])
     requires { (header_size ≤ length ram.old) × (length intent.now ≡ 40) }
     ensures { ram.new ≡ pages ram.old ++ (words_bytes (state_words (state_is s)) ++ intent.now) }
 {
-    let at = header_at(ram);
+    let at = state::pages_end(ram);
     let b = state_bytes(s);
     words::copy_at(ram, at, &b);
     words::copy_at(ram, at + STATE_SIZE, intent);
@@ -226,7 +218,7 @@ pub fn intend_format(sizes: Sizes, ram: &mut [u8])
         sizes.da_blocks,
         sizes.hash_count,
     );
-    let at = header_at(ram) + STATE_SIZE;
+    let at = state::pages_end(ram) + STATE_SIZE;
     words::copy_at(ram, at, &intent);
 }
 

@@ -1,21 +1,22 @@
 -- The part that a lookup hands out: it is there, it lies inside its slice, and it holds the record's bytes.
 use mathlib.Core.Path.{◌≡◌, refl, sym, ap, ◌∙◌}
-use mathlib.Core.Logic.{◌≢◌}
 use mathlib.Core.Bool.{Bool, true, false, false≢true}
 use mathlib.Core.List.{List}
 use Prim.Native.Nat.{ℕ, ◌+◌, ◌≤◌}
 use native.Mathlib.Omega.{arith}
-use lib.ListN.{length, take, drop}
+use lib.ListN.{length}
+use Rattle.std.specs.Prelude.{Option, Some, None}
 use Rattle.memory.specs.Bits.{num}
-use Rattle.memory.specs.Lists.{tabulate_part}
 use Rattle.layout.specs.Keys.{Key}
-use Rattle.layout.specs.Items.{Place, bytes_at}
+use Rattle.layout.specs.Items.{Place, bytes_at, source}
 use Rattle.layout.specs.Hash.{Family}
 use Rattle.layout.specs.Calls.{Volume, Outcome, accepted, hit, miss, refused, lookup}
 use Rattle.layout.specs.Budgets.{call_whole}
-use Rattle.lookup.specs.Results.{lookup_by, lookup_of, part_of, where_of}
+use Rattle.geometry.specs.Shape.{place}
+use Rattle.geometry.specs.declared.areas.Place as address
+use Rattle.geometry.specs.declared.areas.Place.TheVariants.{Ram, Flash}
+use Rattle.lookup.specs.Results.{LookupNumbers, lookup_by, lookup_of, numbers_at, place_in, placed_part}
 use Rattle.lookup.specs.Whole.{Inside, whole_cases, hit_inside}
-use Rattle.lookup.specs.declared.LookupResult.{LookupResult}
 
 -- the place of an outcome, and its bytes
 abbrev place_of : Place → Outcome → Place
@@ -36,13 +37,6 @@ is_hit miss = false
 is_hit (refused i) = false
 is_hit accepted = false
 
--- an answer with `found` set is a hit
-pub found_hit : (o : Outcome) (c d : ℕ) → (lookup_by o c d).found ≢ 0 → (p : Place) × (b : List ℕ) × (o ≡ hit p b)
-found_hit (hit p b) c d n = (p, b, refl)
-found_hit miss c d n = absurd (n refl)
-found_hit (refused i) c d n = absurd (n refl)
-found_hit accepted c d n = absurd (n refl)
-
 pub whole_inside : (h : Family) (v : Volume) (key : Key) (p : Place) (b : List ℕ) → (call_whole h v (lookup key)).outcome ≡ hit p b
     → Inside v.flash.main v.ram p b
 whole_inside h v key p b =
@@ -57,64 +51,60 @@ whole_inside h v key p b =
         let bytes : c ≡ b = ap (bytes_of b) e in
         (sym bytes ∙ x.0 ∙ ap (λ (y : Place). bytes_at v.flash.main v.ram y 16) same, rw same at x.1)
 
--- ---- the part by the numbers of `find`
+-- ---- the part by what `find` answers
 
 num_true : (b : Bool) → num b ≡ 1 → b ≡ true
 num_true true q = refl
 num_true false q = absurd (omega (arith, q))
 
-num_false : (b : Bool) → num b ≢ 1 → b ≡ false
-num_false true q = absurd (q refl)
+num_false : (b : Bool) → num b ≡ 0 → b ≡ false
+num_false true q = absurd (omega (arith, q))
 num_false false q = refl
 
--- a place by its two numbers
+-- a place by its two parts
 as_place : (p : Place) (x : Bool) (q : ℕ) → p.in_ram ≡ x → q ≡ p.at → p ≡ record { in_ram = x; at = q }
 as_place p x q t e = λ i. record { in_ram = t i; at = sym e i }
 
-moved : (main ram : List ℕ) (p p' : Place) (b : List ℕ) → p ≡ p' → Inside main ram p b → Inside main ram p' b
-moved main ram p p' b e x = rw e at x
+-- an answer with a place is a hit there, one without is none
+abbrev At : Option address.Place → Outcome → Type 0
+At None o = (m r : ℕ × ℕ) → placed_part m r o ≡ None
+At (Some p) o = (b : List ℕ) × (o ≡ hit (place p) b)
 
-module _ (h : Family) (v : Volume) (key : Key) (f : LookupResult) (is : f ≡ lookup_of (call_whole h v (lookup key))) (there : f.found ≢ 0) where
-  o : Outcome
+by_place : (p : Place) (b : List ℕ) (q : address.Place) (c d k e : ℕ) → numbers_at (Some q) k e ≡ lookup_by (hit p b) c d → p ≡ place q
+by_place p b (Ram at) c d k e is = as_place p true at (num_true p.in_ram (sym (ap (λ (x : LookupNumbers). x.in_ram) is))) (ap (λ (x : LookupNumbers). x.offset) is)
+by_place p b (Flash at) c d k e is = as_place p false at (num_false p.in_ram (sym (ap (λ (x : LookupNumbers). x.in_ram) is))) (ap (λ (x : LookupNumbers). x.offset) is)
+
+-- the two numbers of `found`, which do not agree
+found_both : (q : address.Place) (k e : ℕ) → (numbers_at (Some q) k e).found ≡ 1
+found_both (Ram at) k e = refl
+found_both (Flash at) k e = refl
+
+at_outcome : (found : Option address.Place) (o : Outcome) (c d k e : ℕ) → numbers_at found k e ≡ lookup_by o c d → At found o
+at_outcome None (hit p b) c d k e is = absurd (omega (arith, ap (λ (x : LookupNumbers). x.found) is))
+at_outcome None miss c d k e is = λ m r. refl
+at_outcome None (refused i) c d k e is = λ m r. refl
+at_outcome None accepted c d k e is = λ m r. refl
+at_outcome (Some q) (hit p b) c d k e is = (b, ap (λ (y : Place). hit y b) (by_place p b q c d k e is))
+at_outcome (Some q) miss c d k e is = absurd (omega (arith, found_both q k e, ap (λ (x : LookupNumbers). x.found) is))
+at_outcome (Some q) (refused i) c d k e is = absurd (omega (arith, found_both q k e, ap (λ (x : LookupNumbers). x.found) is))
+at_outcome (Some q) accepted c d k e is = absurd (omega (arith, found_both q k e, ap (λ (x : LookupNumbers). x.found) is))
+
+module _ (h : Family) (v : Volume) (key : Key) (k e : ℕ) where
+  abbrev o : Outcome
   o = (call_whole h v (lookup key)).outcome
 
-  at_hit : (p : Place) × (b : List ℕ) × ((call_whole h v (lookup key)).outcome ≡ hit p b)
-  at_hit = found_hit (call_whole h v (lookup key)).outcome (call_whole h v (lookup key)).count (call_whole h v (lookup key)).da_pages (rw is at there)
+  pub part_none : numbers_at None k e ≡ lookup_of (call_whole h v (lookup key)) → (m r : ℕ × ℕ) → placed_part m r o ≡ None
+  part_none is = at_outcome None o (call_whole h v (lookup key)).count (call_whole h v (lookup key)).da_pages k e is
 
-  -- its numbers are those of the place
-  numbers : (f.offset ≡ at_hit.0.at) × (f.in_ram ≡ num at_hit.0.in_ram)
-  numbers =
-      let e : f ≡ lookup_by (hit at_hit.0 at_hit.1) (call_whole h v (lookup key)).count (call_whole h v (lookup key)).da_pages
-      = is ∙ ap (λ (x : Outcome). lookup_by x (call_whole h v (lookup key)).count (call_whole h v (lookup key)).da_pages) at_hit.2 in
-      (ap (λ (x : LookupResult). x.offset) e, ap (λ (x : LookupResult). x.in_ram) e)
+  module _ (q : address.Place) (is : numbers_at (Some q) k e ≡ lookup_of (call_whole h v (lookup key))) where
+    hit_there : (b : List ℕ) × (o ≡ hit (place q) b)
+    hit_there = at_outcome (Some q) o (call_whole h v (lookup key)).count (call_whole h v (lookup key)).da_pages k e is
 
-  inside : Inside v.flash.main v.ram at_hit.0 at_hit.1
-  inside = whole_inside h v key at_hit.0 at_hit.1 at_hit.2
+    inside : Inside v.flash.main v.ram (place q) hit_there.0
+    inside = whole_inside h v key (place q) hit_there.0 hit_there.1
 
-  module _ (m r : ℕ × ℕ) where
-    module _ (x : Bool) (t : at_hit.0.in_ram ≡ x) where
-      abbrev q : Place
-      q = record { in_ram = x; at = f.offset }
+    pub part_fits : (place q).at + 16 ≤ length (source v.flash.main v.ram (place q))
+    part_fits = inside.1
 
-      place_is : at_hit.0 ≡ q
-      place_is = as_place at_hit.0 x f.offset t numbers.0
-
-      there_inside : Inside v.flash.main v.ram q at_hit.1
-      there_inside = moved v.flash.main v.ram at_hit.0 q at_hit.1 place_is inside
-
-      where_is : where_of m r (call_whole h v (lookup key)).outcome ≡ where_of m r (hit q at_hit.1)
-      where_is = ap (where_of m r) at_hit.2 ∙ ap (λ (y : Place). where_of m r (hit y at_hit.1)) place_is
-
-    pub part_in_ram : f.in_ram ≡ 1
-        → (f.offset + 16 ≤ length v.ram) × (take 16 (drop f.offset v.ram) ≡ part_of (call_whole h v (lookup key)).outcome) × ((r.0, f.offset + r.1) ≡ where_of m r (call_whole h v (lookup key)).outcome)
-    part_in_ram i =
-        let t : at_hit.0.in_ram ≡ true = num_true at_hit.0.in_ram (sym numbers.1 ∙ i) in
-        let n = there_inside true t in
-        (n.1, sym (tabulate_part v.ram f.offset 16 n.1) ∙ sym n.0 ∙ sym (ap part_of at_hit.2), sym (where_is true t))
-
-    pub part_in_main : f.in_ram ≢ 1
-        → (f.offset + 16 ≤ length v.flash.main) × (take 16 (drop f.offset v.flash.main) ≡ part_of (call_whole h v (lookup key)).outcome) × ((m.0, f.offset + m.1) ≡ where_of m r (call_whole h v (lookup key)).outcome)
-    part_in_main i =
-        let t : at_hit.0.in_ram ≡ false = num_false at_hit.0.in_ram (λ e. i (numbers.1 ∙ e)) in
-        let n = there_inside false t in
-        (n.1, sym (tabulate_part v.flash.main f.offset 16 n.1) ∙ sym n.0 ∙ sym (ap part_of at_hit.2), sym (where_is false t))
+    pub part_is : (m r : ℕ × ℕ) → placed_part m r o ≡ Some (bytes_at v.flash.main v.ram (place q) 16, place_in m r (place q))
+    part_is m r = ap (placed_part m r) hit_there.1 ∙ ap (λ (b : List ℕ). Some (b, place_in m r (place q))) inside.0

@@ -15,12 +15,11 @@ use Rattle.layout.specs.Header.{on_pages}
 use Rattle.layout.specs.Budgets.{call_whole}
 use Rattle.laws.specs.SearchLaws.{opened_le, ram_first_most}
 use Rattle.laws.specs.Sound.{sound, pu, u_le}
-use Rattle.lookup.specs.declared.LookupResult.{LookupResult}
-use Rattle.lookup.specs.Results.{lookup_of}
+use Rattle.lookup.specs.Results.{LookupNumbers, lookup_of}
 use Rattle.lookup.specs.Whole.{whole_cases}
 
 -- its first three numbers
-pub record Small (r : LookupResult) : Type 0 where
+pub record Small (r : LookupNumbers) : Type 0 where
   pub refusal : r.refusal < 4294967296
   pub found : r.found < 4294967296
   pub count : r.count < 4294967296

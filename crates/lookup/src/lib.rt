@@ -1,143 +1,111 @@
 // Lookup: where a level's record lies. Document 01, "Calls"; document 02, request 8: 10.
 #![tactic(auto)]
 
-ghost use Rattle.std.specs.Prelude.{◌≡◌};
+ghost use Rattle.std.specs.Prelude.{◌≡◌, ◌+◌, ◌≤◌, length};
 ghost use Rattle.layout.specs.Hash.{fnv_family};
 ghost use Rattle.layout.specs.Calls.{lookup, answer};
 ghost use Rattle.layout.specs.Budgets.{call_whole};
-ghost use Rattle.geometry.specs.Shape.{shape};
+ghost use Rattle.layout.specs.Items.{bytes_at, source};
+ghost use Rattle.geometry.specs.Shape.{shape, place};
 ghost use Rattle.keys.specs.Key.{key_is};
 ghost use Rattle.state.specs.Contract.{volume};
 ghost use Rattle.state.specs.Judge.{VolumeFits};
-ghost use Rattle.lookup.specs.Results.{lookup_of, answer_numbers, part_of, where_of};
+ghost use Rattle.lookup.specs.Results.{lookup_of, find_numbers, answer_numbers, looked_numbers, looked_part, place_in, placed_part};
 
-use geometry::{Geometry, areas};
+use geometry::{Geometry, Place, areas};
 use keys::Key;
 use search::End;
-use state::{Judgement, State};
+use state::{Refusal, State};
 
-// The answer of a lookup. found 1: the record's 16 bytes start at `offset` of the RAM (in_ram 1) or of the
-// main area (in_ram 0). count and deletion_count are the pages of entries and of deletions opened.
-#[repr(C)]
+// Where a level's record lies: its 16 bytes start at `place`, none for a miss. And the pages of entries and of deletions opened.
 #[derive(Clone, Copy)]
-pub struct LookupResult {
-    pub refusal: u32,
-    pub found: u32,
-    pub count: u32,
-    pub in_ram: u32,
-    pub offset: u32,
-    pub deletion_count: u64,
+pub struct Found {
+    pub place: Option<Place>,
+    pub pages: u32,
+    pub deletion_pages: u64,
 }
 
-fn refuse_lookup(i: u32) -> LookupResult
-    ensures { result ≡ record { refusal = i; found = 0; count = 0; in_ram = 0; offset = 0; deletion_count = 0 } }
-{
-    LookupResult {
-        refusal: i,
-        found: 0,
-        count: 0,
-        in_ram: 0,
-        offset: 0,
-        deletion_count: 0,
-    }
-}
-
-fn find_in(g: Geometry, s: State, key: Key, main: &[u8], spare: &[u8], ram: &[u8]) -> LookupResult
+// In a volume that is not refused by 1, 2 or 10.
+fn find_in(
+    g: Geometry,
+    s: State,
+    key: Key,
+    main: &[u8],
+    spare: &[u8],
+    ram: &[u8],
+) -> Result<Found, Refusal>
     requires { VolumeFits (volume s main.now spare.now ram.now) g }
-    ensures { result ≡ lookup_of (answer fnv_family (shape g) (volume s main.now spare.now ram.now) (lookup (key_is key))) }
+    ensures { find_numbers result ≡ lookup_of (answer fnv_family (shape g) (volume s main.now spare.now ram.now) (lookup (key_is key))) }
 {
     let n = s.records as usize;
     let f = search::search(search::all(g, n, s.deletions as usize), key, main, ram);
-    let end = f.end;
-    let opened = f.opened;
-    let deletion_count = f.da_pages;
-    match end {
+    let place = match f.end {
         End::Corrupt => {
-            return refuse_lookup(state::CORRUPT_ENTRY);
+            return Err(Refusal::CorruptEntry);
         }
-        End::Nothing => {
-            return LookupResult {
-                refusal: state::ACCEPTED,
-                found: 0,
-                count: opened,
-                in_ram: 0,
-                offset: 0,
-                deletion_count,
-            };
-        }
-        End::Live(j) => {
-            let p = geometry::item_place(g, geometry::record_area(g), n, j as usize);
-            let at = p.at;
-            let in_ram = p.in_ram;
-            if in_ram {
-                return LookupResult {
-                    refusal: state::ACCEPTED,
-                    found: 1,
-                    count: opened,
-                    in_ram: 1,
-                    offset: at as u32,
-                    deletion_count,
-                };
-            }
-            return LookupResult {
-                refusal: state::ACCEPTED,
-                found: 1,
-                count: opened,
-                in_ram: 0,
-                offset: at as u32,
-                deletion_count,
-            };
-        }
-    }
+        End::Nothing => None,
+        End::Live(j) => Some(geometry::item_place(g, geometry::record_area(g), n, j as usize)),
+    };
+    Ok(Found {
+        place,
+        pages: f.opened,
+        deletion_pages: f.da_pages,
+    })
 }
 
-// Where a level's record lies, in numbers.
-pub fn find(s: State, key: Key, main: &[u8], spare: &[u8], ram: &[u8]) -> LookupResult
-    ensures { result ≡ lookup_of (call_whole fnv_family (volume s main.now spare.now ram.now) (lookup (key_is key))) }
+// Where a level's newest record lies.
+pub fn find(s: State, key: Key, main: &[u8], spare: &[u8], ram: &[u8]) -> Result<Found, Refusal>
+    ensures { find_numbers result ≡ lookup_of (call_whole fnv_family (volume s main.now spare.now ram.now) (lookup (key_is key))) }
 {
-    match header::judge(s, main, spare, ram) {
-        Judgement::Refused(i) => {
-            return refuse_lookup(i);
-        }
-        Judgement::Good(g) => {
-            let n = state::pages_end(ram);
-            return find_in(g, s, key, main, spare, &ram[0..n]);
-        }
+    let g = header::judge(s, main, spare, ram)?;
+    let n = state::pages_end(ram);
+    find_in(g, s, key, main, spare, &ram[..n])
+}
+
+// The record at a place inside the main area or the RAM.
+fn record_at<'a>(p: Place, main: &'a [u8], ram: &'a [u8]) -> &'a [u8]
+    requires { (place p).at + 16 ≤ length (source main.now ram.now (place p)) }
+    ensures { (result.now ≡ bytes_at main.now ram.now (place p) 16)
+        × (result.ref_ptr ≡ place_in main.entry.ref_ptr ram.entry.ref_ptr (place p)) }
+{
+    match p {
+        Place::Ram(at) => &ram[at..at + areas::RECORD_SIZE],
+        Place::Flash(at) => &main[at..at + areas::RECORD_SIZE],
     }
 }
 
-// A level's newest record where it lies: 16 bytes of the main area or of the RAM, or an empty part. `numbers` gets the refusal's number,
-// whether there is a record, the count, and the pages of deletions opened.
+// What a lookup hands out: the 16 bytes of a level's newest record where they lie, none for a miss. And the pages of entries and of
+// deletions opened.
+#[derive(Clone, Copy)]
+pub struct Looked<'a> {
+    pub record: Option<&'a [u8]>,
+    pub pages: u32,
+    pub deletion_pages: u64,
+}
+
+// A level's newest record: a part of the main area or of the RAM.
 pub fn lookup<'a>(
     s: State,
     key: Key,
     main: &'a [u8],
     spare: &[u8],
     ram: &'a [u8],
-    numbers: &mut [u64; 4],
-) -> &'a [u8]
-    ensures part { (result.now ≡ part_of (call_whole fnv_family (volume s main.now spare.now ram.now) (lookup (key_is key))).outcome)
-        × (result.ref_ptr ≡ where_of main.entry.ref_ptr ram.entry.ref_ptr
-        (call_whole fnv_family (volume s main.now spare.now ram.now) (lookup (key_is key))).outcome) }
-    ensures numbers { numbers.new
+) -> Result<Looked<'a>, Refusal>
+    ensures part { looked_part result
+        ≡ placed_part main.entry.ref_ptr ram.entry.ref_ptr
+        (call_whole fnv_family (volume s main.now spare.now ram.now) (lookup (key_is key))).outcome }
+    ensures numbers { looked_numbers result
         ≡ answer_numbers (lookup_of (call_whole fnv_family (volume s main.now spare.now ram.now) (lookup (key_is key)))) }
 {
-    let f = find(s, key, main, spare, ram);
-    *numbers = [
-        f.refusal as u64,
-        f.found as u64,
-        f.count as u64,
-        f.deletion_count,
-    ];
-    let hit = f.found;
-    let at = f.offset as usize;
-    let in_ram = f.in_ram;
-    if hit == 0 {
-        return &main[0..0];
-    }
-    let e = at + areas::RECORD_SIZE;
-    if in_ram == 1 {
-        return &ram[at..e];
-    }
-    &main[at..e]
+    let f = find(s, key, main, spare, ram)?;
+    // Not by `map`: its closure would have to require again what `record_at` does.
+    let record = match f.place {
+        Some(p) => Some(record_at(p, main, ram)),
+        None => None,
+    };
+    Ok(Looked {
+        record,
+        pages: f.pages,
+        deletion_pages: f.deletion_pages,
+    })
 }

@@ -10,31 +10,36 @@ use Rattle.memory.specs.Cases.{either, lt?}
 use Rattle.layout.specs.Geometry as layout
 use Rattle.layout.specs.Refusals as refusal
 use Rattle.layout.specs.Hash.{Family, fnv_family}
-use Rattle.layout.specs.Calls.{Volume, accepted, Result, refuse, bad_state, too_short, format}
+use Rattle.layout.specs.Calls.{Volume, accepted, refused, Result, refuse, bad_state, too_short, format}
 use Rattle.layout.specs.Later.{call_again}
 use Rattle.layout.specs.Header.{header_size, pages, state_in, Pending, nothing, changing, formatting, unknown, pending_in}
 use Rattle.layout.specs.Budgets.{Step, last_steps, pending_on, resumed, restart_for, restart_steps, restart_cut, restart_whole, pending_ops}
 use Rattle.laws.specs.StepLaws.{last_length, taken_enough}
 use Rattle.geometry.specs.Shape.{geometry_for}
 use Rattle.geometry.specs.declared.Geometry.{Geometry}
-use Rattle.state.specs.Contract.{CutEffect, cut_of, outcome_of, Effect, effect_of}
+use Rattle.state.specs.Contract.{CutEffect, cut_of, cut_by, number_of, outcome_of, Effect, effect_of}
 use Rattle.state.specs.Judge.{judgement_of, VolumeFits}
-use Rattle.state.specs.declared.Judgement.TheVariants.{Refused}
+use Rattle.std.specs.Prelude as std
+use Rattle.std.specs.Prelude.{Err}
+use Rattle.state.specs.declared.State.{State}
+use Rattle.state.specs.declared.Cut.{Cut}
+use Rattle.state.specs.declared.Refusal.{Refusal}
+use Rattle.state.specs.declared.Refusal.TheVariants.{BadState, TooShort}
 use Rattle.state.proofs.Refusals.{of_volume, fits_enough}
 use Rattle.state.proofs.RunLaws.{taken_count, outcome_of_lem, uncut_effect_lem}
 use Rattle.restart.proofs.Few.{few_pending}
 
 -- a refusal, as its caller sees it
-abbrev pub refused_cut : Volume → ℕ → CutEffect
-refused_cut v i = record { outcome = outcome_of i; complete = 0; steps = 0; left = v }
+abbrev pub refused_cut : Volume → Refusal → CutEffect
+refused_cut v i = record { outcome = refused (number_of i); complete = 0; steps = 0; left = v }
 
 module _ (h : Family) (b : ℕ) (v : Volume) where
-  pub short_cut : length v.ram < header_size → refused_cut v refusal.too_short ≡ cut_of (restart_cut h b v)
+  pub short_cut : length v.ram < header_size → refused_cut v TooShort ≡ cut_of (restart_cut h b v)
   unfolding restart_for
   short_cut l = rw (lt-ltb (length v.ram) header_size l)
 
   module _ (l : header_size ≤ length v.ram) where
-    pub unknown_cut : pending_in v.ram ≡ unknown → refused_cut v refusal.bad_state ≡ cut_of (restart_cut h b v)
+    pub unknown_cut : pending_in v.ram ≡ unknown → refused_cut v BadState ≡ cut_of (restart_cut h b v)
     unfolding restart_for
     unknown_cut q = rw (le-ltb (length v.ram) header_size l, q)
 
@@ -43,7 +48,7 @@ module _ (h : Family) (b : ℕ) (v : Volume) where
       abbrev pub judged : Volume
       judged = record { state = s; flash = v.flash; ram = pages v.ram }
 
-      pub none_refused : (i : ℕ) → judgement_of judged ≡ Refused i → refused_cut v i ≡ cut_of (restart_cut h b v)
+      pub none_refused : (i : Refusal) → judgement_of judged ≡ Err i → refused_cut v i ≡ cut_of (restart_cut h b v)
       unfolding restart_for
       none_refused i j =
           let found = of_volume v (record {
@@ -54,7 +59,7 @@ module _ (h : Family) (b : ℕ) (v : Volume) where
             ops = [];
           }) i (bad_state (state_in v.ram)) (too_short (layout.geometry (state_in v.ram).sizes) v.flash (pages v.ram))
           (geometry_for (state_in v.ram).sizes) (rw e at j) in
-          rw (le-ltb (length v.ram) header_size l, q, found.is, found.some)
+          rw (le-ltb (length v.ram) header_size l, q, found)
 
       pub none_found : (g : Geometry) → VolumeFits judged g
           → ◌≡◌ {A = CutEffect} (record {
@@ -73,7 +78,7 @@ module _ (h : Family) (b : ℕ) (v : Volume) where
 
 module _ (h : Family) (v : Volume) where
   -- it tells no count
-  found_count : (b : ℕ) (p : Pending) (i : ℕ) → outcome_of i ≡ (resumed h b v p).outcome → (resumed h b v p).count ≡ 0
+  found_count : {A : Type 0} (b : ℕ) (p : Pending) (i : std.Result A Refusal) → outcome_of i ≡ (resumed h b v p).outcome → (resumed h b v p).count ≡ 0
   found_count b nothing i e =
       by (bad_state (state_in v.ram)) (too_short (layout.geometry (state_in v.ram).sizes) v.flash (pages v.ram))
     where
@@ -108,7 +113,7 @@ module _ (h : Family) (v : Volume) where
       taken_enough a b (layout.unit_of sizes) v (last_steps r) r (omega (arith, last_length r, x)) (omega (arith, last_length r, y))
   resumed_enough a b unknown x y = refl
 
-  restart_count : (b i : ℕ) → outcome_of i ≡ (restart_for h b v).outcome → (restart_for h b v).count ≡ 0
+  restart_count : {A : Type 0} (b : ℕ) (i : std.Result A Refusal) → outcome_of i ≡ (restart_for h b v).outcome → (restart_for h b v).count ≡ 0
   unfolding restart_for
   restart_count b i e =
       either (lt? (length v.ram) header_size) (λ a. rw a.0)
@@ -120,13 +125,14 @@ module _ (h : Family) (v : Volume) where
   restart_enough a b x y =
       either (lt? (length v.ram) header_size) (λ t. rw t.0) (λ t. rw t.0 (resumed_enough a b (pending_in v.ram) x y))
 
-pub whole_effect : (v : Volume) (c : CutEffect) (i : ℕ) → c ≡ cut_of (restart_cut fnv_family 18446744073709551615 v)
-    → c.outcome ≡ outcome_of i
-    → ◌≡◌ {A = Effect} (record { outcome = c.outcome; count = 0; left = c.left }) (effect_of (restart_whole fnv_family v))
-whole_effect v c i e o =
+pub whole_effect : (v : Volume) (s : State) (a : std.Result Cut Refusal) (main spare ram : List ℕ)
+    → cut_by s a main spare ram ≡ cut_of (restart_cut fnv_family 18446744073709551615 v)
+    → ◌≡◌ {A = Effect} (record { outcome = outcome_of a; count = 0; left = (cut_by s a main spare ram).left }) (effect_of (restart_whole fnv_family v))
+whole_effect v s a main spare ram e =
+    let c = cut_by s a main spare ram in
     let ss : List Step = restart_steps fnv_family v (pending_in v.ram) in
     let r : Result = restart_for fnv_family 18446744073709551615 v in
     uncut_effect_lem c 18446744073709551615 ss r e
-    (restart_count fnv_family v 18446744073709551615 i (sym o ∙ outcome_of_lem c 18446744073709551615 ss r e))
+    (restart_count fnv_family v 18446744073709551615 a (outcome_of_lem c 18446744073709551615 ss r e))
     ∙ ap effect_of
     (restart_enough fnv_family v 18446744073709551615 (length (pending_ops fnv_family v (pending_in v.ram)) + 1) (few_pending v) (omega arith))

@@ -7,7 +7,7 @@ ghost use Rattle.layout.specs.Budgets.{restart_cut, restart_whole};
 ghost use Rattle.state.specs.Contract.{volume, effect_of, change_effect, cut_of, cut_by};
 
 use header::Pending;
-use state::{Change, Cut, Judgement, Progress, State};
+use state::{Cut, Progress, Refusal, State};
 
 // With a budget of steps: a RAM shorter than the header by 2, an unknown kind by 1; no call pending: by 1 and 2 of the header's state,
 // else that state.
@@ -17,43 +17,39 @@ pub fn restart_for(
     main: &mut [u8],
     spare: &mut [u8],
     ram: &mut [u8],
-) -> Cut
-    ensures { cut_by result main.new spare.new ram.new ≡ cut_of (restart_cut fnv_family budget (volume s main.old spare.old ram.old)) }
+) -> Result<Cut, Refusal>
+    ensures { cut_by s result main.new spare.new ram.new
+        ≡ cut_of (restart_cut fnv_family budget (volume s main.old spare.old ram.old)) }
 {
     if ram.len() < state::HEADER_SIZE {
-        return state::refuse_cut(s, state::TOO_SHORT);
+        return Err(Refusal::TooShort);
     }
     match header::pending_in(ram) {
         Pending::Nothing => {
             let found = header::state_in(ram);
-            match state::judge(found, main, spare, ram) {
-                Judgement::Refused(i) => {
-                    return state::refuse_cut(s, i);
-                }
-                Judgement::Good(_) => {
-                    let all = Progress {
-                        steps: 0,
-                        finished: true,
-                    };
-                    return state::cut_after(all, s, found);
-                }
-            }
+            state::judge(found, main, spare, ram)?;
+            let all = Progress {
+                steps: 0,
+                finished: true,
+            };
+            Ok(state::cut_after(all, s, found))
         }
-        Pending::Change(q) => {
-            return calls::restart_change(budget, s, q, main, spare, ram);
-        }
-        Pending::Format(sizes) => {
-            return format::restart_format(budget, s, sizes, main, spare, ram);
-        }
-        Pending::Unknown => {
-            return state::refuse_cut(s, state::BAD_STATE);
-        }
+        Pending::Change(q) => calls::restart_change(budget, s, q, main, spare, ram),
+        Pending::Format(sizes) => format::restart_format(budget, s, sizes, main, spare, ram),
+        Pending::Unknown => Err(Refusal::BadState),
     }
 }
 
 // With enough.
-pub fn restart(s: State, main: &mut [u8], spare: &mut [u8], ram: &mut [u8]) -> Change
-    ensures { change_effect result main.new spare.new ram.new ≡ effect_of (restart_whole fnv_family (volume s main.old spare.old ram.old)) }
+pub fn restart(
+    s: State,
+    main: &mut [u8],
+    spare: &mut [u8],
+    ram: &mut [u8],
+) -> Result<State, Refusal>
+    ensures { change_effect s result main.new spare.new ram.new
+        ≡ effect_of (restart_whole fnv_family (volume s main.old spare.old ram.old)) }
 {
-    state::uncut(restart_for(state::ENOUGH, s, main, spare, ram))
+    let cut = restart_for(state::ENOUGH, s, main, spare, ram)?;
+    Ok(cut.state)
 }

@@ -58,20 +58,17 @@ pub struct Cut {
 }
 
 // A budget of steps that is enough for every call.
-pub const ENOUGH: usize = 18446744073709551615;
+pub const ENOUGH: usize = usize::MAX;
 
-// Bytes of the header, which are the last of the RAM.
+// Bytes of the header, which are the last of the RAM, behind its pages.
 pub const HEADER_SIZE: usize = 64;
-
-// Bytes of the RAM behind its pages.
-const TAIL_SIZE: usize = HEADER_SIZE;
 
 // Where the pages of the RAM end, by its own end, however long it is.
 pub fn pages_end(ram: &[u8]) -> usize
     requires { header_size ≤ length ram.now }
     ensures { result ≡ length ram.now - header_size }
 {
-    ram.len() - TAIL_SIZE
+    ram.len() - HEADER_SIZE
 }
 
 // ---- refusals
@@ -126,7 +123,7 @@ fn too_short(g: Geometry, main: &[u8], spare: &[u8], ram: &[u8]) -> bool
 {
     main.len() < g.main_size()
         || spare.len() < g.spare_size()
-        || ram.len() < g.ram_size() + TAIL_SIZE
+        || ram.len() < g.ram_size() + HEADER_SIZE
 }
 
 // Judges a state that is handed in: its geometry, or refusal 1 or 2.

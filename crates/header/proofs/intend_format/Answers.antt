@@ -12,6 +12,6 @@ pub returns : goal.returns
 returns c =
     let x = c.args in
     let words = format_words (sizes_is x.sizes) in
-    c.copy_at.ensures ∙ ap (λ (l : List ℕ). write x.ram.now (c.header_at-at.result + 24) l) c.intent_bytes-intent.ensures
-    ∙ ap (λ (n : ℕ). write x.ram.now (n + 24) (words_bytes words)) c.header_at-at.ensures
+    c.copy_at.ensures ∙ ap (λ (l : List ℕ). write x.ram.now (c.pages_end-at.result + 24) l) c.intent_bytes-intent.ensures
+    ∙ ap (λ (n : ℕ). write x.ram.now (n + 24) (words_bytes words)) c.pages_end-at.ensures
     ∙ put_intent x.ram.now (words_bytes words) c.requires (length_words words)

@@ -12,7 +12,7 @@ pub returns : goal.returns
 returns c =
     let x = c.args in
     let words = state_words (state_is x.s) in
-    let first = c.copy_at.ensures ∙ ap (λ (l : List ℕ). write x.ram.now c.header_at-at.result l) c.state_bytes-b.ensures in
-    c.copy_at-2.ensures ∙ ap (λ (l : List ℕ). write l (c.header_at-at.result + 24) x.intent.now) first
-    ∙ ap (λ (n : ℕ). write (write x.ram.now n (words_bytes words)) (n + 24) x.intent.now) c.header_at-at.ensures
+    let first = c.copy_at.ensures ∙ ap (λ (l : List ℕ). write x.ram.now c.pages_end-at.result l) c.state_bytes-b.ensures in
+    c.copy_at-2.ensures ∙ ap (λ (l : List ℕ). write l (c.pages_end-at.result + 24) x.intent.now) first
+    ∙ ap (λ (n : ℕ). write (write x.ram.now n (words_bytes words)) (n + 24) x.intent.now) c.pages_end-at.ensures
     ∙ put_whole x.ram.now (words_bytes words) x.intent.now c.requires.0 (length_words words) c.requires.1

@@ -16,9 +16,6 @@ use Rattle.geometry.specs.declared.Geometry.{Geometry}
 use Rattle.state.proofs.too_short.Goals as goal
 use Rattle.state.proofs.too_short.Goals.{then-main-main_size, else-main-main_size}
 
-pub overflow_add-result : goal.overflow_add-result
-overflow_add-result c = rw c.ram_size.ensures (omega (arith, c.requires.unit.1))
-
 -- the three tests, of a geometry's sizes
 module _ (g : Geometry) (ok : Sound g) (main spare ram : List ℕ) where
   tests : too_short (shape g) (flash_of main spare) (pages ram)

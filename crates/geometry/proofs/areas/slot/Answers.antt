@@ -3,9 +3,6 @@ use native.Mathlib.Omega.{arith}
 use Rattle.memory.specs.Power.{power_some, power_mask}
 use Rattle.geometry.proofs.areas.slot.Goals as goal
 
-pub overflow_sub-result : goal.overflow_sub-result
-overflow_sub-result c = omega (arith, power_some c.args.per_page c.requires)
-
 pub returns : goal.returns
 returns c =
     let m = power_mask c.args.n c.args.per_page c.requires in

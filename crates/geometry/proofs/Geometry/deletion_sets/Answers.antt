@@ -1,4 +1,0 @@
-use Rattle.geometry.proofs.Geometry.deletion_sets.Goals as goal
-
-pub returns : goal.returns
-returns c = rw c.before.sector_size.ensures

@@ -1,4 +1,0 @@
-use Rattle.geometry.proofs.Geometry.full_sets.Goals as goal
-
-pub returns : goal.returns
-returns c = rw c.before.filter_bits.ensures

@@ -1,4 +1,0 @@
-use Rattle.geometry.proofs.sets.deletion_index.Goals as goal
-
-pub returns : goal.returns
-returns c = rw (c.before.deletion_index_block.ensures, c.deletion_ska_ram.ensures)
