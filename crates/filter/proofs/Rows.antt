@@ -8,11 +8,10 @@ use native.Mathlib.Omega.{arith}
 use borrow.Author.Tests.{le-ltb}
 use lib.Bits.{bit_and}
 use lib.Dec.{ltb}
-use lib.ListN.{length, length-set, get_or, set, take}
-use lib.Seq.{get_or-set_same, get_or-set_other}
+use lib.ListN.{length, get_or, take}
 use Rattle.std.proofs.lemmas.List.{get_or-take, length-take}
 use Rattle.memory.specs.Bits.{bit, bit_in, pack, bit_pack, bit_zero, bit_high, bit_and_lem}
-use Rattle.memory.specs.Cases.{either, lt?, eq?}
+use Rattle.memory.specs.Cases.{either, lt?}
 use Rattle.memory.specs.Ranges.{all_of}
 use Rattle.layout.specs.Index.{Index, filter_bit}
 use Rattle.kernels.specs.Rows.{row_of, all_in}
@@ -29,24 +28,6 @@ pub record Filled (l : Level) (ps : List ℕ) (w i : ℕ) (rows : List Row) : Ty
   pub eight : length rows ≡ 8
   pub at : (k : ℕ) → k < i → (row_of rows k).at ≡ row_at l (get_or ps k 0)
   pub low : (k : ℕ) → k < i → (row_of rows k).low ≡ get_or ps k 0 % w
-
-pub filled_none : (l : Level) (ps : List ℕ) (w : ℕ) (rows : List Row) → length rows ≡ 8 → Filled l ps w 0 rows
-filled_none l ps w rows e = record { eight = e; at = λ k h. absurd (omega arith); low = λ k h. absurd (omega arith) }
-
-pub filled_more : (l : Level) (ps : List ℕ) (w i : ℕ) (rows : List Row) (y : Row) → i < 8 → y.at ≡ row_at l (get_or ps i 0) → y.low ≡ get_or ps i 0 % w
-    → Filled l ps w i rows → Filled l ps w (i + 1) (set rows i y)
-filled_more l ps w i rows y h a b F =
-    record {
-      eight = length-set rows i y ∙ F.eight;
-      at = λ k t.
-          either (eq? k i)
-          (λ s. let e : k ≡ i = s.1 in rw (e, get_or-set_same rows i y (record { at = 0; low = 0 }) (omega (arith, F.eight))) a)
-          (λ s. rw (get_or-set_other rows i k y (record { at = 0; low = 0 }) s.1) (F.at k (omega (arith, t, s.1))));
-      low = λ k t.
-          either (eq? k i)
-          (λ s. let e : k ≡ i = s.1 in rw (e, get_or-set_same rows i y (record { at = 0; low = 0 }) (omega (arith, F.eight))) b)
-          (λ s. rw (get_or-set_other rows i k y (record { at = 0; low = 0 }) s.1) (F.low k (omega (arith, t, s.1))));
-    }
 
 -- has filter g of a level position x
 abbrev pub has_position : Level → List ℕ → ℕ → ℕ → Bool

@@ -36,5 +36,5 @@ returns-in-Live c =
     let f = search_is v x.g c.all.result c.all.ensures fnv_family (key_is x.key) c.search-f.result c.search-f.ensures.found
     ∙ ap (λ (y : End). find.reply (stop_of y) c.search-f.result.opened) c.in-Live.is in
     let d = search_pages_lem v x.g c.all.result c.all.ensures fnv_family (key_is x.key) c.search-f.result c.search-f.ensures.pages in
-    let p = c.item_place.ensures ∙ ap (λ (a : Area). item_place x.g.chip.unit a x.s.records c.in-Live.j) c.record_area.ensures.equal in
+    let p = c.item_place.ensures ∙ ap (λ (a : Area). item_place x.g.chip.unit a x.s.records c.in-Live.j) c.record_area.ensures in
     lookup_live fnv_family (shape x.g) v (key_is x.key) c.search-f.result.opened c.search-f.result.da_pages c.in-Live.j c.item_place.result f d p
