@@ -52,6 +52,7 @@ impl Area {
     }
 }
 
+// The areas of records, of entries and of deletions: document 01's form, a constructor function for each.
 pub fn record_area(g: Geometry) -> Area
     ensures { area result ≡ Ra (shape g) }
 {

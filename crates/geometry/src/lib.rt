@@ -167,7 +167,7 @@ impl Geometry {
         self.chip.page_address(Geometry::RAM_PAGES)
     }
 
-    // ---- first bytes of the RAM's pages
+    // ---- first bytes of the RAM's pages, one function for each: document 01's form, constants of a geometry type by name
 
     pub fn ra_ram(self) -> usize
         ensures { result ≡ layout.ra_ram (shape self).u }
