@@ -1,5 +1,5 @@
 pub mod CallsLaws
-mod RequestLaws
+pub mod RequestLaws
 mod FinishLaws
 mod AgainLaws
 mod WholeLaws

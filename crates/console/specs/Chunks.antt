@@ -1,23 +1,33 @@
 -- What a chunk leaves, and what a run leaves: the chunks one after the other, then the end.
-use Rattle.std.specs.Prelude.{◌≡◌, Bool, true, cond, List, [], ◌∷◌, ℕ, ◌≤◌, length, take}
+use Rattle.std.specs.Prelude.{◌≡◌, Bool, cond, List, [], ◌∷◌, ℕ, ◌≤◌, length, take, Result, Ok, Err, Option, Some, None}
 use Rattle.layout.specs.Flash.{flash_of}
 use Rattle.layout.specs.Calls.{Volume}
 use Rattle.state.specs.declared.State.{State}
 use Rattle.state.specs.Contract.{volume}
 use Rattle.console.specs.Buffers.{Buffers, feed, close}
 use Rattle.console.specs.Stream.{into}
-use Rattle.console.specs.declared.ChunkResult.{ChunkResult}
+use Rattle.console.specs.Contract.{buffers_of}
+use Rattle.console.specs.declared.stream.Fill.{Fill}
+use denote.Ref.{Bor}
+
+-- the lent bytes are those of the buffers
+abbrev pub Leaves : Buffers → List ℕ → List ℕ → List ℕ → List ℕ → List ℕ → Type 0
+Leaves k line main spare ram out = (flash_of main spare ≡ k.volume.flash) × (ram ≡ k.volume.ram) × (line ≡ k.buffer) × (out ≡ k.out)
 
 -- ---- a chunk
 
--- the buffers after a chunk: nothing is left to be written; where a read or a write failed, an unfinished line is dropped
-abbrev pub after_chunk : Bool → Buffers → Buffers
-after_chunk ok k = record { volume = k.volume; buffer = k.buffer; fill = cond ok k.fill 0; out = k.out; printed = 0 }
+-- the buffers after a chunk: nothing is left to be written
+abbrev pub after_chunk : Buffers → Buffers
+after_chunk k = into k k.out
 
--- from k to l: the first bytes of the chunk as it was read are fed; no chunk follows a failure
-abbrev pub FeedsPrefix : ChunkResult → Buffers → List ℕ → Buffers → Type 0
-FeedsPrefix r k chunk l =
-    (n : ℕ) × (n ≤ length chunk) × (r.continues ≡ true → r.ok ≡ true) × (l ≡ after_chunk r.ok (feed k (take n chunk)))
+-- the first bytes of the chunk as it was read are fed: none at the input's end; where a byte could not be read or written, what is kept
+-- beside the lent bytes is lost, so that an unfinished line is not answered
+abbrev pub FeedsPrefix : Result (Option Fill) (Bor (List ℕ)) → Buffers → List ℕ → List ℕ → List ℕ → List ℕ → List ℕ → List ℕ → Type 0
+FeedsPrefix (Ok (Some q)) k chunk line main spare ram out =
+    (n : ℕ) × (n ≤ length chunk) × (buffers_of q line main spare ram out ≡ after_chunk (feed k (take n chunk)))
+FeedsPrefix (Ok None) k chunk line main spare ram out = Leaves k line main spare ram out
+FeedsPrefix (Err reason) k chunk line main spare ram out =
+    (n : ℕ) × (n ≤ length chunk) × Leaves (feed k (take n chunk)) line main spare ram out
 
 -- ---- a run
 
@@ -46,7 +56,3 @@ close_if ok k = cond ok (close k) k
 abbrev pub Short : ℕ → List (List ℕ) → Type 0
 Short most [] = Unit {0}
 Short most (chunk ∷ chunks) = (length chunk ≤ most) × Short most chunks
-
--- the lent bytes are those of the buffers
-abbrev pub Leaves : Buffers → List ℕ → List ℕ → List ℕ → List ℕ → List ℕ → Type 0
-Leaves k line main spare ram out = (flash_of main spare ≡ k.volume.flash) × (ram ≡ k.volume.ram) × (line ≡ k.buffer) × (out ≡ k.out)

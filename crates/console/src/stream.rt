@@ -42,16 +42,19 @@ fn end_line(
     ensures equal { buffers_of result line.now main.new spare.new ram.new out.new ≡ end_line (buffers_of p line.now main.old spare.old ram.old out.old) }
     ensures within { (result.fill ≡ 0) × (result.printed ≤ p.printed + 32) }
 {
-    let state = p.state;
-    let fill = p.fill;
     let at = p.printed;
-    let end = at + 32;
-    let s = lines::answer_next(state, &line[0..fill], main, spare, ram, &mut out[at..end]);
-    let next = s.state;
+    let reply = lines::answer_next(
+        p.state,
+        &line[..p.fill],
+        main,
+        spare,
+        ram,
+        &mut out[at..at + 32],
+    );
     Fill {
-        state: next,
+        state: reply.state,
         fill: 0,
-        printed: at + s.length,
+        printed: at + reply.length,
     }
 }
 
@@ -72,12 +75,9 @@ fn next_byte(
     if c == b'\n' {
         return end_line(p, line, main, spare, ram, out);
     }
-    let state = p.state;
-    let fill = add_byte(c, p.fill, line);
     Fill {
-        state,
-        fill,
-        printed: p.printed,
+        fill: add_byte(c, p.fill, line),
+        ..p
     }
 }
 
@@ -96,10 +96,8 @@ pub fn feed(
     ensures within { (result.fill ≤ length line.old) × (result.printed ≤ length out.old) }
 {
     let mut q = p;
-    let mut i = 0;
-    while i < chunk.len() {
-        q = next_byte(q, chunk[i], line, main, spare, ram, out);
-        i += 1;
+    for c in chunk {
+        q = next_byte(q, *c, line, main, spare, ram, out);
     }
     q
 }

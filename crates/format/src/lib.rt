@@ -36,8 +36,8 @@ fn finish(
 ) -> Progress
     requires { (header_size ≤ length ram.old)
         × FormatFits (sizes_is sizes) (flash_of main.old spare.old) (pages ram.old) g }
-    ensures { (s : State) → Ran g.chip.unit (last_steps (formatted (on_pages (volume s main.old spare.old ram.old)) (sizes_is sizes))) budget
-        (memory_of main.old spare.old ram.old) (memory_of main.new spare.new ram.new) result }
+    ensures { (s : State) → Ran g.chip.unit (last_steps (formatted (on_pages (volume s main.old spare.old ram.old)) (sizes_is sizes)))
+        budget (memory_of main.old spare.old ram.old) (memory_of main.new spare.new ram.new) result }
 {
     let blocks = g.blocks();
     if budget <= blocks {
@@ -65,7 +65,8 @@ pub fn format_for(
     spare: &mut [u8],
     ram: &mut [u8],
 ) -> Result<Cut, Refusal>
-    ensures { cut_by old result main.new spare.new ram.new ≡ cut_of (format_cut budget (volume old main.old spare.old ram.old) (sizes_is sizes)) }
+    ensures { cut_by old result main.new spare.new ram.new
+        ≡ cut_of (format_cut budget (volume old main.old spare.old ram.old) (sizes_is sizes)) }
 {
     let g = state::judge_new(sizes, main, spare, ram)?;
     if budget == 0 {
@@ -94,7 +95,8 @@ pub fn restart_format(
     ram: &mut [u8],
 ) -> Result<Cut, Refusal>
     requires { (header_size ≤ length ram.old) × (pending_in ram.old ≡ formatting (sizes_is sizes)) }
-    ensures { cut_by s result main.new spare.new ram.new ≡ cut_of (restart_cut fnv_family budget (volume s main.old spare.old ram.old)) }
+    ensures { cut_by s result main.new spare.new ram.new
+        ≡ cut_of (restart_cut fnv_family budget (volume s main.old spare.old ram.old)) }
 {
     let g = state::judge_new(sizes, main, spare, ram)?;
     let p = finish(g, sizes, budget, main, spare, ram);

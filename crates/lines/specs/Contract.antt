@@ -1,9 +1,11 @@
 -- What a line does to a volume, as the contracts compare it.
-use Rattle.std.specs.Prelude.{cond, List, ℕ, eqb, length}
+use Rattle.std.specs.Prelude as std
+use Rattle.std.specs.Prelude.{List, ℕ, length, Result}
 use Rattle.memory.specs.Lists.{write}
 use Rattle.layout.specs.Calls.{Volume}
-use Rattle.state.specs.Contract.{volume}
-use Rattle.state.specs.declared.Change.{Change}
+use Rattle.state.specs.Contract.{volume, number_of}
+use Rattle.state.specs.declared.State.{State}
+use Rattle.state.specs.declared.Refusal.{Refusal}
 use Rattle.script.specs.Lines.{command}
 use Rattle.script.specs.Answers.{text}
 use Rattle.script.specs.Values.{answer_of}
@@ -21,8 +23,9 @@ abbrev pub performed_of : Performed → List ℕ → List ℕ → List ℕ → s
 performed_of r main spare ram = record { answer = answer_of r.answer; volume = volume r.state main spare ram }
 
 -- a change's answer: n and d, or the refusal's number
-abbrev pub change_answer : Change → Answer
-change_answer c = cond (eqb c.refusal 0) (Ok c.state.records c.state.deletions) (No c.refusal)
+abbrev pub change_answer : Result State Refusal → Answer
+change_answer (std.Ok t) = Ok t.records t.deletions
+change_answer (std.Err i) = No (number_of i)
 
 -- ---- a line
 

@@ -6,7 +6,7 @@ ghost use Rattle.std.specs.Prelude.{◌≡◌, ◌≤◌, length};
 ghost use Rattle.layout.specs.Items.{record_of};
 ghost use Rattle.layout.specs.Calls.{lookup};
 ghost use Rattle.keys.specs.Key.{key_is};
-ghost use Rattle.state.specs.Contract.{record_is, volume};
+ghost use Rattle.state.specs.Contract.{record_is, volume, state_after};
 ghost use Rattle.script.specs.Lines.{line_key, call};
 ghost use Rattle.script.specs.Values.{command_of, answer_of};
 ghost use Rattle.script.specs.Script.{perform};
@@ -16,7 +16,7 @@ use geometry::{Sizes, areas};
 use keys::Key;
 use script::Command;
 use script::answers::Answer;
-use state::{Change, Record, State};
+use state::{Record, Refusal, State};
 
 // ---- commands
 
@@ -27,20 +27,19 @@ pub struct Performed {
     pub answer: Answer,
 }
 
-// A change is answered by n and d, or by the number of its refusal.
-fn after_change(c: Change) -> Performed
-    ensures { result ≡ record { state = c.state; answer = change_answer c } }
+// A change is answered by n and d, or by the number of its refusal, which leaves the state handed in.
+fn after_change(handed: State, answer: Result<State, Refusal>) -> Performed
+    ensures { result ≡ record { state = state_after handed answer; answer = change_answer answer } }
 {
-    let s = c.state;
-    if c.refusal == state::ACCEPTED {
-        return Performed {
-            state: s,
-            answer: Answer::Ok(s.records, s.deletions),
-        };
-    }
-    Performed {
-        state: s,
-        answer: Answer::No(c.refusal),
+    match answer {
+        Ok(state) => Performed {
+            state,
+            answer: Answer::Ok(state.records, state.deletions),
+        },
+        Err(refusal) => Performed {
+            state: handed,
+            answer: Answer::No(refusal.into()),
+        },
     }
 }
 
@@ -48,18 +47,13 @@ fn after_change(c: Change) -> Performed
 fn lookup<'a>(s: State, key: Key, main: &'a [u8], spare: &[u8], ram: &'a [u8]) -> Answer
     ensures { answer_of result ≡ (perform (volume s main.now spare.now ram.now) (call (lookup (key_is key)))).answer }
 {
-    let mut numbers = [0u64; 4];
-    let bytes = lookup::lookup(s, key, main, spare, ram, &mut numbers);
-    let refusal = numbers[0] as u32;
-    let found = numbers[1];
-    let count = numbers[2] as u32;
-    if refusal != state::ACCEPTED {
-        return Answer::No(refusal);
+    match lookup::lookup(s, key, main, spare, ram) {
+        Err(refusal) => Answer::No(refusal.into()),
+        Ok(found) => match found.record {
+            None => Answer::Miss(found.pages),
+            Some(bytes) => Answer::Hit(words::get32(bytes, areas::MOVES_AT), found.pages),
+        },
     }
-    if found == 0 {
-        return Answer::Miss(count);
-    }
-    Answer::Hit(words::get32(bytes, areas::MOVES_AT), count)
 }
 
 // The record of a line: its goal and free word are 0.
@@ -75,11 +69,23 @@ fn level(number: u32, moves: u32) -> Record
     }
 }
 
-// A command on a volume.
-pub fn perform(s: State, q: Command, main: &mut [u8], spare: &mut [u8], ram: &mut [u8]) -> Performed
+// A command on a volume; a bad line, which asks for none, changes nothing.
+pub fn perform(
+    s: State,
+    q: Option<Command>,
+    main: &mut [u8],
+    spare: &mut [u8],
+    ram: &mut [u8],
+) -> Performed
     ensures { performed_of result main.new spare.new ram.new ≡ perform (volume s main.old spare.old ram.old) (command_of q) }
 {
-    match q {
+    let Some(command) = q else {
+        return Performed {
+            state: s,
+            answer: Answer::Bad,
+        };
+    };
+    match command {
         Command::Format(sector_size, ra_blocks, da_blocks) => {
             let sizes = Sizes {
                 sector_size,
@@ -87,33 +93,21 @@ pub fn perform(s: State, q: Command, main: &mut [u8], spare: &mut [u8], ram: &mu
                 da_blocks,
                 hash_count: geometry::DEFAULT_HASH_COUNT,
             };
-            let c = format::format(s, sizes, main, spare, ram);
-            return after_change(c);
+            after_change(s, format::format(s, sizes, main, spare, ram))
         }
         Command::Insert(number, moves) => {
-            let record = level(number, moves);
-            let c = calls::insert(s, record, main, spare, ram);
-            return after_change(c);
+            after_change(s, calls::insert(s, level(number, moves), main, spare, ram))
         }
         Command::Update(number, moves) => {
-            let record = level(number, moves);
-            let c = calls::update(s, record, main, spare, ram);
-            return after_change(c);
+            after_change(s, calls::update(s, level(number, moves), main, spare, ram))
         }
         Command::Delete(number) => {
-            let c = calls::delete(s, Key { level: number }, main, spare, ram);
-            return after_change(c);
+            after_change(s, calls::delete(s, Key { level: number }, main, spare, ram))
         }
-        Command::Lookup(number) => {
-            let answer = lookup(s, Key { level: number }, main, spare, ram);
-            return Performed { state: s, answer };
-        }
-        Command::Bad => {
-            return Performed {
-                state: s,
-                answer: Answer::Bad,
-            };
-        }
+        Command::Lookup(number) => Performed {
+            state: s,
+            answer: lookup(s, Key { level: number }, main, spare, ram),
+        },
     }
 }
 
@@ -139,13 +133,10 @@ pub fn answer_line(
     ensures { after_line result main.new spare.new ram.new out.new
         ≡ answer_line (volume s main.old spare.old ram.old) line.now out.old }
 {
-    let q = script::parse_line(line);
-    let p = perform(s, q, main, spare, ram);
-    let next = p.state;
-    let answer = p.answer;
-    let length = script::answers::put_answer(answer, out);
+    let p = perform(s, script::parse_line(line), main, spare, ram);
+    let length = script::answers::put_answer(p.answer, out);
     LineReply {
-        state: next,
+        state: p.state,
         length,
     }
 }

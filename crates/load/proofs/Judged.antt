@@ -17,7 +17,7 @@ use Rattle.laws.specs.HeaderLaws.{header_of, length_pages}
 use Rattle.laws.specs.Lengths.{Long}
 use Rattle.geometry.specs.Shape.{geometry_for, shape}
 use Rattle.geometry.specs.declared.Geometry.{Geometry}
-use Rattle.state.specs.declared.Judgement.TheVariants.{Good}
+use Rattle.std.specs.Prelude.{Ok}
 use Rattle.load.specs.Contract.{Judged}
 use Rattle.load.proofs.Counts.{Added}
 
@@ -92,7 +92,7 @@ module _ (g : Geometry) (v w : Volume) (J : Judged g v) (A : Added (layout.geome
   judged_again x e =
       let kind : eqb (kind_in w.ram) 0 ≡ true = rw (e, idle_kind x) in
       let is : g ≡ geometry_for w.state.sizes = J.1.is ∙ ap geometry_for (sym A.sizes_are) in (
-        rw (good, short, kind) (ap Good (sym is)),
+        rw (good, short, kind) (ap Ok (sym is)),
         record {
           sound = J.1.sound;
           is = is;

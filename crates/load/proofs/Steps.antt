@@ -1,6 +1,6 @@
 -- A load row by row: what is left of it at a place of the tab.
 use mathlib.Core.Path.{◌≡◌, refl, sym, ap, ◌∙◌}
-use mathlib.Core.Bool.{Bool, true, false, cond, false≢true, true≢false}
+use mathlib.Core.Bool.{Bool, true, false, cond}
 use mathlib.Core.Logic.{◌≢◌}
 use mathlib.Core.Option.{Option, none, some}
 use mathlib.Core.List.{List, [], ◌∷◌}
@@ -8,7 +8,8 @@ use Prim.Native.Nat.{ℕ, zero, suc, ◌+◌, ◌≤◌, ◌<◌}
 use native.Mathlib.Omega.{arith}
 use lib.ListN.{length, drop, length-drop, drop_of_length-le}
 use lib.Dec.{eqb}
-use borrow.Author.Tests.{eq-eqb, ne_eqb}
+use Rattle.std.specs.Prelude as std
+use Rattle.std.specs.Prelude.{Ok, Err}
 use Rattle.layout.specs.Hash.{Family}
 use Rattle.layout.specs.Refusals as refusal
 use Rattle.layout.specs.Geometry as layout
@@ -17,10 +18,9 @@ use Rattle.layout.specs.Header.{pages, kind_in}
 use Rattle.layout.specs.Several.{Several, ended, one_more, go_on}
 use Rattle.geometry.specs.Shape.{geometry_for}
 use Rattle.geometry.specs.declared.Geometry.{Geometry}
-use Rattle.state.specs.Contract.{outcome_of}
-use Rattle.state.specs.declared.Judgement.{Judgement}
-use Rattle.state.specs.declared.Judgement.TheVariants.{Good, Refused}
-use Rattle.state.proofs.Refusals.{number, refuses}
+use Rattle.state.specs.Contract.{number_of}
+use Rattle.state.specs.declared.Refusal.{Refusal}
+use Rattle.state.specs.declared.Refusal.TheVariants.{BadState, TooShort, Pending}
 use Rattle.header.specs.Header.{idle_judgement}
 use Rattle.tab.specs.Grammar.{Row}
 use Rattle.tab.specs.Reader.{GotLine, got_line, read_more, row, header, body, rows_in, rows_of}
@@ -103,17 +103,13 @@ module _ (does : Volume → Row → Result) (v : Volume) (tab : List ℕ) (at : 
     unfolding load_rows_by
     load_row = ap (load_read_by does v) (rows_more (drop at tab) (got_line a b c (drop next tab)) e)
 
-    -- what the code's answer says of the outcome; i is its refusal's number
-    module _ (i : ℕ) (w : Volume) (is : outcome_of i ≡ done.outcome) (to : w ≡ done.volume) where
-      pub load_refused : i ≢ 0 → left ≡ ended (outcome_of i) w
-      load_refused n =
-          let o : outcome_of i ≡ refused i = rw (ne_eqb i 0 n) in
-          load_row ∙ rw (sym is ∙ o, o, to)
+    -- what the code's answer says of the outcome
+    module _ (w : Volume) (to : w ≡ done.volume) where
+      pub load_refused : (i : Refusal) → refused (number_of i) ≡ done.outcome → left ≡ ended (refused (number_of i)) w
+      load_refused i is = load_row ∙ rw (← is, to)
 
-      pub load_accepted : i ≡ 0 → left ≡ one_more (load_read_by does w (rows_of (drop next tab)))
-      load_accepted z =
-          let o : done.outcome ≡ accepted = sym is ∙ rw (eq-eqb i 0 z) in
-          load_row ∙ rw (o, to)
+      pub load_accepted : accepted ≡ done.outcome → left ≡ one_more (load_read_by does w (rows_of (drop next tab)))
+      load_accepted is = load_row ∙ rw (← is, to)
 
 -- ---- before the rows
 
@@ -121,37 +117,31 @@ module _ (h : Family) (v : Volume) (tab : List ℕ) where
   abbrev lines : Several
   lines = load_lines_by (row_whole h) v (body tab)
 
-  abbrev judged : Bool → Bool → Bool → Geometry → Judgement
-  judged a b k g = cond a (Refused refusal.bad_state) (cond b (Refused refusal.too_short) (cond k (Good g) (Refused refusal.pending)))
+  -- by what the judge says
+  abbrev loaded : std.Result Geometry Refusal → Several
+  loaded (Err i) = ended (refused (number_of i)) v
+  loaded (Ok g) = lines
 
-  abbrev loaded : Bool → Bool → Bool → Several
-  loaded a b k =
-      cond a (ended (refused refusal.bad_state) v)
-      (cond b (ended (refused refusal.too_short) v) (cond k lines (ended (refused refusal.pending) v)))
-
-  pub load_judged : (i : ℕ) → idle_judgement v ≡ Refused i → load_whole h v tab ≡ ended (outcome_of i) v
+  load_is : load_whole h v tab ≡ loaded (idle_judgement v)
   unfolding load_whole
-  load_judged i e =
+  load_is =
       by (bad_state v.state) (too_short (layout.geometry v.state.sizes) v.flash (pages v.ram)) (eqb (kind_in v.ram) 0)
-      (geometry_for v.state.sizes) e
+      (geometry_for v.state.sizes)
     where
-      by : (a b k : Bool) (g : Geometry) → judged a b k g ≡ Refused i → loaded a b k ≡ ended (outcome_of i) v
-      by true b k g q = ap (λ (j : ℕ). ended (outcome_of j) v) (ap number q)
-      by false true k g q = ap (λ (j : ℕ). ended (outcome_of j) v) (ap number q)
-      by false false false g q = ap (λ (j : ℕ). ended (outcome_of j) v) (ap number q)
-      by false false true g q = absurd (false≢true (ap refuses q))
+      by : (a b k : Bool) (g : Geometry)
+          → cond a (ended (refused refusal.bad_state) v)
+          (cond b (ended (refused refusal.too_short) v) (cond k lines (ended (refused refusal.pending) v)))
+          ≡ loaded (cond a (Err BadState) (cond b (Err TooShort) (cond k (Ok g) (Err Pending))))
+      by true b k g = refl
+      by false true k g = refl
+      by false false false g = refl
+      by false false true g = refl
 
-  pub load_good : (g : Geometry) → idle_judgement v ≡ Good g → load_whole h v tab ≡ lines
-  unfolding load_whole
-  load_good g e =
-      by (bad_state v.state) (too_short (layout.geometry v.state.sizes) v.flash (pages v.ram)) (eqb (kind_in v.ram) 0)
-      (geometry_for v.state.sizes) e
-    where
-      by : (a b k : Bool) (o : Geometry) → judged a b k o ≡ Good g → loaded a b k ≡ lines
-      by true b k o q = absurd (true≢false (ap refuses q))
-      by false true k o q = absurd (true≢false (ap refuses q))
-      by false false false o q = absurd (true≢false (ap refuses q))
-      by false false true o q = refl
+  pub load_judged : (i : Refusal) → idle_judgement v ≡ Err i → load_whole h v tab ≡ ended (refused (number_of i)) v
+  load_judged i e = load_is ∙ ap loaded e
+
+  pub load_good : (g : Geometry) → idle_judgement v ≡ Ok g → load_whole h v tab ≡ lines
+  load_good g e = load_is ∙ ap loaded e
 
 -- ---- the text of the rows, by whether the tab has bytes
 

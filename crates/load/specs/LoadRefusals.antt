@@ -3,7 +3,7 @@ use Rattle.std.specs.Prelude.{◌≡◌, true, ℕ}
 use mathlib.Core.List.{List, [], ◌∷◌}
 use Rattle.memory.specs.Ranges.{memb}
 use Rattle.layout.specs.Refusals as refusal
-use Rattle.layout.specs.Calls.{Outcome, accepted, hit, miss, refused, bad_state, too_short}
+use Rattle.layout.specs.Calls.{Outcome, accepted, hit, miss, refused}
 
 -- "found after 1 and 2 and before the store sees that row"
 abbrev pub load_refusals : List ℕ

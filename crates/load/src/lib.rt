@@ -9,32 +9,39 @@ ghost use Rattle.layout.specs.Budgets.{call_cut};
 ghost use Rattle.state.specs.Contract.{record_is, volume, cut_of, cut_by};
 ghost use Rattle.tab.specs.Reader.{rows_of};
 ghost use Rattle.load.specs.Load.{load_read_by, row_whole, load_whole};
-ghost use Rattle.load.specs.Contract.{row_request, loaded_by, Judged};
+ghost use Rattle.load.specs.Contract.{row_request, not_loaded, loaded_by, Judged};
 
-use calls::Resolved;
 use geometry::Geometry;
 use keys::Key;
-use state::{Cut, Judgement, Record, Request, State};
+use state::{Cut, Record, Refusal, Request, State};
 use tab::reader;
-use tab::reader::{AfterHeader, Parsed};
 
-// The answer of a load: a refusal's number or `ACCEPTED`, the rows that were loaded, and the state after them.
-#[repr(C)]
+// The answer of a load: the rows that were loaded, the state after them, and how it ended.
 #[derive(Clone, Copy)]
 pub struct Loaded {
-    pub refusal: u32,
     pub rows: u32,
     pub state: State,
+    pub ended: Result<(), Refusal>,
 }
 
-// What a row asks for, by what its level resolved to: an update if it is live, else an insert.
-fn row_request(record: Record, r: Resolved) -> Request
-    ensures { result ≡ row_request «record» r }
+// A load that ends before its rows.
+fn not_loaded(state: State, ended: Result<(), Refusal>) -> Loaded
+    ensures { result ≡ not_loaded state ended }
 {
-    match r {
-        Resolved::Refused(_) => Request::Insert(record),
-        Resolved::Absent(_) => Request::Insert(record),
-        Resolved::Live(_, _) => Request::Update(record),
+    Loaded {
+        rows: 0,
+        state,
+        ended,
+    }
+}
+
+// What a row asks for, by its level's live record: an update if there is one, else an insert.
+fn row_request(record: Record, live: Option<u32>) -> Request
+    ensures { result ≡ row_request «record» live }
+{
+    match live {
+        None => Request::Insert(record),
+        Some(_) => Request::Update(record),
     }
 }
 
@@ -47,19 +54,18 @@ fn load_row(
     main: &mut [u8],
     spare: &mut [u8],
     ram: &mut [u8],
-) -> Cut
+) -> Result<Cut, Refusal>
     requires { Judged g (volume s main.old spare.old ram.old) }
-    ensures { cut_by result main.new spare.new ram.new ≡ cut_of (call_cut fnv_family budget (volume s main.old spare.old ram.old)
+    ensures { cut_by s result main.new spare.new ram.new ≡ cut_of (call_cut fnv_family budget (volume s main.old spare.old ram.old)
         (put_call fnv_family (on_pages (volume s main.old spare.old ram.old)) (record_is «record»))) }
 {
-    let j = Judgement::Good(g);
-    let r = calls::resolve_judged(j, s, record.key, main, spare, ram);
-    let q = row_request(record, r);
+    let r = calls::resolve_judged(g, s, record.key, main, spare, ram)?;
+    let q = row_request(record, r.live);
     calls::perform_resolved(budget, s, q, r, main, spare, ram)
 }
 
 // The rows from a place of the tab on. A row that is loaded is one more record, so they can be counted; it leaves a volume that is judged
-// good again, so that the judge is asked once for all rows.
+// good again, so that the judge is asked once for all rows. The loop goes from row to row, each of which tells where the next begins.
 fn load_rows(
     g: Geometry,
     s: State,
@@ -77,40 +83,38 @@ fn load_rows(
     let mut place = at;
     let mut rows: u32 = 0;
     while place < tab.len() {
-        match reader::row_at(tab, place) {
-            Parsed::Malformed => {
+        let Some(row) = reader::row_at(tab, place) else {
+            return Loaded {
+                rows,
+                state,
+                ended: Err(Refusal::Malformed),
+            };
+        };
+        let record = Record {
+            key: Key { level: row.level },
+            moves: row.moves,
+            goal: row.goal,
+            free: 0,
+        };
+        match load_row(state::ENOUGH, g, state, record, main, spare, ram) {
+            Ok(c) => {
+                state = c.state;
+            }
+            Err(i) => {
                 return Loaded {
-                    refusal: state::MALFORMED,
                     rows,
                     state,
+                    ended: Err(i),
                 };
-            }
-            Parsed::Numbers(level, moves, goal, next) => {
-                let key = Key { level };
-                let record = Record {
-                    key,
-                    moves,
-                    goal,
-                    free: 0,
-                };
-                let c = load_row(state::ENOUGH, g, state, record, main, spare, ram);
-                state = c.state;
-                if c.refusal != state::ACCEPTED {
-                    return Loaded {
-                        refusal: c.refusal,
-                        rows,
-                        state,
-                    };
-                }
-                rows += 1;
-                place = next;
             }
         }
+        rows += 1;
+        place = row.next;
     }
     Loaded {
-        refusal: state::ACCEPTED,
         rows,
         state,
+        ended: Ok(()),
     }
 }
 
@@ -118,34 +122,15 @@ fn load_rows(
 pub fn load(s: State, tab: &[u8], main: &mut [u8], spare: &mut [u8], ram: &mut [u8]) -> Loaded
     ensures { loaded_by result main.new spare.new ram.new ≡ load_whole fnv_family (volume s main.old spare.old ram.old) tab.now }
 {
-    match header::judge(s, main, spare, ram) {
-        Judgement::Refused(i) => {
-            return Loaded {
-                refusal: i,
-                rows: 0,
-                state: s,
-            };
-        }
-        Judgement::Good(g) => {
-            if tab.len() == 0 {
-                return Loaded {
-                    refusal: state::ACCEPTED,
-                    rows: 0,
-                    state: s,
-                };
-            }
-            match reader::header_at(tab) {
-                AfterHeader::Missing => {
-                    return Loaded {
-                        refusal: state::MALFORMED,
-                        rows: 0,
-                        state: s,
-                    };
-                }
-                AfterHeader::Lines(next) => {
-                    return load_rows(g, s, tab, next, main, spare, ram);
-                }
-            }
-        }
+    let g = match header::judge(s, main, spare, ram) {
+        Ok(g) => g,
+        Err(i) => return not_loaded(s, Err(i)),
+    };
+    if tab.is_empty() {
+        return not_loaded(s, Ok(()));
+    }
+    match reader::header_at(tab) {
+        None => not_loaded(s, Err(Refusal::Malformed)),
+        Some(next) => load_rows(g, s, tab, next, main, spare, ram),
     }
 }

@@ -92,7 +92,8 @@ pub fn lookup<'a>(
     ram: &'a [u8],
 ) -> Result<Looked<'a>, Refusal>
     ensures part { looked_part result
-        ≡ placed_part main.entry.ref_ptr ram.entry.ref_ptr (call_whole fnv_family (volume s main.now spare.now ram.now) (lookup (key_is key))).outcome }
+        ≡ placed_part main.entry.ref_ptr ram.entry.ref_ptr
+        (call_whole fnv_family (volume s main.now spare.now ram.now) (lookup (key_is key))).outcome }
     ensures numbers { looked_numbers result
         ≡ answer_numbers (lookup_of (call_whole fnv_family (volume s main.now spare.now ram.now) (lookup (key_is key)))) }
 {

@@ -18,7 +18,8 @@ pub fn restart_for(
     spare: &mut [u8],
     ram: &mut [u8],
 ) -> Result<Cut, Refusal>
-    ensures { cut_by s result main.new spare.new ram.new ≡ cut_of (restart_cut fnv_family budget (volume s main.old spare.old ram.old)) }
+    ensures { cut_by s result main.new spare.new ram.new
+        ≡ cut_of (restart_cut fnv_family budget (volume s main.old spare.old ram.old)) }
 {
     if ram.len() < state::HEADER_SIZE {
         return Err(Refusal::TooShort);

@@ -1,2 +1,2 @@
-pub mod Parsing
 pub mod Cut
+pub mod Parsing

@@ -1,9 +1,9 @@
 -- What one more digit does to a number that is read, and when a word is no number.
 use Rattle.std.specs.Prelude.{◌≡◌, refl, ◌⊎◌, true, false, List, [], ◌∷◌, ℕ, zero, suc, ◌+◌, ◌*◌, ◌-◌, ◌^◌, ◌≤◌, ◌<◌, length, get_or, drop}
-use Rattle.std.proofs.Common.{ap, ◌∙◌, inl, inr, not-suc-le-zero, pow-suc, add-one, arith, drop-cons}
+use Rattle.std.proofs.Common.{ap, ◌∙◌, inl, inr, not-suc-le-zero, pow-suc, arith}
+use Rattle.std.proofs.lemmas.List.{drop_more, drop_all}
 use Rattle.std.proofs.Math.Option.{none, some}
-use borrow.Author.Tests.{le-leb, lt-leb, lt-ltb, le-ltb, eq-eqb, ne_eqb}
-use Rattle.std.proofs.Math.ListN.{drop_of_length-le}
+use borrow.Author.Tests.{le-leb, lt-ltb, le-ltb, eq-eqb, ne_eqb}
 use Rattle.memory.specs.Cases.{either, le?, eq?}
 use Rattle.text.specs.Text.{is_digit, digits_from}
 use Rattle.script.specs.Lines.{small, number}
@@ -13,23 +13,21 @@ use Rattle.script.specs.Lines.{small, number}
 digit? : (c : ℕ) → ((is_digit c ≡ true) × (48 ≤ c) × (c ≤ 57)) ⊎ (is_digit c ≡ false)
 digit? c = either (le? 48 c) (λ a. either (le? c 57) (λ b. inl (cc, a.1, b.1)) (λ b. inr cc)) (λ a. inr cc)
 
-module _ (v i : ℕ) (l : List ℕ) where
+module _ (l : List ℕ) (v i : ℕ) where
+  -- a digit more
   pub digits_more : i < length l → 48 ≤ get_or l i 0 → get_or l i 0 ≤ 57
       → digits_from v (drop i l) ≡ digits_from (v * 10 + (get_or l i 0 - 48)) (drop (i + 1) l)
   unfolding digits_from
-  digits_more h a b = rw (drop-cons l i 0, le-leb 48 (get_or l i 0) a, le-leb (get_or l i 0) 57 b, add-one)
+  digits_more h a b = rw (drop_more l i 0 h, le-leb 48 (get_or l i 0) a, le-leb (get_or l i 0) 57 b)
 
-  pub digits_low : i < length l → get_or l i 0 < 48 → digits_from v (drop i l) ≡ none
+  -- another byte
+  pub digits_other : i < length l → (48 ≤ get_or l i 0 → get_or l i 0 ≤ 57 → ⊥) → digits_from v (drop i l) ≡ none
   unfolding digits_from
-  digits_low h a = rw (drop-cons l i 0, lt-leb 48 (get_or l i 0) a)
-
-  pub digits_high : i < length l → 57 < get_or l i 0 → digits_from v (drop i l) ≡ none
-  unfolding digits_from
-  digits_high h b = rw (drop-cons l i 0, le-leb 48 (get_or l i 0) (omega arith), lt-leb (get_or l i 0) 57 b)
+  digits_other h n = rw (drop_more l i 0 h) (either (digit? (get_or l i 0)) (λ d. absurd (n d.1 d.2)) (λ d. rw d))
 
   pub digits_end : length l ≤ i → digits_from v (drop i l) ≡ some v
   unfolding digits_from
-  digits_end h = rw drop_of_length-le
+  digits_end h = rw (drop_all i l h)
 
 -- a value of 2^32 or more stays so
 pub stays_large : (v : ℕ) (l : List ℕ) → 4294967296 ≤ v → small (digits_from v l) ≡ none

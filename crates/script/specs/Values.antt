@@ -1,29 +1,27 @@
 -- The code's numbers, commands and answers as the definitions have them.
 use Rattle.std.proofs.Math.Option.{Option, none, some}
-use Rattle.std.specs.Prelude.{ℕ}
+use Rattle.std.specs.Prelude.{ℕ, Option as Maybe, Some, None}
 use Rattle.layout.specs.Items.{record_of}
 use Rattle.layout.specs.Calls.{insert, update, delete, lookup}
 use Rattle.script.specs.Lines as lines
 use Rattle.script.specs.Answers as answers
-use Rattle.script.specs.declared.Number.{Number}
-use Rattle.script.specs.declared.Number.TheVariants.{No, Value}
 use Rattle.script.specs.declared.Command.{Command}
-use Rattle.script.specs.declared.Command.TheVariants.{Bad, Format, Insert, Update, Delete, Lookup}
+use Rattle.script.specs.declared.Command.TheVariants.{Format, Insert, Update, Delete, Lookup}
 use Rattle.script.specs.declared.answers.Answer.{Answer}
 use Rattle.script.specs.declared.answers.Answer.TheVariants as answer
 
-abbrev pub number_of : Number → Option ℕ
-number_of No = none
-number_of (Value v) = some v
+abbrev pub number_of : Maybe ℕ → Option ℕ
+number_of None = none
+number_of (Some v) = some v
 
 -- "goal and free word are 0"
-abbrev pub command_of : Command → lines.Command
-command_of Bad = lines.bad
-command_of (Format S R D) = lines.format S R D
-command_of (Insert key moves) = lines.call (insert (record_of (lines.line_key key) moves 0 0))
-command_of (Update key moves) = lines.call (update (record_of (lines.line_key key) moves 0 0))
-command_of (Delete key) = lines.call (delete (lines.line_key key))
-command_of (Lookup key) = lines.call (lookup (lines.line_key key))
+abbrev pub command_of : Maybe Command → lines.Command
+command_of None = lines.bad
+command_of (Some (Format S R D)) = lines.format S R D
+command_of (Some (Insert key moves)) = lines.call (insert (record_of (lines.line_key key) moves 0 0))
+command_of (Some (Update key moves)) = lines.call (update (record_of (lines.line_key key) moves 0 0))
+command_of (Some (Delete key)) = lines.call (delete (lines.line_key key))
+command_of (Some (Lookup key)) = lines.call (lookup (lines.line_key key))
 
 abbrev pub answer_of : Answer → answers.Answer
 answer_of (answer.Ok n d) = answers.ok n d

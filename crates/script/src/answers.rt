@@ -19,13 +19,7 @@ pub enum Answer {
 fn digits_of(n: u32) -> usize
     ensures { result ≡ length (decimal n) }
 {
-    let mut left = n;
-    let mut k = 1;
-    while left >= 10 {
-        left = left / 10;
-        k += 1;
-    }
-    k
+    n.max(1).ilog10() as usize + 1
 }
 
 // Writes a number in decimal from `at` on; gives where it ends.
@@ -36,13 +30,10 @@ fn put_decimal(n: u32, at: usize, out: &mut [u8]) -> usize
 {
     let end = at + digits_of(n);
     let mut left = n;
-    let mut i = end;
-    while left >= 10 {
-        i -= 1;
+    for i in (at..end).rev() {
         out[i] = (left % 10) as u8 + b'0';
-        left = left / 10;
+        left /= 10;
     }
-    out[at] = left as u8 + b'0';
     end
 }
 
@@ -57,14 +48,14 @@ pub fn put_number(n: u32, terminator: u8, at: usize, out: &mut [u8]) -> usize
     end + 1
 }
 
-// Writes a word and a number as a line.
-fn put_one(word: &[u8], n: u32, out: &mut [u8]) -> usize
+// Writes a word, a number and the byte that ends it at the start of `out`; gives where they end.
+fn put_first(word: &[u8], n: u32, terminator: u8, out: &mut [u8]) -> usize
     requires { length word.now + 11 ≤ length out.old }
-    ensures end { (result ≡ length (word.now ++ (decimal n ++ ascii "\n"))) × (result ≤ length word.now + 11) }
-    ensures bytes { out.new ≡ write out.old 0 (word.now ++ (decimal n ++ ascii "\n")) }
+    ensures end { (result ≡ length (word.now ++ (decimal n ++ (terminator ∷ [])))) × (result ≤ length word.now + 11) }
+    ensures bytes { out.new ≡ write out.old 0 (word.now ++ (decimal n ++ (terminator ∷ []))) }
 {
     words::copy_at(out, 0, word);
-    put_number(n, b'\n', word.len(), out)
+    put_number(n, terminator, word.len(), out)
 }
 
 // Writes a word and two numbers as a line.
@@ -75,8 +66,7 @@ fn put_two(word: &[u8], n: u32, m: u32, out: &mut [u8]) -> usize
     ensures bytes { out.new
         ≡ write out.old 0 (word.now ++ (decimal n ++ (ascii " " ++ (decimal m ++ ascii "\n")))) }
 {
-    words::copy_at(out, 0, word);
-    let at = put_number(n, b' ', word.len(), out);
+    let at = put_first(word, n, b' ', out);
     put_number(m, b'\n', at, out)
 }
 
@@ -90,8 +80,8 @@ pub fn put_answer(a: Answer, out: &mut [u8]) -> usize
     match a {
         Answer::Ok(n, d) => put_two(b"ok ", n, d, out),
         Answer::Hit(moves, count) => put_two(b"hit ", moves, count, out),
-        Answer::Miss(count) => put_one(b"miss ", count, out),
-        Answer::No(number) => put_one(b"no ", number, out),
+        Answer::Miss(count) => put_first(b"miss ", count, b'\n', out),
+        Answer::No(number) => put_first(b"no ", number, b'\n', out),
         Answer::Bad => {
             words::copy_at(out, 0, b"bad\n");
             4

@@ -4,7 +4,7 @@ use mathlib.Core.Logic.{◌≢◌}
 use mathlib.Core.Bool.{cond}
 use mathlib.Core.List.{List, [], ◌∷◌, ◌++◌}
 use Prim.Native.Nat.{ℕ, zero, suc, ◌+◌, ◌-◌, ◌≤◌, ◌<◌}
-use native.Mathlib.Nat.{le_of_suc-le-suc, not-suc-le-zero, sub-zero}
+use native.Mathlib.Nat.{le_of_suc-le-suc, not-suc-le-zero}
 use native.Mathlib.Omega.{arith}
 use native.Mathlib.Numerals.{add-one}
 use borrow.Author.Tests.{ne_eqb}
@@ -54,7 +54,7 @@ line_short v line out l e =
 
 -- the line that is kept, answered into the 32 bytes behind what was printed
 pub line_ends : (k : Buffers) (l : AfterLine)
-    → l ≡ answer_line k.volume (take (k.fill - 0) k.buffer) (take (k.printed + 32 - k.printed) (drop k.printed k.out))
+    → l ≡ answer_line k.volume (take k.fill k.buffer) (take (k.printed + 32 - k.printed) (drop k.printed k.out))
     → ◌≡◌ {A = Buffers} (record {
       volume = l.volume;
       buffer = k.buffer;
@@ -67,8 +67,8 @@ line_ends k l e =
     let r : Performed = perform k.volume (command (take k.fill k.buffer)) in
     let n : k.printed + 32 - k.printed ≡ 32 = omega arith in
     let out = take (k.printed + 32 - k.printed) (drop k.printed k.out) in
-    let f = e ∙ answer_line_is k.volume (take (k.fill - 0) k.buffer) out in
-    rw (f, sub-zero k.fill, n, write_part k.out k.printed 32 (text r.answer) (text_length r.answer))
+    let f = e ∙ answer_line_is k.volume (take k.fill k.buffer) out in
+    rw (f, n, write_part k.out k.printed 32 (text r.answer) (text_length r.answer))
 
 -- ---- bytes
 

@@ -1,4 +1,5 @@
 use mathlib.Core.Path.{sym, ap, ◌∙◌}
+use Rattle.std.proofs.Common.{rules}
 use Rattle.layout.specs.Hash.{fnv_family}
 use Rattle.state.specs.Contract.{volume}
 use Rattle.load.specs.Load.{load_lines_by, row_whole}
@@ -7,31 +8,35 @@ use Rattle.load.proofs.load.Goals as goal
 
 -- 1, 2 and 10, a tab of no bytes, the header, then the rows.
 
-pub returns-in-Refused : goal.returns-in-Refused
-returns-in-Refused c =
+pub returns-in-Err : goal.returns-in-Err
+returns-in-Err c =
     let x = c.args in
-    sym (load_judged fnv_family (volume x.s x.main.now x.spare.now x.ram.now) x.tab.now c.in-Refused.i (sym c.in-Refused.ensures.equal))
+    rw c.not_loaded.ensures
+    (sym (load_judged fnv_family (volume x.s x.main.now x.spare.now x.ram.now) x.tab.now c.in-Err.i (sym c.in-Err.ensures.equal)))
 
 -- none of 1, 2 and 10 applies
-pub returns-then-tab-eq0 : goal.returns-then-tab-eq0
-returns-then-tab-eq0 c =
+pub returns-then-is_empty : goal.returns-then-is_empty
+returns-then-is_empty c =
     let x = c.args in
     let v = volume x.s x.main.now x.spare.now x.ram.now in
-    sym (load_good fnv_family v x.tab.now c.in-Good.g (sym c.in-Good.ensures.equal)
-    ∙ ap (load_lines_by (row_whole fnv_family) v) (body_none x.tab.now c.if-tab-eq0.true)
-    ∙ none_loaded (row_whole fnv_family) v)
+    rw c.not_loaded-then-is_empty.ensures
+    (sym (load_good fnv_family v x.tab.now c.in-Ok.g (sym c.in-Ok.ensures.equal)
+    ∙ ap (load_lines_by (row_whole fnv_family) v) (body_none x.tab.now (search rules))
+    ∙ none_loaded (row_whole fnv_family) v))
 
-pub returns-in-Missing : goal.returns-in-Missing
-returns-in-Missing c =
+pub returns-in-None : goal.returns-in-None
+returns-in-None c =
     let x = c.args in
     let v = volume x.s x.main.now x.spare.now x.ram.now in
-    sym (load_good fnv_family v x.tab.now c.in-Good.g (sym c.in-Good.ensures.equal)
-    ∙ ap (load_lines_by (row_whole fnv_family) v) (body_some x.tab.now c.if-tab-eq0.false ∙ sym c.in-Missing.ensures))
+    rw c.not_loaded-in-None.ensures
+    (sym (load_good fnv_family v x.tab.now c.in-Ok.g (sym c.in-Ok.ensures.equal)
+    ∙ ap (load_lines_by (row_whole fnv_family) v) (body_some x.tab.now (search rules) ∙ sym c.in-None.ensures)))
 
-pub returns-in-Lines : goal.returns-in-Lines
-returns-in-Lines c =
+pub returns-in-Some : goal.returns-in-Some
+returns-in-Some c =
     let x = c.args in
     let v = volume x.s x.main.now x.spare.now x.ram.now in
+    let s = c.in-Some in
     c.load_rows.ensures
-    ∙ sym (load_good fnv_family v x.tab.now c.in-Good.g (sym c.in-Good.ensures.equal)
-    ∙ ap (load_lines_by (row_whole fnv_family) v) (body_some x.tab.now c.if-tab-eq0.false ∙ sym c.in-Lines.ensures))
+    ∙ sym (load_good fnv_family v x.tab.now c.in-Ok.g (sym c.in-Ok.ensures.equal)
+    ∙ ap (load_lines_by (row_whole fnv_family) v) (body_some x.tab.now (search rules) ∙ sym c.in-Some.ensures))

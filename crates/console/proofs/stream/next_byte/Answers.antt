@@ -13,5 +13,5 @@ pub returns-clause-equal : goal.returns-clause-equal
 returns-clause-equal c =
     let x = c.args in
     let k = buffers_of x.p x.line.now x.main.now x.spare.now x.ram.now x.out.now in
-    let a = c.add_byte-fill in
+    let a = c.add_byte in
     add_byte_lem k x.c a.result a.new.line c.if-c-eq10.false a.ensures.equal.0 a.ensures.equal.1

@@ -20,13 +20,13 @@ returns-in-Hit c =
 pub returns-in-Miss : goal.returns-in-Miss
 unfolding text
 returns-in-Miss c =
-    let k = c.put_one in
+    let k = c.put_first in
     rw c.in-Miss.is (record { size = k.ensures.end.0; short = omega arith; bytes = k.ensures.bytes })
 
 pub returns-in-No : goal.returns-in-No
 unfolding text
 returns-in-No c =
-    let k = c.put_one-in-No in
+    let k = c.put_first-in-No in
     rw c.in-No.is (record { size = k.ensures.end.0; short = omega arith; bytes = k.ensures.bytes })
 
 pub returns-in-Bad : goal.returns-in-Bad

@@ -1,40 +1,28 @@
-use native.Mathlib.Omega.{arith}
-use Prim.Native.Nat.{ℕ, ◌+◌, ◌-◌, ◌/◌, ◌%◌}
-use mathlib.Core.Path.{◌≡◌, sym, ap, ◌∙◌}
-use mathlib.Core.List.{List}
-use lib.ListN.{length, length-set, length-append}
-use Rattle.memory.specs.Lists.{write}
+use Rattle.std.proofs.Common.{◌≡◌, ◌+◌, ◌-◌, length, arith, ◌∙◌, sym, refl}
 use Rattle.script.specs.Answers.{decimal}
-use Rattle.script.specs.AnswerLaws.{write_byte, write_last, decimal_one, decimal_more, decimal_length, decimal_there}
+use Rattle.script.specs.AnswerLaws.{decimal_length, unwritten_all, unwritten_none, digit_put}
 use Rattle.script.proofs.answers.put_decimal.Goals as goal
-
--- What is left to write is the digits of what is left of the number.
 
 pub overflow_add-end : goal.overflow_add-end
 overflow_add-end c = omega (arith, decimal_length c.args.n)
 
-pub overflow_sub-i : goal.overflow_sub-i
-overflow_sub-i c = omega (arith, decimal_there c.loop-left.left)
+pub loop-i-init : goal.loop-i-init
+loop-i-init c =
+    let x = c.args in
+    let e : x.at + c.digits_of.result ≡ x.at + length (decimal x.n) = omega arith in
+    rw (unwritten_all x.at _ x.n e) (record { place = e; written = refl })
 
 pub bounds-out-i : goal.bounds-out-i
-bounds-out-i c = omega (arith, decimal_length c.loop-left.left, decimal_there c.loop-left.left)
+bounds-out-i c = omega (arith, decimal_length c.args.n)
 
-pub loop-left-preserved : goal.loop-left-preserved
-loop-left-preserved c =
-    let l = c.loop-left in
-    let x = c.args in
-    let m = decimal_more l.left (omega arith) (omega arith) in
-    let e : l.i - 1 ≡ x.at + length (decimal (l.left / 10)) = omega (arith, simp length-append at (ap length m)) in (
-      omega arith,
-      e,
-      simp length-set l.invariant.2,
-      rw e (write_last l.out x.at (decimal (l.left / 10)) (l.left % 10 + 48)
-          ∙ ap (λ (t : List ℕ). write l.out x.at t) (sym m) ∙ l.invariant.3),
-    )
+pub loop-i-preserved : goal.loop-i-preserved
+loop-i-preserved c =
+    let l = c.loop-i in
+    let i : l.i - 1 + 1 ≡ l.i = omega arith in
+    let p = digit_put l.out c.args.at (l.i - 1) l.left (omega arith) (omega arith) (rw i l.invariant.place) in
+    record { place = p.0; written = p.1 ∙ rw i l.invariant.written }
 
 pub returns-clause-bytes : goal.returns-clause-bytes
 returns-clause-bytes c =
-    let l = c.loop-left in
-    let x = c.args in
-    let d = decimal_one l.left (omega arith) in
-    write_byte l.out x.at (l.left + 48) ∙ ap (λ (t : List ℕ). write l.out x.at t) (sym d) ∙ l.invariant.3
+    let l = c.loop-i in
+    sym (unwritten_none l.out c.args.at l.i l.left (omega arith)) ∙ l.invariant.written

@@ -1,13 +1,12 @@
-use Prim.Native.Nat.{◌+◌, ◌^◌, ◌<◌}
-use mathlib.Core.Path.{◌≡◌}
-use lib.ListN.{length}
+use Rattle.std.proofs.Common.{◌≡◌, ◌+◌, length}
 use Rattle.memory.specs.Lists.{write}
 use Rattle.script.specs.Answers.{decimal}
+use Rattle.script.specs.AnswerLaws.{unwritten}
 use Rattle.script.proofs.answers.put_decimal.Given as goal
 
-abbrev pub invariant-loop-left : goal.invariant-loop-left
-invariant-loop-left l =
-    (l.left < 2 ^ 32) × (l.i ≡ l.at + length (decimal l.left)) × (length l.out ≡ length l.initial.out) × (write l.out l.at (decimal l.left) ≡ write l.initial.out l.at (decimal l.n))
-
-abbrev pub decreases-loop-left : goal.decreases-loop-left
-decreases-loop-left l = l.left
+-- What is left to write is the digits of what is left of the number.
+abbrev pub invariant-loop-i : goal.invariant-loop-i
+invariant-loop-i l = record {
+  place : l.i ≡ l.at + length (unwritten l.at l.i l.left);
+  written : write l.out l.at (unwritten l.at l.i l.left) ≡ write l.initial.out l.at (decimal l.n);
+}
