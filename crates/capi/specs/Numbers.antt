@@ -44,7 +44,10 @@ pub record Cut : Type 0 where
 -- a changing call's answer: the refusal, then the state
 abbrev pub change_of : List ℕ → Change
 change_of l =
-    record { refusal = get_or l 0 0; state = state_by (get_or l 1 0) (get_or l 2 0) (get_or l 3 0) (get_or l 4 0) (get_or l 5 0) (get_or l 6 0) }
+    record {
+      refusal = get_or l 0 0;
+      state = state_by (get_or l 1 0) (get_or l 2 0) (get_or l 3 0) (get_or l 4 0) (get_or l 5 0) (get_or l 6 0);
+    }
 
 -- a load's: the refusal, the rows, the state
 abbrev pub loaded_of : List ℕ → Loaded

@@ -124,8 +124,8 @@ fn loaded_words(loaded: Loaded) -> [u32; 8]
     [refusal, loaded.rows, a, b, c, d, e, f]
 }
 
-// A lookup's answer: the refusal, whether there is a record, the pages of keys opened, whether it lies in the RAM, its offset; and the pages
-// of deletions opened.
+// A lookup's answer: the refusal, whether there is a record, the pages of keys opened, whether it lies in the RAM, its offset; and the
+// pages of deletions opened.
 fn lookup_words(answer: Result<Found, Refusal>) -> ([u32; 5], u64)
     requires { (find_numbers answer).offset < 4294967296 }
     ensures { numbers.lookup_result_of result.0 result.1 ≡ find_numbers answer }

@@ -1,5 +1,6 @@
 // Operations of the flash chip on two slices, the main area and the spare area with one byte a sector: programming sectors, erasing
 // blocks and looking whether sectors are fresh. Document 01, "The chip and the desk".
+// The areas stay two parameters: the C interface lends them so, and the calls' contracts name both.
 #![tactic(auto)]
 
 ghost use Rattle.std.specs.Prelude.{◌≡◌, ◌++◌, ◌+◌, ◌*◌, ◌≤◌, ◌<◌, length};

@@ -70,13 +70,14 @@ pub fn has_word(at: usize, n: usize, j: u32, s: &[u8]) -> bool
 // ---- entries with a key
 
 // Has the entry from byte `at` on the key.
+#[tactic(auto, unfolding(layout::specs::Keys::same_key))]
 fn is_key(at: usize, key: Key, s: &[u8]) -> bool
     requires { at + entry_size ≤ length s.now }
     ensures { result ≡ same_key (key_at s.now at) (key_is key) }
 {
     let first = words::get32(s, at);
     let second = words::get32(s, at + areas::WORD_SIZE);
-    keys::same(keys::key_in(first, second), key)
+    keys::key_in(first, second) == key
 }
 
 // The newest of the n entries with the key, an entry at a time.

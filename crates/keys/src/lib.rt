@@ -2,20 +2,13 @@
 #![tactic(auto)]
 
 ghost use Rattle.std.specs.Prelude.{◌≡◌};
-ghost use Rattle.layout.specs.Keys.{same_key, key_in, number_in};
+ghost use Rattle.layout.specs.Keys.{key_in, number_in};
 ghost use Rattle.keys.specs.Key.{key_is};
 
+// A level's key: equal keys name the same level.
 #[derive(Clone, Copy, PartialEq, Eq)]
 pub struct Key {
     pub level: u32,
-}
-
-// Do two keys name the same level?
-#[tactic(auto, unfolding(layout::specs::Keys::same_key))]
-pub fn same(a: Key, b: Key) -> bool
-    ensures { result ≡ same_key (key_is a) (key_is b) }
-{
-    a == b
 }
 
 // The key in an entry's two words.

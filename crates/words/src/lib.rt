@@ -1,4 +1,4 @@
-// Bytes in a slice: little-endian numbers of four and of eight bytes, copies and fills. Numbers, and bits of a word.
+// Bytes in a slice: little-endian numbers of four and of eight bytes, copies and fills. And bits of a word.
 #![tactic(auto)]
 
 ghost use Rattle.std.specs.Prelude.{◌≡◌, ◌+◌, ◌*◌, ◌≤◌, ◌<◌, length, replicate};
@@ -6,7 +6,6 @@ ghost use Rattle.memory.specs.Lists.{write};
 ghost use Rattle.memory.specs.Words.{bytes4, bytes8, word, words_bytes, Word64};
 
 pub mod bits;
-pub mod numbers;
 
 // The number that four bytes from `at` on make, the lowest first.
 pub fn get32(s: &[u8], at: usize) -> u32
@@ -57,29 +56,6 @@ pub fn put64(s: &mut [u8], at: usize, x: u64)
     ensures { s.new ≡ write s.old at (bytes8 x) }
 {
     copy_at(s, at, &u64::to_le_bytes(x));
-}
-
-// dst becomes src.
-pub fn copy(dst: &mut [u8], src: &[u8])
-    requires { length dst.old ≡ length src.now }
-    ensures { dst.new ≡ src.now }
-{
-    let mut i = 0;
-    while i < src.len() {
-        dst[i] = src[i];
-        i += 1;
-    }
-}
-
-// dst becomes all v.
-pub fn fill(dst: &mut [u8], v: u8)
-    ensures { dst.new ≡ replicate (length dst.old) v }
-{
-    let mut i = 0;
-    while i < dst.len() {
-        dst[i] = v;
-        i += 1;
-    }
 }
 
 // src is written into dst from `at` on.
