@@ -19,7 +19,6 @@ ghost use Rattle.filter.specs.Recent.{MaskOf, OneRow, recent_has, RecentIn, Rece
 use geometry::sets::Index;
 use geometry::{Chip, sets};
 use kernels::Row;
-use words::numbers;
 
 // The filters of an index on a chip: so many.
 #[derive(Clone, Copy)]
@@ -88,14 +87,6 @@ fn power(e: usize) -> usize
     ensures { (result ≡ 2 ^ e) × (0 < result) }
 {
     1usize << e
-}
-
-// The quotient by a power of two.
-fn shifted(x: usize, e: usize) -> usize
-    requires { e < 64 }
-    ensures { result ≡ x / 2 ^ e }
-{
-    x >> e
 }
 
 // ---- the levels of an index, by the unit, which is 2 ^ e
