@@ -69,7 +69,8 @@ fn load_new(rt: &(impl Print + Eprint), tab: &[u8]) {
     print_answer(rt, r.rows, r.ended);
 }
 
-// Reads until the tab's buffer is full, the input ends or a read fails; how many bytes there are.
+// Reads until the tab's buffer is full, the input ends or a read fails; how many bytes there are. (By `while`: a `for` would have to count
+// the reads, of which nothing else is asked.)
 fn read_full(input: &mut impl Read, tab: &mut [u8]) -> usize
     ensures { result ≤ length tab.new }
 {
