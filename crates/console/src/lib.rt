@@ -1,5 +1,6 @@
 // A script from standard input, its answers to standard output. What the bytes of the input do is in `stream`; here they are moved, in
-// chunks, and nothing else.
+// chunks, and nothing else. The lent bytes are parameters of their own, as in the calls that they go on to (`lines::answer_next`), so that
+// each function's contract says what it leaves of each.
 #![tactic(auto)]
 
 mod stream;

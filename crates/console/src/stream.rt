@@ -15,7 +15,7 @@ pub struct Fill {
     pub printed: usize,
 }
 
-// A byte of a line is kept as long as the buffer has room.
+// A byte of a line is kept as long as the buffer has room. (Not by `get_mut`, whose contract does not say what the slice ends as.)
 fn add_byte(c: u8, fill: usize, line: &mut [u8]) -> usize
     requires { fill ≤ length line.old }
     ensures equal { (result ≡ cond (ltb fill (length line.old)) (fill + 1) fill)

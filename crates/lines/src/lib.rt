@@ -143,7 +143,7 @@ pub fn answer_line(
 
 // ---- the volume between lines
 
-// A volume between two lines: its state. The bytes are lent beside it.
+// A volume between two lines: its state. The bytes are lent beside it. (Document 01 names this form, and the two functions below.)
 #[derive(Clone, Copy)]
 pub struct Held {
     pub state: State,

@@ -6,30 +6,17 @@ ghost use Rattle.std.specs.Prelude.{◌≡◌, ◌≤◌, length};
 
 use geometry::Sizes;
 use script::answers;
-use state::State;
+use state::{Refusal, State};
 use std::io::{Eprint, Read};
 
 // The longest tab that it takes.
 const MOST: usize = 262144;
 
-// A byte more than that, so that a longer tab is noticed.
-fn tab_buffer() -> [u8; 262145]
-    ensures { 262145 ≡ length result }
+// As many zeros, told by their number: the check would write out those of an array that stands in a function that uses it.
+fn zeros<const N: usize>() -> [u8; N]
+    ensures { length result ≡ N }
 {
-    [0; 262145]
-}
-
-// The volume: S = 64, R = 32 and D = 32 have 146 blocks and room for 8,192 records.
-fn main_buffer() -> [u8; 598016]
-    ensures { 598016 ≡ length result }
-{
-    [0; 598016]
-}
-
-fn spare_buffer() -> [u8; 9344]
-    ensures { 9344 ≡ length result }
-{
-    [0; 9344]
+    [0; N]
 }
 
 fn complain(rt: &impl Eprint, reason: &str) {
@@ -46,21 +33,24 @@ fn print_number(rt: &(impl Print + Eprint), n: u32, terminator: u8) {
 }
 
 // `rows N ok`, or `rows N no NUMBER`.
-fn print_answer(rt: &(impl Print + Eprint), rows: u32, refusal: u32) {
+fn print_answer(rt: &(impl Print + Eprint), rows: u32, ended: Result<(), Refusal>) {
     let _ = rt.print("rows ");
     print_number(rt, rows, b' ');
-    if refusal == state::ACCEPTED {
-        let _ = rt.print("ok\n");
-        return;
+    match ended {
+        Ok(()) => {
+            let _ = rt.print("ok\n");
+        }
+        Err(refusal) => {
+            let _ = rt.print("no ");
+            print_number(rt, refusal.into(), b'\n');
+        }
     }
-    let _ = rt.print("no ");
-    print_number(rt, refusal, b'\n');
 }
 
-// A formatted volume, and the tab loaded into it.
+// A formatted volume, and the tab loaded into it. S = 64, R = 32 and D = 32 have 146 blocks and room for 8,192 records.
 fn load_new(rt: &(impl Print + Eprint), tab: &[u8]) {
-    let mut main_area = main_buffer();
-    let mut spare = spare_buffer();
+    let mut main_area = zeros::<598016>();
+    let mut spare = zeros::<9344>();
     let mut ram = [0u8; 1600];
     let sizes = Sizes {
         sector_size: 64,
@@ -73,12 +63,14 @@ fn load_new(rt: &(impl Print + Eprint), tab: &[u8]) {
         records: 0,
         deletions: 0,
     };
-    let f = format::format(none, sizes, &mut main_area, &mut spare, &mut ram);
-    let r = load::load(f.state, tab, &mut main_area, &mut spare, &mut ram);
-    print_answer(rt, r.rows, r.refusal);
+    let formatted = format::format(none, sizes, &mut main_area, &mut spare, &mut ram);
+    let s = formatted.unwrap_or(none);
+    let r = load::load(s, tab, &mut main_area, &mut spare, &mut ram);
+    print_answer(rt, r.rows, r.ended);
 }
 
-// Reads until the tab's buffer is full, the input ends or a read fails; how many bytes there are.
+// Reads until the tab's buffer is full, the input ends or a read fails; how many bytes there are. (By `while`: a `for` would have to count
+// the reads, of which nothing else is asked.)
 fn read_full(input: &mut impl Read, tab: &mut [u8]) -> usize
     ensures { result ≤ length tab.new }
 {
@@ -96,7 +88,8 @@ fn read_full(input: &mut impl Read, tab: &mut [u8]) -> usize
 }
 
 fn main(rt: HostRuntime) {
-    let mut tab = tab_buffer();
+    // A byte more than the longest, so that a longer tab is noticed.
+    let mut tab = zeros::<262145>();
     let mut input = rt.reader();
     let n = read_full(&mut input, &mut tab);
     if n > MOST {
