@@ -48,9 +48,6 @@ returns-in_err-edit c =
     rw (p.1, p.2)
     (refused_cut_lem v (call_of x.q) x.budget i.field-0.0 (on_pages v) (decided v x.q x.r c.requires (Err i.field-0.0) i.ensures))
 
-pub room_refusal-requires : goal.room_refusal-requires
-room_refusal-requires c = c.requires.1.sound
-
 -- 5 and 6
 pub returns-in_err-room_refusal : goal.returns-in_err-room_refusal
 returns-in_err-room_refusal c =

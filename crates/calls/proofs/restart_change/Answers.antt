@@ -106,9 +106,6 @@ returns-in_err-edit c =
     (restart_refused x.budget v (call_of x.q) c.requires.0 c.requires.1 w on_is i.field-0.0
     (decided w x.q g.g g.ensures.equal c.key_of.result c.key_of.ensures (Ok c.in_ok-r.r) c.in_ok-r.ensures.equal (Err i.field-0.0) i.ensures))
 
-pub room_refusal-requires : goal.room_refusal-requires
-room_refusal-requires c = c.in_ok-g.ensures.fits.sound
-
 -- 5 or 6
 pub returns-in_err-room_refusal : goal.returns-in_err-room_refusal
 returns-in_err-room_refusal c =
@@ -134,14 +131,6 @@ plan_of-p-requires c =
     let s = c.state_in-old.result in
     let g = c.in_ok-g in
     (g.ensures.fits.sound, room_told (shape g.g) s.records s.deletions c.in_ok-edit.edit c.in_ok-room_refusal.ensures)
-
-pub done-from-requires : goal.done-from-requires
-done-from-requires c =
-    let f = c.in_ok-g.ensures.fits in
-    (f.sound, c.plan_of-p.ensures, f.long.spare_fits)
-
-pub finish-progress-requires-clause-header_size_in_bounds : goal.finish-progress-requires-clause-header_size_in_bounds
-finish-progress-requires-clause-header_size_in_bounds c = (c.requires.0, c.in_ok-g.ensures.fits)
 
 pub finish-progress-requires-clause-prepared : goal.finish-progress-requires-clause-prepared
 finish-progress-requires-clause-prepared c =
