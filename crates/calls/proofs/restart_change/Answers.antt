@@ -132,14 +132,6 @@ plan_of-p-requires c =
     let g = c.in_ok-g in
     room_told (shape g.g) s.records s.deletions c.in_ok-edit.edit c.in_ok-room_refusal.ensures
 
-pub done-from-requires : goal.done-from-requires
-done-from-requires c =
-    let f = c.in_ok-g.ensures.fits in
-    (c.plan_of-p.ensures, f.long.spare_fits)
-
-pub finish-progress-requires-clause-header_size_in_bounds : goal.finish-progress-requires-clause-header_size_in_bounds
-finish-progress-requires-clause-header_size_in_bounds c = (c.requires.0, c.in_ok-g.ensures.fits)
-
 pub finish-progress-requires-clause-prepared : goal.finish-progress-requires-clause-prepared
 finish-progress-requires-clause-prepared c =
     let x = c.args in
