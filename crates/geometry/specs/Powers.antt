@@ -11,10 +11,10 @@ log2up_power e =
     let h : 2 ^ e ≤ 2 ^ k = log2up_enough (2 ^ e) in
     let l : k ≤ e = log2up_least (2 ^ e) e (omega arith) in
     let lower : k + 1 ≤ e → ⊥ =
-        λ s.
-          let m : 2 ^ (k + 1) ≤ 2 ^ e = pow_mono s in
-          let q : 2 ^ (k + 1) ≡ 2 ^ k * 2 = pow-add 2 k 1 in
-          omega (arith, h, m, q, pow_pos k) in
+    λ s.
+    let m : 2 ^ (k + 1) ≤ 2 ^ e = pow_mono s in
+    let q : 2 ^ (k + 1) ≡ 2 ^ k * 2 = pow-add 2 k 1 in
+    omega (arith, h, m, q, pow_pos k) in
     ⊎_elim (λ p. absurd (lower (omega (arith, p.1)))) (λ p. omega (arith, p.1)) (lt? k e)
 
 pub power_is : (n : ℕ) → PowerOfTwo n → n ≡ 2 ^ log2up n

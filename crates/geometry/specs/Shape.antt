@@ -66,10 +66,10 @@ unit_prop u e = Prim.hlevel props
 abbrev pub chip_eq : (c d : Chip) → c.unit ≡ d.unit → c ≡ d
 chip_eq c d p =
     λ i.
-      record {
-        unit = p i;
-        power = is_prop→PathP (λ j. UnitIs (p j) (log2up (p j))) (λ j. unit_prop (p j) (log2up (p j))) c.power d.power i;
-      }
+    record {
+      unit = p i;
+      power = is_prop→PathP (λ j. UnitIs (p j) (log2up (p j))) (λ j. unit_prop (p j) (log2up (p j))) c.power d.power i;
+    }
 
 -- what a geometry says besides its fields
 abbrev facts : ℕ → SizeRow → ℕ → ℕ → ℕ → Type 0
@@ -91,20 +91,20 @@ module _ (g h : Geometry) (u : g.chip.unit ≡ h.chip.unit) (r : g.row ≡ h.row
   pub geometry_eq : g ≡ h
   geometry_eq =
       λ i.
-        let f = is_prop→PathP (λ j. facts (u j) (r j) (a j) (d j) (k j)) (λ j. facts_prop (u j) (r j) (a j) (d j) (k j)) (facts_of g) (facts_of h) i in
-        record {
-          chip = chip_eq g.chip h.chip u i;
-          row = r i;
-          ra = a i;
-          da = d i;
-          hashes = k i;
-          records = f.0;
-          entries = f.1;
-          bits = f.2;
-          ra_allowed = f.3;
-          da_allowed = f.4;
-          hashes_allowed = f.5;
-        }
+      let f = is_prop→PathP (λ j. facts (u j) (r j) (a j) (d j) (k j)) (λ j. facts_prop (u j) (r j) (a j) (d j) (k j)) (facts_of g) (facts_of h) i in
+      record {
+        chip = chip_eq g.chip h.chip u i;
+        row = r i;
+        ra = a i;
+        da = d i;
+        hashes = k i;
+        records = f.0;
+        entries = f.1;
+        bits = f.2;
+        ra_allowed = f.3;
+        da_allowed = f.4;
+        hashes_allowed = f.5;
+      }
 
 -- ---- from S, R, D and k
 

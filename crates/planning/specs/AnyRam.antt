@@ -66,58 +66,58 @@ module _ (u : ℕ) (B C : ℕ → ℕ → Bool) (most : u ≤ 32) where
 -- ---- a change with them
 
 module _ (h : Family) (c : CodeGeometry) (j : ℕ) (r : Record) (ram : List ℕ) (long : ram_size (shape c) ≤ length ram) where
-    abbrev g : Geometry
-    g = shape c
+  abbrev g : Geometry
+  g = shape c
 
-    most : g.u ≤ 32
-    most = c.chip.power.most
+  most : g.u ≤ 32
+  most = c.chip.power.most
 
-    -- the bits of its new filters, and the number of its record
-    abbrev first_bits : Slots → ℕ → ℕ → Bool
-    first_bits (Delete d) = λ i. new_half h g d j i ram
-    first_bits (Insert n) = λ i x. false
-    first_bits (Update d n) = λ i. new_half h g d j i ram
+  -- the bits of its new filters, and the number of its record
+  abbrev first_bits : Slots → ℕ → ℕ → Bool
+  first_bits (Delete d) = λ i. new_half h g d j i ram
+  first_bits (Insert n) = λ i x. false
+  first_bits (Update d n) = λ i. new_half h g d j i ram
 
-    abbrev last_bits : Slots → ℕ → ℕ → Bool
-    last_bits (Delete d) = λ i x. false
-    last_bits (Insert n) = λ i. new_filter h g n r.key ram
-    last_bits (Update d n) = λ i. new_filter h g n r.key ram
+  abbrev last_bits : Slots → ℕ → ℕ → Bool
+  last_bits (Delete d) = λ i x. false
+  last_bits (Insert n) = λ i. new_filter h g n r.key ram
+  last_bits (Update d n) = λ i. new_filter h g n r.key ram
 
-    abbrev record_number : Slots → ℕ
-    record_number (Delete d) = 0
-    record_number (Insert n) = n
-    record_number (Update d n) = n
+  abbrev record_number : Slots → ℕ
+  record_number (Delete d) = 0
+  record_number (Insert n) = n
+  record_number (Update d n) = n
 
-    abbrev some_new : Slots → List ℕ
-    some_new e = new_bytes j r (record_number e)
+  abbrev some_new : Slots → List ℕ
+  some_new e = new_bytes j r (record_number e)
 
-    abbrev some_filters : Slots → List ℕ
-    some_filters e = filters_of g.u (first_bits e) (last_bits e)
+  abbrev some_filters : Slots → List ℕ
+  some_filters e = filters_of g.u (first_bits e) (last_bits e)
 
-    deletion_given : (d n : ℕ) (C : ℕ → ℕ → Bool)
-        → DeletionGiven h g d j (new_bytes j r n) (filters_of g.u (λ i. new_half h g d j i ram) C) ram
-    deletion_given d n C = record {
-      number_is = deletion_part j r n;
-      filters_are = λ q. deletion_fourths_lem g.u (λ i. new_half h g d j i ram) C most;
-    }
+  deletion_given : (d n : ℕ) (C : ℕ → ℕ → Bool)
+      → DeletionGiven h g d j (new_bytes j r n) (filters_of g.u (λ i. new_half h g d j i ram) C) ram
+  deletion_given d n C = record {
+    number_is = deletion_part j r n;
+    filters_are = λ q. deletion_fourths_lem g.u (λ i. new_half h g d j i ram) C most;
+  }
 
-    record_given : (n : ℕ) (B : ℕ → ℕ → Bool)
-        → RecordGiven h g n r.key (record_bytes r) (new_bytes j r n) (filters_of g.u B (λ i. new_filter h g n r.key ram)) ram
-    record_given n B = record {
-      size = length_record r;
-      record_is_lem = record_part j r n;
-      entry_is = entry_part j r n;
-      filter_is = λ q. entry_fourths_lem g.u B (λ i. new_filter h g n r.key ram) most;
-    }
+  record_given : (n : ℕ) (B : ℕ → ℕ → Bool)
+      → RecordGiven h g n r.key (record_bytes r) (new_bytes j r n) (filters_of g.u B (λ i. new_filter h g n r.key ram)) ram
+  record_given n B = record {
+    size = length_record r;
+    record_is_lem = record_part j r n;
+    entry_is = entry_part j r n;
+    filter_is = λ q. entry_fourths_lem g.u B (λ i. new_filter h g n r.key ram) most;
+  }
 
-    all_given : (e : Slots) → Given h g j r.key (record_bytes r) (some_new e) (some_filters e) ram e
-    all_given (Delete d) = deletion_given d 0 (λ i x. false)
-    all_given (Insert n) = record_given n (λ i x. false)
-    all_given (Update d n) =
-        (deletion_given d n (λ i. new_filter h g n r.key ram), record_given n (λ i. new_half h g d j i ram))
+  all_given : (e : Slots) → Given h g j r.key (record_bytes r) (some_new e) (some_filters e) ram e
+  all_given (Delete d) = deletion_given d 0 (λ i x. false)
+  all_given (Insert n) = record_given n (λ i x. false)
+  all_given (Update d n) =
+      (deletion_given d n (λ i. new_filter h g n r.key ram), record_given n (λ i. new_half h g d j i ram))
 
-    some_planned : (e : Slots) → planned (numbers_of c e) (some_new e) (some_filters e) ram ≡ plan_of g h j r.key (record_bytes r) ram e
-    some_planned e = edit_planned h c j r.key (record_bytes r) (some_new e) (some_filters e) ram long e (all_given e)
+  some_planned : (e : Slots) → planned (numbers_of c e) (some_new e) (some_filters e) ram ≡ plan_of g h j r.key (record_bytes r) ram e
+  some_planned e = edit_planned h c j r.key (record_bytes r) (some_new e) (some_filters e) ram long e (all_given e)
 
 -- whatever the RAM: there are new bytes and filters for which the code's plan is the layout's
 pub edit_some : (h : Family) (g : CodeGeometry) (j : ℕ) (r : Record) (ram : List ℕ) → ram_size (shape g) ≤ length ram → (e : Slots)

@@ -112,8 +112,8 @@ block_below-b-requires-clause-by_index c =
 pub in_word-r-requires : goal.in_word-r-requires
 in_word-r-requires c =
     let R = c.requires.deletions_fit.0 in
-      pages_in R (rw c.filters.ensures at c.block_below-b.ensures) c.requires.below_nonzero.1 c.args.j c.loop-w.invariant c.loop-w-test.true
-          c.da_block.ensures c.block_address-start.ensures c.page_address.ensures
+    pages_in R (rw c.filters.ensures at c.block_below-b.ensures) c.requires.below_nonzero.1 c.args.j c.loop-w.invariant c.loop-w-test.true
+    c.da_block.ensures c.block_address-start.ensures c.page_address.ensures
 
 pub overflow_add-opened : goal.overflow_add-opened
 overflow_add-opened c =
