@@ -39,7 +39,8 @@ fn end_line(
     out: &mut [u8],
 ) -> Fill
     requires { (p.fill ≤ length line.now) × (p.printed + 32 ≤ length out.old) }
-    ensures equal { buffers_of result line.now main.new spare.new ram.new out.new ≡ end_line (buffers_of p line.now main.old spare.old ram.old out.old) }
+    ensures equal { buffers_of result line.now main.new spare.new ram.new out.new
+        ≡ end_line (buffers_of p line.now main.old spare.old ram.old out.old) }
     ensures within { (result.fill ≡ 0) × (result.printed ≤ p.printed + 32) }
 {
     let at = p.printed;
@@ -69,7 +70,8 @@ fn next_byte(
     out: &mut [u8],
 ) -> Fill
     requires { (p.fill ≤ length line.old) × (p.printed + 32 ≤ length out.old) }
-    ensures equal { buffers_of result line.new main.new spare.new ram.new out.new ≡ next_byte (buffers_of p line.old main.old spare.old ram.old out.old) c }
+    ensures equal { buffers_of result line.new main.new spare.new ram.new out.new
+        ≡ next_byte (buffers_of p line.old main.old spare.old ram.old out.old) c }
     ensures within { (result.fill ≤ length line.old) × (result.printed ≤ p.printed + 32) }
 {
     if c == b'\n' {
@@ -92,7 +94,8 @@ pub fn feed(
     out: &mut [u8],
 ) -> Fill
     requires { (p.fill ≤ length line.old) × (p.printed + length chunk.now * 32 ≤ length out.old) }
-    ensures equal { buffers_of result line.new main.new spare.new ram.new out.new ≡ feed (buffers_of p line.old main.old spare.old ram.old out.old) chunk.now }
+    ensures equal { buffers_of result line.new main.new spare.new ram.new out.new
+        ≡ feed (buffers_of p line.old main.old spare.old ram.old out.old) chunk.now }
     ensures within { (result.fill ≤ length line.old) × (result.printed ≤ length out.old) }
 {
     let mut q = p;
@@ -112,7 +115,8 @@ pub fn close(
     out: &mut [u8],
 ) -> Fill
     requires { (p.fill ≤ length line.now) × (p.printed + 32 ≤ length out.old) }
-    ensures equal { buffers_of result line.now main.new spare.new ram.new out.new ≡ close (buffers_of p line.now main.old spare.old ram.old out.old) }
+    ensures equal { buffers_of result line.now main.new spare.new ram.new out.new
+        ≡ close (buffers_of p line.now main.old spare.old ram.old out.old) }
     ensures within { result.printed ≤ length out.old }
 {
     if p.fill == 0 {
