@@ -3,6 +3,7 @@ pub mod Spans
 pub mod Segments
 pub mod Fits
 pub mod Groups
+pub mod Numbers
 pub mod Plans
 pub mod Fresh
 pub mod Done

@@ -14,7 +14,8 @@ use Rattle.plan.specs.declared.Span.{Span}
 use Rattle.plan.specs.Runs.{done}
 use Rattle.plan.specs.Spans.{span, among, behind, run_of, span_all, span_none, span_among}
 use Rattle.plan.specs.Spans.{length_planned, first_run, last_run, both_run}
-use Rattle.plan.specs.Segments.{filled_page, flushed, next_set, wiped}
+use Rattle.plan.specs.Segments.{set_from, filled_page, flushed, next_set, wiped}
+use Rattle.plan.specs.Numbers.{SummaryNumbers, PlanNumbers, summary_numbers, plan_numbers}
 use Rattle.plan.specs.Fits.{PageFits, FlushFits, NextFits, WipeFits}
 
 -- the new bytes: the deletion's, the record's, the entry's
@@ -46,56 +47,102 @@ deletion_fourths filters = take entry_filter_at (drop 0 filters)
 abbrev pub entry_fourths : List ℕ → List ℕ
 entry_fourths filters = take (filters_length - entry_filter_at) (drop entry_filter_at filters)
 
+-- ---- the operations that numbers stand for
+
 -- the flush of an index
-abbrev pub flush_of : Summary → Flush
-flush_of s = record { sector = s.flush.first; at = s.next.index.ska; piece = s.piece }
+abbrev pub flush_by : SummaryNumbers → Flush
+flush_by s = record { sector = s.flush.first; at = s.index.ska; piece = s.piece }
 
 -- "SKA sectors, set pages, .. last the erases"
-module _ (u : ℕ) (s : Summary) where
-  abbrev pub build_of : List Planned
-  build_of =
-      planned_from (next_set u s.next s.set.first) 0 s.set.count
+module _ (u : ℕ) (s : SummaryNumbers) where
+  abbrev pub build_by : List Planned
+  build_by =
+      planned_from (set_from u s.set.first s.index s.full_sets s.rounds) 0 s.set.count
       ++ (planned_from (wiped s.l1.first) 0 s.l1.count ++ planned_from (wiped s.old.first) 0 s.old.count)
 
-  abbrev pub summary_of : List ℕ → List ℕ → List Planned
-  summary_of fourths ram = planned_from (flushed u (flush_of s) fourths ram) 0 s.flush.count ++ build_of
+  abbrev pub summary_by : List ℕ → List ℕ → List Planned
+  summary_by fourths ram = planned_from (flushed u (flush_by s) fourths ram) 0 s.flush.count ++ build_by
 
 -- how many there are
-abbrev pub summary_count : Summary → ℕ
-summary_count s = s.flush.count + (s.set.count + s.l1.count + s.old.count)
+abbrev pub count_by : SummaryNumbers → ℕ
+count_by s = s.flush.count + (s.set.count + s.l1.count + s.old.count)
 
-module _ (p : Plan) where
+module _ (p : PlanNumbers) where
   -- the pages that items fill
-  abbrev pub da_page : Page
-  da_page = record { sector = p.da.first; at = da_ram p.chip.unit }
+  abbrev pub da_page_by : Page
+  da_page_by = record { sector = p.da.first; at = da_ram p.unit }
 
-  abbrev pub ra_page : Page
-  ra_page = record { sector = p.ra.first; at = ra_ram p.chip.unit }
+  abbrev pub ra_page_by : Page
+  ra_page_by = record { sector = p.ra.first; at = ra_ram p.unit }
 
-  abbrev pub ka_page : Page
-  ka_page = record { sector = p.ka.first; at = ka_ram p.chip.unit }
+  abbrev pub ka_page_by : Page
+  ka_page_by = record { sector = p.ka.first; at = ka_ram p.unit }
 
   -- §5: "the deletion filters and their erases follow the DA page directly"
-  abbrev pub deletion_of : List ℕ → List ℕ → List ℕ → List Planned
-  deletion_of new filters ram =
-      planned_from (filled_page p.chip.unit da_page (deletion_in new) ram) 0 p.da.count
-      ++ summary_of p.chip.unit p.da_index (deletion_fourths filters) ram
+  abbrev pub deletion_by : List ℕ → List ℕ → List ℕ → List Planned
+  deletion_by new filters ram =
+      planned_from (filled_page p.unit da_page_by (deletion_in new) ram) 0 p.da.count
+      ++ summary_by p.unit p.da_index (deletion_fourths filters) ram
 
   -- "RA page, KA page, SKA sectors, set pages, .. last the erases"
+  abbrev pub record_by : List ℕ → List ℕ → List ℕ → List Planned
+  record_by new filters ram =
+      planned_from (filled_page p.unit ra_page_by (record_in new) ram) 0 p.ra.count
+      ++ (planned_from (filled_page p.unit ka_page_by (entry_in new) ram) 0 p.ka.count
+      ++ summary_by p.unit p.ka_index (entry_fourths filters) ram)
+
+  abbrev pub planned_by : List ℕ → List ℕ → List ℕ → List Planned
+  planned_by new filters ram = deletion_by new filters ram ++ record_by new filters ram
+
+  abbrev pub deletion_count_by : ℕ
+  deletion_count_by = p.da.count + count_by p.da_index
+
+  abbrev pub planned_count_by : ℕ
+  planned_count_by = deletion_count_by + (p.ra.count + p.ka.count + count_by p.ka_index)
+
+  pub planned_count_by_lem : (new filters ram : List ℕ) → length (planned_by new filters ram) ≡ planned_count_by
+  planned_count_by_lem new filters ram = simp (length-append, length_planned) (omega arith)
+
+-- ---- those of the code's plans
+
+abbrev pub flush_of : Summary → Flush
+flush_of s = flush_by (summary_numbers s)
+
+module _ (u : ℕ) (s : Summary) where
+  abbrev pub build_of : List Planned
+  build_of = build_by u (summary_numbers s)
+
+  abbrev pub summary_of : List ℕ → List ℕ → List Planned
+  summary_of = summary_by u (summary_numbers s)
+
+abbrev pub summary_count : Summary → ℕ
+summary_count s = count_by (summary_numbers s)
+
+module _ (p : Plan) where
+  -- its pages
+  abbrev pub da_page : Page
+  da_page = da_page_by (plan_numbers p)
+
+  abbrev pub ra_page : Page
+  ra_page = ra_page_by (plan_numbers p)
+
+  abbrev pub ka_page : Page
+  ka_page = ka_page_by (plan_numbers p)
+
+  abbrev pub deletion_of : List ℕ → List ℕ → List ℕ → List Planned
+  deletion_of = deletion_by (plan_numbers p)
+
   abbrev pub record_of : List ℕ → List ℕ → List ℕ → List Planned
-  record_of new filters ram =
-      planned_from (filled_page p.chip.unit ra_page (record_in new) ram) 0 p.ra.count
-      ++ (planned_from (filled_page p.chip.unit ka_page (entry_in new) ram) 0 p.ka.count
-      ++ summary_of p.chip.unit p.ka_index (entry_fourths filters) ram)
+  record_of = record_by (plan_numbers p)
 
   abbrev pub planned : List ℕ → List ℕ → List ℕ → List Planned
   planned new filters ram = deletion_of new filters ram ++ record_of new filters ram
 
   abbrev pub deletion_count : ℕ
-  deletion_count = p.da.count + summary_count p.da_index
+  deletion_count = deletion_count_by (plan_numbers p)
 
   abbrev pub planned_count : ℕ
-  planned_count = deletion_count + (p.ra.count + p.ka.count + summary_count p.ka_index)
+  planned_count = planned_count_by (plan_numbers p)
 
   abbrev pub whole_of : Span
   whole_of = record { from = 0; to = planned_count }

@@ -10,7 +10,7 @@ use Rattle.layout.specs.Calls.{key_filters, deletion_filters}
 use Rattle.laws.specs.Lengths.{Long}
 use Rattle.laws.specs.SetLaws.{blocks_fit, side_range, places_suffice, deletion_places_suffice}
 use Rattle.geometry.specs.declared.volume.Geometry.{Geometry}
-use Rattle.geometry.specs.Shape.{shape, sound_of, Sound}
+use Rattle.geometry.specs.Shape.{shape, Sound}
 use Rattle.geometry.specs.Bounds.{index_le, deletion_index_le}
 use Rattle.geometry.specs.Indexes.{index_of, index_for, deletion_index_for}
 use Rattle.geometry.specs.declared.index.Index.{Index as CodeIndex}
@@ -18,7 +18,9 @@ use Rattle.plan.specs.declared.Segment.{Segment}
 use Rattle.plan.specs.declared.Summary.{Summary}
 use Rattle.plan.specs.Fits.{PageFits, FlushFits, NextFits, WipeFits}
 use Rattle.plan.specs.Plans.{SummaryFits, PlanFits}
-use Rattle.planning.specs.Numbers.{none, page_of, no_summary, summary_at, by_summary}
+use Rattle.plan.specs.Numbers.{SummaryNumbers}
+use Rattle.planning.specs.LayoutNumbers as numbers
+use Rattle.planning.specs.Numbers.{none, page_of, summary_with, no_summary, summary_at, by_summary}
 use Rattle.planning.specs.Numbers.{no_deletions, no_entries, deletion_summary, entry_summary}
 use Rattle.planning.specs.Numbers.{deletion_numbers, insertion_numbers, update_numbers}
 
@@ -262,9 +264,10 @@ module _ (g : Geometry) (S : Sound g) where
             })
 
     -- whether a page is full or not
-    by_page : (b : Bool) (x y : Summary) (fourths : ℕ) → (b ≡ true → SummaryFits u x fourths m s r) → SummaryFits u y fourths m s r
-        → SummaryFits u (cond b x y) fourths m s r
-    by_page b x y fourths f n = either (bool? b) (λ e. rw e (f e)) (λ e. rw e n)
+    by_page : (b : Bool) (ix : CodeIndex) (x y : SummaryNumbers) (fourths : ℕ)
+        → (b ≡ true → SummaryFits u (summary_with ix x) fourths m s r)
+        → SummaryFits u (summary_with ix y) fourths m s r → SummaryFits u (summary_with ix (cond b x y)) fourths m s r
+    by_page b ix x y fourths f n = either (bool? b) (λ e. rw e (f e)) (λ e. rw e n)
 
     no_deletions_fit : SummaryFits u (no_deletions g) 512 m s r
     no_deletions_fit = no_summary_fits (deletion_index_for g) (layout.deletion_sets G) (2 * layout.fourth_size u) 512 deletions_in_lem
@@ -274,7 +277,7 @@ module _ (g : Geometry) (S : Sound g) where
 
     deletion_summary_fits : (d : ℕ) → d < layout.deletion_capacity G → SummaryFits u (deletion_summary g d) 512 m s r
     deletion_summary_fits d h =
-        by_page (fills (DA G) d) _ _ 512
+        by_page (fills (DA G) d) (deletion_index_for g) _ (numbers.no_deletions G) 512
         (λ full.
         summary_fits (deletion_index_for g) (layout.deletion_sets G) (2 * layout.fourth_size u) 512 deletions_in_lem (deletion_filters G d + 1)
         (deletion_room d h full))
@@ -282,7 +285,7 @@ module _ (g : Geometry) (S : Sound g) where
 
     entry_summary_fits : (n : ℕ) → n < layout.record_capacity G → SummaryFits u (entry_summary g n) 256 m s r
     entry_summary_fits n h =
-        by_page (fills (KA G) n) _ _ 256
+        by_page (fills (KA G) n) (index_for g) _ (numbers.no_entries G) 256
         (λ full. summary_fits (index_for g) (layout.full_sets G) (layout.fourth_size u) 256 key_in (key_filters G n) (key_room n h full))
         no_entries_fit
 

@@ -1,6 +1,9 @@
+pub mod LayoutNumbers
 pub mod Numbers
+pub mod LayoutOperations
 pub mod Operations
 pub mod New
 pub mod Fits
 pub mod Edits
+pub mod LayoutEdits
 pub mod AnyRam

@@ -1,205 +1,58 @@
--- The lists that the plans stand for are the layout's.
-use Rattle.std.specs.Prelude.{◌≡◌, refl, Bool, true, false, cond, ℕ, ◌+◌, ◌-◌, ◌*◌, ◌/◌, ◌%◌, ◌≤◌, ◌<◌, eqb}
-use Rattle.std.proofs.Common.{sym, ◌∙◌, arith}
-use Rattle.std.proofs.Math.Path.{ap}
-use mathlib.Core.List.{List, [], ◌++◌, append-nil}
-use Rattle.std.proofs.Math.ListN.{length}
-use borrow.Author.Tests.{eqb-true}
-use Rattle.memory.specs.Booleans.{cond_pos, cond_neg}
-use Rattle.memory.specs.Lists.{write}
+-- The lists that the code's plans stand for are the layout's.
+use Rattle.std.specs.Prelude.{◌≡◌, true, List, ◌++◌, ℕ, ◌+◌, ◌-◌, ◌≤◌, ◌<◌, eqb, length}
+use Rattle.std.proofs.Common.{ap, ◌∙◌}
 use Rattle.layout.specs.Keys.{Key}
-use Rattle.layout.specs.Geometry.{Geometry, sector, page, fourth_size, ram_size}
-use Rattle.layout.specs.Flash.{Planned, planned_from}
+use Rattle.layout.specs.Geometry.{sector, ram_size}
 use Rattle.layout.specs.Hash.{Family}
-use Rattle.layout.specs.Items.{Area, Ra, KA, DA, put, fills, item_plan, entry_bytes, deletion_bytes}
-use Rattle.layout.specs.Index as layout
-use Rattle.layout.specs.Index.{in_ska, in_l1, in_set, in_full, with_filter, build_plan, flush_and_build, filter_plan, filter_ram}
-use Rattle.layout.specs.Calls.{key_index, key_filters, new_filter, summarized, insertion_plan}
-use Rattle.layout.specs.Calls.{deletion_index, deletion_filters, new_half, first_half, second_half, deletion_plan}
-use Rattle.laws.specs.ItemLaws.{length_entry, length_deletion}
-use Rattle.laws.specs.SetLaws.{first_of_pair}
+use Rattle.layout.specs.Items.{KA, DA, fills, entry_bytes, deletion_bytes}
+use Rattle.layout.specs.Index.{in_ska, filter_plan}
+use Rattle.layout.specs.Calls.{new_filter, new_half, insertion_plan, deletion_plan}
 use Rattle.geometry.specs.declared.index.Index.{Index}
-use Rattle.geometry.specs.declared.volume.Geometry.{Geometry as CodeGeometry}
+use Rattle.geometry.specs.declared.volume.Geometry.{Geometry}
 use Rattle.geometry.specs.Shape.{shape}
-use Rattle.geometry.specs.Indexes.{index_of, index_for, deletion_index_for}
-use Rattle.filter.specs.Fourths.{FourthsOf, with_fourths, one_filter, two_filters}
-use Rattle.plan.specs.declared.Summary.{Summary}
-use Rattle.plan.specs.Segments.{page_from, with_item, filled_page, flush_from}
-use Rattle.plan.specs.Plans.{deletion_in, record_in, entry_in, deletion_fourths, entry_fourths, summary_of, deletion_of, planned}
-use Rattle.planning.specs.Numbers.{page_of, summary_at, by_summary, deletion_summary, entry_summary}
+use Rattle.geometry.specs.Indexes.{index_of}
+use Rattle.filter.specs.Fourths.{FourthsOf, with_fourths}
+use Rattle.plan.specs.Numbers.{SummaryNumbers, PlanNumbers}
+use Rattle.plan.specs.Plans.{deletion_in, record_in, entry_in, deletion_fourths, entry_fourths}
+use Rattle.plan.specs.Plans.{summary_of, summary_by, planned, planned_by}
+use Rattle.planning.specs.Numbers.{summary_at, summary_numbers_are}
 use Rattle.planning.specs.Numbers.{deletion_numbers, insertion_numbers, update_numbers}
+use Rattle.planning.specs.Numbers.{deletion_numbers_are, insertion_numbers_are, update_numbers_are}
+use Rattle.planning.specs.LayoutOperations as layout
 
--- ---- a page that item n fills
-
--- an item over the end of its page
-abbrev page_plan : ℕ → Area → ℕ → List ℕ → List ℕ → List Planned
-page_plan u a n ram item = planned_from (filled_page u (record { sector = (page_of a n).first; at = a.ram }) item ram) 0 (page_of a n).count
-
-module _ (u : ℕ) (a : Area) (n : ℕ) (item ram : List ℕ) (whole : a.per_page * a.size ≡ page u) (size : length item ≡ a.size) where
-  -- the item that fills its page lies over the page's end
-  item_last : fills a n ≡ true → with_item u a.ram item ram ≡ put a n item ram
-  unfolding put
-  item_last full =
-      let e : n % a.per_page + 1 ≡ a.per_page = eqb-true (n % a.per_page + 1) a.per_page full in
-      let m : n % a.per_page * a.size + a.size ≡ page u = omega (arith, whole, ap (λ (x : ℕ). x * a.size) e) in
-      let w : a.ram + (page u - length item) ≡ a.ram + n % a.per_page * a.size = omega (arith, m, size) in
-      ap (λ (x : ℕ). write ram x item) w
-
-  abbrev four : List ℕ → List Planned
-  four r = planned_from (page_from u (page_of a n).first a.ram r) 0 4
-
-  page_planned : page_plan u a n ram item ≡ item_plan u a n item ram
-  page_planned = by_fill (fills a n) refl
-    where
-      by_fill : (b : Bool) → fills a n ≡ b
-          → planned_from (page_from u (page_of a n).first a.ram (with_item u a.ram item ram)) 0 (cond b 4 0)
-          ≡ cond b (four (put a n item ram)) []
-      by_fill false q = refl
-      by_fill true q = ap four (item_last q)
-
--- ---- what new filters add to an index
-
+-- what filter F, the last of the new ones, adds; `new` is the RAM with them
 module _ (u piece : ℕ) (ix : Index) (F : ℕ) (fourths ram new : List ℕ) where
-  -- `new` is the RAM with the new filters, of which F is the last
-  abbrev Joined : Type 0
-  Joined = eqb (in_ska F + 1) 8 ≡ true → with_fourths u piece (ix.ska + (sector u - piece)) fourths ram ≡ new
-
-  abbrev flush_plan : List ℕ → List Planned
-  flush_plan r = planned_from (flush_from u (ix.first * 64 + in_l1 F) ix.ska r) 0 4
-
-  abbrev set_plan : List Planned
-  set_plan = build_plan u (index_of ix) (in_full u F) (in_set u F)
-
-  flush_first : eqb (in_ska F + 1) 8 ≡ true → filter_plan u (index_of ix) F new ≡ flush_plan new ++ cond (eqb (in_l1 F + 1) 16) set_plan []
-  unfolding flush_and_build
-  flush_first eight = cond_pos (eqb (in_ska F + 1) 8) (flush_and_build u (index_of ix) F new) [] eight
-
-  summary_planned : Joined → summary_of u (summary_at u piece ix F) fourths ram ≡ filter_plan u (index_of ix) F new
+  summary_planned : (eqb (in_ska F + 1) 8 ≡ true → with_fourths u piece (ix.ska + (sector u - piece)) fourths ram ≡ new)
+      → summary_of u (summary_at u piece ix F) fourths ram ≡ filter_plan u (index_of ix) F new
   summary_planned joined =
-      by_summary u piece ix F (λ s. summary_of u s fourths ram ≡ filter_plan u (index_of ix) F new)
-      (λ eight. sym (cond_neg (eqb (in_ska F + 1) 8) (flush_and_build u (index_of ix) F new) [] eight))
-      (λ eight last.
-      ap (λ (r : List ℕ). flush_plan r ++ []) (joined eight)
-      ∙ sym (flush_first eight ∙ ap (λ (l : List Planned). flush_plan new ++ l) (cond_neg (eqb (in_l1 F + 1) 16) set_plan [] last)))
-      (λ eight last.
-      ap (λ (r : List ℕ). flush_plan r ++ set_plan) (joined eight)
-      ∙ sym (flush_first eight ∙ ap (λ (l : List Planned). flush_plan new ++ l) (cond_pos (eqb (in_l1 F + 1) 16) set_plan [] last)))
+      ap (λ (s : SummaryNumbers). summary_by u s fourths ram) (summary_numbers_are u piece ix F)
+      ∙ layout.summary_planned u piece (index_of ix) F fourths ram new joined
 
--- a page that is not full adds nothing
-by_page : (u : ℕ) (b : Bool) (s none : Summary) (fourths ram : List ℕ) (plan : List Planned) → summary_of u none fourths ram ≡ []
-    → (b ≡ true → summary_of u s fourths ram ≡ plan) → summary_of u (cond b s none) fourths ram ≡ cond b plan []
-by_page u true s none fourths ram plan e f = f refl
-by_page u false s none fourths ram plan e f = e
-
--- ---- a deletion
-
--- the filter before the eighth is the seventh
-seventh : (F : ℕ) → in_ska (F + 1) + 1 ≡ 8 → 6 ≡ in_ska F
-seventh F e = omega (arith, e)
-
-module _ (h : Family) (c : CodeGeometry) (d j : ℕ) (new filters ram : List ℕ) (pos : 0 < c.chip.unit) (long : ram_size (shape c) ≤ length ram)
+-- a deletion
+module _ (h : Family) (c : Geometry) (d j : ℕ) (new filters ram : List ℕ) (pos : 0 < c.chip.unit) (long : ram_size (shape c) ≤ length ram)
     (number_is : deletion_in new ≡ deletion_bytes j)
-    (filters_are : fills (DA (shape c)) d ≡ true → FourthsOf c.chip.unit 2 (λ i. new_half h (shape c) d j i ram) (deletion_fourths filters)) where
-  abbrev G : Geometry
-  G = shape c
+    (filters_are : fills (DA (shape c)) d ≡ true
+    → FourthsOf c.chip.unit 2 (λ i. new_half h (shape c) d j i ram) (deletion_fourths filters)) where
+  pub deletion_planned : planned (deletion_numbers c d) new filters ram ≡ deletion_plan h (shape c) d j ram
+  deletion_planned =
+      ap (λ (p : PlanNumbers). planned_by p new filters ram) (deletion_numbers_are c d)
+      ∙ layout.deletion_planned h (shape c) d j new filters ram pos long number_is filters_are
 
-  abbrev F : ℕ
-  F = deletion_filters G d
-
-  abbrev ix : layout.Index
-  ix = deletion_index G
-
-  abbrev half : ℕ → ℕ → Bool
-  half i = new_half h G d j i ram
-
-  -- the first filter of the page flushes nothing
-  abbrev first_plan : List Planned
-  first_plan = filter_plan G.u ix F (first_half h G d j ram ram)
-
-  first_none : first_plan ≡ []
-  first_none = cond_neg (eqb (in_ska F + 1) 8) (flush_and_build G.u ix F (first_half h G d j ram ram)) [] (first_of_pair (d / (16 * G.u)))
-
-  first_stays : filter_ram G.u ix F (first_half h G d j ram ram) ≡ first_half h G d j ram ram
-  first_stays = cond_neg (eqb (in_ska F + 1) 8) _ (first_half h G d j ram ram) (first_of_pair (d / (16 * G.u)))
-
-  -- and the second is flushed with both
-  both_joined : fills (DA G) d ≡ true → eqb (in_ska (F + 1) + 1) 8 ≡ true
-      → with_fourths G.u (2 * fourth_size G.u) (ix.ska + (sector G.u - 2 * fourth_size G.u)) (deletion_fourths filters) ram
-      ≡ second_half h G d j ram ram
-  both_joined full eight =
-      let seven : 7 ≡ in_ska (F + 1) = omega (arith, eqb-true (in_ska (F + 1) + 1) 8 eight) in
-      let six : 6 ≡ in_ska F = seventh F (eqb-true (in_ska (F + 1) + 1) 8 eight) in
-      let at : ix.ska + (sector G.u - 2 * fourth_size G.u) ≡ ix.ska + 6 * fourth_size G.u = omega arith in
-      let joined = two_filters G.u (2 * fourth_size G.u) ix 6 half (deletion_fourths filters) ram refl pos (omega arith)
-      (omega (arith, long)) (filters_are full) in
-      ap (λ (a : ℕ). with_fourths G.u (2 * fourth_size G.u) a (deletion_fourths filters) ram) at ∙ joined
-      ∙ (λ q. with_filter G.u ix (seven q) (half 1) (with_filter G.u ix (six q) (half 0) ram))
-      ∙ sym (ap (with_filter G.u ix (in_ska (F + 1)) (half 1)) first_stays)
-
-  filters_planned : summary_of G.u (deletion_summary c d) (deletion_fourths filters) ram
-      ≡ cond (fills (DA G) d) (first_plan ++ filter_plan G.u ix (F + 1) (second_half h G d j ram ram)) []
-  filters_planned =
-      by_page G.u (fills (DA G) d) _ _ (deletion_fourths filters) ram _ refl
-      (λ full.
-      summary_planned G.u (2 * fourth_size G.u) (deletion_index_for c) (F + 1) (deletion_fourths filters) ram (second_half h G d j ram ram)
-      (both_joined full)
-      ∙ sym (ap (λ (l : List Planned). l ++ filter_plan G.u ix (F + 1) (second_half h G d j ram ram)) first_none))
-
-  -- its page, and the index over the deletions
-  deletion_part : deletion_of (deletion_numbers c d) new filters ram ≡ deletion_plan h G d j ram
-  unfolding deletion_plan
-  deletion_part =
-      let item = ap (page_plan G.u (DA G) d ram) number_is
-      ∙ page_planned G.u (DA G) d (deletion_bytes j) ram (omega arith) (length_deletion j) in
-      (λ q. item q ++ filters_planned q)
-
-  pub deletion_planned : planned (deletion_numbers c d) new filters ram ≡ deletion_plan h G d j ram
-  deletion_planned = append-nil (deletion_of (deletion_numbers c d) new filters ram) ∙ deletion_part
-
--- ---- a record and its entry
-
-module _ (h : Family) (c : CodeGeometry) (n : ℕ) (key : Key) (bytes new filters ram : List ℕ) (size : length bytes ≡ 16)
+-- a record and its entry
+module _ (h : Family) (c : Geometry) (n : ℕ) (key : Key) (bytes new filters ram : List ℕ) (size : length bytes ≡ 16)
     (record_is_lem : record_in new ≡ bytes) (entry_is : entry_in new ≡ entry_bytes key n)
-    (filter_is : fills (KA (shape c)) n ≡ true → FourthsOf c.chip.unit 1 (λ i. new_filter h (shape c) n key ram) (entry_fourths filters)) where
-  abbrev g : Geometry
-  g = shape c
-
-  abbrev K : ℕ
-  K = key_filters g n
-
-  one_joined : fills (KA g) n ≡ true → eqb (in_ska K + 1) 8 ≡ true
-      → with_fourths g.u (fourth_size g.u) ((key_index g).ska + (sector g.u - fourth_size g.u)) (entry_fourths filters) ram
-      ≡ summarized h g n key ram ram
-  one_joined full eight =
-      let seven : 7 ≡ in_ska K = omega (arith, eqb-true (in_ska K + 1) 8 eight) in
-      let at : (key_index g).ska + (sector g.u - fourth_size g.u) ≡ (key_index g).ska + 7 * fourth_size g.u = omega arith in
-      ap (λ (a : ℕ). with_fourths g.u (fourth_size g.u) a (entry_fourths filters) ram) at
-      ∙ one_filter g.u (fourth_size g.u) (key_index g) 7 (λ i. new_filter h g n key ram) (entry_fourths filters) ram refl (filter_is full)
-      ∙ ap (λ (s : ℕ). with_filter g.u (key_index g) s (new_filter h g n key ram) ram) seven
-
-  filter_planned : summary_of g.u (entry_summary c n) (entry_fourths filters) ram
-      ≡ cond (fills (KA g) n) (filter_plan g.u (key_index g) K (summarized h g n key ram ram)) []
-  filter_planned =
-      by_page g.u (fills (KA g) n) _ _ (entry_fourths filters) ram _ refl
-      (λ full.
-      summary_planned g.u (fourth_size g.u) (index_for c) K (entry_fourths filters) ram (summarized h g n key ram ram) (one_joined full))
-
-  record_planned : page_plan g.u (Ra g) n ram (record_in new) ≡ item_plan g.u (Ra g) n bytes ram
-  record_planned = ap (page_plan g.u (Ra g) n ram) record_is_lem ∙ page_planned g.u (Ra g) n bytes ram (omega arith) size
-
-  entry_planned : page_plan g.u (KA g) n ram (entry_in new) ≡ item_plan g.u (KA g) n (entry_bytes key n) ram
-  entry_planned =
-      ap (page_plan g.u (KA g) n ram) entry_is
-      ∙ page_planned g.u (KA g) n (entry_bytes key n) ram (omega arith) (length_entry key n)
-
-  pub insertion_planned : planned (insertion_numbers c n) new filters ram ≡ insertion_plan h g n key bytes ram
-  unfolding insertion_plan
-  insertion_planned q = record_planned q ++ (entry_planned q ++ filter_planned q)
+    (filter_is : fills (KA (shape c)) n ≡ true
+    → FourthsOf c.chip.unit 1 (λ i. new_filter h (shape c) n key ram) (entry_fourths filters)) where
+  pub insertion_planned : planned (insertion_numbers c n) new filters ram ≡ insertion_plan h (shape c) n key bytes ram
+  insertion_planned =
+      ap (λ (p : PlanNumbers). planned_by p new filters ram) (insertion_numbers_are c n)
+      ∙ layout.insertion_planned h (shape c) n key bytes new filters ram size record_is_lem entry_is filter_is
 
   -- "An update is a deletion followed by an insertion, in one call"
-  pub update_planned : (d j : ℕ) → 0 < g.u → ram_size g ≤ length ram → deletion_in new ≡ deletion_bytes j
-      → (fills (DA g) d ≡ true → FourthsOf g.u 2 (λ i. new_half h g d j i ram) (deletion_fourths filters))
-      → planned (update_numbers c d n) new filters ram ≡ deletion_plan h g d j ram ++ insertion_plan h g n key bytes ram
+  pub update_planned : (d j : ℕ) → 0 < c.chip.unit → ram_size (shape c) ≤ length ram → deletion_in new ≡ deletion_bytes j
+      → (fills (DA (shape c)) d ≡ true → FourthsOf c.chip.unit 2 (λ i. new_half h (shape c) d j i ram) (deletion_fourths filters))
+      → planned (update_numbers c d n) new filters ram ≡ deletion_plan h (shape c) d j ram ++ insertion_plan h (shape c) n key bytes ram
   update_planned d j pos long number_is filters_are =
-      let part = deletion_part h c d j new filters ram pos long number_is filters_are in
-      (λ q. part q ++ insertion_planned q)
+      ap (λ (p : PlanNumbers). planned_by p new filters ram) (update_numbers_are c d n)
+      ∙ layout.update_planned h (shape c) n key bytes new filters ram size record_is_lem entry_is filter_is
+      d j pos long number_is filters_are

@@ -116,7 +116,7 @@ fn set_summary(chip: Chip, index: Index, piece: usize, filters: usize) -> Summar
 }
 
 // What filter number `filters`, the last new one, adds: the flush where it is an eighth, and the set where that ends a round.
-#[tactic(auto, unfolding(crate::specs::Numbers::summary_at))]
+#[tactic(auto, unfolding(crate::specs::LayoutNumbers::summary_at))]
 fn summary(chip: Chip, index: Index, piece: usize, filters: usize) -> Summary
     requires { in_full chip.unit filters ≤ 1024 }
     ensures { result ≡ summary_at chip.unit piece index filters }
