@@ -15,7 +15,8 @@ none = record { first = 0; count = 0 }
 
 -- the page of item n: its sectors count where the item fills it
 abbrev pub page_of : Area → ℕ → Segment
-page_of a n = record { first = a.first * sectors_per_block + n / a.per_page * sectors_per_page; count = cond (fills a n) sectors_per_page 0 }
+page_of a n =
+    record { first = a.first * sectors_per_block + n / a.per_page * sectors_per_page; count = cond (fills a n) sectors_per_page 0 }
 
 by_test : {A : Type 0} (Q : A → Type 0) (b : Bool) (x y : A) → (b ≡ true → Q x) → (b ≡ false → Q y) → Q (cond b x y)
 by_test Q true x y t f = t refl
@@ -72,7 +73,8 @@ module _ (u piece : ℕ) (ix : Index) where
 
     -- what filter F, the last of the new ones, adds: the flush where it is an eighth, and the set where that ends a round
     unfoldable pub summary_at : SummaryNumbers
-    summary_at = cond (eqb (in_ska F + 1) filters_per_flush) (cond (eqb (in_l1 F + 1) flushes_per_round) set_summary flush_summary) no_summary
+    summary_at =
+        cond (eqb (in_ska F + 1) filters_per_flush) (cond (eqb (in_l1 F + 1) flushes_per_round) set_summary flush_summary) no_summary
 
     -- what holds of it: without a flush, with the flush, and with the set
     module _ (Q : SummaryNumbers → Type 0) where

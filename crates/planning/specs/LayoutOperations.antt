@@ -28,7 +28,8 @@ use Rattle.planning.specs.LayoutNumbers.{deletion_numbers, insertion_numbers, up
 
 -- an item over the end of its page
 abbrev page_plan : ℕ → Area → ℕ → List ℕ → List ℕ → List Planned
-page_plan u a n ram item = planned_from (filled_page u (record { sector = (page_of a n).first; at = a.ram }) item ram) 0 (page_of a n).count
+page_plan u a n ram item =
+    planned_from (filled_page u (record { sector = (page_of a n).first; at = a.ram }) item ram) 0 (page_of a n).count
 
 module _ (u : ℕ) (a : Area) (n : ℕ) (item ram : List ℕ) (whole : a.per_page * a.size ≡ page u) (size : length item ≡ a.size) where
   -- the item that fills its page lies over the page's end

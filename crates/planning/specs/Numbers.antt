@@ -1,9 +1,7 @@
 -- The plans of changes, from the counts alone: their numbers with the code's chip and indexes, of which the types say more.
-use Rattle.std.specs.Prelude.{◌≡◌, refl, Bool, true, false, cond, ℕ, ◌+◌, ◌*◌, eqb}
-use Rattle.layout.specs.Geometry.{fourth_size}
+use Rattle.std.specs.Prelude.{◌≡◌, refl, Bool, true, false, cond, ℕ, ◌+◌, eqb}
 use Rattle.layout.specs.Items.{Ra, KA, DA, fills}
 use Rattle.layout.specs.Index.{in_ska, in_l1, filters_per_flush, flushes_per_round}
-use Rattle.layout.specs.Calls.{key_filters, deletion_filters}
 use Rattle.geometry.specs.declared.volume.Geometry.{Geometry}
 use Rattle.geometry.specs.Shape.{shape}
 use Rattle.geometry.specs.Indexes.{index_of, index_for, deletion_index_for}
@@ -110,12 +108,12 @@ module _ (g : Geometry) where
   deletion_summary_are : (d : ℕ) → summary_numbers (deletion_summary d) ≡ layout.deletion_summary (shape g) d
   deletion_summary_are d =
       by_page (fills (DA (shape g)) d) (deletion_index_for g) _ (layout.no_deletions (shape g))
-      (summary_numbers_are (shape g).u (2 * fourth_size (shape g).u) (deletion_index_for g) (deletion_filters (shape g) d + 1)) refl
+      (summary_numbers_are _ _ (deletion_index_for g) _) refl
 
   entry_summary_are : (n : ℕ) → summary_numbers (entry_summary n) ≡ layout.entry_summary (shape g) n
   entry_summary_are n =
       by_page (fills (KA (shape g)) n) (index_for g) _ (layout.no_entries (shape g))
-      (summary_numbers_are (shape g).u (fourth_size (shape g).u) (index_for g) (key_filters (shape g) n)) refl
+      (summary_numbers_are _ _ (index_for g) _) refl
 
   pub deletion_numbers_are : (d : ℕ) → plan_numbers (deletion_numbers d) ≡ layout.deletion_numbers (shape g) d
   deletion_numbers_are d =
