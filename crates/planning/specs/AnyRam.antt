@@ -1,4 +1,5 @@
--- The layout's plan of a change, by the numbers of the code's, whatever the RAM.
+-- The layout's plan of a change, by the numbers of the code's: how long it is, which depends on none of the bytes, so that it holds whatever
+-- the RAM.
 use Rattle.std.specs.Prelude.{◌≡◌, refl, List, ℕ, ◌≤◌, length}
 use Rattle.std.proofs.Common.{sym, ap, ◌∙◌}
 use Rattle.layout.specs.Geometry.{ram_size}
@@ -7,19 +8,29 @@ use Rattle.layout.specs.Hash.{Family}
 use Rattle.layout.specs.Items.{Record, record_bytes}
 use Rattle.geometry.specs.declared.volume.Geometry.{Geometry}
 use Rattle.geometry.specs.Shape.{shape}
-use Rattle.plan.specs.Numbers.{PlanNumbers}
-use Rattle.plan.specs.Plans.{planned, planned_by, planned_count, planned_count_by}
+use Rattle.plan.specs.Numbers.{plan_numbers}
+use Rattle.plan.specs.Plans.{planned, planned_count, planned_count_lem}
 use Rattle.planning.specs.declared.Slots.{Slots}
 use Rattle.planning.specs.declared.Slots.TheVariants.{Delete, Insert, Update}
-use Rattle.planning.specs.Edits.{numbers_of, numbers_are, plan_of}
-use Rattle.planning.specs.LayoutEdits as layout
+use Rattle.planning.specs.LayoutNumbers as layout
+use Rattle.planning.specs.Numbers.{deletion_numbers_are, insertion_numbers_are, update_numbers_are}
+use Rattle.planning.specs.Edits.{numbers_of, plan_of, edit_planned}
+use Rattle.planning.specs.SomeGiven.{some_new, some_filters, all_given}
 
--- there are new bytes and filters for which the code's plan is the layout's
+-- its numbers are the layout's
+pub numbers_are : (g : Geometry) (e : Slots) → plan_numbers (numbers_of g e) ≡ layout.numbers_of (shape g) e
+numbers_are g (Delete d) = deletion_numbers_are g d
+numbers_are g (Insert n) = insertion_numbers_are g n
+numbers_are g (Update d n) = update_numbers_are g d n
+
+-- whatever the RAM: there are new bytes and filters for which the code's plan is the layout's
 pub edit_some : (h : Family) (g : Geometry) (j : ℕ) (r : Record) (ram : List ℕ) → ram_size (shape g) ≤ length ram → (e : Slots)
     → (new : List ℕ) × (filters : List ℕ) × (planned (numbers_of g e) new filters ram ≡ plan_of (shape g) h j r.key (record_bytes r) ram e)
 edit_some h g j r ram long e =
-    let s = layout.edit_some h (shape g) g.chip.power.some g.chip.power.most j r ram long e in
-    (s.0, s.1, ap (λ (p : PlanNumbers). planned_by p s.0 s.1 ram) (numbers_are g e) ∙ s.2)
+    let new = some_new h (shape g) g.chip.power.most j r ram e in
+    let filters = some_filters h (shape g) g.chip.power.most j r ram e in
+    let given = all_given h (shape g) g.chip.power.most j r ram e in
+    (new, filters, edit_planned h g j r.key (record_bytes r) new filters ram long e given)
 
 -- the unit of its numbers
 pub unit_is : (g : Geometry) (e : Slots) → (numbers_of g e).chip.unit ≡ g.chip.unit
@@ -34,5 +45,5 @@ module _ (h : Family) (g : Geometry) (j : ℕ) (r : Record) (ram : List ℕ) (lo
   -- how many there are
   pub edit_length : length plan ≡ planned_count (numbers_of g e)
   edit_length =
-      layout.edit_length h (shape g) g.chip.power.some g.chip.power.most j r ram long e
-      ∙ sym (ap planned_count_by (numbers_are g e))
+      let s = edit_some h g j r ram long e in
+      ap length (sym s.2) ∙ planned_count_lem (numbers_of g e) s.0 s.1 ram

@@ -16,13 +16,10 @@ use Rattle.geometry.specs.declared.volume.Geometry.{Geometry as CodeGeometry}
 use Rattle.geometry.specs.Shape.{shape, sound_of}
 use Rattle.filter.specs.Fourths.{FourthsOf}
 use Rattle.plan.specs.declared.Plan.{Plan}
-use Rattle.plan.specs.Numbers.{plan_numbers}
 use Rattle.plan.specs.Plans.{PlanFits, deletion_in, record_in, entry_in, deletion_fourths, entry_fourths, planned}
 use Rattle.planning.specs.declared.Slots.{Slots}
 use Rattle.planning.specs.declared.Slots.TheVariants.{Delete, Insert, Update}
-use Rattle.planning.specs.LayoutNumbers as layout
 use Rattle.planning.specs.Numbers.{deletion_numbers, insertion_numbers, update_numbers}
-use Rattle.planning.specs.Numbers.{deletion_numbers_are, insertion_numbers_are, update_numbers_are}
 use Rattle.planning.specs.Operations.{deletion_planned, insertion_planned, update_planned}
 use Rattle.planning.specs.Fits.{deletion_fits, insertion_fits, update_fits}
 
@@ -30,12 +27,6 @@ abbrev pub numbers_of : CodeGeometry → Slots → Plan
 numbers_of g (Delete d) = deletion_numbers g d
 numbers_of g (Insert n) = insertion_numbers g n
 numbers_of g (Update d n) = update_numbers g d n
-
--- they are the layout's
-pub numbers_are : (g : CodeGeometry) (e : Slots) → plan_numbers (numbers_of g e) ≡ layout.numbers_of (shape g) e
-numbers_are g (Delete d) = deletion_numbers_are g d
-numbers_are g (Insert n) = insertion_numbers_are g n
-numbers_are g (Update d n) = update_numbers_are g d n
 
 module _ (g : Geometry) where
   -- there is room for it

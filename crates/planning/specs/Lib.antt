@@ -5,5 +5,6 @@ pub mod Operations
 pub mod New
 pub mod Fits
 pub mod Edits
+pub mod SomeGiven
 pub mod LayoutEdits
 pub mod AnyRam
