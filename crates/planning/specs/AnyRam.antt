@@ -12,13 +12,14 @@ use Rattle.plan.specs.Numbers.{plan_numbers}
 use Rattle.plan.specs.Plans.{planned, planned_count, planned_count_lem}
 use Rattle.planning.specs.declared.Slots.{Slots}
 use Rattle.planning.specs.declared.Slots.TheVariants.{Delete, Insert, Update}
-use Rattle.planning.specs.LayoutNumbers as layout
+use Rattle.planning.specs.LayoutNumbers as numbers
 use Rattle.planning.specs.Numbers.{deletion_numbers_are, insertion_numbers_are, update_numbers_are}
 use Rattle.planning.specs.Edits.{numbers_of, plan_of, edit_planned}
+use Rattle.planning.specs.LayoutEdits as layout
 use Rattle.planning.specs.SomeGiven.{some_new, some_filters, all_given}
 
 -- its numbers are the layout's
-pub numbers_are : (g : Geometry) (e : Slots) → plan_numbers (numbers_of g e) ≡ layout.numbers_of (shape g) e
+pub numbers_are : (g : Geometry) (e : Slots) → plan_numbers (numbers_of g e) ≡ numbers.numbers_of (shape g) e
 numbers_are g (Delete d) = deletion_numbers_are g d
 numbers_are g (Insert n) = insertion_numbers_are g n
 numbers_are g (Update d n) = update_numbers_are g d n
@@ -34,9 +35,9 @@ edit_some h g j r ram long e =
 
 -- the unit of its numbers
 pub unit_is : (g : Geometry) (e : Slots) → (numbers_of g e).chip.unit ≡ g.chip.unit
-unit_is g (Delete d) = refl
-unit_is g (Insert n) = refl
-unit_is g (Update d n) = refl
+unit_is g (Delete d) = layout.unit_is (shape g) (Delete d)
+unit_is g (Insert n) = layout.unit_is (shape g) (Insert n)
+unit_is g (Update d n) = layout.unit_is (shape g) (Update d n)
 
 module _ (h : Family) (g : Geometry) (j : ℕ) (r : Record) (ram : List ℕ) (long : ram_size (shape g) ≤ length ram) (e : Slots) where
   abbrev plan : List Planned
