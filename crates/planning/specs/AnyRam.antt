@@ -1,5 +1,5 @@
--- The layout's plan of a change, by the numbers of the code's: how long it is, which depends on none of the bytes, so that it holds whatever
--- the RAM.
+-- The layout's plan of a change, by the numbers of the code's: how long it is. That depends on none of the bytes, so that it holds
+-- whatever the RAM.
 use Rattle.std.specs.Prelude.{◌≡◌, List, ℕ, ◌≤◌, length}
 use Rattle.std.proofs.Common.{sym, ap, ◌∙◌}
 use Rattle.layout.specs.Geometry.{ram_size}
