@@ -12,6 +12,12 @@ pub struct Chip {
     pub ghost power: { UnitIs unit (log2up unit) },
 }
 
+// A chip by its unit, which is any number.
+#[derive(Clone, Copy)]
+pub struct AnyChip {
+    pub unit: usize,
+}
+
 impl Chip {
     pub const SECTORS_PER_PAGE: usize = 4;
 
@@ -19,12 +25,11 @@ impl Chip {
 
     pub const SECTORS_PER_BLOCK: usize = Chip::PAGES_PER_BLOCK * Chip::SECTORS_PER_PAGE;
 
-    // The chip with sectors of so many bytes.
-    pub(crate) fn with_sectors(size: usize) -> Chip
-        requires { UnitIs (size / 16) (log2up (size / 16)) }
+    // The chip with sectors of so many bytes, whatever their number: its unit, which may be one that no chip of the table has.
+    pub fn with_sectors(size: usize) -> AnyChip
         ensures { result.unit ≡ size / 16 }
     {
-        Chip { unit: size / 16 }
+        AnyChip { unit: size / 16 }
     }
 
     // ---- sizes in bytes
