@@ -1,15 +1,13 @@
 // A flash chip: sectors, pages and blocks, their sizes and their addresses. Document 01, "The chip and the desk".
 ghost use Rattle.std.specs.Prelude.{◌≡◌, ◌*◌, ◌/◌, ◌^◌, ◌<◌, ◌≤◌};
-ghost use Rattle.memory.specs.Power.{log2up};
-ghost use Rattle.laws.specs.Units.{UnitIs};
 ghost use Rattle.layout.specs.Geometry.{sectors_per_page, sectors_per_block, sector, page, block, entries_per_page, deletions_per_page};
 ghost use Rattle.layout.specs.Geometry.{deletions_per_filter, filter_bits, fourth_size, side_blocks, index_blocks};
 
-// A chip by its unit, a sixteenth of the sector size: a power of two up to 32.
+// A chip by its unit, a sixteenth of the sector size: up to 32. That of a volume is a power of two besides, which its geometry says.
 #[derive(Clone, Copy)]
 pub struct Chip {
     pub unit: usize,
-    pub ghost power: { UnitIs unit (log2up unit) },
+    pub ghost small: { unit ≤ 32 },
 }
 
 // A chip by its unit, which is any number.
