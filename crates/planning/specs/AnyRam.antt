@@ -70,7 +70,7 @@ module _ (h : Family) (c : CodeGeometry) (j : ℕ) (r : Record) (ram : List ℕ)
   g = shape c
 
   most : g.u ≤ 32
-  most = c.chip.power.most
+  most = c.power.most
 
   -- the bits of its new filters, and the number of its record
   abbrev first_bits : Slots → ℕ → ℕ → Bool
