@@ -42,7 +42,7 @@ module _ (cg : CodeGeometry) (v : Volume) (e : Edit) where
   pub no_plan : programs_in g S ≡ false → change_plan fnv_family g v (edit_is e) ≡ []
   no_plan t =
       sym (plan_of_lem g v e)
-      ∙ nothing_planned fnv_family g cg.chip.power.some (old_number e) (key_is (new_record e).key) (record_bytes (record_is (new_record e))) v.ram S t
+      ∙ nothing_planned fnv_family g cg.power.some (old_number e) (key_is (new_record e).key) (record_bytes (record_is (new_record e))) v.ram S t
 
   module _ (long : ram_size g ≤ length v.ram) (p : Plan) (p_is : p ≡ numbers_of cg S) where
     -- it is the plan of some bytes and filters

@@ -179,7 +179,7 @@ module _ (first below : ℕ) (words : List ℕ) (w : ℕ) (w_lt : w < 8) (gate :
 
 module _ {t : Deletions} {main ram : List ℕ} (R : DeletionsFit t main ram) where
   pub page_some : 0 < per_page t
-  page_some = omega (arith, t.g.chip.power.some)
+  page_some = omega (arith, t.g.power.some)
 
   -- sixteen full pages to a block of deletions
   pages_le : pages t ≤ 16 * t.g.da
@@ -208,11 +208,11 @@ module _ {t : Deletions} {main ram : List ℕ} (R : DeletionsFit t main ram) whe
 
   -- its index
   pub sets_le : in_full t.g.chip.unit (deletion_filters (shape t.g) t.d) ≤ layout.deletion_sets (shape t.g)
-  sets_le = deletion_places_suffice t.g.chip.unit t.g.da t.d t.g.chip.power.some R.cap
+  sets_le = deletion_places_suffice t.g.chip.unit t.g.da t.d t.g.power.some R.cap
 
   pub index_fits : IndexFits t.g.chip.unit (deletion_index (shape t.g)) (layout.deletion_sets (shape t.g)) main ram
   index_fits = record {
-    unit = unit_sound t.g.chip;
+    unit = unit_sound t.g;
     near = omega (arith, deletion_index_le t.g);
     on_flash_lem = omega (arith, R.read.main_fits);
     in_ram_lem = omega (arith, R.read.ram_fits);

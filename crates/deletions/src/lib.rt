@@ -7,6 +7,7 @@ ghost use Rattle.layout.specs.Geometry.{deletions_per_page};
 ghost use Rattle.layout.specs.Hash.{fnv_family};
 ghost use Rattle.layout.specs.Search.{search_pages};
 ghost use Rattle.layout.specs.Calls.{test_deletion};
+ghost use Rattle.laws.specs.Units.{UnitSound};
 ghost use Rattle.laws.specs.Walks.{onward, Low};
 ghost use Rattle.geometry.specs.Shape.{shape};
 ghost use Rattle.deletions.specs.Test.{tested_of, held, DeletionsFit};
@@ -66,7 +67,7 @@ fn filters(t: Deletions) -> Filters
 // The pages of a word of filters, newest first; their bytes are from `start` on. It is a function because its loop calls nothing that stays
 // a call in small pages, and so keeps its values in registers.
 fn in_word(chip: Chip, start: usize, bits: u64, j: u32, main: &[u8]) -> Tested
-    requires { WordPagesIn chip.unit start bits main.now }
+    requires { UnitSound chip.unit × WordPagesIn chip.unit start bits main.now }
     ensures { tested_of j result
         ≡ search_pages (either_bit bits) (try_word main.now start j) (deletions_per_page chip.unit) 32 }
 {

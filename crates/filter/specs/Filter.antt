@@ -47,7 +47,7 @@ pub record IndexFits (u : ℕ) (ix : Index) (Z : ℕ) (main ram : List ℕ) : Ty
 pub index_fits : (g : Geometry) → (main ram : List ℕ) → Readable (shape g) main ram
     → IndexFits g.chip.unit (key_index (shape g)) (full_sets (shape g)) main ram
 index_fits g main ram read = record {
-  unit = unit_sound g.chip;
+  unit = unit_sound g;
   near = omega (arith, index_le g);
   on_flash_lem = omega (arith, read.main_fits);
   in_ram_lem = omega (arith, read.ram_fits);

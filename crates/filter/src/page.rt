@@ -2,6 +2,7 @@
 ghost use Rattle.std.specs.Prelude.{◌≡◌, ◌||◌, ℕ, ◌+◌, ◌-◌, ◌*◌, ◌%◌, ◌<◌, ◌≤◌, eqb, length, replicate};
 ghost use Rattle.layout.specs.Geometry.{page, entries_per_page};
 ghost use Rattle.layout.specs.Items.{deletion_size};
+ghost use Rattle.laws.specs.Units.{UnitSound};
 ghost use Rattle.fnv.specs.Hashed.{bytes_of};
 ghost use Rattle.filter.specs.Filter.{array_bit, key_bit, item_bytes, with_key, half_bits};
 ghost use Rattle.filter.specs.Fourths.{FourthsOf, FilterPut};
@@ -21,7 +22,7 @@ fn set_bit(p: u32, bits: &mut [u8])
 
 // Sets the bits of the positions of a key or a number.
 fn set_key(chip: Chip, count: usize, key: Hashed, bits: &mut [u8])
-    requires { (count ≤ 8) × (length bits.old ≡ 256) }
+    requires { UnitSound chip.unit × (count ≤ 8) × (length bits.old ≡ 256) }
     ensures { (x : ℕ) → x < 2048
         → array_bit bits.new x ≡ (key_bit chip.unit count (bytes_of key) x || array_bit bits.old x) }
 {
@@ -50,7 +51,8 @@ pub fn new_filter(
     ram: &[u8],
     bits: &mut [u8],
 )
-    requires count_bound { (count ≤ 8) × (4 ≤ step) × (at + (entries_per_page chip.unit - 1) * step ≤ length ram.now) }
+    requires unit_sound { UnitSound chip.unit × (count ≤ 8) × (4 ≤ step)
+        × (at + (entries_per_page chip.unit - 1) * step ≤ length ram.now) }
     requires bits_value { bits.old ≡ replicate 256 0 }
     ensures { (x : ℕ) → x < 2048 → array_bit bits.new x ≡ with_key chip.unit count at step (bytes_of key) ram.now x }
 {
@@ -64,7 +66,7 @@ pub fn new_filter(
 
 // The fourths of filter f of two go to their places in `out`: there the fourths of a sector lie one after the other.
 fn put_fourths(chip: Chip, f: usize, bits: &[u8], out: &mut [u8])
-    requires { (f < 2) × (length bits.now ≡ 256) × (length out.old ≡ 512) }
+    requires { (0 < chip.unit) × (f < 2) × (length bits.now ≡ 256) × (length out.old ≡ 512) }
     ensures { FilterPut chip.unit f (array_bit bits.now) out.old out.new }
 {
     let piece = chip.fourth_size();
@@ -86,7 +88,7 @@ fn half_filter(
     ram: &[u8],
     out: &mut [u8],
 )
-    requires count_bound { (count ≤ 8) × (at + (entries_per_page chip.unit - 1) * deletion_size ≤ length ram.now) }
+    requires unit_sound { UnitSound chip.unit × (count ≤ 8) × (at + (entries_per_page chip.unit - 1) * deletion_size ≤ length ram.now) }
     requires f_bound { (f < 2) × (length out.old ≡ 512) }
     ensures { FilterPut chip.unit f (with_key chip.unit count at deletion_size (bytes_of last) ram.now)
         out.old out.new }
@@ -99,7 +101,7 @@ fn half_filter(
 // The first bytes of `out` become the bloom filters of the page of deletions from byte `at` on, whose last number is not in RAM yet: that
 // of its first half, then that of its second, by their fourths.
 pub fn number_filters(chip: Chip, count: usize, at: usize, number: u32, ram: &[u8], out: &mut [u8])
-    requires count_bound { (count ≤ 8) × (at + page chip.unit ≤ length ram.now) }
+    requires unit_sound { UnitSound chip.unit × (count ≤ 8) × (at + page chip.unit ≤ length ram.now) }
     requires out_len { length out.old ≡ 512 }
     ensures { FourthsOf chip.unit 2 (half_bits chip.unit count at number ram.now) out.new }
 {

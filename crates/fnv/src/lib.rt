@@ -8,6 +8,7 @@ ghost use Rattle.layout.specs.Keys.{key_bytes};
 ghost use Rattle.layout.specs.Geometry.{sector, filter_bits};
 ghost use Rattle.layout.specs.Hash.{fnv1a, fnv_family};
 ghost use Rattle.laws.specs.Positions.{position_array};
+ghost use Rattle.laws.specs.Units.{UnitSound};
 ghost use Rattle.keys.specs.Key.{key_is};
 ghost use Rattle.fnv.specs.Hashed.{bytes_of};
 
@@ -101,6 +102,7 @@ fn within(base: u32, size: u32, h: u32) -> u32
 
 // The first bit of the fourth of a filter that has the positions: hash 0 picks it.
 fn fourth_of(chip: Chip, x: Hashed) -> u32
+    requires { UnitSound chip.unit }
     ensures { (result ≡ fnv_family 0 (bytes_of x) % 4 * sector chip.unit) × (result ≤ 3 * sector chip.unit) }
 {
     let size = chip.sector_size() as u32;
@@ -109,7 +111,7 @@ fn fourth_of(chip: Chip, x: Hashed) -> u32
 
 // Position i, in the fourth that starts at `start`.
 fn position(chip: Chip, start: u32, i: usize, x: Hashed) -> u32
-    requires { (start ≤ 3 * sector chip.unit) × (i < 8) }
+    requires { UnitSound chip.unit × (start ≤ 3 * sector chip.unit) × (i < 8) }
     ensures { (result ≡ start + fnv_family (i + 1) (bytes_of x) % sector chip.unit) × (result < filter_bits chip.unit) }
 {
     let size = chip.sector_size() as u32;
@@ -118,7 +120,7 @@ fn position(chip: Chip, start: u32, i: usize, x: Hashed) -> u32
 
 // The `count` positions in a filter of 4S bits, (h0 mod 4) S + (hj mod S) for j = 1 to `count`, and zeros after them.
 pub fn positions(chip: Chip, count: usize, x: Hashed) -> [u32; 8]
-    requires { count ≤ 8 }
+    requires { UnitSound chip.unit × (count ≤ 8) }
     ensures equal { result ≡ position_array fnv_family count chip.unit (bytes_of x) }
     ensures below { (i : ℕ) → i < count → slice_index result i < filter_bits chip.unit }
 {

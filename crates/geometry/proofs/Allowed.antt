@@ -1,6 +1,6 @@
 -- Which sector sizes, counts of blocks and of hash functions are allowed: by the table.
 use Rattle.std.specs.Prelude.{ℕ, ◌+◌, ◌<◌, ◌≤◌, ◌≡◌, refl, Bool, true, false, ◌||◌, cond, None, Some, is_some, unwrap_or, find, eqb, List, [], ◌∷◌}
-use Rattle.std.proofs.Common.{add-one, ap, sym, ◌∙◌, eqb-true, arith, eq-eqb, ne_eqb, drop_of_length-le, drop-cons}
+use Rattle.std.proofs.Common.{add-one, ap, sym, ◌∙◌, eqb-true, eq-eqb, ne_eqb, drop_of_length-le, drop-cons}
 use mathlib.Core.Bool.{false≢true}
 use Rattle.memory.specs.Ranges.{memb}
 use Rattle.layout.specs.Geometry as layout

@@ -34,7 +34,7 @@ module _ (g : Geometry) where
       omega arith
 
   pub record_capacity_le : layout.record_capacity (shape g) ≤ 8388608
-  record_capacity_le = omega (arith, product_le g.ra g.chip.unit 4096 32 g.ra_allowed.1 g.chip.power.most)
+  record_capacity_le = omega (arith, product_le g.ra g.chip.unit 4096 32 g.ra_allowed.1 g.chip.small)
 
   pub deletion_capacity_le : layout.deletion_capacity (shape g) ≤ 33554432
-  deletion_capacity_le = omega (arith, product_le g.da g.chip.unit 4096 32 g.da_allowed.1 g.chip.power.most)
+  deletion_capacity_le = omega (arith, product_le g.da g.chip.unit 4096 32 g.da_allowed.1 g.chip.small)

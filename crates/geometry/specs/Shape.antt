@@ -1,5 +1,5 @@
 -- The code's sizes, geometry, areas and places as the layout's, and what makes a geometry sound.
-use Rattle.std.specs.Prelude.{◌*◌, ◌/◌, ◌^◌, ◌<◌, ◌≤◌, ◌≡◌, refl, ℕ, Bool, true, false, ◌&&◌, cond, Option, Some, None}
+use Rattle.std.specs.Prelude.{◌≤◌, ◌≡◌, refl, ℕ, Bool, true, false, ◌&&◌, cond, Option, Some, None}
 use Rattle.std.proofs.Common.{arith, ap, sym, ◌∙◌}
 use mathlib.Core.Bool.{false≢true, Bool-set}
 use mathlib.Core.HLevel.{is_prop→PathP}
@@ -39,14 +39,14 @@ pub record Sound (g : Geometry) : Type 0 where
   pub k_some : 1 ≤ g.hashes
   pub k_most : g.hashes ≤ 8
 
-pub unit_sound : (c : Chip) → UnitSound c.unit
-unit_sound c = (log2up c.unit, c.power)
+pub unit_sound : (g : Geometry) → UnitSound g.chip.unit
+unit_sound g = (log2up g.chip.unit, g.power)
 
 -- every geometry is sound
 pub sound_of : (g : Geometry) → Sound g
 sound_of g =
     record {
-      unit = unit_sound g.chip;
+      unit = unit_sound g;
       records = g.records;
       entries = g.entries;
       bits = g.bits;
@@ -63,18 +63,22 @@ sound_of g =
 pub unit_prop : (u e : ℕ) → IsProp (UnitIs u e)
 unit_prop u e = Prim.hlevel props
 
+pub small_prop : (u : ℕ) → IsProp (u ≤ 32)
+small_prop u = Prim.hlevel props
+
 abbrev pub chip_eq : (c d : Chip) → c.unit ≡ d.unit → c ≡ d
 chip_eq c d p =
     λ i.
     record {
       unit = p i;
-      power = is_prop→PathP (λ j. UnitIs (p j) (log2up (p j))) (λ j. unit_prop (p j) (log2up (p j))) c.power d.power i;
+      small = is_prop→PathP (λ j. p j ≤ 32) (λ j. small_prop (p j)) c.small d.small i;
     }
 
 -- what a geometry says besides its fields
 abbrev facts : ℕ → SizeRow → ℕ → ℕ → ℕ → Type 0
 facts u r a d k =
-    (r.records ≡ layout.records_per_page u)
+    UnitIs u (log2up u)
+    × (r.records ≡ layout.records_per_page u)
     × (r.entries ≡ layout.entries_per_page u)
     × (r.bits ≡ layout.filter_bits u)
     × ((1 ≤ a) × (a ≤ 4096))
@@ -85,7 +89,7 @@ facts_prop : (u : ℕ) (r : SizeRow) (a d k : ℕ) → IsProp (facts u r a d k)
 facts_prop u r a d k = Prim.hlevel props
 
 abbrev facts_of : (g : Geometry) → facts g.chip.unit g.row g.ra g.da g.hashes
-facts_of g = (g.records, g.entries, g.bits, g.ra_allowed, g.da_allowed, g.hashes_allowed)
+facts_of g = (g.power, g.records, g.entries, g.bits, g.ra_allowed, g.da_allowed, g.hashes_allowed)
 
 module _ (g h : Geometry) (u : g.chip.unit ≡ h.chip.unit) (r : g.row ≡ h.row) (a : g.ra ≡ h.ra) (d : g.da ≡ h.da) (k : g.hashes ≡ h.hashes) where
   pub geometry_eq : g ≡ h
@@ -98,12 +102,13 @@ module _ (g h : Geometry) (u : g.chip.unit ≡ h.chip.unit) (r : g.row ≡ h.row
         ra = a i;
         da = d i;
         hashes = k i;
-        records = f.0;
-        entries = f.1;
-        bits = f.2;
-        ra_allowed = f.3;
-        da_allowed = f.4;
-        hashes_allowed = f.5;
+        power = f.0;
+        records = f.1;
+        entries = f.2;
+        bits = f.3;
+        ra_allowed = f.4;
+        da_allowed = f.5;
+        hashes_allowed = f.6;
       }
 
 -- ---- from S, R, D and k
@@ -113,11 +118,12 @@ unfoldable pub known : (sizes : layout.Sizes) → layout.allowed sizes ≡ true 
 known sizes e =
     let ok = sound sizes e in
     record {
-      chip = record { unit = layout.unit_of sizes; power = unit_power (layout.unit_of sizes) (ok.e, unit sizes ok) };
+      chip = record { unit = layout.unit_of sizes; small = (unit sizes ok).most };
       row = row_for sizes.sector_size;
       ra = sizes.ra_blocks;
       da = sizes.da_blocks;
       hashes = sizes.hash_count;
+      power = unit_power (layout.unit_of sizes) (ok.e, unit sizes ok);
       records = omega (arith, ok.size);
       entries = omega (arith, ok.size);
       bits = omega (arith, ok.size);

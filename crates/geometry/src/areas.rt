@@ -5,7 +5,8 @@ ghost use Rattle.layout.specs.Items as layout;
 ghost use Rattle.layout.specs.Items.{Ra, KA, DA, item_place};
 ghost use Rattle.geometry.specs.Shape.{shape, area, place};
 
-use crate::{Area, Geometry};
+pub use crate::Area;
+use crate::Geometry;
 
 // Bytes of a number.
 pub const WORD_SIZE: usize = 4;

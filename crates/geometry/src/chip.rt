@@ -1,15 +1,19 @@
 // A flash chip: sectors, pages and blocks, their sizes and their addresses. Document 01, "The chip and the desk".
 ghost use Rattle.std.specs.Prelude.{◌≡◌, ◌*◌, ◌/◌, ◌^◌, ◌<◌, ◌≤◌};
-ghost use Rattle.memory.specs.Power.{log2up};
-ghost use Rattle.laws.specs.Units.{UnitIs};
 ghost use Rattle.layout.specs.Geometry.{sectors_per_page, sectors_per_block, sector, page, block, entries_per_page, deletions_per_page};
 ghost use Rattle.layout.specs.Geometry.{deletions_per_filter, filter_bits, fourth_size, side_blocks, index_blocks};
 
-// A chip by its unit, a sixteenth of the sector size: a power of two up to 32.
+// A chip by its unit, a sixteenth of the sector size: up to 32. That of a volume is a power of two besides, which its geometry says.
 #[derive(Clone, Copy)]
 pub struct Chip {
     pub unit: usize,
-    pub ghost power: { UnitIs unit (log2up unit) },
+    pub ghost small: { unit ≤ 32 },
+}
+
+// A chip by its unit, which is any number.
+#[derive(Clone, Copy)]
+pub struct AnyChip {
+    pub unit: usize,
 }
 
 impl Chip {
@@ -19,12 +23,11 @@ impl Chip {
 
     pub const SECTORS_PER_BLOCK: usize = Chip::PAGES_PER_BLOCK * Chip::SECTORS_PER_PAGE;
 
-    // The chip with sectors of so many bytes.
-    pub(crate) fn with_sectors(size: usize) -> Chip
-        requires { UnitIs (size / 16) (log2up (size / 16)) }
+    // The chip with sectors of so many bytes, whatever their number: its unit, which may be one that no chip of the table has.
+    pub fn with_sectors(size: usize) -> AnyChip
         ensures { result.unit ≡ size / 16 }
     {
-        Chip { unit: size / 16 }
+        AnyChip { unit: size / 16 }
     }
 
     // ---- sizes in bytes

@@ -16,7 +16,7 @@ ghost use Rattle.geometry.specs.Shape.{sizes_is, shape, rest_allowed, shaped_of}
 
 pub use area::Area;
 pub use areas::{Place, deletion_area, entry_area, item_place, record_area};
-pub use chip::Chip;
+pub use chip::{AnyChip, Chip};
 pub use table::SizeRow;
 pub use volume::Geometry;
 
@@ -237,8 +237,9 @@ pub fn geometry_for(sizes: Sizes) -> Option<Geometry>
     if !rest_allowed(sizes) {
         return None;
     }
+    let chip = Chip::with_sectors(usize::from(row.sector));
     Some(Geometry {
-        chip: Chip::with_sectors(usize::from(row.sector)),
+        chip: Chip { unit: chip.unit },
         row,
         ra: sizes.ra_blocks as usize,
         da: sizes.da_blocks as usize,

@@ -1,6 +1,6 @@
 // The table of sector sizes. Document 01, "S takes one row of this table".
-ghost use Rattle.std.specs.Prelude.{◌≡◌, IfSome};
-ghost use Rattle.geometry.specs.Rows.{row_with, Ruled};
+ghost use Rattle.std.specs.Prelude.{◌≡◌, ◌<◌, IfSome};
+ghost use Rattle.geometry.specs.Rows.{row_of, row_with, Ruled};
 
 // A sector size in bytes, with the records and entries of a page and the bits of a filter; in one word, since a volume carries it.
 #[derive(Clone, Copy)]
@@ -49,6 +49,15 @@ const ROWS: [SizeRow; 6] = [
         bits: 2048,
     },
 ];
+
+// The table's row of this number, from 0 on.
+pub fn row_at(i: usize) -> SizeRow
+    requires { i < 6 }
+    ensures equal { result ≡ row_of i }
+    ensures ruled { Ruled result }
+{
+    ROWS[i]
+}
 
 // The row of a sector size, if it is one of the table's.
 pub fn row_with(sector: u32) -> Option<SizeRow>

@@ -1,5 +1,7 @@
 // The shape of a volume: its chip, its row of the table, and how many blocks its areas have.
 ghost use Rattle.std.specs.Prelude.{◌≡◌, ◌≤◌};
+ghost use Rattle.memory.specs.Power.{log2up};
+ghost use Rattle.laws.specs.Units.{UnitIs};
 ghost use Rattle.layout.specs.Geometry.{records_per_page, entries_per_page, filter_bits};
 
 use crate::{Chip, SizeRow};
@@ -12,6 +14,7 @@ pub struct Geometry {
     pub ra: usize,
     pub da: usize,
     pub hashes: usize,
+    pub ghost power: { UnitIs chip.unit (log2up chip.unit) },
     pub ghost records: { row.records ≡ records_per_page chip.unit },
     pub ghost entries: { row.entries ≡ entries_per_page chip.unit },
     pub ghost bits: { row.bits ≡ filter_bits chip.unit },

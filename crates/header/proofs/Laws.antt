@@ -98,4 +98,4 @@ intent_written kind x y z w = refl
 -- ---- a volume that is long enough has the header
 
 pub header_fits : (v : Volume) (g : Geometry) → VolumeFits (on_pages v) g → header_size ≤ length v.ram
-header_fits v g f = omega (arith, g.chip.power.most, f.long.read.ram_fits, length_pages v.ram)
+header_fits v g f = omega (arith, g.power.most, f.long.read.ram_fits, length_pages v.ram)

@@ -1,6 +1,6 @@
 -- Scans of a slice from a byte on: a number among words of four bytes, and the newest entry of eight bytes with a key. Assumes nothing.
 use Rattle.std.specs.Prelude.{◌≡◌, refl, Bool, true, false, ◌||◌, List, ℕ, zero, suc, ◌+◌, ◌-◌, ◌*◌, ◌≤◌, ◌<◌, eqb, Option, Some, None}
-use Rattle.std.proofs.Common.{sym, ap, ◌∙◌, add-one, arith}
+use Rattle.std.proofs.Common.{sym, ap, ◌∙◌, add-one, arith, eq-eqb, ne_eqb}
 use Rattle.std.proofs.Math.Bool.{or_comm}
 use Rattle.memory.specs.Words.{word}
 use Rattle.memory.specs.Cases.{bool?, either}
@@ -53,11 +53,19 @@ place_none (suc n) t = cc
 pub place_lt : (s : List ℕ) (at n : ℕ) (key : Key) (e : ℕ) → Some e ≡ place_of (last_entry s at n key) → e < n
 place_lt s at n key e t = omega (arith, place_some (last_entry s at n key) e t, candidate_le (has_key s at key) n)
 
--- ---- some number passes: none of none, and two ranges, one after the other
+-- ---- some number passes: none of none, one more each time, and two ranges, one after the other
 
 pub any_end : (f : ℕ → Bool) → any f 0 ≡ false
 unfolding any
 any_end f = refl
+
+pub any_yes : (f : ℕ → Bool) (i : ℕ) → f i ≡ true → any f (i + 1) ≡ true
+unfolding any
+any_yes f i e = rw (add-one, e)
+
+pub any_skips : (f : ℕ → Bool) (i : ℕ) → f i ≡ false → any f (i + 1) ≡ any f i
+unfolding any
+any_skips f i e = rw (add-one, e)
 
 pub any_sum : (f : ℕ → Bool) (m k : ℕ) → any f (m + k) ≡ (any (λ i. f (m + i)) k || any f m)
 unfolding any
@@ -95,6 +103,14 @@ newest_none f (suc n) t =
     (λ h. let z : any f n ≡ false = rw h at t in rw h (newest_none f n z))
 
 -- ---- what a read gave
+
+pub word_yes : (s : List ℕ) (at j i r : ℕ) → r ≡ word s (at + i * 4) → r ≡ j → is_word s at j i ≡ true
+unfolding is_word
+word_yes s at j i r e h = eq-eqb _ _ (sym e ∙ h)
+
+pub word_no : (s : List ℕ) (at j i r : ℕ) → r ≡ word s (at + i * 4) → (r ≡ j → ⊥) → is_word s at j i ≡ false
+unfolding is_word
+word_no s at j i r e h = ne_eqb _ _ (λ q. h (e ∙ q))
 
 -- a word more
 pub word_more : (s : List ℕ) (at j i r : ℕ) → r ≡ word s (at + i * 4) → (has_word s at i j || eqb r j) ≡ has_word s at (i + 1) j

@@ -5,6 +5,7 @@ ghost use Rattle.std.specs.Prelude.{◌≡◌, false, ◌≢◌, ◌+◌, ◌*�
 ghost use Rattle.layout.specs.Keys.{word_size, same_key, key_at};
 ghost use Rattle.layout.specs.Geometry.{page, entries_per_page};
 ghost use Rattle.layout.specs.Items.{entry_size};
+ghost use Rattle.laws.specs.Units.{UnitSound};
 ghost use Rattle.keys.specs.Key.{key_is};
 ghost use Rattle.items.specs.Scans.{words_per_page, has_word, last_entry, place_of};
 
@@ -125,7 +126,7 @@ pub fn find_entry(at: usize, count: usize, key: Key, s: &[u8]) -> Option<usize>
 
 // Is one of the words of a page of up to four units the number j.
 fn small_has(chip: Chip, at: usize, j: u32, s: &[u8]) -> bool
-    requires { (chip.unit < 5) × (chip.unit ≢ 3) × (at + page chip.unit ≤ length s.now) }
+    requires { (0 < chip.unit) × (chip.unit < 5) × (chip.unit ≢ 3) × (at + page chip.unit ≤ length s.now) }
     ensures { result ≡ has_word s.now at (words_per_page chip.unit) j }
 {
     match chip.unit {
@@ -137,7 +138,7 @@ fn small_has(chip: Chip, at: usize, j: u32, s: &[u8]) -> bool
 
 // Is one of the words of a full page the number j.
 pub fn page_has(chip: Chip, at: usize, j: u32, s: &[u8]) -> bool
-    requires { at + page chip.unit ≤ length s.now }
+    requires { UnitSound chip.unit × (at + page chip.unit ≤ length s.now) }
     ensures { result ≡ has_word s.now at (words_per_page chip.unit) j }
 {
     if chip.unit < 5 {
@@ -149,7 +150,7 @@ pub fn page_has(chip: Chip, at: usize, j: u32, s: &[u8]) -> bool
 // The newest entry of a full page with the key. In pages of more than four units it is looked for from the newest 64 words on that have
 // the key.
 pub fn find_in_page(chip: Chip, at: usize, key: Key, s: &[u8]) -> Option<usize>
-    requires { at + page chip.unit ≤ length s.now }
+    requires { UnitSound chip.unit × (at + page chip.unit ≤ length s.now) }
     ensures { result ≡ place_of (last_entry s.now at (entries_per_page chip.unit) (key_is key)) }
 {
     if chip.unit < 5 {

@@ -5,6 +5,7 @@ ghost use Rattle.std.specs.Prelude.{◌≡◌, ℕ, ◌+◌, ◌-◌, ◌*◌, �
 ghost use Rattle.memory.specs.Lists.{tabulate};
 ghost use Rattle.layout.specs.Geometry.{sectors_per_page, sector, block, side_blocks};
 ghost use Rattle.layout.specs.Index.{set_pages, set_width, full_block};
+ghost use Rattle.laws.specs.Units.{UnitSound};
 ghost use Rattle.geometry.specs.Indexes.{index_of};
 ghost use Rattle.fields.specs.Sources.{field_byte, Whole};
 ghost use Rattle.partition.specs.Sources.{page_byte, round_bytes, source_of, page_source};
@@ -41,7 +42,7 @@ fn source_of(base: usize, gap: usize, v: usize, w: usize, p: usize) -> Source
 
 // Where page p of the next set takes its bits from.
 fn page_source(chip: Chip, set: Set, p: usize) -> PageSource
-    requires { (set.rounds < side_blocks chip.unit) × (p < 2048) }
+    requires { UnitSound chip.unit × (set.rounds < side_blocks chip.unit) × (p < 2048) }
     ensures { result ≡ page_source chip.unit (index_of set.index) set.rounds p }
 {
     let c = set.rounds;
@@ -80,7 +81,7 @@ fn below(e: usize, y: usize, n: usize) -> usize
 
 // How many pages share a byte of each filter.
 pub fn pages_together(chip: Chip, set: Set) -> usize
-    requires { set.rounds < side_blocks chip.unit }
+    requires { UnitSound chip.unit × (set.rounds < side_blocks chip.unit) }
     ensures { (result ≡ together (set_width chip.unit (set.rounds + 1))) × (0 < result) × (result ≤ 8) }
 {
     let w = sets::set_width(chip, set.rounds + 1);
@@ -89,7 +90,7 @@ pub fn pages_together(chip: Chip, set: Set) -> usize
 
 // The bytes that page p and those beside it share; where it shares none, `out` stays.
 pub fn shared_bytes(chip: Chip, set: Set, p: usize, main: &[u8], out: &mut [u8])
-    requires rounds_bound { set.rounds < side_blocks chip.unit }
+    requires unit_sound { UnitSound chip.unit × (set.rounds < side_blocks chip.unit) }
     requires p_bound { p < set_pages (set.rounds + 1) }
     requires in_main { full_block chip.unit (index_of set.index) 0 * block chip.unit ≤ length main.now }
     requires out_len { length out.old ≡ 128 }
@@ -144,7 +145,7 @@ fn page_bytes(r: PageSource, y: usize, main: &[u8], shared: &[u8], out: &mut [u8
 
 // Sectors of a page of the next set from sector j on, so many as `out` holds.
 pub fn set_sectors(chip: Chip, set: Set, j: usize, main: &[u8], shared: &[u8], out: &mut [u8])
-    requires rounds_bound { set.rounds < side_blocks chip.unit }
+    requires unit_sound { UnitSound chip.unit × (set.rounds < side_blocks chip.unit) }
     requires j_bound { j < set_pages (set.rounds + 1) * sectors_per_page }
     requires in_main { full_block chip.unit (index_of set.index) 0 * block chip.unit ≤ length main.now }
     requires shares { Shares main.now (page_source chip.unit (index_of set.index) set.rounds (j / sectors_per_page)) shared.now }

@@ -16,6 +16,7 @@ ghost use Rattle.plan.specs.Groups.{buffer_size, at_once, Steps, up_to, OfPage, 
 ghost use Rattle.plan.specs.Fits.{PageFits, FlushFits, NextFits, WipeFits};
 ghost use Rattle.plan.specs.Plans.{build_of, summary_of, summary_count, deletion_of, deletion_count, record_of};
 ghost use Rattle.plan.specs.Plans.{planned, planned_count, whole_of, BuildFits, SummaryFits, PlanFits, IndexSpareFits, SpareFits};
+ghost use Rattle.laws.specs.Units.{UnitSound};
 ghost use Rattle.laws.specs.Done.{done_count};
 ghost use Rattle.plan.specs.Fresh.{index_fresh, plan_fresh};
 ghost use Rattle.plan.specs.Done.{index_done, deletion_done, record_done};
@@ -213,6 +214,7 @@ fn program_span<S: Sectors>(sectors: &S, part: Span, main: &mut [u8], spare: &mu
 
 // How many sectors of a page are made at once: those that the buffer holds.
 fn at_once(chip: Chip) -> usize
+    requires { UnitSound chip.unit }
     ensures { (result ≡ at_once chip.unit) × Steps result × (result * sector chip.unit ≤ buffer_size) }
 {
     Chip::SECTORS_PER_PAGE.min(BUFFER_SIZE / chip.sector_size())

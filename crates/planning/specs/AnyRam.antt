@@ -28,9 +28,9 @@ numbers_are g (Update d n) = update_numbers_are g d n
 pub edit_some : (h : Family) (g : Geometry) (j : ℕ) (r : Record) (ram : List ℕ) → ram_size (shape g) ≤ length ram → (e : Slots)
     → (new : List ℕ) × (filters : List ℕ) × (planned (numbers_of g e) new filters ram ≡ plan_of (shape g) h j r.key (record_bytes r) ram e)
 edit_some h g j r ram long e =
-    let new = some_new h (shape g) g.chip.power.most j r ram e in
-    let filters = some_filters h (shape g) g.chip.power.most j r ram e in
-    let given = all_given h (shape g) g.chip.power.most j r ram e in
+    let new = some_new h (shape g) g.power.most j r ram e in
+    let filters = some_filters h (shape g) g.power.most j r ram e in
+    let given = all_given h (shape g) g.power.most j r ram e in
     (new, filters, edit_planned h g j r.key (record_bytes r) new filters ram long e given)
 
 -- the unit of its numbers

@@ -76,12 +76,12 @@ module _ (h : Family) (g : Geometry) (j : ℕ) (key : Key) (bytes new filters ra
 module _ (h : Family) (g : CodeGeometry) (j : ℕ) (key : Key) (bytes new filters ram : List ℕ) where
   pub edit_planned : ram_size (shape g) ≤ length ram → (e : Slots) → Given h (shape g) j key bytes new filters ram e
       → planned (numbers_of g e) new filters ram ≡ plan_of (shape g) h j key bytes ram e
-  edit_planned long (Delete d) G = deletion_planned h g d j new filters ram g.chip.power.some long G.number_is G.filters_are
+  edit_planned long (Delete d) G = deletion_planned h g d j new filters ram g.power.some long G.number_is G.filters_are
   edit_planned long (Insert n) G =
       insertion_planned h g n key bytes new filters ram G.size G.record_is_lem G.entry_is G.filter_is
   edit_planned long (Update d n) G =
       update_planned h g n key bytes new filters ram G.1.size G.1.record_is_lem G.1.entry_is G.1.filter_is
-      d j g.chip.power.some long G.0.number_is G.0.filters_are
+      d j g.power.some long G.0.number_is G.0.filters_are
 
 -- and it fits
 pub edit_fits : (g : CodeGeometry) → (main spare ram : List ℕ) → Long (shape g) main spare ram → (e : Slots) → Room (shape g) e

@@ -6,6 +6,7 @@ ghost use Rattle.layout.specs.Geometry.{record_capacity, deletion_capacity};
 ghost use Rattle.layout.specs.Items as layout;
 ghost use Rattle.layout.specs.Items.{Ra, KA, DA};
 ghost use Rattle.layout.specs.Index.{in_l1, in_full};
+ghost use Rattle.laws.specs.Units.{UnitSound};
 ghost use Rattle.geometry.specs.Shape.{shape, area};
 ghost use Rattle.planning.specs.Numbers.{none, page_of, no_summary, flush_segment, flush_summary, set_summary, summary_at};
 ghost use Rattle.planning.specs.Numbers.{no_deletions, no_entries, deletion_summary, entry_summary};
@@ -85,7 +86,7 @@ fn flush_summary(index: Index, piece: usize, filters: usize) -> Summary
 
 // With the set that it completes, and the erases.
 fn set_summary(chip: Chip, index: Index, piece: usize, filters: usize) -> Summary
-    requires { in_full chip.unit filters ≤ 1024 }
+    requires { UnitSound chip.unit × (in_full chip.unit filters ≤ 1024) }
     ensures { result ≡ set_summary chip.unit piece index filters }
 {
     let rounds = filters / sets::FILTERS_PER_FLUSH / sets::FLUSHES_PER_ROUND;
@@ -118,7 +119,7 @@ fn set_summary(chip: Chip, index: Index, piece: usize, filters: usize) -> Summar
 // What filter number `filters`, the last new one, adds: the flush where it is an eighth, and the set where that ends a round.
 #[tactic(auto, unfolding(crate::specs::LayoutNumbers::summary_at))]
 fn summary(chip: Chip, index: Index, piece: usize, filters: usize) -> Summary
-    requires { in_full chip.unit filters ≤ 1024 }
+    requires { UnitSound chip.unit × (in_full chip.unit filters ≤ 1024) }
     ensures { result ≡ summary_at chip.unit piece index filters }
 {
     if !sets::fills_ska(filters) {

@@ -224,15 +224,15 @@ module _ {v : View} {main ram : List ℕ} (R : ViewFits v main ram) where
   -- eight full pages to a block of records
   pages_le : pages v ≤ 8 * v.g.ra
   pages_le =
-      let h : v.n < (8 * v.g.ra + 1) * (8 * v.g.chip.unit) = omega (arith, R.n_cap, v.g.chip.power.some) in
-      omega (arith, div_lt v.n (8 * v.g.chip.unit) (8 * v.g.ra + 1) (omega (arith, v.g.chip.power.some)) h)
+      let h : v.n < (8 * v.g.ra + 1) * (8 * v.g.chip.unit) = omega (arith, R.n_cap, v.g.power.some) in
+      omega (arith, div_lt v.n (8 * v.g.chip.unit) (8 * v.g.ra + 1) (omega (arith, v.g.power.some)) h)
 
   pub pages_few : pages v ≤ 32768
   pages_few = omega (arith, pages_le, v.g.ra_allowed.1)
 
   -- those of the view are among them
   pub pages_then_lem : pages_then v ≤ pages v
-  pages_then_lem = full_mono v.n0 v.n (per_page v) (omega (arith, v.g.chip.power.some)) R.n0_le
+  pages_then_lem = full_mono v.n0 v.n (per_page v) (omega (arith, v.g.power.some)) R.n0_le
 
   -- a full page lies within the flash
   pub page_in : (p : ℕ) → p < pages v
@@ -244,12 +244,12 @@ module _ {v : View} {main ram : List ℕ} (R : ViewFits v main ram) where
 
   -- entries past the last full page are fewer than a page's
   pub slots_lt : v.n0 % per_page v < per_page v
-  slots_lt = mod-lt v.n0 (omega (arith, v.g.chip.power.some))
+  slots_lt = mod-lt v.n0 (omega (arith, v.g.power.some))
 
   -- full sets
   pub sets_le : in_full v.g.chip.unit (pages v) ≤ layout.full_sets (shape v.g)
   sets_le =
-      let s = v.g.chip.power.some in
+      let s = v.g.power.some in
       let a : pages v / 8 / 16 * 16 ≤ v.g.ra = omega (arith, pages_le) in
       let E = euclid (pages v / 8 / 16) (4 * v.g.chip.unit) (omega arith) in
       let F = euclid v.g.ra (64 * v.g.chip.unit) (omega arith) in
@@ -284,7 +284,7 @@ module _ {v : View} {main ram : List ℕ} (R : ViewFits v main ram) where
 
       quotient : v.d0 / q ≤ v.d0
       quotient =
-          let some : 1 ≤ layout.deletions_per_page v.g.chip.unit = omega (arith, v.g.chip.power.some) in
+          let some : 1 ≤ layout.deletions_per_page v.g.chip.unit = omega (arith, v.g.power.some) in
           let a : v.d0 / q * 1 ≤ v.d0 / q * q = mul-le-mul_left (v.d0 / q) some in
           omega (arith, a, div-mul-le_self v.d0 q)
 
@@ -322,7 +322,7 @@ module _ {v : View} {main ram : List ℕ} (R : ViewFits v main ram) where
     below_least : (ps : List ℕ) (p : ℕ) → p ≤ pages_then v → cost_below v main ram key ps p ≤ 281474976710656
     below_least ps p h =
         let a : p ≤ 32768 = omega (arith, h, pages_then_lem, pages_few) in
-        let b : per_page v * 33554432 ≤ 8589934592 = omega (arith, v.g.chip.power.most) in
+        let b : per_page v * 33554432 ≤ 8589934592 = omega (arith, v.g.power.most) in
         omega (
           arith,
           pages_cost_lem (maybe_in (shape v.g) (viewed v main ram) ps) (try_of v main ram key) (cost_of v main ram key) (per_page v) 33554432 cost_of_most p,
@@ -343,7 +343,7 @@ module _ {v : View} {main ram : List ℕ} (R : ViewFits v main ram) where
           cost_most (try_of v main ram key) (cost_of v main ram key) 33554432 cost_of_most (pages_then v * per_page v) (v.n0 % per_page v),
           below_least ps (pages_then v) (omega arith),
           slots_lt,
-          v.g.chip.power.most,
+          v.g.power.most,
         )
 
   -- ---- the page that n₀ records do not fill, with q entries to a page
@@ -351,7 +351,7 @@ module _ {v : View} {main ram : List ℕ} (R : ViewFits v main ram) where
   module _ (q : ℕ) (q_is : q ≡ per_page v) where
     pub open_few : v.n0 % q ≤ v.n0
     open_few =
-        let E = euclid v.n0 q (omega (arith, q_is, v.g.chip.power.some)) in
+        let E = euclid v.n0 q (omega (arith, q_is, v.g.power.some)) in
         omega (arith, E.whole)
 
     -- by now it may be full

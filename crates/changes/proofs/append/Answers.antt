@@ -9,7 +9,7 @@ returns c =
     λ main spare.
     ram_appended x.t.g (task_on x.t main spare x.ram.now) x.t.edit c.slots.result c.new_bytes-new.result
     (record {
-      pos = x.t.g.chip.power.some;
+      pos = x.t.g.power.some;
       long = c.requires.room.1;
       slots_are = c.slots.ensures;
       new_is = c.new_bytes-new.ensures;

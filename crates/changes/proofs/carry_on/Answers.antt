@@ -26,7 +26,7 @@ module _ (t : Task) (p : Plan) (main spare ram : List ℕ) (V : VolumeFits (task
   -- what is known of its places and bytes
   parts : (e : Slots) (new : List ℕ) → e ≡ task_slots t → new ≡ task_bytes t → Parts (shape t.g) (task_on t main spare ram) t.edit e new
   parts e new e_is new_is = record {
-    pos = t.g.chip.power.some;
+    pos = t.g.power.some;
     long = V.long.read.ram_fits;
     slots_are = e_is;
     new_is = new_is;

@@ -3,7 +3,7 @@ use mathlib.Core.Path.{ap, sym, ◌∙◌}
 use mathlib.Core.Bool.{false≢true}
 use Rattle.filter.specs.NewFilter.{half_fourths}
 use Rattle.layout.specs.Items.{Area, fills}
-use Rattle.geometry.specs.Shape.{shape}
+use Rattle.geometry.specs.Shape.{shape, unit_sound}
 use Rattle.changes.proofs.put_deletion_filters.Goals as goal
 
 pub returns-then-not-fills : goal.returns-then-not-fills
@@ -16,10 +16,13 @@ returns-then-not-fills c =
 
 pub number_filters-requires : goal.number_filters-requires
 number_filters-requires c =
-    record { count_bound = (c.args.g.hashes_allowed.1, rw c.da_ram.ensures (omega (arith, c.requires.0))); out_len = c.requires.1 }
+    record {
+      unit_sound = (unit_sound c.args.g, c.args.g.hashes_allowed.1, rw c.da_ram.ensures (omega (arith, c.requires.0)));
+      out_len = c.requires.1;
+    }
 
 pub returns : goal.returns
 returns c =
     λ full.
-    half_fourths (shape c.args.g) c.args.d c.args.old c.args.ram.now c.args.g.chip.power.some full (omega arith)
+    half_fourths (shape c.args.g) c.args.d c.args.old c.args.ram.now c.args.g.power.some full (omega arith)
     (omega (arith, c.requires.0)) c.number_filters.new.out (rw c.da_ram.ensures at c.number_filters.ensures)

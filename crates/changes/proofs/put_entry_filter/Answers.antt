@@ -5,7 +5,7 @@ use lib.ListN.{length}
 use Rattle.keys.specs.Key.{key_is}
 use Rattle.filter.specs.NewFilter.{entry_fourths_lem}
 use Rattle.layout.specs.Items.{Area, fills}
-use Rattle.geometry.specs.Shape.{shape}
+use Rattle.geometry.specs.Shape.{shape, unit_sound}
 use Rattle.changes.proofs.put_entry_filter.Goals as goal
 
 pub returns-then-not-fills : goal.returns-then-not-fills
@@ -18,13 +18,16 @@ returns-then-not-fills c =
 
 pub new_filter-requires : goal.new_filter-requires
 new_filter-requires c =
-    record { count_bound = (c.args.g.hashes_allowed.1, omega arith, rw c.ka_ram.ensures (omega (arith, c.requires.0))); bits_value = c.requires.1 }
+    record {
+      unit_sound = (unit_sound c.args.g, c.args.g.hashes_allowed.1, omega arith, rw c.ka_ram.ensures (omega (arith, c.requires.0)));
+      bits_value = c.requires.1;
+    }
 
 pub returns : goal.returns
 returns c =
     λ full.
-    entry_fourths_lem (shape c.args.g) c.args.n (key_is c.args.key) c.args.ram.now c.args.g.chip.power.some full
+    entry_fourths_lem (shape c.args.g) c.args.n (key_is c.args.key) c.args.ram.now c.args.g.power.some full
     (record { level_lt = omega arith })
-    (omega (arith, c.requires.0)) c.new_filter.new.bits c.args.g.chip.power.most
+    (omega (arith, c.requires.0)) c.new_filter.new.bits c.args.g.power.most
     (c.new_filter.auto.bits ∙ ap length c.requires.1) (λ y. omega (arith, c.type_inv.out y))
     (rw (c.ka_ram.ensures, c.of_key.ensures) at c.new_filter.ensures)

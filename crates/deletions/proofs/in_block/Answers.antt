@@ -11,7 +11,7 @@ use Rattle.layout.specs.Search.{Stop, found, reply, search_pages}
 use Rattle.laws.specs.WalkLaws.{Words, Pages, Part, part_few, part_ended, part_next, free, lesser, Shown}
 use Rattle.laws.specs.WalkLaws.{words_next, words_left, words_end}
 use Rattle.laws.specs.Walks.{onward}
-use Rattle.geometry.specs.Shape.{shape}
+use Rattle.geometry.specs.Shape.{shape, unit_sound}
 use Rattle.filter.specs.Blocks.{BlockAt}
 use Rattle.filter.specs.declared.groups.Block.{Block}
 use Rattle.deletions.specs.declared.Deletions.{Deletions}
@@ -111,9 +111,11 @@ block_below-b-requires-clause-by_index c =
 
 pub in_word-r-requires : goal.in_word-r-requires
 in_word-r-requires c =
-    let R = c.requires.deletions_fit.0 in
-    pages_in R (rw c.filters.ensures at c.block_below-b.ensures) c.requires.below_nonzero.1 c.args.j c.loop-w.invariant c.loop-w-test.true
-    c.da_block.ensures c.block_address-start.ensures c.page_address.ensures
+    let R = c.requires.deletions_fit.0 in (
+      unit_sound c.args.t.g,
+      pages_in R (rw c.filters.ensures at c.block_below-b.ensures) c.requires.below_nonzero.1 c.args.j c.loop-w.invariant c.loop-w-test.true
+          c.da_block.ensures c.block_address-start.ensures c.page_address.ensures,
+    )
 
 pub overflow_add-opened : goal.overflow_add-opened
 overflow_add-opened c =

@@ -11,11 +11,11 @@ use Rattle.deletions.proofs.in_open.Goals as goal
 
 pub slot-count-requires : goal.slot-count-requires
 slot-count-requires c =
-    rw c.deletions_per_page-per_page.ensures (unit_times 4 c.args.t.g.chip.unit (unit_sound c.args.t.g.chip))
+    rw c.deletions_per_page-per_page.ensures (unit_times 4 c.args.t.g.chip.unit (unit_sound c.args.t.g))
 
 pub in_full_pages-requires : goal.in_full_pages-requires
 in_full_pages-requires c =
-    rw c.deletions_per_page-per_page.ensures (unit_times 4 c.args.t.g.chip.unit (unit_sound c.args.t.g.chip))
+    rw c.deletions_per_page-per_page.ensures (unit_times 4 c.args.t.g.chip.unit (unit_sound c.args.t.g))
 
 -- ---- on flash
 

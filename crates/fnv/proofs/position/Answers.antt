@@ -1,5 +1,4 @@
 use Rattle.std.proofs.Common.{arith}
-use Rattle.geometry.specs.Shape.{unit_sound}
 use Rattle.fnv.proofs.Laws.{fourth_power}
 use Rattle.fnv.proofs.position.Goals as goal
 
@@ -8,4 +7,4 @@ use Rattle.fnv.proofs.position.Goals as goal
 pub within-requires : goal.within-requires
 within-requires c =
     let s = c.sector_size-size in
-    (fourth_power c.args.chip.unit s.result (unit_sound c.args.chip) s.ensures, omega (arith, c.args.chip.power.most), omega arith)
+    (fourth_power c.args.chip.unit s.result c.requires.0 s.ensures, omega arith, omega arith)

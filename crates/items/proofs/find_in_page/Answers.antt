@@ -2,7 +2,6 @@ use Rattle.std.proofs.Common.{◌≡◌, ◌≢◌, ℕ, zero, suc, ◌+◌, ◌
 use lib.Pow.{pow_pos}
 use Rattle.keys.specs.Key.{key_is}
 use Rattle.items.specs.Scans.{has_key, last_entry, place_of, newest_end, newest_none, no_word, entries_no}
-use Rattle.memory.specs.Power.{log2up}
 use Rattle.items.proofs.find_in_page.Goals as goal
 
 -- From the newest 64 words on: those that have not the key have no entry with it.
@@ -15,7 +14,8 @@ fours (suc (suc e)) u p = (omega (arith, pow_pos e), λ h. omega arith)
 
 pub small_has-requires : goal.small_has-requires
 small_has-requires c =
-    (c.if-chip-lt5.true, (fours (log2up c.args.chip.unit) c.args.chip.unit c.args.chip.power.power).0, c.requires)
+    let U = c.requires.0 in
+    (U.1.some, c.if-chip-lt5.true, (fours U.0 c.args.chip.unit U.1.power).0, c.requires.1)
 
 pub returns-then-chip-lt5 : goal.returns-then-chip-lt5
 returns-then-chip-lt5 c =
@@ -29,7 +29,7 @@ returns-then-chip-lt5 c =
 pub loop-b-init : goal.loop-b-init
 loop-b-init c =
     let x = c.args in
-    let f = (fours (log2up x.chip.unit) x.chip.unit x.chip.power.power).1 c.if-chip-lt5.false in
+    let f = (fours c.requires.0.0 x.chip.unit c.requires.0.1.power).1 c.if-chip-lt5.false in
     let e : 8 * x.chip.unit ≡ c.page_size-b.result / 256 * 32 = omega (arith, f) in
     ap (λ (n : ℕ). last_entry x.s.now x.at n (key_is x.key)) e
 

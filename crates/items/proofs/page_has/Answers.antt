@@ -1,6 +1,5 @@
 use Rattle.std.proofs.Common.{◌≡◌, ◌≢◌, ℕ, zero, suc, ◌^◌, arith}
 use lib.Pow.{pow_pos}
-use Rattle.memory.specs.Power.{log2up}
 use Rattle.items.proofs.page_has.Goals as goal
 
 -- a power of two is not 3
@@ -10,4 +9,5 @@ not_three (suc e) u p = omega (arith, pow_pos e)
 
 pub small_has-requires : goal.small_has-requires
 small_has-requires c =
-    (c.if-chip-lt5.true, not_three (log2up c.args.chip.unit) c.args.chip.unit c.args.chip.power.power, c.requires)
+    let U = c.requires.0 in
+    (U.1.some, c.if-chip-lt5.true, not_three U.0 c.args.chip.unit U.1.power, c.requires.1)

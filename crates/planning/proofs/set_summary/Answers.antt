@@ -1,6 +1,5 @@
 use Rattle.laws.specs.Units.{unit_times}
-use Rattle.geometry.specs.Shape.{unit_sound}
 use Rattle.planning.proofs.set_summary.Goals as goal
 
 pub slot-c-requires : goal.slot-c-requires
-slot-c-requires c = rw c.side_blocks-side.ensures (unit_times 2 c.args.chip.unit (unit_sound c.args.chip))
+slot-c-requires c = rw c.side_blocks-side.ensures (unit_times 2 c.args.chip.unit c.requires.0)

@@ -56,7 +56,7 @@ returns-then-v-entries_per_page c =
     let x = c.args in
     let is : c.in_open-o.result.end ≡ Nothing = search rules in
     let e = rw is at c.in_open-o.ensures.end_value in
-    let some_fit : 0 < per_page x.v = omega (arith, c.args.v.g.chip.power.some) in
+    let some_fit : 0 < per_page x.v = omega (arith, c.args.v.g.power.some) in
     let few = rw c.entries_per_page.ensures at c.if-v-entries_per_page.true in
     record {
       found = rw (is, c.in_open-o.ensures.opened) (search_open x.v x.main.now x.ram.now (key_is x.key) some_fit few e);

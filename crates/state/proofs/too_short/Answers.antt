@@ -20,7 +20,7 @@ use Rattle.state.proofs.too_short.Goals.{then-main-main_size, else-main-main_siz
 module _ (g : Geometry) (main spare ram : List ℕ) where
   tests : too_short (shape g) (flash_of main spare) (pages ram)
       ≡ (ltb (length main) (main_size (shape g)) || (ltb (length spare) (spare_size (shape g)) || ltb (length ram) (ram_size (shape g) + header_size)))
-  tests = longer_ram (shape g) (flash_of main spare) ram (omega (arith, g.chip.power.most))
+  tests = longer_ram (shape g) (flash_of main spare) ram (omega (arith, g.power.most))
 
 pub returns-then-spare-spare_size : goal.returns-then-spare-spare_size
 returns-then-spare-spare_size c =

@@ -9,4 +9,4 @@ returns c =
     let x = c.args in
     put_ext x.chip.unit x.f (array_bit c.new_filter.new.bits)
     (with_key x.chip.unit x.count x.at 4 (bytes_of x.last) x.ram.now) x.out.now _
-    (λ y h. c.new_filter.ensures y (omega (arith, h, x.chip.power.most))) c.put_fourths.ensures
+    (λ y h. c.new_filter.ensures y (omega (arith, h, x.chip.small))) c.put_fourths.ensures

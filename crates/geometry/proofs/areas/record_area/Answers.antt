@@ -1,4 +1,4 @@
-use Rattle.std.proofs.Common.{arith, ◌*◌, ◌^◌, ◌≤◌, ◌<◌}
+use Rattle.std.proofs.Common.{arith}
 use Rattle.laws.specs.Units.{unit_times}
 use Rattle.geometry.specs.Powers.{power_is}
 use Rattle.geometry.specs.Shape.{unit_sound}
@@ -9,7 +9,7 @@ invariant_of-result c =
     let g = c.args.g in
     record {
       small = omega arith;
-      power = power_is _ (rw c.records_per_page.ensures (unit_times 2 g.chip.unit (unit_sound g.chip)));
+      power = power_is _ (rw c.records_per_page.ensures (unit_times 2 g.chip.unit (unit_sound g)));
       page = (omega arith, omega arith);
       near = (omega arith, omega arith);
     }

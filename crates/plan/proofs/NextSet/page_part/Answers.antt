@@ -13,7 +13,7 @@ set_sectors-requires c =
     let O = c.requires.of_page in
     let n = c.sector_address-n in
     record {
-      rounds_bound = P.rounds;
+      unit_sound = (P.unit, P.rounds);
       j_bound = omega (arith, P.sectors, c.requires.next_fits.1);
       in_main = P.sides;
       shares = c.requires.shares;
