@@ -29,8 +29,8 @@ fits : (w : Volume) (j : Result Geometry Refusal) (g : Geometry) → j ≡ Ok g 
 fits w j g e f = subst (GoodFits w) e f
 
 -- by where the search of the lent pages ended
-ended : (s : State) (main spare ram : List ℕ) (n : ℕ) → n ≡ length ram - header_size → (j : Result Geometry Refusal) (g : Geometry) → j ≡ Ok g
-    → (v : View) → v ≡ whole g s.records s.deletions → (key : Key) (f : Found)
+ended : (s : State) (main spare ram : List ℕ) (n : ℕ) → n ≡ length ram - header_size → (j : Result Geometry Refusal)
+    → (g : Geometry) → j ≡ Ok g → (v : View) → v ≡ whole g s.records s.deletions → (key : Key) (f : Found)
     → found_of f ≡ search_at fnv_family (shape v.g) (viewed v main (take (n - 0) ram)) v.n0 v.d0 key → (end : End) → f.end ≡ end
     → stopped g (stop_of end) ≡ resolved_by j (on_pages (volume s main spare ram)) key
 ended s main spare ram n n_is j g j_is v v_is key f found end is =
@@ -54,17 +54,17 @@ search-f-requires c =
 pub returns-in-Corrupt-clause-equal : goal.returns-in-Corrupt-clause-equal
 returns-in-Corrupt-clause-equal c =
     let x = c.args in
-    ended x.s x.main.now x.spare.now x.ram.now _ c.pages_end-n.ensures x.j c.in_ok-g.g c.in_ok-g.was _ c.all-v.ensures (key_is x.key) c.search-f.result
-    c.search-f.ensures.found _ c.in-Corrupt.is
+    ended x.s x.main.now x.spare.now x.ram.now _ c.pages_end-n.ensures x.j c.in_ok-g.g c.in_ok-g.was _ c.all-v.ensures (key_is x.key)
+    c.search-f.result c.search-f.ensures.found _ c.in-Corrupt.is
 
 pub returns-in-Nothing-clause-equal : goal.returns-in-Nothing-clause-equal
 returns-in-Nothing-clause-equal c =
     let x = c.args in
-    ended x.s x.main.now x.spare.now x.ram.now _ c.pages_end-n.ensures x.j c.in_ok-g.g c.in_ok-g.was _ c.all-v.ensures (key_is x.key) c.search-f.result
-    c.search-f.ensures.found _ c.in-Nothing.is
+    ended x.s x.main.now x.spare.now x.ram.now _ c.pages_end-n.ensures x.j c.in_ok-g.g c.in_ok-g.was _ c.all-v.ensures (key_is x.key)
+    c.search-f.result c.search-f.ensures.found _ c.in-Nothing.is
 
 pub returns-in-Live-clause-equal : goal.returns-in-Live-clause-equal
 returns-in-Live-clause-equal c =
     let x = c.args in
-    ended x.s x.main.now x.spare.now x.ram.now _ c.pages_end-n.ensures x.j c.in_ok-g.g c.in_ok-g.was _ c.all-v.ensures (key_is x.key) c.search-f.result
-    c.search-f.ensures.found _ c.in-Live.is
+    ended x.s x.main.now x.spare.now x.ram.now _ c.pages_end-n.ensures x.j c.in_ok-g.g c.in_ok-g.was _ c.all-v.ensures (key_is x.key)
+    c.search-f.result c.search-f.ensures.found _ c.in-Live.is

@@ -30,8 +30,7 @@ use Rattle.changes.specs.declared.Edit.{Edit}
 use Rattle.calls.specs.Resolve.{resolved_by}
 use Rattle.calls.specs.declared.Resolved.{Resolved}
 use Rattle.calls.proofs.CallsLaws.{decided_by, done_by, done_change, again_done}
-use Rattle.calls.proofs.RequestLaws.{refused_or}
-use Rattle.calls.proofs.AgainLaws.{again_told, state_either, restart_refused, restart_ran}
+use Rattle.calls.proofs.AgainLaws.{again_full, again_later, state_either, restart_refused, restart_ran}
 use Rattle.calls.proofs.restart_change.Goals as goal
 
 -- ---- the volume that the restart goes by
@@ -87,7 +86,8 @@ returns-in_err-edit c =
     let p = err_from_is_err_and R.result R.ensures.1 in
     rw (p.1, p.2)
     (restart_refused x.budget v (call_of x.q) c.requires.0 c.requires.1 w on_is i.field-0.0
-    (decided w x.q J.result J.ensures.equal c.key_of.result c.key_of.ensures (Ok c.in_ok-r.r) c.in_ok-r.ensures.equal (Err i.field-0.0) i.ensures))
+    (decided w x.q J.result J.ensures.equal c.key_of.result c.key_of.ensures (Ok c.in_ok-r.r) c.in_ok-r.ensures.equal
+    (Err i.field-0.0) i.ensures))
 
 -- 5 or 6
 pub returns-in_err-room_refusal : goal.returns-in_err-room_refusal
@@ -104,9 +104,9 @@ returns-in_err-room_refusal c =
     let p = err_from_is_err_and R.result R.ensures.1 in
     rw (p.1, p.2)
     (restart_refused x.budget v (call_of x.q) c.requires.0 c.requires.1 w on_is i.field-0.0
-    (changes w x.q J.result J.ensures.equal c.key_of.result c.key_of.ensures (Ok c.in_ok-r.r) c.in_ok-r.ensures.equal g e c.in_ok-edit.ensures
-    c.in_ok-r.ensures.fits
-    ∙ again_told (shape g) w e ∙ ap (refused_or w _) (sym i.ensures)))
+    (changes w x.q J.result J.ensures.equal c.key_of.result c.key_of.ensures (Ok c.in_ok-r.r) c.in_ok-r.ensures.equal g e
+    c.in_ok-edit.ensures c.in_ok-r.ensures.fits
+    ∙ again_full (shape g) w e i.field-0.0 i.ensures))
 
 -- ---- a change
 
@@ -135,8 +135,9 @@ returns c =
     let f = c.in_ok-r.ensures.fits in
     let e = c.in_ok-edit.edit in
     let F = c.finish-progress in
-    let is = changes w x.q J.result J.ensures.equal c.key_of.result c.key_of.ensures (Ok c.in_ok-r.r) c.in_ok-r.ensures.equal g e c.in_ok-edit.ensures f
-    ∙ again_told (shape g) w e ∙ ap (refused_or w _) (sym c.in_ok-room_refusal.ensures)
+    let is = changes w x.q J.result J.ensures.equal c.key_of.result c.key_of.ensures (Ok c.in_ok-r.r) c.in_ok-r.ensures.equal g e
+    c.in_ok-edit.ensures f
+    ∙ again_later (shape g) w e c.in_ok-room_refusal.ensures
     ∙ ap (changed (shape g) w (edit_is e)) (sym (c.done-from.ensures x.main.now (pages x.ram.now) f.long.read.ram_fits)) in
     rw (c.cut_after.ensures, c.counted_state.ensures, state_either F.result.finished _ x.s)
     (restart_ran x.budget v (call_of x.q) c.requires.0 c.requires.1 w on_is g.chip.unit _
