@@ -48,6 +48,16 @@ again_told g w e =
     by false true x = refl
     by false false x = refl
 
+module _ (g : layout.Geometry) (w : Volume) (e : Edit) where
+  pub again_full : (i : Refusal) → Err i ≡ room_refusal g w.state.records w.state.deletions (edit_is e)
+      → change_by commit_later fnv_family g w (edit_is e) ≡ refused_by w i
+  again_full i is = again_told g w e ∙ ap (refused_or w _) (sym is)
+
+  pub again_later : Ok (tt {0}) ≡ room_refusal g w.state.records w.state.deletions (edit_is e)
+      → change_by commit_later fnv_family g w (edit_is e)
+      ≡ changed g w (edit_is e) (done_count w.flash.spare (change_plan fnv_family g w (edit_is e)))
+  again_later is = again_told g w e ∙ ap (refused_or w _) (sym is)
+
 -- ---- what a caller sees
 
 -- a refusal

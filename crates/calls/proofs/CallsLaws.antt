@@ -1,5 +1,5 @@
 -- The layout's changing calls by what is decided: of a call and of a restart, each by its judgement and its end.
-use mathlib.Core.Path.{◌≡◌, refl, sym, ap, ◌∙◌}
+use mathlib.Core.Path.{◌≡◌, refl, sym, ap, subst, ◌∙◌}
 use mathlib.Core.Bool.{Bool, true, false, cond}
 use mathlib.Core.Option.{Option, none, some}
 use Prim.Native.Nat.{◌≤◌}
@@ -20,7 +20,7 @@ use Rattle.laws.specs.HeaderLaws.{length_pages}
 use Rattle.layout.specs.Budgets.{result_of}
 use Rattle.geometry.specs.Shape.{shape, shape_is, geometry_for}
 use Rattle.geometry.specs.declared.volume.Geometry.{Geometry}
-use Rattle.state.specs.Contract.{record_is, call_of}
+use Rattle.state.specs.Contract.{record_is, call_of, number_of}
 use Rattle.state.specs.Judge.{judgement_of, VolumeFits, is_allowed, fits_shape}
 use Rattle.state.specs.declared.Refusal.{Refusal}
 use Rattle.state.specs.declared.Refusal.TheVariants.{BadState, TooShort, Pending}
@@ -30,23 +30,32 @@ use Rattle.state.proofs.Refusals.{refused_by}
 use Rattle.header.specs.Header.{idle_judgement}
 use Rattle.changes.specs.Edits.{edit_is}
 use Rattle.changes.specs.declared.Edit.{Edit}
-use Rattle.calls.specs.Resolve.{stopped, resolved_by, resolved_of}
+use Rattle.calls.specs.Resolve.{stopped, resolved_by, resolved_of, ResolvedFits}
 use Rattle.calls.specs.Request.{decision_of}
 use Rattle.calls.specs.declared.Resolved.{Resolved}
 
 -- ---- a judgement, then what the call answers
 
-abbrev judged_by : std.Result Geometry Refusal → Volume → Result → Result
+abbrev pub judged_by : std.Result Geometry Refusal → Volume → Result → Result
 judged_by (Err i) w x = refused_by w i
 judged_by (Ok g) w x = x
 
--- a geometry that is judged good is the volume's
-abbrev Told : Volume → std.Result Geometry Refusal → Type 0
-Told w (Err i) = Unit {0}
-Told w (Ok g) = shape g ≡ layout.geometry w.state.sizes
+-- a geometry that is judged good has the volume's shape
+abbrev Shaped : Volume → std.Result Geometry Refusal → Type 0
+Shaped w (Err i) = Unit {0}
+Shaped w (Ok g) = shape g ≡ layout.geometry w.state.sizes
+
+-- what is known of a judgement: a refusal's number is not that of an accepted call, a geometry is the volume's, and so is its shape
+abbrev pub Told : Volume → std.Result Geometry Refusal → Type 0
+Told w (Err i) = eqb (number_of i) 0 ≡ false
+Told w (Ok g) = (g ≡ geometry_for w.state.sizes) × (shape g ≡ layout.geometry w.state.sizes)
+
+told_shaped : (w : Volume) (j : std.Result Geometry Refusal) → Told w j → Shaped w j
+told_shaped w (Err i) t = tt
+told_shaped w (Ok g) t = t.1
 
 module _ (v : Volume) where
-  result_judged : (c : Call) → result_of fnv_family v c
+  pub result_judged : (c : Call) → result_of fnv_family v c
       ≡ judged_by (idle_judgement v) (on_pages v) (answer_by commit fnv_family (layout.geometry v.state.sizes) (on_pages v) c)
   unfolding judge_first
   result_judged c =
@@ -61,20 +70,20 @@ module _ (v : Volume) where
       by false false true g w x = refl
       by false false false g w x = refl
 
-  idle_told : Told (on_pages v) (idle_judgement v)
+  pub idle_told : Told (on_pages v) (idle_judgement v)
   idle_told =
       by (bad_state v.state) (too_short (layout.geometry v.state.sizes) v.flash (pages v.ram)) (eqb (kind_in v.ram) 0) refl
     where
       by : (a b k : Bool) → bad_state v.state ≡ a
           → Told (on_pages v) (cond a (Err BadState) (cond b (Err TooShort) (cond k (Ok (geometry_for v.state.sizes)) (Err Pending))))
-      by true b k e = tt
-      by false true k e = tt
-      by false false true e = shape_is v.state.sizes (is_allowed v.state e)
-      by false false false e = tt
+      by true b k e = refl
+      by false true k e = refl
+      by false false true e = (refl, shape_is v.state.sizes (is_allowed v.state e))
+      by false false false e = refl
 
 -- the same of a call that is not asked whether one is pending
 module _ (w : Volume) where
-  first_judged : (x : Result) → judge_first w x ≡ judged_by (judgement_of w) w x
+  pub first_judged : (x : Result) → judge_first w x ≡ judged_by (judgement_of w) w x
   unfolding judge_first
   first_judged x = by (bad_state w.state) (too_short (layout.geometry w.state.sizes) w.flash w.ram) (geometry_for w.state.sizes)
     where
@@ -85,13 +94,13 @@ module _ (w : Volume) where
       by false true g = refl
       by false false g = refl
 
-  first_told : Told w (judgement_of w)
+  pub first_told : Told w (judgement_of w)
   first_told = by (bad_state w.state) (too_short (layout.geometry w.state.sizes) w.flash w.ram) refl
     where
       by : (a b : Bool) → bad_state w.state ≡ a → Told w (cond a (Err BadState) (cond b (Err TooShort) (Ok (geometry_for w.state.sizes))))
-      by true b e = tt
-      by false true e = tt
-      by false false e = shape_is w.state.sizes (is_allowed w.state e)
+      by true b e = refl
+      by false true e = refl
+      by false false e = (refl, shape_is w.state.sizes (is_allowed w.state e))
 
 -- ---- what is decided, over any end of a change
 
@@ -129,8 +138,10 @@ module _ (end : Commit) (w : Volume) where
   after_done G g (Delete key) none = refl
   after_done G g (Delete key) (some (found j)) = refl
 
-  judged_done : (j : std.Result Geometry Refusal) → Told w j → (q : Request)
-      → judged_by j w (answer_by end fnv_family (layout.geometry w.state.sizes) w (call_of q))
+  abbrev pub answered : Request → Result
+  answered q = answer_by end fnv_family (layout.geometry w.state.sizes) w (call_of q)
+
+  judged_done : (j : std.Result Geometry Refusal) → Shaped w j → (q : Request) → judged_by j w (answered q)
       ≡ done_by (layout.geometry w.state.sizes) (decided_by q (resolved_by j w (key_of (call_of q))))
   judged_done (Err i) t q = refl
   judged_done (Ok g) t q =
@@ -143,10 +154,28 @@ module _ (end : Commit) (w : Volume) where
       → done_by (layout.geometry w.state.sizes) (Ok e) ≡ change_by end fnv_family (shape g) w (edit_is e)
   done_change g e fits = ap (λ (k : layout.Geometry). change_by end fnv_family k w (edit_is e)) (sym (fits_shape w g fits))
 
+  -- the same by any judgement: what is refused, and what is changed
+  pub decided_refused : (j : std.Result Geometry Refusal) → Told w j → (q : Request) (i : Refusal)
+      → decided_by q (resolved_by j w (key_of (call_of q))) ≡ Err i → judged_by j w (answered q) ≡ refused_by w i
+  decided_refused j t q i d = judged_done j (told_shaped w j t) q ∙ ap (done_by (layout.geometry w.state.sizes)) d
+
+  pub decided_changes : (j : std.Result Geometry Refusal) → Told w j → (q : Request)
+      → ResolvedFits w (resolved_by j w (key_of (call_of q))) → (r : Resolved) (e : Edit) → resolved_by j w (key_of (call_of q)) ≡ Ok r → decision_of q r.live ≡ Ok e
+      → VolumeFits w r.g × (judged_by j w (answered q) ≡ change_by end fnv_family (shape r.g) w (edit_is e))
+  decided_changes j t q f r e is d =
+      let G = layout.geometry w.state.sizes in
+      let fits : VolumeFits w r.g = subst (ResolvedFits w) is f in (
+        fits,
+        judged_done j (told_shaped w j t) q ∙ ap (λ (x : std.Result Resolved Refusal). done_by G (decided_by q x)) is ∙ ap (done_by G) d
+            ∙ done_change r.g e fits,
+      )
+
 -- of a call
 pub call_done : (v : Volume) (q : Request) → result_of fnv_family v (call_of q)
     ≡ done_by commit (on_pages v) (layout.geometry v.state.sizes) (decided_by q (resolved_of v (key_of (call_of q))))
-call_done v q = result_judged v (call_of q) ∙ judged_done commit (on_pages v) (idle_judgement v) (idle_told v) q
+call_done v q =
+    let j = idle_judgement v in
+    result_judged v (call_of q) ∙ judged_done commit (on_pages v) j (told_shaped (on_pages v) j (idle_told v)) q
 
 -- where its key doesn't resolve, it is refused so
 pub call_unresolved : (v : Volume) (q : Request) (i : Refusal) → Err i ≡ resolved_of v (key_of (call_of q))
@@ -159,7 +188,7 @@ call_unresolved v q i is =
 pub again_done : (w : Volume) (q : Request) → call_again fnv_family w (call_of q)
     ≡ done_by commit_later w (layout.geometry w.state.sizes) (decided_by q (resolved_by (judgement_of w) w (key_of (call_of q))))
 unfolding call_again
-again_done w q = first_judged w _ ∙ judged_done commit_later w (judgement_of w) (first_told w) q
+again_done w q = first_judged w _ ∙ judged_done commit_later w (judgement_of w) (told_shaped w (judgement_of w) (first_told w)) q
 
 -- ---- a volume that is not refused has a header
 

@@ -16,24 +16,31 @@ use Rattle.layout.specs.Geometry as layout
 use Rattle.layout.specs.Flash.{flash_of, plan_ops, all_fresh}
 use Rattle.layout.specs.Hash.{fnv_family}
 use Rattle.layout.specs.Refusals as refusal
-use Rattle.layout.specs.Calls.{Volume, Call, Result, accepted, refused, refuse, one, no_room, no_deletion, change_plan, change_by, commit}
-use Rattle.layout.specs.Header.{header_size, pages, intended}
+use Rattle.layout.specs.Calls.{key_of, Volume, Call, Result, accepted, refused, refuse, one, no_room, no_deletion, change_plan}
+use Rattle.layout.specs.Calls.{change_by, commit}
+use Rattle.layout.specs.Header.{header_size, pages, on_pages, intended}
 use Rattle.layout.specs.Budgets as budgets
 use Rattle.layout.specs.Budgets.{Step, Memory, memory, last_steps, call_steps, taken, result_of, call_for, call_cut}
 use Rattle.laws.specs.HeaderLaws.{pages_of}
+use Rattle.geometry.specs.Shape.{shape}
 use Rattle.geometry.specs.declared.volume.Geometry.{Geometry}
-use Rattle.state.specs.Contract.{CutEffect, number_of, cut_of, Ran, state_is, volume}
+use Rattle.state.specs.Contract.{CutEffect, number_of, cut_of, Ran, state_is, call_of, volume}
 use Rattle.state.specs.Judge.{VolumeFits}
 use Rattle.state.specs.declared.Progress.{Progress}
 use Rattle.state.specs.declared.Refusal.{Refusal}
 use Rattle.state.specs.declared.Refusal.TheVariants.{Full, DeletionsFull, NotFresh}
 use Rattle.state.specs.declared.State.{State}
+use Rattle.state.specs.declared.Request.{Request}
 use Rattle.state.proofs.Refusals.{refused_by}
 use Rattle.state.proofs.RunLaws.{refused_cut_lem as refused_cut_is}
 use Rattle.changes.specs.Edits.{edit_is}
 use Rattle.changes.specs.Tasks.{change_refusal, changed, task_result}
 use Rattle.changes.specs.declared.Task.{Task}
 use Rattle.changes.specs.declared.Edit.{Edit}
+use Rattle.calls.specs.Resolve.{resolved_of, ResolvedFits}
+use Rattle.calls.specs.Request.{decision_of}
+use Rattle.calls.specs.declared.Resolved.{Resolved}
+use Rattle.calls.proofs.CallsLaws.{decided_by, done_by, done_change, call_done}
 
 -- ---- 5, 6 and 7
 
@@ -58,13 +65,43 @@ change_told g w e =
     by false false false x = refl
 
 -- a change that is refused, and one that is not
+module _ (g : layout.Geometry) (w : Volume) (e : Edit) where
+  pub commit_refused : (i : Refusal) → Err i ≡ change_refusal g w (edit_is e)
+      → change_by commit fnv_family g w (edit_is e) ≡ refused_by w i
+  commit_refused i r = change_told g w e ∙ ap (refused_or w (changed g w (edit_is e) 0)) (sym r)
+
+  pub commit_accepted : Ok (tt {0}) ≡ change_refusal g w (edit_is e)
+      → change_by commit fnv_family g w (edit_is e) ≡ changed g w (edit_is e) 0
+  commit_accepted r = change_told g w e ∙ ap (refused_or w (changed g w (edit_is e) 0)) (sym r)
+
+-- the call that it is
 module _ (v : Volume) (c : Call) (g : layout.Geometry) (w : Volume) (e : Edit)
     (is : result_of fnv_family v c ≡ change_by commit fnv_family g w (edit_is e)) where
   pub change_refused : (i : Refusal) → Err i ≡ change_refusal g w (edit_is e) → result_of fnv_family v c ≡ refused_by w i
-  change_refused i r = is ∙ change_told g w e ∙ ap (refused_or w (changed g w (edit_is e) 0)) (sym r)
+  change_refused i r = is ∙ commit_refused g w e i r
 
   pub change_accepted : Ok (tt {0}) ≡ change_refusal g w (edit_is e) → result_of fnv_family v c ≡ changed g w (edit_is e) 0
-  change_accepted r = is ∙ change_told g w e ∙ ap (refused_or w (changed g w (edit_is e) 0)) (sym r)
+  change_accepted r = is ∙ commit_accepted g w e r
+
+-- ---- a call by what is decided
+
+module _ (v : Volume) (q : Request) (r : std.Result Resolved Refusal) (is : r ≡ resolved_of v (key_of (call_of q))) where
+  decided : (d : std.Result Edit Refusal) → decided_by q r ≡ d
+      → result_of fnv_family v (call_of q) ≡ done_by commit (on_pages v) (layout.geometry v.state.sizes) d
+  decided d d_is =
+      let G = layout.geometry v.state.sizes in
+      call_done v q ∙ ap (λ (x : std.Result Resolved Refusal). done_by commit (on_pages v) G (decided_by q x)) (sym is)
+      ∙ ap (done_by commit (on_pages v) G) d_is
+
+  pub call_refused : (i : Refusal) → decided_by q r ≡ Err i → result_of fnv_family v (call_of q) ≡ refused_by (on_pages v) i
+  call_refused i d = decided (Err i) d
+
+  pub call_changes : ResolvedFits (on_pages v) r → (s : Resolved) (e : Edit) → r ≡ Ok s → decision_of q s.live ≡ Ok e
+      → VolumeFits (on_pages v) s.g
+      × (result_of fnv_family v (call_of q) ≡ change_by commit fnv_family (shape s.g) (on_pages v) (edit_is e))
+  call_changes f s e r_is d =
+      let fits : VolumeFits (on_pages v) s.g = subst (ResolvedFits (on_pages v)) r_is f in
+      (fits, decided (Ok e) (ap (decided_by q) r_is ∙ d) ∙ done_change commit (on_pages v) s.g e fits)
 
 -- ---- a budget
 

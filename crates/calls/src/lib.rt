@@ -11,7 +11,7 @@ ghost use Rattle.layout.specs.Budgets.{last_steps, call_cut, call_whole, restart
 ghost use Rattle.geometry.specs.Shape.{shape};
 ghost use Rattle.keys.specs.Key.{key_is};
 ghost use Rattle.state.specs.Contract.{record_is, call_of, volume, effect_of, change_effect, cut_of, cut_by, memory_of, Ran};
-ghost use Rattle.state.specs.Judge.{VolumeFits};
+ghost use Rattle.state.specs.Judge.{VolumeFits, GoodFits};
 ghost use Rattle.planning.specs.Edits.{programs_in};
 ghost use Rattle.changes.specs.Tasks.{HasRoom, Prepared, task_on, task_slots, task_plan, task_result};
 ghost use Rattle.calls.specs.Resolve.{resolved_by, resolved_of, ResolvedFits};
@@ -33,19 +33,20 @@ pub struct Resolved {
     pub live: Option<u32>,
 }
 
-// Of a volume that is judged good: 8, or whether the key is live.
+// The judge's refusal, or 8, or whether the key is live.
 pub fn resolve_judged(
-    g: Geometry,
+    j: Result<Geometry, Refusal>,
     s: State,
     key: Key,
     main: &[u8],
     spare: &[u8],
     ram: &[u8],
 ) -> Result<Resolved, Refusal>
-    requires { VolumeFits (on_pages (volume s main.now spare.now ram.now)) g }
-    ensures equal { result ≡ resolved_by (Ok g) (on_pages (volume s main.now spare.now ram.now)) (key_is key) }
+    requires { GoodFits (on_pages (volume s main.now spare.now ram.now)) j }
+    ensures equal { result ≡ resolved_by j (on_pages (volume s main.now spare.now ram.now)) (key_is key) }
     ensures fits { ResolvedFits (on_pages (volume s main.now spare.now ram.now)) result }
 {
+    let g = j?;
     let n = state::pages_end(ram);
     let v = search::all(g, s.records as usize, s.deletions as usize);
     let f = search::search(v, key, main, &ram[0..n]);
@@ -67,8 +68,8 @@ pub fn resolve(
     ensures equal { result ≡ resolved_of (volume s main.now spare.now ram.now) (key_is key) }
     ensures fits { ResolvedFits (on_pages (volume s main.now spare.now ram.now)) result }
 {
-    let g = header::judge(s, main, spare, ram)?;
-    resolve_judged(g, s, key, main, spare, ram)
+    let j = header::judge(s, main, spare, ram);
+    resolve_judged(j, s, key, main, spare, ram)
 }
 
 // ---- what a call does
@@ -205,16 +206,17 @@ pub fn perform_resolved(
     budget: usize,
     s: State,
     q: Request,
-    r: Resolved,
+    r: Result<Resolved, Refusal>,
     main: &mut [u8],
     spare: &mut [u8],
     ram: &mut [u8],
 ) -> Result<Cut, Refusal>
-    requires { (Ok r ≡ resolved_of (volume s main.old spare.old ram.old) (key_of (call_of q)))
-        × VolumeFits (on_pages (volume s main.old spare.old ram.old)) r.g }
+    requires { (r ≡ resolved_of (volume s main.old spare.old ram.old) (key_of (call_of q)))
+        × ResolvedFits (on_pages (volume s main.old spare.old ram.old)) r }
     ensures { cut_by s result main.new spare.new ram.new
         ≡ cut_of (call_cut fnv_family budget (volume s main.old spare.old ram.old) (call_of q)) }
 {
+    let r = r?;
     let edit = decide(q, r.live)?;
     changes::room_refusal(r.g, s, edit)?;
     let t = Task {
@@ -240,7 +242,7 @@ pub fn perform_for(
     ensures { cut_by s result main.new spare.new ram.new
         ≡ cut_of (call_cut fnv_family budget (volume s main.old spare.old ram.old) (call_of q)) }
 {
-    let r = resolve(s, key_of(q), main, spare, ram)?;
+    let r = resolve(s, key_of(q), main, spare, ram);
     perform_resolved(budget, s, q, r, main, spare, ram)
 }
 
@@ -259,12 +261,12 @@ pub fn restart_change(
         ≡ cut_of (restart_cut fnv_family budget (volume s main.old spare.old ram.old)) }
 {
     let old = header::state_in(ram);
-    let g = state::judge(old, main, spare, ram)?;
-    let r = resolve_judged(g, old, key_of(q), main, spare, ram)?;
+    let j = state::judge(old, main, spare, ram);
+    let r = resolve_judged(j, old, key_of(q), main, spare, ram)?;
     let edit = decide(q, r.live)?;
-    changes::room_refusal(g, old, edit)?;
+    changes::room_refusal(r.g, old, edit)?;
     let t = Task {
-        g,
+        g: r.g,
         state: old,
         edit,
     };

@@ -59,9 +59,9 @@ fn load_row(
     ensures { cut_by s result main.new spare.new ram.new ≡ cut_of (call_cut fnv_family budget (volume s main.old spare.old ram.old)
         (put_call fnv_family (on_pages (volume s main.old spare.old ram.old)) (record_is «record»))) }
 {
-    let r = calls::resolve_judged(g, s, record.key, main, spare, ram)?;
+    let r = calls::resolve_judged(Ok(g), s, record.key, main, spare, ram)?;
     let q = row_request(record, r.live);
-    calls::perform_resolved(budget, s, q, r, main, spare, ram)
+    calls::perform_resolved(budget, s, q, Ok(r), main, spare, ram)
 }
 
 // The rows from a place of the tab on. A row that is loaded is one more record, so they can be counted; it leaves a volume that is judged

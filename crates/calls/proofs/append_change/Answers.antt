@@ -11,7 +11,6 @@ use Rattle.layout.specs.Budgets.{result_of, memory}
 use Rattle.laws.specs.HeaderLaws.{pages_part}
 use Rattle.planning.specs.Edits.{programs_in}
 use Rattle.geometry.specs.Shape.{shape}
-use Rattle.geometry.specs.declared.volume.Geometry.{Geometry}
 use Rattle.state.specs.Contract.{state_is, call_of}
 use Rattle.state.specs.declared.Progress.{Progress}
 use Rattle.state.specs.declared.Request.{Request}

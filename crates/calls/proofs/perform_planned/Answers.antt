@@ -7,7 +7,6 @@ use Rattle.layout.specs.Flash.{flash_of}
 use Rattle.layout.specs.Header.{on_pages, header_bytes, intent_words}
 use Rattle.layout.specs.Budgets.{memory}
 use Rattle.geometry.specs.Shape.{shape}
-use Rattle.geometry.specs.declared.volume.Geometry.{Geometry}
 use Rattle.state.specs.Contract.{state_is, call_of}
 use Rattle.changes.specs.Edits.{edit_is}
 use Rattle.changes.specs.Tasks.{changed, task_on}
