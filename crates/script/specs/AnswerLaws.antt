@@ -30,6 +30,19 @@ pub write_rest : (l y z w a b : List ℕ) (at : ℕ) → y ≡ write l 0 (w ++ (
 write_rest l y z w a b at p q r =
     write_then l y z 0 at (w ++ (a ++ (32 ∷ []))) b p (omega arith) r ∙ simp append_assoc
 
+-- a word, a piece with a space after it, and the rest
+pub write_three : (l x y z w a b : List ℕ) (at end : ℕ) → x ≡ write l 0 w
+    → at ≡ length w + length (a ++ (32 ∷ [])) → y ≡ write x (length w) (a ++ (32 ∷ []))
+    → end ≡ at + length b → z ≡ write y at b
+    → (end ≡ length (w ++ (a ++ (32 ∷ b)))) × (z ≡ write l 0 (w ++ (a ++ (32 ∷ b))))
+write_three l x y z w a b at end p q r s t =
+    let two : w ++ (a ++ (32 ∷ [])) ++ b ≡ w ++ (a ++ (32 ∷ b)) = simp append_assoc in
+    let at' : at ≡ length (w ++ (a ++ (32 ∷ []))) = q ∙ sym (length-append w (a ++ (32 ∷ []))) in
+    let first : y ≡ write l 0 (w ++ (a ++ (32 ∷ []))) = write_then l x y 0 (length w) w (a ++ (32 ∷ [])) p (omega arith) r in (
+      s ∙ rw at' (sym (length-append (w ++ (a ++ (32 ∷ []))) b) ∙ ap length two),
+      write_then l y z 0 at (w ++ (a ++ (32 ∷ []))) b first (omega arith) t ∙ ap (λ (c : List ℕ). write l 0 c) two,
+    )
+
 -- the last byte first, then those before it
 pub write_last : (l : List ℕ) (at : ℕ) (a : List ℕ) (c : ℕ) → write (set l (at + length a) c) at a ≡ write l at (a ++ (c ∷ []))
 unfolding write

@@ -2,9 +2,22 @@
 use Rattle.std.specs.Prelude.{◌≡◌, Bool, List, ℕ, drop, Option as Maybe, Some, None, IfNone}
 use Rattle.std.proofs.Math.Option.{Option, none, some}
 use Rattle.tab.specs.Reader.{Got, got, field, GotLine, got_line}
+use Rattle.tab.specs.Places.{field_in}
 use Rattle.tab.specs.declared.Column.{Column}
+use Rattle.tab.specs.declared.Column.TheVariants.{Level, Moves, Goal}
+use Rattle.tab.specs.declared.Field.{Field}
 use Rattle.tab.specs.declared.reader.Reader.{Reader}
 use Rattle.tab.specs.declared.reader.Row.{Row}
+
+-- f is the field of column c at a place of the tab
+abbrev pub FieldAt : List ℕ → ℕ → Column → Bool → Maybe Field → Type 0
+FieldAt tab at c header f = field_in tab f ≡ field header c (drop at tab)
+
+-- each field stands where the one before it ended
+abbrev pub InOrder : List ℕ → ℕ → Bool → Field → Field → Field → Type 0
+InOrder tab at header level moves goal =
+    FieldAt tab at Level header (Some level) × FieldAt tab level.next Moves header (Some moves)
+    × FieldAt tab moves.next Goal header (Some goal)
 
 -- what was read, and the text from the reader's place on
 abbrev pub read_to : Reader → Maybe ℕ → Option Got

@@ -68,7 +68,9 @@ fn decimal_at(tab: &[u8], at: usize) -> Option<Field>
         if !c.is_ascii_digit() {
             break;
         }
-        value = value.checked_mul(10)?.checked_add(u32::from(*c - b'0'))?;
+        value = value
+            .checked_mul(10)?
+            .checked_add(text::digit_value(*c) as u32)?;
         next += 1;
     }
     (next > at).then_some(Field { value, next })
