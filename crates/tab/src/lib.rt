@@ -4,7 +4,7 @@
 
 pub mod reader;
 
-ghost use Rattle.std.specs.Prelude.{◌≡◌, drop};
+ghost use Rattle.std.specs.Prelude.{◌≡◌, ◌<◌, drop, length};
 ghost use Rattle.tab.specs.Reader.{decimal, word, name_of, bare, quoted, after, line_end, ends, field};
 ghost use Rattle.tab.specs.Places.{place_in, field_in};
 
@@ -76,26 +76,28 @@ fn decimal_at(tab: &[u8], at: usize) -> Option<Field>
     (next > at).then_some(Field { value, next })
 }
 
-// A column's name.
-fn name(c: Column) -> &'static [u8]
-    ensures { result.now ≡ name_of c }
+// A word, of one byte at least.
+fn word_at(tab: &[u8], at: usize, w: &[u8]) -> Option<Field>
+    requires { 0 < length w.now }
+    ensures { field_in tab.now result ≡ word w.now (drop at tab.now) }
 {
-    match c {
-        Column::Level => b"level",
-        Column::Moves => b"moves",
-        Column::Goal => b"goal",
-    }
-}
-
-// A column's name in the tab.
-fn name_at(tab: &[u8], at: usize, c: Column) -> Option<Field>
-    ensures { field_in tab.now result ≡ word (name_of c) (drop at tab.now) }
-{
-    let rest = tab.get(at..)?.strip_prefix(name(c))?;
+    let rest = tab.get(at..)?.strip_prefix(w)?;
     Some(Field {
         value: 0,
         next: tab.len() - rest.len(),
     })
+}
+
+// A column's name in the tab. (Not by a function that gives the name: the compiler keeps its answers as a table of addresses, and the library
+// for C has no data.)
+fn name_at(tab: &[u8], at: usize, c: Column) -> Option<Field>
+    ensures { field_in tab.now result ≡ word (name_of c) (drop at tab.now) }
+{
+    match c {
+        Column::Level => word_at(tab, at, b"level"),
+        Column::Moves => word_at(tab, at, b"moves"),
+        Column::Goal => word_at(tab, at, b"goal"),
+    }
 }
 
 // A column's name in the header, a number in a row.
