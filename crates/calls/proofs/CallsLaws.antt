@@ -164,4 +164,4 @@ again_done w q = first_judged w _ ∙ judged_done commit_later w (judgement_of w
 -- ---- a volume that is not refused has a header
 
 pub header_fits : (v : Volume) (g : Geometry) → VolumeFits (on_pages v) g → header_size ≤ length v.ram
-header_fits v g f = omega (arith, f.long.read.ram_fits, length_pages v.ram, g.chip.power.some)
+header_fits v g f = omega (arith, f.long.read.ram_fits, length_pages v.ram, g.power.some)

@@ -123,7 +123,7 @@ module _ (v : Volume) (sizes : layout.Sizes) (g : Geometry) (n : FormatFits size
   -- ---- the intent
 
   pub header_fits : header_size ≤ length v.ram
-  header_fits = omega (arith, g.chip.power.some, n.long.read.ram_fits, length_pages v.ram)
+  header_fits = omega (arith, g.power.some, n.long.read.ram_fits, length_pages v.ram)
 
   intent_size : length (take state_size (header v.ram) ++ words_bytes (format_words sizes)) ≡ header_size
   intent_size =

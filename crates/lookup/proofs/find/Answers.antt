@@ -28,7 +28,7 @@ returns-in_err-g c =
 pub pages_end-n-requires : goal.pages_end-n-requires
 pages_end-n-requires c =
     let f = c.in_ok-g.ensures.fits in
-    omega (arith, f.long.read.ram_fits, c.in_ok-g.g.chip.power.some, length_pages c.args.ram.now)
+    omega (arith, f.long.read.ram_fits, c.in_ok-g.g.power.some, length_pages c.args.ram.now)
 
 -- and what is lent of it are its pages
 lent_pages : (ram : List ℕ) (n : ℕ) → n ≡ length ram - header_size → take n ram ≡ pages ram
