@@ -1,6 +1,6 @@
 -- What the search's contract compares: the code's answers as the layout's, and the volume as far as a search reads it.
 use Rattle.std.specs.Prelude.{◌≡◌, Bool, List, [], ℕ, ◌+◌, ◌*◌, ◌/◌, ◌≤◌}
-use Rattle.std.proofs.Math.Path.{sym}
+use Rattle.std.proofs.Math.Path.{refl, sym}
 use Rattle.std.proofs.Math.Option.{Option, none, some}
 use Rattle.std.proofs.Common.{arith}
 use Rattle.memory.specs.Words.{word}
@@ -80,6 +80,26 @@ module _ (w : Volume) (g : Geometry) (v : View) (is : v ≡ whole g w.state.reco
       → search_da_pages h (shape g) w key ≡ r.da_pages
   unfolding da_pages_at maybe_in try_at try_cost test_deletion try_deletion maybe_deleted
   search_pages_lem h key r e = sym (rw is at e)
+
+-- ---- the same over any geometry of the layout
+
+-- what a search reads of a volume
+abbrev pub read_of : Volume → Volume
+read_of w =
+    record {
+      state = layout.state_of (layout.sizes_of 0 0 0 0) w.state.records w.state.deletions;
+      flash = flash_of w.flash.main [];
+      ram = w.ram;
+    }
+
+module _ (h : Family) (g : layout.Geometry) (w : Volume) (key : Key) where
+  pub search_read : search_at h g (read_of w) w.state.records w.state.deletions key ≡ search h g w key
+  unfolding search_at maybe_in try_at test_deletion try_deletion maybe_deleted
+  search_read = refl
+
+  pub search_pages_read : da_pages_at h g (read_of w) w.state.records w.state.deletions key ≡ search_da_pages h g w key
+  unfolding da_pages_at maybe_in try_at try_cost test_deletion try_deletion maybe_deleted
+  search_pages_read = refl
 
 -- ---- its parts
 
