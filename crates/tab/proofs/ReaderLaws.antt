@@ -6,9 +6,7 @@ use borrow.Author.Tests.{le-leb, le-ltb, lt-ltb}
 use Rattle.std.proofs.lemmas.List.{drop_more, drop_all}
 use Rattle.memory.specs.Cases.{either, bool?, le?}
 use Rattle.text.specs.Text.{is_digit}
-use Rattle.tab.specs.Reader.{Got, got, digits, small, decimal, word, name_of}
-use Rattle.tab.specs.declared.Column.{Column}
-use Rattle.tab.specs.declared.Column.TheVariants.{Level, Moves, Goal}
+use Rattle.tab.specs.Reader.{Got, got, digits, small, decimal, word}
 use Rattle.tab.proofs.Fields.{digits_sound, word_complete, word_is}
 
 digit? : (c : ℕ) → ((is_digit c ≡ true) × (48 ≤ c) × (c ≤ 57)) ⊎ (is_digit c ≡ false)
@@ -80,8 +78,7 @@ word_other w t n = go (word w t) refl
     go (some g) e = absurd (n g.rest (word_is w t g e).0)
 
 -- no text has a name
-pub name_missing : (c : Column) → word (name_of c) [] ≡ none
+pub name_missing : (w : List ℕ) → 0 < length w → word w [] ≡ none
 unfolding word
-name_missing Level = refl
-name_missing Moves = refl
-name_missing Goal = refl
+name_missing [] h = absurd (omega arith)
+name_missing (x ∷ w) h = refl
