@@ -24,12 +24,13 @@ fn copy_run(bytes: &[u8], s: Source, w: usize, y: usize, out: &mut [u8])
     ensures { out.new ≡ tabulate (length out.old) (λ (i : ℕ). field_byte bytes.now s w (y + i)) }
 {
     let a = s.at + y;
-    out.copy_from_slice(&bytes[a..a + out.len()]);
+    words::copy(out, &bytes[a..a + out.len()]);
 }
 
 // ---- fields of whole bytes: runs of them
 
-// Runs of N bytes, `stride` bytes from one to the next, the first from byte `at` on: bytes from their byte y on, where a run begins.
+// Runs of N bytes, `stride` bytes from one to the next, the first from byte `at` on: bytes from their byte y on, where a run begins. A run is
+// read whole before it is written, so that it takes one or two moves: the compiler doesn't see that the slices lie apart.
 fn whole_runs<const N: usize>(bytes: &[u8], at: usize, stride: usize, y: usize, out: &mut [u8])
     requires runs { (0 < N) × (0 < length out.old) × Runs (length bytes.now) at stride N y (length out.old) }
     requires whole { Whole N y × Whole N (length out.old) }
@@ -39,7 +40,9 @@ fn whole_runs<const N: usize>(bytes: &[u8], at: usize, stride: usize, y: usize, 
     for k in 0..out.len() / N {
         let i = k * N;
         let a = first + k * stride;
-        out[i..i + N].copy_from_slice(&bytes[a..a + N]);
+        let mut run = [0u8; N];
+        words::copy(&mut run, &bytes[a..a + N]);
+        words::copy(&mut out[i..i + N], &run);
     }
 }
 

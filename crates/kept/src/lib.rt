@@ -16,7 +16,7 @@ use geometry::{Area, Chip, Geometry, areas, sets};
 use plan::{NewBytes, NewFilters};
 use planning::Slots;
 
-// dst becomes src, a word at a time: by `copy_from_slice` alone it is slower, since that asks first whether they overlap.
+// dst becomes src, a word at a time: by `words::copy` alone it is slower, since the compiler doesn't see that the two lie apart.
 fn copy_words(dst: &mut [u8], src: &[u8])
     requires { (length dst.old ≡ length src.now) × (length src.now % 4 ≡ 0) }
     ensures { dst.new ≡ src.now }
@@ -24,7 +24,7 @@ fn copy_words(dst: &mut [u8], src: &[u8])
     for k in 0..src.len() / 4 {
         let i = 4 * k;
         let word = [src[i], src[i + 1], src[i + 2], src[i + 3]];
-        dst[i..i + 4].copy_from_slice(&word);
+        words::copy(&mut dst[i..i + 4], &word);
     }
 }
 

@@ -97,6 +97,14 @@ fn masked(at: usize, mask: u64, bytes: &[u8]) -> u64
     bytes[at] as u64 & mask
 }
 
+// Where byte k of those lies that are `step` bytes apart.
+fn byte_at(at: usize, k: usize, step: usize) -> usize
+    requires { at + k * step < 2 ^ 64 }
+    ensures { result ≡ at + k * step }
+{
+    at + k * step
+}
+
 // Bit `low` of a byte out of each of n, `step` bytes from one to the next.
 pub fn byte_bits(at: usize, low: usize, step: usize, n: usize, bytes: &[u8]) -> u64
     requires { (n ≤ 8) × ((i : ℕ) → i < n → at + i * step < length bytes.now) }
@@ -105,7 +113,7 @@ pub fn byte_bits(at: usize, low: usize, step: usize, n: usize, bytes: &[u8]) -> 
     let s = low % 8;
     let mut r: u64 = 0;
     for k in (0..n).rev() {
-        let b = masked(at + k * step, 1 << s, bytes);
+        let b = masked(byte_at(at, k, step), 1 << s, bytes);
         r = r * 2 + b;
     }
     r >> s

@@ -25,11 +25,15 @@ pub struct Field {
 
 // ---- what ends a field
 
-// The place after one given byte.
+// The place after one given byte. (By index, here and below: `get` hands a pointer on in a pair, whose layout is the processor's.)
 fn after_byte(tab: &[u8], at: usize, x: u8) -> Option<usize>
     ensures { place_in tab.now result ≡ after x (drop at tab.now) }
 {
-    (*tab.get(at)? == x).then_some(at + 1)
+    if at < tab.len() && tab[at] == x {
+        Some(at + 1)
+    } else {
+        None
+    }
 }
 
 // The place after a line's end: LF, CRLF, or the end of the tab.
@@ -37,11 +41,13 @@ fn after_byte(tab: &[u8], at: usize, x: u8) -> Option<usize>
 fn line_end(tab: &[u8], at: usize) -> Option<usize>
     ensures { place_in tab.now result ≡ line_end (drop at tab.now) }
 {
-    match tab.get(at) {
-        None => Some(at),
-        Some(b'\n') => Some(at + 1),
-        Some(b'\r') => after_byte(tab, at + 1, b'\n'),
-        Some(_) => None,
+    if at >= tab.len() {
+        return Some(at);
+    }
+    match tab[at] {
+        b'\n' => Some(at + 1),
+        b'\r' => after_byte(tab, at + 1, b'\n'),
+        _ => None,
     }
 }
 
@@ -117,7 +123,7 @@ fn bare_at(tab: &[u8], at: usize, c: Column, header: bool) -> Option<Field>
 fn content_at(tab: &[u8], at: usize, c: Column, header: bool) -> Option<Field>
     ensures { field_in tab.now result ≡ quoted (bare header c) (drop at tab.now) }
 {
-    let quoted = tab.get(at) == Some(&b'"');
+    let quoted = at < tab.len() && tab[at] == b'"';
     let start = if quoted { at + 1 } else { at };
     let content = bare_at(tab, start, c, header)?;
     if !quoted {

@@ -58,12 +58,22 @@ pub fn put64(s: &mut [u8], at: usize, x: u64)
     copy_at(s, at, &u64::to_le_bytes(x));
 }
 
+// dst becomes src. By bytes: `copy_from_slice` first asks by their addresses whether the two overlap, and then wants C's `memmove`.
+pub fn copy(dst: &mut [u8], src: &[u8])
+    requires { length dst.old ≡ length src.now }
+    ensures { dst.new ≡ src.now }
+{
+    for i in 0..src.len() {
+        dst[i] = src[i];
+    }
+}
+
 // src is written into dst from `at` on.
 pub fn copy_at(dst: &mut [u8], at: usize, src: &[u8])
     requires { at + length src.now ≤ length dst.old }
     ensures { dst.new ≡ write dst.old at src.now }
 {
-    dst[at..at + src.len()].copy_from_slice(src);
+    copy(&mut dst[at..at + src.len()], src);
 }
 
 // n bytes of dst from `at` on become v.

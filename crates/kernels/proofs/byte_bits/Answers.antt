@@ -19,7 +19,7 @@ loop-k-preserved c =
     let s = x.low % 8 in
     let k = l.k - 1 in
     let f = has x.at x.low x.step x.bytes.now in
-    pack_more f s k (get_or x.bytes.now (x.at + k * x.step) 0) ((1 * 2 ^ s) % 2 ^ 64) c.masked-b.result (one_of s (omega arith)) c.masked-b.ensures.0 refl
+    pack_more f s k (get_or x.bytes.now (x.at + k * x.step) 0) ((1 * 2 ^ s) % 2 ^ 64) c.masked-b.result (one_of s (omega arith)) (rw c.byte_at.ensures at c.masked-b.ensures.0) refl
     (x.n - l.k) (2 ^ (x.n - l.k)) l.k (x.n - k) (2 ^ (x.n - k)) l.r (omega arith) (omega arith) (twice x.n l.k (omega arith) (omega arith)) l.invariant
 
 pub returns : goal.returns

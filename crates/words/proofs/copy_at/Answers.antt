@@ -5,6 +5,6 @@ use Rattle.words.proofs.copy_at.Goals as goal
 pub returns : goal.returns
 returns c =
     let x = c.args in
-    let k = c.copy_from_slice in
-    part_back x.dst.now x.at (x.at + length x.src.now) k.new.self (omega arith) (omega arith) (omega (arith, ap length k.ensures.after))
-    ∙ ap (write x.dst.now x.at) k.ensures.after
+    let k = c.copy in
+    part_back x.dst.now x.at (x.at + length x.src.now) k.new.dst (omega arith) (omega arith) (omega (arith, ap length k.ensures))
+    ∙ ap (write x.dst.now x.at) k.ensures
