@@ -1,8 +1,8 @@
 -- The plans of a sound geometry fit in lent slices that hold its volume.
 use Rattle.std.specs.Prelude.{◌≡◌, refl, Bool, true, cond, List, ℕ, zero, suc, ◌+◌, ◌*◌, ◌/◌, ◌%◌, ◌^◌, ◌≤◌, ◌<◌, eqb, length}
-use Rattle.std.proofs.Common.{mul-le-mul_right, mod-lt, le_trans, le_refl, arith, eqb-true}
+use Rattle.std.proofs.Common.{mul-le-mul_right, mul-le-mul_left, mod-lt, le_trans, le_refl, arith, eqb-true}
 use Rattle.memory.specs.Cases.{either, eq?, bool?}
-use Rattle.memory.specs.Numbers.{div_lt, carry}
+use Rattle.memory.specs.Numbers.{euclid, div_lt, carry}
 use Rattle.layout.specs.Geometry as layout
 use Rattle.layout.specs.Items.{Area, Ra, KA, DA, fills}
 use Rattle.layout.specs.Index.{Index, in_ska, in_l1, in_set, in_full, set_pages, set_blocks, side_block, full_block, set_block}
@@ -65,6 +65,23 @@ module _ (u e : ℕ) (pow : u ≡ 2 ^ e) (ix : Index) (Z : ℕ) where
 -- the last of q items is followed by the first of the next q
 next_div : (n q : ℕ) → 0 < q → n % q + 1 ≡ q → (n + 1) / q ≡ n / q + 1
 next_div n q pos e = either (carry n q pos) (λ d. d.1) (λ d. absurd (d.0 e))
+
+-- ---- full sets are few, for any unit
+
+quotient_le : (n q : ℕ) → 0 < q → n / q ≤ n
+quotient_le n q h = omega (arith, euclid n q h, mul-le-mul_left (n / q) h)
+
+-- those of the index over the entries
+pub full_le : (u R n q : ℕ) → q ≡ layout.entries_per_page u → 0 < u → R ≤ 4096 → n < 4 * R * (16 * u) → in_full u (n / q) ≤ 1024
+full_le u R n q e pos h l =
+    let F : n / (8 * u) < 8 * R = div_lt n (8 * u) (8 * R) (omega arith) (omega (arith, l)) in
+    rw e (omega (arith, F, h, quotient_le (n / (8 * u) / 8 / 16) (4 * u) (omega arith)))
+
+-- those of the index over the deletions, of which a page gives two filters
+pub deletion_full_le : (u D d F : ℕ) → F ≡ 2 * (d / (16 * u)) → 0 < u → D ≤ 4096 → d < 16 * D * (16 * u) → in_full u (F + 1) ≤ 1024
+deletion_full_le u D d F e pos h l =
+    let p : d / (16 * u) < 16 * D = div_lt d (16 * u) (16 * D) (omega arith) (omega (arith, l)) in
+    rw e (omega (arith, p, h, quotient_le ((2 * (d / (16 * u)) + 1) / 8 / 16) (4 * u) (omega arith)))
 
 -- ---- of a sound geometry
 
