@@ -15,11 +15,13 @@ use Rattle.flash.specs.Fresh.{last_programmed}
 use Rattle.plan.specs.declared.Summary.{Summary}
 use Rattle.plan.specs.declared.Plan.{Plan}
 use Rattle.plan.specs.Spans.{length_planned}
-use Rattle.plan.specs.Segments.{filled_page, flushed, next_set, wiped}
+use Rattle.plan.specs.Numbers.{SummaryNumbers, PlanNumbers, plan_numbers}
+use Rattle.plan.specs.Segments.{set_from, filled_page, flushed, wiped}
 use Rattle.plan.specs.Plans.{deletion_in, record_in, entry_in, deletion_fourths, entry_fourths}
-use Rattle.plan.specs.Plans.{da_page, ra_page, ka_page, flush_of, build_of, summary_of, summary_count}
-use Rattle.plan.specs.Plans.{deletion_of, record_of, planned, deletion_count, deletion_count_lem}
-use Rattle.plan.specs.Done.{done_of, index_done, deletion_done, plan_done, record_done}
+use Rattle.plan.specs.Plans.{da_page_by, ra_page_by, ka_page_by, flush_by, build_by, summary_by, deletion_by, record_by, planned_by}
+use Rattle.plan.specs.Plans.{deletion_count_by, deletion_count_by_lem, planned, summary_count, deletion_count}
+use Rattle.plan.specs.Done.{done_of, index_done_by, deletion_done_by, record_done_by, plan_done_by}
+use Rattle.plan.specs.Done.{index_done, deletion_done, record_done, plan_done}
 
 -- ---- as code finds it; `x` and `y` are what code computes
 
@@ -52,7 +54,7 @@ record_done_le spare p =
     done_of_le p.ra.count _ _ (p.ka.count + summary_count p.ka_index) (last_le spare 1 p.ra.first p.ra.count)
     (done_of_le p.ka.count _ _ (summary_count p.ka_index) (last_le spare 1 p.ka.first p.ka.count) i)
 
--- ---- the plan's count is that of its operations, whatever the bytes
+-- ---- the count by the numbers is that of the operations that they stand for, whatever the bytes
 
 module _ (spare : List ℕ) where
   -- some of a list counts unless all of it is fresh
@@ -96,61 +98,64 @@ module _ (spare : List ℕ) where
       segment_done (filled_page u (record { sector = s; at = at }) item ram) 1 s
       (λ j. let e : s + j * 1 ≡ s + j = omega arith in rw e (known_one (s + j) _)) n
 
-  module _ (u : ℕ) (x : Summary) where
+  module _ (u : ℕ) (x : SummaryNumbers) where
     flush_done : (fourths ram : List ℕ)
-        → done_count spare (planned_from (flushed u (flush_of x) fourths ram) 0 x.flush.count)
+        → done_count spare (planned_from (flushed u (flush_by x) fourths ram) 0 x.flush.count)
         ≡ last_programmed spare flushes_per_round x.flush.first x.flush.count
     flush_done fourths ram =
-        segment_done (flushed u (flush_of x) fourths ram) 16 x.flush.first (λ j. known_one (x.flush.first + j * 16) _)
+        segment_done (flushed u (flush_by x) fourths ram) 16 x.flush.first (λ j. known_one (x.flush.first + j * 16) _)
         x.flush.count
 
-    set_done : done_count spare (planned_from (next_set u x.next x.set.first) 0 x.set.count)
+    set_done : done_count spare (planned_from (set_from u x.set.first x.index x.full_sets x.rounds) 0 x.set.count)
         ≡ last_programmed spare 1 x.set.first x.set.count
     set_done =
-        segment_done (next_set u x.next x.set.first) 1 x.set.first
+        segment_done (set_from u x.set.first x.index x.full_sets x.rounds) 1 x.set.first
         (λ j. let e : x.set.first + j * 1 ≡ x.set.first + j = omega arith in rw e (made_one (x.set.first + j) _)) x.set.count
 
-    build_done : done_count spare (build_of u x) ≡ last_programmed spare 1 x.set.first x.set.count
+    build_done : done_count spare (build_by u x) ≡ last_programmed spare 1 x.set.first x.set.count
     build_done =
-        two_done (planned_from (next_set u x.next x.set.first) 0 x.set.count)
+        two_done (planned_from (set_from u x.set.first x.index x.full_sets x.rounds) 0 x.set.count)
         (planned_from (wiped x.l1.first) 0 x.l1.count ++ planned_from (wiped x.old.first) 0 x.old.count)
         x.set.count _ 0 (length_planned _ 0 x.set.count) set_done
         (two_done (planned_from (wiped x.l1.first) 0 x.l1.count) (planned_from (wiped x.old.first) 0 x.old.count)
         x.l1.count 0 0 (length_planned _ 0 x.l1.count) (wipes_done x.l1.first x.l1.count)
         (wipes_done x.old.first x.old.count))
 
-    index_done_lem : (fourths ram : List ℕ) → done_count spare (summary_of u x fourths ram) ≡ index_done x spare
+    index_done_lem : (fourths ram : List ℕ) → done_count spare (summary_by u x fourths ram) ≡ index_done_by x spare
     index_done_lem fourths ram =
-        two_done (planned_from (flushed u (flush_of x) fourths ram) 0 x.flush.count) (build_of u x) x.flush.count _ _
+        two_done (planned_from (flushed u (flush_by x) fourths ram) 0 x.flush.count) (build_by u x) x.flush.count _ _
         (length_planned _ 0 x.flush.count) (flush_done fourths ram) build_done
 
-module _ (spare : List ℕ) (p : Plan) (new filters ram : List ℕ) where
-  abbrev u : ℕ
-  u = p.chip.unit
-
-  deletion_done_lem : done_count spare (deletion_of p new filters ram) ≡ deletion_done spare p
+module _ (spare : List ℕ) (p : PlanNumbers) (new filters ram : List ℕ) where
+  deletion_done_lem : done_count spare (deletion_by p new filters ram) ≡ deletion_done_by spare p
   deletion_done_lem =
-      two_done spare (planned_from (filled_page u (da_page p) (deletion_in new) ram) 0 p.da.count)
-      (summary_of u p.da_index (deletion_fourths filters) ram) p.da.count _ _ (length_planned _ 0 p.da.count)
-      (page_done spare u p.da.first (da_page p).at (deletion_in new) ram p.da.count)
-      (index_done_lem spare u p.da_index (deletion_fourths filters) ram)
+      two_done spare (planned_from (filled_page p.unit (da_page_by p) (deletion_in new) ram) 0 p.da.count)
+      (summary_by p.unit p.da_index (deletion_fourths filters) ram) p.da.count _ _ (length_planned _ 0 p.da.count)
+      (page_done spare p.unit p.da.first (da_page_by p).at (deletion_in new) ram p.da.count)
+      (index_done_lem spare p.unit p.da_index (deletion_fourths filters) ram)
 
-  record_done_lem : done_count spare (record_of p new filters ram) ≡ record_done spare p
+  record_done_lem : done_count spare (record_by p new filters ram) ≡ record_done_by spare p
   record_done_lem =
-      two_done spare (planned_from (filled_page u (ra_page p) (record_in new) ram) 0 p.ra.count)
-      (planned_from (filled_page u (ka_page p) (entry_in new) ram) 0 p.ka.count
-      ++ summary_of u p.ka_index (entry_fourths filters) ram) p.ra.count _ _ (length_planned _ 0 p.ra.count)
-      (page_done spare u p.ra.first (ra_page p).at (record_in new) ram p.ra.count)
-      (two_done spare (planned_from (filled_page u (ka_page p) (entry_in new) ram) 0 p.ka.count)
-      (summary_of u p.ka_index (entry_fourths filters) ram) p.ka.count _ _ (length_planned _ 0 p.ka.count)
-      (page_done spare u p.ka.first (ka_page p).at (entry_in new) ram p.ka.count)
-      (index_done_lem spare u p.ka_index (entry_fourths filters) ram))
+      two_done spare (planned_from (filled_page p.unit (ra_page_by p) (record_in new) ram) 0 p.ra.count)
+      (planned_from (filled_page p.unit (ka_page_by p) (entry_in new) ram) 0 p.ka.count
+      ++ summary_by p.unit p.ka_index (entry_fourths filters) ram) p.ra.count _ _ (length_planned _ 0 p.ra.count)
+      (page_done spare p.unit p.ra.first (ra_page_by p).at (record_in new) ram p.ra.count)
+      (two_done spare (planned_from (filled_page p.unit (ka_page_by p) (entry_in new) ram) 0 p.ka.count)
+      (summary_by p.unit p.ka_index (entry_fourths filters) ram) p.ka.count _ _ (length_planned _ 0 p.ka.count)
+      (page_done spare p.unit p.ka.first (ka_page_by p).at (entry_in new) ram p.ka.count)
+      (index_done_lem spare p.unit p.ka_index (entry_fourths filters) ram))
 
+  pub plan_done_by_lem : plan_done_by spare p ≡ done_count spare (planned_by p new filters ram)
+  plan_done_by_lem =
+      sym (two_done spare (deletion_by p new filters ram) (record_by p new filters ram) (deletion_count_by p) _ _
+      (deletion_count_by_lem p new filters ram) deletion_done_lem record_done_lem)
+
+-- ---- so is that of the code's plan
+
+module _ (spare : List ℕ) (p : Plan) (new filters ram : List ℕ) where
   pub plan_done_lem : plan_done spare p ≡ done_count spare (planned p new filters ram)
   unfolding plan_done
-  plan_done_lem =
-      sym (two_done spare (deletion_of p new filters ram) (record_of p new filters ram) (deletion_count p) _ _
-      (deletion_count_lem p new filters ram) deletion_done_lem record_done_lem)
+  plan_done_lem = plan_done_by_lem spare (plan_numbers p) new filters ram
 
 -- what code computes
 pub plan_done_is : (spare : List ℕ) (p : Plan) (x : ℕ) → x ≡ done_of (deletion_count p) (deletion_done spare p) (record_done spare p)

@@ -11,25 +11,32 @@ use Rattle.layout.specs.Geometry.{sector}
 use Rattle.layout.specs.Flash.{Flash, apply, fresh, all_fresh, Planned, known, made, wipe, planned_from, op_on, plan_ops}
 use Rattle.layout.specs.Index.{flushes_per_round, set_byte}
 use Rattle.flash.specs.Fresh.{fresh_run}
-use Rattle.geometry.specs.Indexes.{index_of}
 use Rattle.plan.specs.declared.Page.{Page}
 use Rattle.plan.specs.declared.Summary.{Summary}
 use Rattle.plan.specs.declared.Plan.{Plan}
-use Rattle.plan.specs.Segments.{with_item, with_ends, filled_page, flushed, next_set, wiped}
+use Rattle.plan.specs.Numbers.{SummaryNumbers, PlanNumbers, summary_numbers, plan_numbers}
+use Rattle.plan.specs.Segments.{set_from, with_item, with_ends, filled_page, flushed, wiped}
 use Rattle.plan.specs.Plans.{deletion_in, record_in, entry_in, deletion_fourths, entry_fourths}
-use Rattle.plan.specs.Plans.{da_page, ra_page, ka_page, flush_of, summary_of, planned}
+use Rattle.plan.specs.Plans.{da_page_by, ra_page_by, ka_page_by, flush_by, summary_by, planned_by, planned}
 
 -- those of an index
-abbrev pub index_fresh : Summary → List ℕ → Bool
-index_fresh s spare = fresh_run spare flushes_per_round s.flush.first s.flush.count && fresh_run spare 1 s.set.first s.set.count
+abbrev pub index_fresh_by : SummaryNumbers → List ℕ → Bool
+index_fresh_by s spare = fresh_run spare flushes_per_round s.flush.first s.flush.count && fresh_run spare 1 s.set.first s.set.count
 
 -- those of a plan
-unfoldable pub plan_fresh : List ℕ → Plan → Bool
-plan_fresh spare p =
+abbrev pub plan_fresh_by : List ℕ → PlanNumbers → Bool
+plan_fresh_by spare p =
     fresh_run spare 1 p.da.first p.da.count
-    && (index_fresh p.da_index spare
+    && (index_fresh_by p.da_index spare
     && (fresh_run spare 1 p.ra.first p.ra.count
-    && (fresh_run spare 1 p.ka.first p.ka.count && index_fresh p.ka_index spare)))
+    && (fresh_run spare 1 p.ka.first p.ka.count && index_fresh_by p.ka_index spare)))
+
+-- those of the code's
+abbrev pub index_fresh : Summary → List ℕ → Bool
+index_fresh s spare = index_fresh_by (summary_numbers s) spare
+
+unfoldable pub plan_fresh : List ℕ → Plan → Bool
+plan_fresh spare p = plan_fresh_by spare (plan_numbers p)
 
 -- ---- the marks tell the same of a plan's operations, on whatever chip
 
@@ -110,43 +117,48 @@ module _ (spare : List ℕ) (u : ℕ) where
       let z : q.sector + 0 ≡ q.sector = omega arith in
       rw z at (row_ask q.sector (bytes q.at (with_item u q.at item ram)) 0 n)
 
-  index_ask : (s : Summary) (fourths ram : List ℕ) → Asks (summary_of u s fourths ram) (index_fresh s spare)
+  index_ask : (s : SummaryNumbers) (fourths ram : List ℕ) → Asks (summary_by u s fourths ram) (index_fresh_by s spare)
   index_ask s fourths ram =
       let y : s.flush.first + 0 * 16 ≡ s.flush.first = omega arith in
       let z : s.set.first + 0 ≡ s.set.first = omega arith in
       let made_of : ℕ → List ℕ → List ℕ
-      = λ j main. tabulate (sector u) (set_byte u (index_of s.next.index) main s.next.full_sets s.next.rounds j) in
-      four_ask (planned_from (flushed u (flush_of s) fourths ram) 0 s.flush.count)
-      (planned_from (next_set u s.next s.set.first) 0 s.set.count)
+      = λ j main. tabulate (sector u) (set_byte u s.index main s.full_sets s.rounds j) in
+      four_ask (planned_from (flushed u (flush_by s) fourths ram) 0 s.flush.count)
+      (planned_from (set_from u s.set.first s.index s.full_sets s.rounds) 0 s.set.count)
       (planned_from (wiped s.l1.first) 0 s.l1.count)
       (planned_from (wiped s.old.first) 0 s.old.count)
       (fresh_run spare flushes_per_round s.flush.first s.flush.count)
       (fresh_run spare 1 s.set.first s.set.count)
-      (rw y at (known_ask s.flush.first 16 (bytes s.next.index.ska (with_ends u (flush_of s) fourths ram)) 0 s.flush.count))
+      (rw y at (known_ask s.flush.first 16 (bytes s.index.ska (with_ends u (flush_by s) fourths ram)) 0 s.flush.count))
       (rw z at (made_ask s.set.first made_of 0 s.set.count))
       (wipes_ask s.l1.first 0 s.l1.count)
       (wipes_ask s.old.first 0 s.old.count)
 
--- the plan's test is that of its operations, whatever the bytes and the chip
+-- the test by the numbers is that of the operations that they stand for, whatever the bytes and the chip
+pub plan_fresh_by_lem : (spare : List ℕ) (p : PlanNumbers) (new filters ram : List ℕ) (c : Flash)
+    → plan_fresh_by spare p ≡ all_fresh spare (plan_ops p.unit (planned_by p new filters ram) c)
+plan_fresh_by_lem spare p new filters ram c =
+    let u : ℕ = p.unit in
+    sym
+    (five_ask spare u
+    (planned_from (filled_page u (da_page_by p) (deletion_in new) ram) 0 p.da.count)
+    (summary_by u p.da_index (deletion_fourths filters) ram)
+    (planned_from (filled_page u (ra_page_by p) (record_in new) ram) 0 p.ra.count)
+    (planned_from (filled_page u (ka_page_by p) (entry_in new) ram) 0 p.ka.count)
+    (summary_by u p.ka_index (entry_fourths filters) ram)
+    (fresh_run spare 1 p.da.first p.da.count)
+    (index_fresh_by p.da_index spare)
+    (fresh_run spare 1 p.ra.first p.ra.count)
+    (fresh_run spare 1 p.ka.first p.ka.count)
+    (index_fresh_by p.ka_index spare)
+    (page_ask spare u (da_page_by p) (deletion_in new) ram p.da.count)
+    (index_ask spare u p.da_index (deletion_fourths filters) ram)
+    (page_ask spare u (ra_page_by p) (record_in new) ram p.ra.count)
+    (page_ask spare u (ka_page_by p) (entry_in new) ram p.ka.count)
+    (index_ask spare u p.ka_index (entry_fourths filters) ram) c)
+
+-- so is the test of the code's plan
 pub plan_fresh_lem : (spare : List ℕ) (p : Plan) (new filters ram : List ℕ) (c : Flash)
     → plan_fresh spare p ≡ all_fresh spare (plan_ops p.chip.unit (planned p new filters ram) c)
 unfolding plan_fresh
-plan_fresh_lem spare p new filters ram c =
-    let u : ℕ = p.chip.unit in
-    sym
-    (five_ask spare u
-    (planned_from (filled_page u (da_page p) (deletion_in new) ram) 0 p.da.count)
-    (summary_of u p.da_index (deletion_fourths filters) ram)
-    (planned_from (filled_page u (ra_page p) (record_in new) ram) 0 p.ra.count)
-    (planned_from (filled_page u (ka_page p) (entry_in new) ram) 0 p.ka.count)
-    (summary_of u p.ka_index (entry_fourths filters) ram)
-    (fresh_run spare 1 p.da.first p.da.count)
-    (index_fresh p.da_index spare)
-    (fresh_run spare 1 p.ra.first p.ra.count)
-    (fresh_run spare 1 p.ka.first p.ka.count)
-    (index_fresh p.ka_index spare)
-    (page_ask spare u (da_page p) (deletion_in new) ram p.da.count)
-    (index_ask spare u p.da_index (deletion_fourths filters) ram)
-    (page_ask spare u (ra_page p) (record_in new) ram p.ra.count)
-    (page_ask spare u (ka_page p) (entry_in new) ram p.ka.count)
-    (index_ask spare u p.ka_index (entry_fourths filters) ram) c)
+plan_fresh_lem spare p = plan_fresh_by_lem spare (plan_numbers p)

@@ -100,8 +100,17 @@ module _ (p : PlanNumbers) where
   abbrev pub planned_count_by : ℕ
   planned_count_by = deletion_count_by + (p.ra.count + p.ka.count + count_by p.ka_index)
 
+  abbrev pub whole_by : Span
+  whole_by = record { from = 0; to = planned_count_by }
+
+  pub deletion_count_by_lem : (new filters ram : List ℕ) → length (deletion_by new filters ram) ≡ deletion_count_by
+  deletion_count_by_lem new filters ram = simp (length-append, length_planned) (omega arith)
+
   pub planned_count_by_lem : (new filters ram : List ℕ) → length (planned_by new filters ram) ≡ planned_count_by
   planned_count_by_lem new filters ram = simp (length-append, length_planned) (omega arith)
+
+  pub whole_by_is : (new filters ram : List ℕ) → span (planned_by new filters ram) whole_by ≡ planned_by new filters ram
+  whole_by_is new filters ram = span_all (planned_by new filters ram) planned_count_by (planned_count_by_lem new filters ram)
 
 -- ---- those of the code's plans
 
@@ -145,10 +154,10 @@ module _ (p : Plan) where
   planned_count = planned_count_by (plan_numbers p)
 
   abbrev pub whole_of : Span
-  whole_of = record { from = 0; to = planned_count }
+  whole_of = whole_by (plan_numbers p)
 
   pub deletion_count_lem : (new filters ram : List ℕ) → length (deletion_of new filters ram) ≡ deletion_count
-  deletion_count_lem new filters ram = simp (length-append, length_planned) (omega arith)
+  deletion_count_lem = deletion_count_by_lem (plan_numbers p)
 
   pub planned_count_lem : (new filters ram : List ℕ) → length (planned new filters ram) ≡ planned_count
   planned_count_lem new filters ram = simp (length-append, length_planned) (omega arith)
@@ -233,34 +242,80 @@ pub none_run : (u : ℕ) (xs : List Planned) (s : Span) (y : Flash) → s.to ≡
 none_run u xs s y e = ap (λ (l : List Planned). done u l y) (sym (span_none xs s e))
 
 -- the next set and the erases; the flush and what is built
+module _ (u : ℕ) (x : SummaryNumbers) (s s₂ : Span) (c : Flash) where
+  pub build_run_by : (s₃ r₁ r₂ r₃ : Span) {c₁ c₂ c₃ : Flash} → s₂ ≡ behind s x.set.count → s₃ ≡ behind s₂ x.l1.count
+      → r₁ ≡ among s x.set.count → r₂ ≡ among s₂ x.l1.count → r₃ ≡ among s₃ x.old.count
+      → c₁ ≡ run_of u (set_from u x.set.first x.index x.full_sets x.rounds) r₁ c → c₂ ≡ run_of u (wiped x.l1.first) r₂ c₁
+      → c₃ ≡ run_of u (wiped x.old.first) r₃ c₂ → c₃ ≡ done u (span (build_by u x) s) c
+  build_run_by s₃ r₁ r₂ r₃ e₂ e₃ a₁ a₂ a₃ d₁ d₂ d₃ =
+      let f₂ : ℕ → Planned = wiped x.l1.first in
+      let f₃ : ℕ → Planned = wiped x.old.first in
+      first_run u (set_from u x.set.first x.index x.full_sets x.rounds) x.set.count
+      (planned_from f₂ 0 x.l1.count ++ planned_from f₃ 0 x.old.count) s r₁ s₂ c a₁ e₂ d₁
+      (first_run u f₂ x.l1.count (planned_from f₃ 0 x.old.count) s₂ r₂ s₃ _ a₂ e₃ d₂ (last_run u f₃ x.old.count s₃ r₃ _ a₃ d₃))
+
+  pub index_run_by : (fourths ram : List ℕ) (r : Span) {c₁ c₂ : Flash} → s₂ ≡ behind s x.flush.count → r ≡ among s x.flush.count
+      → c₁ ≡ run_of u (flushed u (flush_by x) fourths ram) r c → c₂ ≡ done u (span (build_by u x) s₂) c₁
+      → c₂ ≡ done u (span (summary_by u x fourths ram) s) c
+  index_run_by fourths ram r e a d₁ d₂ =
+      first_run u (flushed u (flush_by x) fourths ram) x.flush.count (build_by u x) s r s₂ c a e d₁ d₂
+
+-- the page of deletions and its index, the pages of the record and its index, both; `da`, `ra` and `ka` are what code computes
+module _ (p : PlanNumbers) (new filters ram : List ℕ) (s s₂ : Span) (c : Flash) where
+  pub deletion_run_by : (da : ℕ) (r : Span) {c₁ c₂ : Flash} → da ≡ da_ram p.unit
+      → s₂ ≡ behind s p.da.count → r ≡ among s p.da.count
+      → c₁ ≡ run_of p.unit (filled_page p.unit (record { sector = p.da.first; at = da }) (deletion_in new) ram) r c
+      → c₂ ≡ done p.unit (span (summary_by p.unit p.da_index (deletion_fourths filters) ram) s₂) c₁
+      → c₂ ≡ done p.unit (span (deletion_by p new filters ram) s) c
+  deletion_run_by da r da_is e a d₁ d₂ =
+      let u : ℕ = p.unit in
+      first_run u (filled_page u (da_page_by p) (deletion_in new) ram) p.da.count (summary_by u p.da_index (deletion_fourths filters) ram)
+      s r s₂ c a e (rw da_is at d₁) d₂
+
+  pub record_run_by : (ra ka : ℕ) (s₃ r₁ r₂ : Span) {c₁ c₂ c₃ : Flash} → ra ≡ ra_ram p.unit → ka ≡ ka_ram p.unit
+      → s₂ ≡ behind s p.ra.count → s₃ ≡ behind s₂ p.ka.count → r₁ ≡ among s p.ra.count → r₂ ≡ among s₂ p.ka.count
+      → c₁ ≡ run_of p.unit (filled_page p.unit (record { sector = p.ra.first; at = ra }) (record_in new) ram) r₁ c
+      → c₂ ≡ run_of p.unit (filled_page p.unit (record { sector = p.ka.first; at = ka }) (entry_in new) ram) r₂ c₁
+      → c₃ ≡ done p.unit (span (summary_by p.unit p.ka_index (entry_fourths filters) ram) s₃) c₂
+      → c₃ ≡ done p.unit (span (record_by p new filters ram) s) c
+  record_run_by ra ka s₃ r₁ r₂ ra_is ka_is e₂ e₃ a₁ a₂ d₁ d₂ d₃ =
+      let u : ℕ = p.unit in
+      let f₂ : ℕ → Planned = filled_page u (ka_page_by p) (entry_in new) ram in
+      let last : List Planned = summary_by u p.ka_index (entry_fourths filters) ram in
+      first_run u (filled_page u (ra_page_by p) (record_in new) ram) p.ra.count (planned_from f₂ 0 p.ka.count ++ last)
+      s r₁ s₂ c a₁ e₂ (rw ra_is at d₁) (first_run u f₂ p.ka.count last s₂ r₂ s₃ _ a₂ e₃ (rw ka_is at d₂) d₃)
+
+  pub whole_run_by : (r : Span) {c₁ c₂ : Flash} → s₂ ≡ behind s (deletion_count_by p) → r ≡ among s (deletion_count_by p)
+      → c₁ ≡ done p.unit (span (deletion_by p new filters ram) r) c
+      → c₂ ≡ done p.unit (span (record_by p new filters ram) s₂) c₁
+      → c₂ ≡ done p.unit (span (planned_by p new filters ram) s) c
+  whole_run_by r e a d₁ d₂ =
+      let u : ℕ = p.unit in
+      let n = deletion_count_by_lem p new filters ram in
+      both_run u (deletion_by p new filters ram) (record_by p new filters ram) (deletion_count_by p) s s₂ c n e
+      (d₁ ∙ ap (λ (l : List Planned). done u l c) (span_among (deletion_by p new filters ram) (deletion_count_by p) s r n a)) d₂
+
+-- ---- those of the code's plans
+
 module _ (u : ℕ) (x : Summary) (s s₂ : Span) (c : Flash) where
   pub build_run : (s₃ r₁ r₂ r₃ : Span) {c₁ c₂ c₃ : Flash} → s₂ ≡ behind s x.set.count → s₃ ≡ behind s₂ x.l1.count
       → r₁ ≡ among s x.set.count → r₂ ≡ among s₂ x.l1.count → r₃ ≡ among s₃ x.old.count
       → c₁ ≡ run_of u (next_set u x.next x.set.first) r₁ c → c₂ ≡ run_of u (wiped x.l1.first) r₂ c₁
       → c₃ ≡ run_of u (wiped x.old.first) r₃ c₂ → c₃ ≡ done u (span (build_of u x) s) c
-  build_run s₃ r₁ r₂ r₃ e₂ e₃ a₁ a₂ a₃ d₁ d₂ d₃ =
-      let f₂ : ℕ → Planned = wiped x.l1.first in
-      let f₃ : ℕ → Planned = wiped x.old.first in
-      first_run u (next_set u x.next x.set.first) x.set.count
-      (planned_from f₂ 0 x.l1.count ++ planned_from f₃ 0 x.old.count) s r₁ s₂ c a₁ e₂ d₁
-      (first_run u f₂ x.l1.count (planned_from f₃ 0 x.old.count) s₂ r₂ s₃ _ a₂ e₃ d₂ (last_run u f₃ x.old.count s₃ r₃ _ a₃ d₃))
+  build_run = build_run_by u (summary_numbers x) s s₂ c
 
   pub index_run : (fourths ram : List ℕ) (r : Span) {c₁ c₂ : Flash} → s₂ ≡ behind s x.flush.count → r ≡ among s x.flush.count
       → c₁ ≡ run_of u (flushed u (flush_of x) fourths ram) r c → c₂ ≡ done u (span (build_of u x) s₂) c₁
       → c₂ ≡ done u (span (summary_of u x fourths ram) s) c
-  index_run fourths ram r e a d₁ d₂ = first_run u (flushed u (flush_of x) fourths ram) x.flush.count (build_of u x) s r s₂ c a e d₁ d₂
+  index_run = index_run_by u (summary_numbers x) s s₂ c
 
--- the page of deletions and its index, the pages of the record and its index, both; `da`, `ra` and `ka` are what code computes
 module _ (p : Plan) (new filters ram : List ℕ) (s s₂ : Span) (c : Flash) where
   pub deletion_run : (da : ℕ) (r : Span) {c₁ c₂ : Flash} → da ≡ da_ram p.chip.unit
       → s₂ ≡ behind s p.da.count → r ≡ among s p.da.count
       → c₁ ≡ run_of p.chip.unit (filled_page p.chip.unit (record { sector = p.da.first; at = da }) (deletion_in new) ram) r c
       → c₂ ≡ done p.chip.unit (span (summary_of p.chip.unit p.da_index (deletion_fourths filters) ram) s₂) c₁
       → c₂ ≡ done p.chip.unit (span (deletion_of p new filters ram) s) c
-  deletion_run da r da_is e a d₁ d₂ =
-      let u : ℕ = p.chip.unit in
-      first_run u (filled_page u (da_page p) (deletion_in new) ram) p.da.count (summary_of u p.da_index (deletion_fourths filters) ram)
-      s r s₂ c a e (rw da_is at d₁) d₂
+  deletion_run = deletion_run_by (plan_numbers p) new filters ram s s₂ c
 
   pub record_run : (ra ka : ℕ) (s₃ r₁ r₂ : Span) {c₁ c₂ c₃ : Flash} → ra ≡ ra_ram p.chip.unit → ka ≡ ka_ram p.chip.unit
       → s₂ ≡ behind s p.ra.count → s₃ ≡ behind s₂ p.ka.count → r₁ ≡ among s p.ra.count → r₂ ≡ among s₂ p.ka.count
@@ -268,19 +323,10 @@ module _ (p : Plan) (new filters ram : List ℕ) (s s₂ : Span) (c : Flash) whe
       → c₂ ≡ run_of p.chip.unit (filled_page p.chip.unit (record { sector = p.ka.first; at = ka }) (entry_in new) ram) r₂ c₁
       → c₃ ≡ done p.chip.unit (span (summary_of p.chip.unit p.ka_index (entry_fourths filters) ram) s₃) c₂
       → c₃ ≡ done p.chip.unit (span (record_of p new filters ram) s) c
-  record_run ra ka s₃ r₁ r₂ ra_is ka_is e₂ e₃ a₁ a₂ d₁ d₂ d₃ =
-      let u : ℕ = p.chip.unit in
-      let f₂ : ℕ → Planned = filled_page u (ka_page p) (entry_in new) ram in
-      let last : List Planned = summary_of u p.ka_index (entry_fourths filters) ram in
-      first_run u (filled_page u (ra_page p) (record_in new) ram) p.ra.count (planned_from f₂ 0 p.ka.count ++ last)
-      s r₁ s₂ c a₁ e₂ (rw ra_is at d₁) (first_run u f₂ p.ka.count last s₂ r₂ s₃ _ a₂ e₃ (rw ka_is at d₂) d₃)
+  record_run = record_run_by (plan_numbers p) new filters ram s s₂ c
 
   pub whole_run : (r : Span) {c₁ c₂ : Flash} → s₂ ≡ behind s (deletion_count p) → r ≡ among s (deletion_count p)
       → c₁ ≡ done p.chip.unit (span (deletion_of p new filters ram) r) c
       → c₂ ≡ done p.chip.unit (span (record_of p new filters ram) s₂) c₁
       → c₂ ≡ done p.chip.unit (span (planned p new filters ram) s) c
-  whole_run r e a d₁ d₂ =
-      let u : ℕ = p.chip.unit in
-      let n = deletion_count_lem p new filters ram in
-      both_run u (deletion_of p new filters ram) (record_of p new filters ram) (deletion_count p) s s₂ c n e
-      (d₁ ∙ ap (λ (l : List Planned). done u l c) (span_among (deletion_of p new filters ram) (deletion_count p) s r n a)) d₂
+  whole_run = whole_run_by (plan_numbers p) new filters ram s s₂ c
