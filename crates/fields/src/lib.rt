@@ -29,8 +29,7 @@ fn copy_run(bytes: &[u8], s: Source, w: usize, y: usize, out: &mut [u8])
 
 // ---- fields of whole bytes: runs of them
 
-// Runs of N bytes, `stride` bytes from one to the next, the first from byte `at` on: bytes from their byte y on, where a run begins. A run is
-// read whole before it is written, so that it takes one or two moves: the compiler doesn't see that the slices lie apart.
+// Runs of N bytes, `stride` bytes from one to the next, the first from byte `at` on: bytes from their byte y on, where a run begins.
 fn whole_runs<const N: usize>(bytes: &[u8], at: usize, stride: usize, y: usize, out: &mut [u8])
     requires runs { (0 < N) × (0 < length out.old) × Runs (length bytes.now) at stride N y (length out.old) }
     requires whole { Whole N y × Whole N (length out.old) }
@@ -40,9 +39,7 @@ fn whole_runs<const N: usize>(bytes: &[u8], at: usize, stride: usize, y: usize, 
     for k in 0..out.len() / N {
         let i = k * N;
         let a = first + k * stride;
-        let mut run = [0u8; N];
-        words::copy(&mut run, &bytes[a..a + N]);
-        words::copy(&mut out[i..i + N], &run);
+        words::copy_few(&mut out[i..i + N], &bytes[a..a + N]);
     }
 }
 
