@@ -32,7 +32,9 @@ fn read_digits(word: &[u8]) -> Option<u32>
         if !c.is_ascii_digit() {
             return None;
         }
-        value = value.checked_mul(10)?.checked_add(text::digit_value(*c) as u32)?;
+        value = value
+            .checked_mul(10)?
+            .checked_add(text::digit_value(*c) as u32)?;
     }
     Some(value)
 }
