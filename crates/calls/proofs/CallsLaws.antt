@@ -160,7 +160,8 @@ module _ (end : Commit) (w : Volume) where
   decided_refused j t q i d = judged_done j (told_shaped w j t) q ∙ ap (done_by (layout.geometry w.state.sizes)) d
 
   pub decided_changes : (j : std.Result Geometry Refusal) → Told w j → (q : Request)
-      → ResolvedFits w (resolved_by j w (key_of (call_of q))) → (r : Resolved) (e : Edit) → resolved_by j w (key_of (call_of q)) ≡ Ok r → decision_of q r.live ≡ Ok e
+      → ResolvedFits w (resolved_by j w (key_of (call_of q))) → (r : Resolved) (e : Edit)
+      → resolved_by j w (key_of (call_of q)) ≡ Ok r → decision_of q r.live ≡ Ok e
       → VolumeFits w r.g × (judged_by j w (answered q) ≡ change_by end fnv_family (shape r.g) w (edit_is e))
   decided_changes j t q f r e is d =
       let G = layout.geometry w.state.sizes in

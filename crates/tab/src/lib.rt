@@ -94,8 +94,8 @@ fn word_at(tab: &[u8], at: usize, w: &[u8]) -> Option<Field>
     })
 }
 
-// A column's name in the tab. (Not by a function that gives the name: the compiler keeps its answers as a table of addresses, and the library
-// for C has no data.)
+// A column's name in the tab. (Not by a function that gives the name: of its answers the compiler makes a table of addresses, and the
+// library for C has no data.)
 fn name_at(tab: &[u8], at: usize, c: Column) -> Option<Field>
     ensures { field_in tab.now result ≡ word (name_of c) (drop at tab.now) }
 {
