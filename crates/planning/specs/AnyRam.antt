@@ -25,13 +25,20 @@ numbers_are g (Insert n) = insertion_numbers_are g n
 numbers_are g (Update d n) = update_numbers_are g d n
 
 -- whatever the RAM: there are new bytes and filters for which the code's plan is the layout's
+module _ (h : Family) (g : Geometry) (j : ℕ) (r : Record) (ram : List ℕ) (long : ram_size (shape g) ≤ length ram) where
+  abbrev new : Slots → List ℕ
+  new e = some_new h (shape g) g.power.most j r ram e
+
+  abbrev filters : Slots → List ℕ
+  filters e = some_filters h (shape g) g.power.most j r ram e
+
+  some_planned : (e : Slots) → planned (numbers_of g e) (new e) (filters e) ram ≡ plan_of (shape g) h j r.key (record_bytes r) ram e
+  some_planned e =
+      edit_planned h g j r.key (record_bytes r) (new e) (filters e) ram long e (all_given h (shape g) g.power.most j r ram e)
+
 pub edit_some : (h : Family) (g : Geometry) (j : ℕ) (r : Record) (ram : List ℕ) → ram_size (shape g) ≤ length ram → (e : Slots)
     → (new : List ℕ) × (filters : List ℕ) × (planned (numbers_of g e) new filters ram ≡ plan_of (shape g) h j r.key (record_bytes r) ram e)
-edit_some h g j r ram long e =
-    let new = some_new h (shape g) g.power.most j r ram e in
-    let filters = some_filters h (shape g) g.power.most j r ram e in
-    let given = all_given h (shape g) g.power.most j r ram e in
-    (new, filters, edit_planned h g j r.key (record_bytes r) new filters ram long e given)
+edit_some h g j r ram long e = (new h g j r ram long e, filters h g j r ram long e, some_planned h g j r ram long e)
 
 -- the unit of its numbers
 pub unit_is : (g : Geometry) (e : Slots) → (numbers_of g e).chip.unit ≡ g.chip.unit

@@ -280,11 +280,15 @@ module _ (g : Geometry) (S : Sound g) where
               };
             })
 
-    -- whether a page is full or not
-    by_page : (b : Bool) (ix : CodeIndex) (x y : SummaryNumbers) (fourths : ℕ)
+    -- whether a page is full or not; of any two, and of numbers with one index
+    by_page : (b : Bool) (x y : Summary) (fourths : ℕ) → (b ≡ true → SummaryFits u x fourths m s r) → SummaryFits u y fourths m s r
+        → SummaryFits u (cond b x y) fourths m s r
+    by_page b x y fourths f n = either (bool? b) (λ e. rw e (f e)) (λ e. rw e n)
+
+    by_page_with : (b : Bool) (ix : CodeIndex) (x y : SummaryNumbers) (fourths : ℕ)
         → (b ≡ true → SummaryFits u (summary_with ix x) fourths m s r)
         → SummaryFits u (summary_with ix y) fourths m s r → SummaryFits u (summary_with ix (cond b x y)) fourths m s r
-    by_page b ix x y fourths f n = either (bool? b) (λ e. rw e (f e)) (λ e. rw e n)
+    by_page_with b ix x y fourths f n = either (bool? b) (λ e. rw e (f e)) (λ e. rw e n)
 
     no_deletions_fit : SummaryFits u (no_deletions g) 512 m s r
     no_deletions_fit = no_summary_fits (deletion_index_for g) (layout.deletion_sets G) (2 * layout.fourth_size u) 512 deletions_in_lem
@@ -294,7 +298,7 @@ module _ (g : Geometry) (S : Sound g) where
 
     deletion_summary_fits : (d : ℕ) → d < layout.deletion_capacity G → SummaryFits u (deletion_summary g d) 512 m s r
     deletion_summary_fits d h =
-        by_page (fills (DA G) d) (deletion_index_for g) _ (numbers.no_deletions G) 512
+        by_page_with (fills (DA G) d) (deletion_index_for g) _ (numbers.no_deletions G) 512
         (λ full.
         summary_fits (deletion_index_for g) (layout.deletion_sets G) (2 * layout.fourth_size u) 512 deletions_in_lem (deletion_filters G d + 1)
         (deletion_room d h full))
@@ -302,7 +306,7 @@ module _ (g : Geometry) (S : Sound g) where
 
     entry_summary_fits : (n : ℕ) → n < layout.record_capacity G → SummaryFits u (entry_summary g n) 256 m s r
     entry_summary_fits n h =
-        by_page (fills (KA G) n) (index_for g) _ (numbers.no_entries G) 256
+        by_page_with (fills (KA G) n) (index_for g) _ (numbers.no_entries G) 256
         (λ full. summary_fits (index_for g) (layout.full_sets G) (layout.fourth_size u) 256 key_in (key_filters G n) (key_room n h full))
         no_entries_fit
 

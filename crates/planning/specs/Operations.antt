@@ -1,8 +1,9 @@
 -- The lists that the code's plans stand for are the layout's.
-use Rattle.std.specs.Prelude.{◌≡◌, true, List, ◌++◌, ℕ, ◌+◌, ◌-◌, ◌≤◌, ◌<◌, eqb, length}
+use Rattle.std.specs.Prelude.{◌≡◌, refl, Bool, true, false, cond, List, [], ◌++◌, ℕ, ◌+◌, ◌-◌, ◌≤◌, ◌<◌, eqb, length}
 use Rattle.std.proofs.Common.{ap, ◌∙◌}
 use Rattle.layout.specs.Keys.{Key}
 use Rattle.layout.specs.Geometry.{sector, ram_size}
+use Rattle.layout.specs.Flash.{Planned}
 use Rattle.layout.specs.Hash.{Family}
 use Rattle.layout.specs.Items.{KA, DA, fills, entry_bytes, deletion_bytes}
 use Rattle.layout.specs.Index.{in_ska, filter_plan}
@@ -12,6 +13,7 @@ use Rattle.geometry.specs.declared.volume.Geometry.{Geometry}
 use Rattle.geometry.specs.Shape.{shape}
 use Rattle.geometry.specs.Indexes.{index_of}
 use Rattle.filter.specs.Fourths.{FourthsOf, with_fourths}
+use Rattle.plan.specs.declared.Summary.{Summary}
 use Rattle.plan.specs.Numbers.{SummaryNumbers, PlanNumbers}
 use Rattle.plan.specs.Plans.{deletion_in, record_in, entry_in, deletion_fourths, entry_fourths}
 use Rattle.plan.specs.Plans.{summary_of, summary_by, planned, planned_by}
@@ -27,6 +29,12 @@ module _ (u piece : ℕ) (ix : Index) (F : ℕ) (fourths ram new : List ℕ) whe
   summary_planned joined =
       ap (λ (s : SummaryNumbers). summary_by u s fourths ram) (summary_numbers_are u piece ix F)
       ∙ layout.summary_planned u piece (index_of ix) F fourths ram new joined
+
+-- a page that is not full adds nothing
+by_page : (u : ℕ) (b : Bool) (s none : Summary) (fourths ram : List ℕ) (plan : List Planned) → summary_of u none fourths ram ≡ []
+    → (b ≡ true → summary_of u s fourths ram ≡ plan) → summary_of u (cond b s none) fourths ram ≡ cond b plan []
+by_page u true s none fourths ram plan e f = f refl
+by_page u false s none fourths ram plan e f = e
 
 -- a deletion
 module _ (h : Family) (c : Geometry) (d j : ℕ) (new filters ram : List ℕ) (pos : 0 < c.chip.unit) (long : ram_size (shape c) ≤ length ram)
